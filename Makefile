@@ -1,0 +1,24 @@
+# What a user and a developer call. Everything needs the toolchain's command, rt.
+PREFIX ?= /usr/local
+PROGRAM = crates/bt_ctf/out/bt_ctf
+TRACE ?= examples/tick
+
+.PHONY: run test install fmt
+
+# Proves what is not proved yet, builds, and prints a trace.
+run:
+	cd crates/bt_ctf && rt run -- $(abspath $(TRACE))
+
+# The whole gate: every proof from nothing, the must-fail edits, the tests and the programs.
+test:
+	rt ci
+
+# Proves and builds the program, and puts it in place.
+install:
+	cd crates/bt_ctf && rt run -- $(abspath $(TRACE)) > /dev/null
+	install -d $(DESTDIR)$(PREFIX)/bin
+	install -m 755 $(PROGRAM) $(DESTDIR)$(PREFIX)/bin/bt-ctf
+
+# Lays out the sources.
+fmt:
+	for crate in crates/*/; do (cd "$$crate" && rt fmt) || exit 1; done
