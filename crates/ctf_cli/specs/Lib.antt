@@ -1,0 +1,11 @@
+pub mod Tokens
+pub mod Scanning
+pub mod Description
+pub mod Parsing
+pub mod Laws
+pub mod Line
+pub mod Texts
+pub mod Outcome
+pub mod Reading
+pub mod Stops
+pub mod Arguments
