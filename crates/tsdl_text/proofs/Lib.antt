@@ -1,0 +1,14 @@
+pub mod ByteFacts
+pub mod ConstantLaws
+pub mod Digits
+pub mod Lexing
+pub mod PacketLaws
+pub mod PacketLemmas
+pub mod PieceLaws
+pub mod Runs
+pub mod ScanLemmas
+pub mod StringLaws
+pub mod StringLemmas
+pub mod SymbolLaws
+pub mod TextLaws
+pub mod TokenLaws

@@ -1,0 +1,143 @@
+-- A text as blanks, comments and tokens (CTF 1.8.3, C.1.1 to C.1.7; C99, 6.4).
+use Rattle.std.specs.Prelude.{◌≡◌, ◌≢◌, ℕ, ◌+◌, ◌≤◌, Bool, true, false, not, ◌==◌, List, [], ◌∷◌, ◌++◌, length, Option, MatchOption, codes, count_by}
+use Rattle.std.specs.Option.{option_map, option_to_list}
+use Rattle.std.specs.List.{list_all}
+use Rattle.tsdl_text.specs.declared.token.Symbol.{Symbol}
+use Rattle.tsdl_text.specs.declared.token.Kind.{Kind}
+use Rattle.tsdl_text.specs.declared.token.Kind.TheVariants as kinds
+use Rattle.tsdl_text.specs.declared.token.Token.{Token}
+use Rattle.tsdl_text.specs.declared.fault.MetaFault.{MetaFault}
+use Rattle.tsdl_text.specs.declared.fault.MetaFault.TheVariants as faults
+use Rattle.tsdl_text.specs.Symbols.{spelling}
+use Rattle.tsdl_text.specs.Bytes.{is_blank, is_word_start, is_word_byte, begins}
+use Rattle.tsdl_text.specs.Constants.{IsConstant}
+use Rattle.tsdl_text.specs.Strings.{Closes}
+
+-- ---- what spells a token
+
+-- letters, digits and `_`, of which the first is no digit
+pub record IsWord (bytes : List ℕ) : Type 0 where
+  pub first : begins is_word_start bytes ≡ true
+  pub each : list_all is_word_byte bytes ≡ true
+
+-- a word that is no keyword
+pub record IsIdentifier (bytes : List ℕ) : Type 0 where
+  pub word : IsWord bytes
+  pub no_keyword : (symbol : Symbol) → bytes ≢ spelling symbol
+
+-- characters between quotes
+pub record IsString (bytes : List ℕ) : Type 0 where
+  pub inside : List ℕ
+  pub values : List ℕ
+  pub opened : bytes ≡ 34 ∷ inside
+  pub closed : Closes inside values
+
+-- these bytes are a token of this kind
+abbrev pub Spells : Kind → List ℕ → Type 0
+Spells kinds.Identifier bytes = IsIdentifier bytes
+Spells (kinds.Constant value) bytes = IsConstant bytes value
+Spells kinds.String bytes = IsString bytes
+Spells (kinds.Symbol symbol) bytes = bytes ≡ spelling symbol
+
+-- no token at the same place is longer
+abbrev pub IsLongest : List ℕ → List ℕ → Type 0
+IsLongest bytes after = (kind : Kind) (other rest : List ℕ) → bytes ++ after ≡ other ++ rest → Spells kind other → length other ≤ length bytes
+
+abbrev pub is_constant : Kind → Bool
+is_constant kinds.Identifier = false
+is_constant (kinds.Constant value) = true
+is_constant kinds.String = false
+is_constant (kinds.Symbol symbol) = false
+
+-- These bytes are the token that stands before the bytes `after`: the longest one there, and no
+-- letter, digit or `_` follows a constant.
+pub record IsToken (kind : Kind) (bytes after : List ℕ) : Type 0 where
+  pub spelled : Spells kind bytes
+  pub longest : IsLongest bytes after
+  pub apart : is_constant kind ≡ true → begins is_word_byte after ≡ false
+
+-- ---- what stands between tokens
+
+-- A blank is one byte. A comment from `/*` ends at the first `*/` behind that, one from `//` at the
+-- end of its line or of the text.
+pub data Skipped : List ℕ → List ℕ → Type 0 where
+  blank : {b : ℕ} {after : List ℕ} → is_blank b ≡ true → Skipped (b ∷ []) after
+  block : (inside : List ℕ) {after : List ℕ} → ((front rest : List ℕ) → inside ++ codes "*/" ≡ (front ++ codes "*/") ++ rest → rest ≡ []) → Skipped (codes "/*" ++ (inside ++ codes "*/")) after
+  rest_of_line : {inside after : List ℕ} → list_all (λ b. not (b == 10)) inside ≡ true → begins (λ b. not (b == 10)) after ≡ false → Skipped (codes "//" ++ inside) after
+
+-- ---- a text as pieces
+
+-- bytes of a text: a token of a kind, or, with no kind, a blank or a comment
+pub record Piece : Type 0 where
+  pub kind : Option Kind
+  pub bytes : List ℕ
+
+-- the piece stands before these bytes, which go on to the end of the text
+abbrev pub Stands : Piece → List ℕ → Type 0
+Stands piece after = MatchOption piece.kind (Skipped piece.bytes after) (λ kind. IsToken kind piece.bytes after)
+
+-- the bytes of pieces, one after the other
+abbrev pub joined : List Piece → List ℕ
+joined [] = []
+joined (piece ∷ pieces) = piece.bytes ++ joined pieces
+
+-- the pieces stand one after the other, the last before these bytes
+abbrev pub AllStand : List Piece → List ℕ → Type 0
+AllStand [] after = Unit {0}
+AllStand (piece ∷ pieces) after = Stands piece (joined pieces ++ after) × AllStand pieces after
+
+-- ---- tokens
+
+-- a token as contracts see it: its slice is the list of its bytes
+pub record Lexeme : Type 0 where
+  pub kind : Kind
+  pub bytes : List ℕ
+  pub start : ℕ
+  pub line : ℕ
+
+abbrev pub lexeme : Token → Lexeme
+lexeme token = record { kind = token.kind; bytes = token.text.now; start = token.start; line = token.line }
+
+-- how many newlines there are
+abbrev pub newlines : List ℕ → ℕ
+newlines bytes = count_by (λ b. b == 10) bytes
+
+-- the line of the place behind these bytes
+abbrev pub line_behind : List ℕ → ℕ
+line_behind front = 1 + newlines front
+
+-- the tokens among pieces that stand behind the bytes `front`
+abbrev pub lexemes : List ℕ → List Piece → List Lexeme
+lexemes front [] = []
+lexemes front (piece ∷ pieces) =
+    option_to_list (option_map (λ kind. record { kind = kind; bytes = piece.bytes; start = length front; line = line_behind front }) piece.kind)
+    ++ lexemes (front ++ piece.bytes) pieces
+
+-- These are the tokens of the text: it is blanks, comments and tokens, one after the other.
+pub record Lexes (text : List ℕ) (tokens : List Lexeme) : Type 0 where
+  pub pieces : List Piece
+  pub whole : joined pieces ≡ text
+  pub stand : AllStand pieces []
+  pub tokens_are : tokens ≡ lexemes [] pieces
+
+-- There is a place on this line at which the text goes on and neither a token, a blank nor a comment
+-- begins, while up to there it is such pieces.
+pub record NoToken (text : List ℕ) (line : ℕ) : Type 0 where
+  pub pieces : List Piece
+  pub after : List ℕ
+  pub whole : joined pieces ++ after ≡ text
+  pub stand : AllStand pieces after
+  pub goes_on : after ≢ []
+  pub nothing : (piece : Piece) (rest : List ℕ) → after ≡ piece.bytes ++ rest → Stands piece rest → ⊥
+  pub line_is : line ≡ line_behind (joined pieces)
+
+-- what a refusal of a text says: nothing where memory was wanting
+abbrev pub TokensRefused : List ℕ → MetaFault → Type 0
+TokensRefused text (faults.NoToken line) = NoToken text line
+TokensRefused text faults.NoMemory = Unit {0}
+TokensRefused text faults.CutShort = ⊥
+TokensRefused text faults.WrongMagic = ⊥
+TokensRefused text faults.SchemeUnsupported = ⊥
+TokensRefused text faults.WrongVersion = ⊥
+TokensRefused text faults.UuidDiffers = ⊥
+TokensRefused text faults.TooLong = ⊥

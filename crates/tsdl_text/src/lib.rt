@@ -1,0 +1,19 @@
+//! The text of TSDL metadata: packets of text joined, and the text cut into tokens.
+#![tactic(auto)]
+
+mod fault;
+pub mod laws;
+mod lexer;
+mod line;
+mod packet;
+mod string;
+mod token;
+
+pub use fault::MetaFault;
+pub use lexer::tokens;
+pub use line::Line;
+pub use packet::metadata_text;
+pub use token::{Kind, Symbol, Token};
+
+#[cfg(test)]
+mod tests;

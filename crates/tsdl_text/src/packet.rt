@@ -1,0 +1,150 @@
+//! Metadata packets.
+
+ghost use Rattle.std.specs.Prelude.{◌≡◌, ◌≤◌, false, length, MatchOption, MatchResult};
+ghost use Rattle.tsdl_text.specs.Packets.{magic, word, order_of, sizes_fit, header_fault, first_fault, HasEnds, BeginsPacket, IsJoined, MetaText, MetaRefused, JoinRefused};
+
+use crate::fault::MetaFault;
+use byteorder::{BigEndian, ByteOrder, LittleEndian};
+use std::alloc::Global;
+
+/// How many bytes metadata has at the most.
+const MOST_BYTES: usize = 67_108_864;
+
+/// How many bytes the header of a packet has.
+const HEADER_LEN: usize = 37;
+
+/// The byte order of the headers.
+#[derive(Clone, Copy)]
+pub(crate) enum Order {
+    Big,
+    Little,
+}
+
+impl Order {
+    /// The magic in this order.
+    fn magic(self) -> &'static [u8]
+        ensures { result.now ≡ magic self }
+    {
+        match self {
+            Order::Big => &[0x75, 0xD1, 0x1D, 0x57],
+            Order::Little => &[0x57, 0x1D, 0xD1, 0x75],
+        }
+    }
+
+    /// The number in the first four bytes.
+    #[tactic(auto, unfolding(crate::specs::Packets::word))]
+    fn word(self, bytes: &[u8]) -> u32
+        requires { 4 ≤ length bytes.now }
+        ensures { result ≡ word self bytes.now }
+    {
+        match self {
+            Order::Big => BigEndian::read_u32(bytes),
+            Order::Little => LittleEndian::read_u32(bytes),
+        }
+    }
+
+    /// The order of the magic at the front, if it is there.
+    #[tactic(auto, unfolding(crate::specs::Packets::order_of))]
+    fn of(bytes: &[u8]) -> Option<Order>
+        ensures { result ≡ order_of bytes.now }
+    {
+        let front = &bytes[..bytes.len().min(4)];
+        if front == Order::Big.magic() {
+            Some(Order::Big)
+        } else if front == Order::Little.magic() {
+            Some(Order::Little)
+        } else {
+            None
+        }
+    }
+}
+
+/// Where the content ends and where the packet ends, in bytes, if the sizes in the header are possible.
+fn ends(order: Order, rest: &[u8]) -> Option<(usize, usize)>
+    requires { 37 ≤ length rest.now }
+    ensures { MatchOption result (sizes_fit order rest.now ≡ false) (HasEnds order rest.now) }
+{
+    let content_size = order.word(&rest[24..28]) as usize;
+    let packet_size = order.word(&rest[28..32]) as usize;
+    if content_size % 8 != 0 || packet_size % 8 != 0 {
+        return None;
+    }
+    let content_end = content_size / 8;
+    let packet_end = packet_size / 8;
+    if content_end < HEADER_LEN || packet_end < content_end || rest.len() < packet_end {
+        return None;
+    }
+    Some((content_end, packet_end))
+}
+
+/// The first check that a header fails, but for the sizes.
+#[tactic(auto, unfolding(crate::specs::Packets::header_fault))]
+fn header_fault(order: Order, id: &[u8], rest: &[u8]) -> Option<MetaFault>
+    ensures { result ≡ header_fault order id.now rest.now }
+{
+    if rest.len() < HEADER_LEN {
+        return Some(MetaFault::CutShort);
+    }
+    if &rest[..4] != order.magic() {
+        return Some(MetaFault::WrongMagic);
+    }
+    if rest[32] != 0 || rest[33] != 0 || rest[34] != 0 {
+        return Some(MetaFault::SchemeUnsupported);
+    }
+    if rest[35] != 1 || rest[36] != 8 {
+        return Some(MetaFault::WrongVersion);
+    }
+    if &rest[4..20] != id {
+        return Some(MetaFault::UuidDiffers);
+    }
+    None
+}
+
+/// The content of the packet at the front, and how many bytes the packet has.
+fn packet<'a>(order: Order, id: &[u8], rest: &'a [u8]) -> Result<(&'a [u8], usize), MetaFault>
+    ensures { MatchResult result
+        (λ found. BeginsPacket order id.now rest.now found.0.now found.1)
+        (λ fault. first_fault order id.now rest.now ≡ Some fault) }
+{
+    if let Some(fault) = header_fault(order, id, rest) {
+        return Err(fault);
+    }
+    match ends(order, rest) {
+        Some((end, len)) => Ok((&rest[HEADER_LEN..end], len)),
+        None => Err(MetaFault::CutShort),
+    }
+}
+
+/// The contents of packets, joined.
+fn contents(alloc: Global, order: Order, bytes: &[u8]) -> Result<Vec<u8>, MetaFault>
+    requires { order_of bytes.now ≡ Some order }
+    ensures { MatchResult result (λ text. IsJoined order bytes.now text.items) (λ fault. JoinRefused order bytes.now fault) }
+{
+    if bytes.len() < HEADER_LEN {
+        return Err(MetaFault::CutShort);
+    }
+    let id = &bytes[4..20];
+    let mut text = Vec::new(alloc);
+    let mut start = 0;
+    while start < bytes.len() {
+        let (content, len) = packet(order, id, &bytes[start..])?;
+        text.extend_from_slice(content)?;
+        start += len;
+    }
+    Ok(text)
+}
+
+/// The text of metadata, which is plain text or packets whose contents, joined, are the text
+/// (CTF 1.8.3, 7.1). It fails where the bytes are more than 67,108,864 (M6) or a packet is not good (M1
+/// to M5), and where memory is refused.
+pub fn metadata_text(alloc: Global, bytes: &[u8]) -> Result<Vec<u8>, MetaFault>
+    ensures { MatchResult result (λ text. MetaText bytes.now text.items) (MetaRefused bytes.now) }
+{
+    if bytes.len() > MOST_BYTES {
+        return Err(MetaFault::TooLong);
+    }
+    match Order::of(bytes) {
+        Some(order) => contents(alloc, order, bytes),
+        None => Ok(Vec::from_slice(alloc, bytes)?),
+    }
+}

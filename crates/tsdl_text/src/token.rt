@@ -1,0 +1,204 @@
+//! The tokens of TSDL.
+
+ghost use Rattle.std.specs.Prelude.{◌≡◌, ◌↔◌, true, false, IsTrue, IfOk, MatchOption};
+ghost use Rattle.tsdl_text.specs.Symbols.{spelling, is_symbol, is_word, is_typeword, is_string, constant_of};
+ghost use Rattle.tsdl_text.specs.Strings.{string_value};
+
+use crate::line::Line;
+use crate::string::string_value;
+use ctf_list::NoMemory;
+use std::alloc::Global;
+
+/// A token that is always spelled the same: first the keywords, of which the last thirteen may stand
+/// in the name of a type, then the punctuators.
+#[derive(Clone, Copy, Debug, PartialEq, Eq)]
+pub enum Symbol {
+    Align,
+    Callsite,
+    Clock,
+    Enum,
+    Env,
+    Event,
+    FloatingPoint,
+    Integer,
+    Stream,
+    String,
+    Struct,
+    Trace,
+    Typealias,
+    Typedef,
+    Variant,
+    Const,
+    Char,
+    Double,
+    Float,
+    Int,
+    Long,
+    Short,
+    Signed,
+    Unsigned,
+    Void,
+    Bool,
+    Complex,
+    Imaginary,
+    OpenBrace,
+    CloseBrace,
+    OpenBracket,
+    CloseBracket,
+    OpenParen,
+    CloseParen,
+    Less,
+    Greater,
+    Semicolon,
+    Colon,
+    Comma,
+    Dot,
+    Ellipsis,
+    Equals,
+    Assign,
+    Plus,
+    Minus,
+}
+
+impl Symbol {
+    /// How the symbol is written.
+    pub fn spelling(self) -> &'static [u8]
+        ensures { result.now ≡ spelling self }
+    {
+        match self {
+            Symbol::Align => b"align",
+            Symbol::Callsite => b"callsite",
+            Symbol::Clock => b"clock",
+            Symbol::Enum => b"enum",
+            Symbol::Env => b"env",
+            Symbol::Event => b"event",
+            Symbol::FloatingPoint => b"floating_point",
+            Symbol::Integer => b"integer",
+            Symbol::Stream => b"stream",
+            Symbol::String => b"string",
+            Symbol::Struct => b"struct",
+            Symbol::Trace => b"trace",
+            Symbol::Typealias => b"typealias",
+            Symbol::Typedef => b"typedef",
+            Symbol::Variant => b"variant",
+            Symbol::Const => b"const",
+            Symbol::Char => b"char",
+            Symbol::Double => b"double",
+            Symbol::Float => b"float",
+            Symbol::Int => b"int",
+            Symbol::Long => b"long",
+            Symbol::Short => b"short",
+            Symbol::Signed => b"signed",
+            Symbol::Unsigned => b"unsigned",
+            Symbol::Void => b"void",
+            Symbol::Bool => b"_Bool",
+            Symbol::Complex => b"_Complex",
+            Symbol::Imaginary => b"_Imaginary",
+            Symbol::OpenBrace => b"{",
+            Symbol::CloseBrace => b"}",
+            Symbol::OpenBracket => b"[",
+            Symbol::CloseBracket => b"]",
+            Symbol::OpenParen => b"(",
+            Symbol::CloseParen => b")",
+            Symbol::Less => b"<",
+            Symbol::Greater => b">",
+            Symbol::Semicolon => b";",
+            Symbol::Colon => b":",
+            Symbol::Comma => b",",
+            Symbol::Dot => b".",
+            Symbol::Ellipsis => b"...",
+            Symbol::Equals => b"=",
+            Symbol::Assign => b":=",
+            Symbol::Plus => b"+",
+            Symbol::Minus => b"-",
+        }
+    }
+}
+
+/// What a token is.
+#[derive(Clone, Copy, Debug, PartialEq, Eq)]
+pub enum Kind {
+    /// A name that is no keyword.
+    Identifier,
+    /// A number.
+    Constant(u64),
+    /// A text between double quotes.
+    String,
+    /// A keyword or a punctuator.
+    Symbol(Symbol),
+}
+
+/// A token, with its slice of the text, where the slice starts in the text, in bytes, and on which line.
+#[derive(Clone, Copy, Debug)]
+pub struct Token<'a> {
+    pub kind: Kind,
+    pub text: &'a [u8],
+    pub start: usize,
+    pub line: Line,
+}
+
+impl Token<'_> {
+    /// Whether this is that keyword or punctuator.
+    pub fn is_symbol(&self, symbol: Symbol) -> bool
+        ensures { result ≡ is_symbol symbol self.now.kind }
+    {
+        match self.kind {
+            Kind::Symbol(own) => own as u8 == symbol as u8,
+            Kind::Identifier | Kind::Constant(_) | Kind::String => false,
+        }
+    }
+
+    /// Whether this is an identifier or a keyword.
+    pub fn is_word(&self) -> bool
+        ensures { result ≡ is_word self.now.kind }
+    {
+        match self.kind {
+            Kind::Identifier => true,
+            Kind::Symbol(symbol) => (symbol as u8) < Symbol::OpenBrace as u8,
+            Kind::Constant(_) | Kind::String => false,
+        }
+    }
+
+    /// Whether this may stand in the name of a type: an identifier, `const` or a keyword of C's types.
+    pub fn is_typeword(&self) -> bool
+        ensures { result ≡ is_typeword self.now.kind }
+    {
+        match self.kind {
+            Kind::Identifier => true,
+            Kind::Symbol(symbol) => {
+                Symbol::Const as u8 <= symbol as u8 && (symbol as u8) < Symbol::OpenBrace as u8
+            }
+            Kind::Constant(_) | Kind::String => false,
+        }
+    }
+
+    /// Whether the slice of the token is these bytes.
+    pub fn is(&self, word: &[u8]) -> bool
+        ensures { IsTrue result ↔ (self.now.text.now ≡ word.now) }
+    {
+        self.text == word
+    }
+
+    /// The value of a constant, and `None` for another token.
+    pub fn constant(&self) -> Option<u64>
+        ensures { result ≡ constant_of self.now.kind }
+    {
+        match self.kind {
+            Kind::Constant(value) => Some(value),
+            Kind::Identifier | Kind::String | Kind::Symbol(_) => None,
+        }
+    }
+
+    /// The bytes that a string stands for, quotes taken off and escapes undone, and `None` for another
+    /// token. It fails where memory is refused.
+    pub fn string(&self, alloc: Global) -> Result<Option<Vec<u8>>, NoMemory>
+        ensures string { IfOk result
+            (λ found. MatchOption found (is_string self.now.kind ≡ false)
+            (λ value. (is_string self.now.kind ≡ true) × (value.items ≡ string_value self.now.text.now))) }
+    {
+        match self.kind {
+            Kind::String => Ok(Some(string_value(alloc, self.text)?)),
+            Kind::Identifier | Kind::Constant(_) | Kind::Symbol(_) => Ok(None),
+        }
+    }
+}
