@@ -1,0 +1,154 @@
+-- Classes that are spelled so are read, unless braces nest too deep.
+use Rattle.std.proofs.Common.{◌≡◌, ℕ, ◌⊎◌, inl, inr, Bool, true, false, cond, List, [], ◌∷◌, ◌++◌, None, refl, ap, ◌∙◌}
+use Rattle.std.specs.Prelude.{nat_eq}
+use Rattle.tsdl_text.specs.declared.token.Symbol.{Symbol}
+use Rattle.tsdl_text.specs.declared.token.Symbol.TheVariants as s
+use Rattle.tsdl_text.specs.declared.token.Token.{Token}
+use Rattle.tsdl_text.specs.Symbols.{code}
+use Rattle.tsdl_grammar.specs.declared.tree.Setting.{Setting}
+use Rattle.tsdl_grammar.specs.declared.tree.Name.TheVariants as names
+use Rattle.tsdl_grammar.specs.declared.tree.Specifier.{Specifier}
+use Rattle.tsdl_grammar.specs.declared.tree.Specifier.TheVariants as classes
+use Rattle.tsdl_grammar.specs.declared.tree.Item.{Item}
+use Rattle.tsdl_grammar.specs.Terminals.{Words, Is}
+use Rattle.tsdl_grammar.specs.Grammar.{AreAttributes, AreTypewords, IsTypename, IsClass, IsPlain, IsCompound}
+use Rattle.tsdl_grammar.specs.Spelling.{run}
+use Rattle.tsdl_grammar.specs.Steps.{Parse, begins, before_close}
+use Rattle.tsdl_grammar.specs.Reading.{integer_at, floating_point_at, string_at, compound_at, plain_at, class_at}
+use Rattle.tsdl_grammar.proofs.ComesTools.{Comes, comes_is, comes_then, comes_as, comes_token}
+use Rattle.tsdl_grammar.proofs.ComesTokens.{is_other, typeword_other, past_is, past_none}
+use Rattle.tsdl_grammar.proofs.CompleteTerms.{attributes_come}
+use Rattle.tsdl_grammar.proofs.CompleteParts.{typename_comes, typename_other}
+use Rattle.tsdl_grammar.proofs.CompleteCompounds.{Ends, compound_is, compound_other}
+
+pub plain_integer : {t : Token} {xs : List Setting} {ts : List Token} (body : Parse (List Item)) (before : Bool) (d : ℕ) (post : List Token) → Is s.Integer t → AreAttributes xs ts
+    → Comes (plain_at body before d (t ∷ (ts ++ post))) (classes.Integer xs, post)
+unfolding plain_at integer_at
+plain_integer body before d post i p = rw i.holds (comes_token _ i (comes_then _ (attributes_come p d post) (comes_is refl)))
+
+pub plain_floating_point : {t : Token} {xs : List Setting} {ts : List Token} (body : Parse (List Item)) (before : Bool) (d : ℕ) (post : List Token) → Is s.FloatingPoint t → AreAttributes xs ts
+    → Comes (plain_at body before d (t ∷ (ts ++ post))) (classes.FloatingPoint xs, post)
+unfolding plain_at floating_point_at
+plain_floating_point body before d post i p = rw (is_other s.Integer i refl, i.holds) (comes_token _ i (comes_then _ (attributes_come p d post) (comes_is refl)))
+
+pub plain_string : {t : Token} (body : Parse (List Item)) (before : Bool) (d : ℕ) (post : List Token) → Is s.String t → Ends post
+    → Comes (plain_at body before d (t ∷ post)) (classes.Text [], post)
+unfolding plain_at string_at
+plain_string body before d post i z = rw (is_other s.Integer i refl, is_other s.FloatingPoint i refl, i.holds) (comes_token _ i (rw z.no_brace (comes_is refl)))
+
+pub attributes_begin : {xs : List Setting} {us : List Token} → AreAttributes xs us → (post : List Token) → begins s.OpenBrace (us ++ post) ≡ true
+attributes_begin (AreAttributes.attributes i m j) post = i.holds
+
+pub plain_string_with : {t : Token} {xs : List Setting} {ts : List Token} (body : Parse (List Item)) (before : Bool) (d : ℕ) (post : List Token) → Is s.String t → AreAttributes xs ts
+    → Comes (plain_at body before d (t ∷ (ts ++ post))) (classes.Text xs, post)
+unfolding plain_at string_at
+plain_string_with body before d post i p =
+    rw (is_other s.Integer i refl, is_other s.FloatingPoint i refl, i.holds) (comes_token _ i (rw (attributes_begin p post) (comes_then _ (attributes_come p d post) (comes_is refl))))
+
+pub plain_compound : {c : Specifier} {ts : List Token} (body : Parse (List Item)) (before : Bool) (d : ℕ) (post : List Token) → IsCompound c ts
+    → Comes (compound_at body d (ts ++ post)) (c, post) → Comes (plain_at body before d (ts ++ post)) (c, post)
+unfolding plain_at
+plain_compound body before d post p h =
+    rw (compound_other s.Integer p post refl refl refl, compound_other s.FloatingPoint p post refl refl refl, compound_other s.String p post refl refl refl, compound_is p post) h
+
+pub plain_typename : {ws : Words} {ts : List Token} (body : Parse (List Item)) (before : Bool) (d : ℕ) (post : List Token) → IsTypename ws ts → run post ≡ cond before 1 0
+    → Comes (plain_at body before d (ts ++ post)) (classes.Named (names.Plain ws) None, post)
+unfolding plain_at
+plain_typename body before d post p z =
+    rw (typename_other s.Integer p post refl, typename_other s.FloatingPoint p post refl, typename_other s.String p post refl, typename_other s.Struct p post refl, typename_other s.Variant p post refl, typename_other s.Enum p post refl)
+    (comes_then _ (typename_comes p before post z) (comes_is refl))
+
+pub class_plain : (ts : List Token) {x : Specifier × List Token} (body : Parse (List Item)) (before : Bool) (d : ℕ) → begins s.Const ts ≡ false → Comes (plain_at body before d ts) x → Comes (class_at body before d ts) x
+unfolding class_at
+class_plain ts body before d e h = comes_as (ap (plain_at body before d) (past_none s.Const ts e)) h
+
+pub class_const : (q : Token) (ts : List Token) {x : Specifier × List Token} (body : Parse (List Item)) (before : Bool) (d : ℕ) → Is s.Const q → Comes (plain_at body before d ts) x → Comes (class_at body before d (q ∷ ts)) x
+unfolding class_at
+class_const q ts body before d i h = comes_as (ap (plain_at body before d) (past_is s.Const q ts i)) h
+
+pub class_typename : {ws : Words} {ts : List Token} (body : Parse (List Item)) (before : Bool) (d : ℕ) (post : List Token) → IsTypename ws ts → run post ≡ cond before 1 0
+    → Comes (class_at body before d (ts ++ post)) (classes.Named (names.Plain ws) None, post)
+class_typename body before d post (IsTypename.typename (AreTypewords.skip i p)) z = class_const _ _ body before d i (plain_typename body before d post (IsTypename.typename p) z)
+class_typename body before d post (IsTypename.typename (AreTypewords.more i p)) z = class_plain _ body before d i.kept (plain_typename body before d post (IsTypename.typename (AreTypewords.more i p)) z)
+
+-- a class begins with a token other than a closing brace
+pub typename_begins : {ws : Words} {ts : List Token} → IsTypename ws ts → (post : List Token) → before_close (ts ++ post) ≡ true
+typename_begins (IsTypename.typename (AreTypewords.skip i p)) post = rw (is_other s.CloseBrace i refl) refl
+typename_begins (IsTypename.typename (AreTypewords.more {w = w} i p)) post = rw (typeword_other s.CloseBrace w i.holds refl) refl
+
+pub compound_begins : {c : Specifier} {ts : List Token} → IsCompound c ts → (post : List Token) → before_close (ts ++ post) ≡ true
+compound_begins (IsCompound.struct_name i n) post = rw (is_other s.CloseBrace i refl) refl
+compound_begins (IsCompound.struct i p q r) post = rw (is_other s.CloseBrace i refl) refl
+compound_begins (IsCompound.variant_name i n p) post = rw (is_other s.CloseBrace i refl) refl
+compound_begins (IsCompound.variant i p q r) post = rw (is_other s.CloseBrace i refl) refl
+compound_begins (IsCompound.enum_name i n) post = rw (is_other s.CloseBrace i refl) refl
+compound_begins (IsCompound.enum i p q r) post = rw (is_other s.CloseBrace i refl) refl
+
+pub plain_begins : {c : Specifier} {ts : List Token} → IsPlain c ts → (post : List Token) → before_close (ts ++ post) ≡ true
+plain_begins (IsPlain.integer i p) post = rw (is_other s.CloseBrace i refl) refl
+plain_begins (IsPlain.floating_point i p) post = rw (is_other s.CloseBrace i refl) refl
+plain_begins (IsPlain.string i) post = rw (is_other s.CloseBrace i refl) refl
+plain_begins (IsPlain.string_with i p) post = rw (is_other s.CloseBrace i refl) refl
+plain_begins (IsPlain.compound p) post = compound_begins p post
+plain_begins (IsPlain.typename p) post = typename_begins p post
+
+pub class_begins : {c : Specifier} {ts : List Token} → IsClass c ts → (post : List Token) → before_close (ts ++ post) ≡ true
+class_begins (IsClass.plain p) post = plain_begins p post
+class_begins (IsClass.const i p) post = rw (is_other s.CloseBrace i refl) refl
+
+-- none of the words that a declaration of names begins with stands first
+pub record NoDeclaration (ts : List Token) : Type 0 where
+  pub struct : begins s.Struct ts ≡ false
+  pub variant : begins s.Variant ts ≡ false
+  pub enum : begins s.Enum ts ≡ false
+  pub typedef : begins s.Typedef ts ≡ false
+  pub typealias : begins s.Typealias ts ≡ false
+
+symbol_first : {a : Symbol} {t : Token} (post : List Token) → Is a t → nat_eq (code a) (code s.Struct) ≡ false → nat_eq (code a) (code s.Variant) ≡ false → nat_eq (code a) (code s.Enum) ≡ false
+    → nat_eq (code a) (code s.Typedef) ≡ false → nat_eq (code a) (code s.Typealias) ≡ false → NoDeclaration (t ∷ post)
+symbol_first post i x y z u v = record {
+  struct = is_other s.Struct i x;
+  variant = is_other s.Variant i y;
+  enum = is_other s.Enum i z;
+  typedef = is_other s.Typedef i u;
+  typealias = is_other s.Typealias i v;
+}
+
+typename_first : {ws : Words} {ts : List Token} → IsTypename ws ts → (post : List Token) → NoDeclaration (ts ++ post)
+typename_first p post = record {
+  struct = typename_other s.Struct p post refl;
+  variant = typename_other s.Variant p post refl;
+  enum = typename_other s.Enum p post refl;
+  typedef = typename_other s.Typedef p post refl;
+  typealias = typename_other s.Typealias p post refl;
+}
+
+-- a class is a compound, or begins with none of these words
+plain_or : {c : Specifier} {ts : List Token} → IsPlain c ts → (post : List Token) → IsCompound c ts ⊎ NoDeclaration (ts ++ post)
+plain_or (IsPlain.integer i p) post = inr (symbol_first _ i refl refl refl refl refl)
+plain_or (IsPlain.floating_point i p) post = inr (symbol_first _ i refl refl refl refl refl)
+plain_or (IsPlain.string i) post = inr (symbol_first _ i refl refl refl refl refl)
+plain_or (IsPlain.string_with i p) post = inr (symbol_first _ i refl refl refl refl refl)
+plain_or (IsPlain.compound p) post = inl p
+plain_or (IsPlain.typename p) post = inr (typename_first p post)
+
+pub class_or : {c : Specifier} {ts : List Token} → IsClass c ts → (post : List Token) → IsCompound c ts ⊎ NoDeclaration (ts ++ post)
+class_or (IsClass.plain p) post = plain_or p post
+class_or (IsClass.const i p) post = inr (symbol_first _ i refl refl refl refl refl)
+
+-- a class that is plain, also where its name begins with `const`
+pub class_of_plain : {c : Specifier} {ts : List Token} (body : Parse (List Item)) (before : Bool) (d : ℕ) (post : List Token) → IsPlain c ts → run post ≡ cond before 1 0
+    → Comes (plain_at body before d (ts ++ post)) (c, post) → Comes (class_at body before d (ts ++ post)) (c, post)
+class_of_plain body before d post (IsPlain.integer i p) r h = class_plain _ body before d (is_other s.Const i refl) h
+class_of_plain body before d post (IsPlain.floating_point i p) r h = class_plain _ body before d (is_other s.Const i refl) h
+class_of_plain body before d post (IsPlain.string i) r h = class_plain _ body before d (is_other s.Const i refl) h
+class_of_plain body before d post (IsPlain.string_with i p) r h = class_plain _ body before d (is_other s.Const i refl) h
+class_of_plain body before d post (IsPlain.compound p) r h = class_plain _ body before d (compound_other s.Const p post refl refl refl) h
+class_of_plain body before d post (IsPlain.typename p) r h = class_typename body before d post p r
+
+-- a compound is read as a class
+pub class_compound : {c : Specifier} {ts : List Token} (body : Parse (List Item)) (before : Bool) (d : ℕ) (post : List Token) → IsCompound c ts → class_at body before d (ts ++ post) ≡ compound_at body d (ts ++ post)
+unfolding class_at plain_at
+class_compound {ts = ts} body before d post p =
+    ap (plain_at body before d) (past_none s.Const (ts ++ post) (compound_other s.Const p post refl refl refl))
+    ∙ rw (compound_other s.Integer p post refl refl refl, compound_other s.FloatingPoint p post refl refl refl, compound_other s.String p post refl refl refl, compound_is p post) refl

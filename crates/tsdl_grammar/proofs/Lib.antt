@@ -1,0 +1,16 @@
+pub mod Room
+pub mod ReadsTools
+pub mod Sound
+pub mod SoundClasses
+pub mod SoundBlocks
+pub mod LawsSound
+pub mod ComesTools
+pub mod ComesTokens
+pub mod CompleteTerms
+pub mod CompleteParts
+pub mod CompleteLabels
+pub mod CompleteCompounds
+pub mod CompleteClasses
+pub mod CompleteBodies
+pub mod CompleteBlocks
+pub mod LawsComplete

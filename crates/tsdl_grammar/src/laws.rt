@@ -1,0 +1,14 @@
+//! What holds of the grammar, whatever the text.
+
+ghost use Rattle.tsdl_grammar.specs.Spelling.{OneTree, WholeRun};
+
+/// No list of tokens is spelled by two trees.
+pub fn one_tree()
+    ensures { OneTree }
+{}
+
+/// A typename is a whole run of typewords; before a declarator it lacks the run's last word, which
+/// is the declarator's name.
+pub fn whole_run()
+    ensures { WholeRun }
+{}
