@@ -1,0 +1,4 @@
+pub mod Loops
+pub mod Runs
+pub mod Bodies
+pub mod Ends

@@ -1,0 +1,188 @@
+//! Blocks, and all that stands directly in the metadata.
+
+ghost use Rattle.std.specs.Prelude.{◌≡◌, ◌<◌, ◌≤◌, ◌-◌, length, IfOk};
+ghost use Rattle.tsdl_grammar.specs.Steps.{all, before_close, before_end, begins_declaration};
+ghost use Rattle.tsdl_grammar.specs.Reading.{class_behind, entry_at, body_at, block_kind, table_kind, block_at, table_at, declaration_at};
+ghost use Rattle.tsdl_parse.specs.Gives.{Gives};
+
+use crate::classes::{class, type_declaration};
+use crate::failure::{Failure, Read};
+use crate::settings::{attributes, path, setting_behind};
+use crate::terminals::{begins, expect, goes_on, has_more, open};
+use ctf_list::List;
+use std::alloc::Global;
+use tsdl_grammar::{BlockEntry, BlockKind, Declaration, Path, TableKind};
+use tsdl_text::{Symbol, Token};
+
+/// Whether a declaration of names comes first.
+fn begins_declaration(tokens: &[Token<'_>]) -> bool
+    ensures { result ≡ begins_declaration tokens.now }
+{
+    begins(Symbol::Struct, tokens)
+        || begins(Symbol::Variant, tokens)
+        || begins(Symbol::Enum, tokens)
+        || begins(Symbol::Typedef, tokens)
+        || begins(Symbol::Typealias, tokens)
+}
+
+/// The rest of `name := class;`, behind the name.
+#[tactic(auto, unfolding(tsdl_grammar::specs::Steps::bind, tsdl_grammar::specs::Reading::class_behind))]
+fn class_behind<'t, 'a>(
+    alloc: Global,
+    depth: u32,
+    name: Path,
+    tokens: &'t [Token<'a>],
+) -> Read<'t, 'a, BlockEntry>
+    ensures reads { Gives (λ x. (x.0, x.1.now)) result (class_behind (body_at depth) depth name tokens.now) }
+    ensures shorter { IfOk result (λ x. length x.1.now < length tokens.now) }
+{
+    let rest = expect(Symbol::Assign, tokens)?;
+    let (class, rest) = class(alloc, false, depth, rest)?;
+    let rest = expect(Symbol::Semicolon, rest)?;
+    Ok((BlockEntry::Class(name, class), rest))
+}
+
+/// A setting, a class for a name, or a declaration of names.
+#[tactic(auto, unfolding(tsdl_grammar::specs::Steps::bind, tsdl_grammar::specs::Reading::entry_at))]
+fn entry<'t, 'a>(alloc: Global, depth: u32, tokens: &'t [Token<'a>]) -> Read<'t, 'a, BlockEntry>
+    ensures reads { Gives (λ x. (x.0, x.1.now)) result (entry_at (body_at depth) depth tokens.now) }
+    ensures shorter { IfOk result (λ x. length x.1.now < length tokens.now) }
+{
+    if begins_declaration(tokens) {
+        let (names, rest) = type_declaration(alloc, depth, tokens)?;
+        return Ok((BlockEntry::Names(names), rest));
+    }
+    let (name, rest) = path(alloc, tokens)?;
+    if begins(Symbol::Equals, rest) {
+        let (setting, rest) = setting_behind(alloc, name, rest)?;
+        return Ok((BlockEntry::Setting(setting), rest));
+    }
+    class_behind(alloc, depth, name, rest)
+}
+
+/// The entries up to a closing brace.
+fn entries<'t, 'a>(
+    alloc: Global,
+    depth: u32,
+    tokens: &'t [Token<'a>],
+) -> Read<'t, 'a, List<BlockEntry>>
+    ensures reads { Gives (λ x. (x.0, x.1.now)) result (all before_close (entry_at (body_at depth) depth) tokens.now) }
+    ensures within { IfOk result (λ x. length x.1.now ≤ length tokens.now) }
+{
+    let mut found = Vec::new(alloc);
+    let (_, mut rest) = tokens.split_at(0);
+    'turns: while goes_on(rest) {
+        let (next, after) = entry(alloc, depth, rest)?;
+        found.push(next)?;
+        rest = after;
+    }
+    Ok((List::from_vec(found), rest))
+}
+
+/// Which block with classes a word begins.
+fn block_kind(token: &Token<'_>) -> Option<BlockKind>
+    ensures { result ≡ block_kind token.now }
+{
+    if token.is_symbol(Symbol::Trace) {
+        return Some(BlockKind::Trace);
+    }
+    if token.is_symbol(Symbol::Stream) {
+        return Some(BlockKind::Stream);
+    }
+    if token.is_symbol(Symbol::Event) {
+        return Some(BlockKind::Event);
+    }
+    None
+}
+
+/// Which block of settings a word begins.
+fn table_kind(token: &Token<'_>) -> Option<TableKind>
+    ensures { result ≡ table_kind token.now }
+{
+    if token.is_symbol(Symbol::Clock) {
+        return Some(TableKind::Clock);
+    }
+    if token.is_symbol(Symbol::Env) {
+        return Some(TableKind::Env);
+    }
+    if token.is_symbol(Symbol::Callsite) {
+        return Some(TableKind::Callsite);
+    }
+    None
+}
+
+/// `{ entries };` behind a block's word.
+#[tactic(auto, unfolding(tsdl_grammar::specs::Steps::bind, tsdl_grammar::specs::Reading::block_at))]
+fn block<'t, 'a>(
+    alloc: Global,
+    depth: u32,
+    kind: BlockKind,
+    tokens: &'t [Token<'a>],
+) -> Read<'t, 'a, Declaration>
+    ensures reads { Gives (λ x. (x.0, x.1.now)) result (block_at depth kind tokens.now) }
+    ensures shorter { IfOk result (λ x. length x.1.now < length tokens.now) }
+{
+    let rest = open(depth, tokens)?;
+    let (entries, rest) = entries(alloc, depth - 1, rest)?;
+    let rest = expect(Symbol::CloseBrace, rest)?;
+    let rest = expect(Symbol::Semicolon, rest)?;
+    Ok((Declaration::Block(kind, entries), rest))
+}
+
+/// `{ settings };` behind a block's word.
+#[tactic(auto, unfolding(tsdl_grammar::specs::Steps::bind, tsdl_grammar::specs::Reading::table_at))]
+fn table<'t, 'a>(
+    alloc: Global,
+    depth: u32,
+    kind: TableKind,
+    tokens: &'t [Token<'a>],
+) -> Read<'t, 'a, Declaration>
+    ensures reads { Gives (λ x. (x.0, x.1.now)) result (table_at depth kind tokens.now) }
+    ensures shorter { IfOk result (λ x. length x.1.now < length tokens.now) }
+{
+    let (settings, rest) = attributes(alloc, depth, tokens)?;
+    let rest = expect(Symbol::Semicolon, rest)?;
+    Ok((Declaration::Table(kind, settings), rest))
+}
+
+/// A block or a declaration of names.
+#[tactic(auto, unfolding(tsdl_grammar::specs::Steps::bind, tsdl_grammar::specs::Reading::declaration_at))]
+fn declaration<'t, 'a>(
+    alloc: Global,
+    depth: u32,
+    tokens: &'t [Token<'a>],
+) -> Read<'t, 'a, Declaration>
+    ensures reads { Gives (λ x. (x.0, x.1.now)) result (declaration_at depth tokens.now) }
+    ensures shorter { IfOk result (λ x. length x.1.now < length tokens.now) }
+{
+    let [first, rest @ ..] = tokens else {
+        return Err(Failure::Syntax(0));
+    };
+    if let Some(kind) = block_kind(first) {
+        return block(alloc, depth, kind, rest);
+    }
+    if let Some(kind) = table_kind(first) {
+        return table(alloc, depth, kind, rest);
+    }
+    let (names, rest) = type_declaration(alloc, depth, tokens)?;
+    Ok((Declaration::Names(names), rest))
+}
+
+/// The declarations up to the last token.
+pub(crate) fn declarations<'t, 'a>(
+    alloc: Global,
+    depth: u32,
+    tokens: &'t [Token<'a>],
+) -> Read<'t, 'a, List<Declaration>>
+    ensures reads { Gives (λ x. (x.0, x.1.now)) result (all before_end (declaration_at depth) tokens.now) }
+    ensures within { IfOk result (λ x. length x.1.now ≤ length tokens.now) }
+{
+    let mut found = Vec::new(alloc);
+    let (_, mut rest) = tokens.split_at(0);
+    'turns: while has_more(rest) {
+        let (next, after) = declaration(alloc, depth, rest)?;
+        found.push(next)?;
+        rest = after;
+    }
+    Ok((List::from_vec(found), rest))
+}

@@ -1,0 +1,362 @@
+//! Classes, and the declarations of names and fields that stand in their bodies.
+
+ghost use Rattle.std.specs.Prelude.{◌≡◌, ◌<◌, ◌≤◌, length, IfOk};
+ghost use Rattle.tsdl_text.specs.declared.token.Symbol.TheVariants as s;
+ghost use Rattle.tsdl_grammar.specs.Grammar.{has_name_and_body};
+ghost use Rattle.tsdl_grammar.specs.Steps.{all, optional, begins, begins_compound, before_close};
+ghost use Rattle.tsdl_grammar.specs.Reading.{align_at, tag_at, integer_at, floating_point_at, string_at, fields_behind, compound_behind, struct_at, variant_at, compound_at, class_at, alias_at, definition_at, typedecl_at, item_at, body_at};
+ghost use Rattle.tsdl_parse.specs.Gives.{Gives};
+
+use crate::declarators::declarators;
+use crate::enums::enumeration;
+use crate::failure::{Failure, Read};
+use crate::settings::{attributes, path};
+use crate::terminals::{begins, constant, expect, goes_on, open, optional_name, past};
+use crate::typenames::typename;
+use ctf_list::List;
+use std::alloc::Global;
+use tsdl_grammar::{Item, Name, Path, Specifier, TypeDeclaration};
+use tsdl_text::{Symbol, Token};
+
+/// `align(n)`
+#[tactic(auto, unfolding(tsdl_grammar::specs::Steps::bind, tsdl_grammar::specs::Reading::align_at))]
+fn align<'t, 'a>(tokens: &'t [Token<'a>]) -> Read<'t, 'a, u64>
+    ensures reads { Gives (λ x. (x.0, x.1.now)) result (align_at tokens.now) }
+    ensures shorter { IfOk result (λ x. length x.1.now < length tokens.now) }
+{
+    let rest = expect(Symbol::Align, tokens)?;
+    let rest = expect(Symbol::OpenParen, rest)?;
+    let (align, rest) = constant(rest)?;
+    let rest = expect(Symbol::CloseParen, rest)?;
+    Ok((align, rest))
+}
+
+/// The alignment behind a structure's body, where there is one.
+#[tactic(auto, unfolding(tsdl_grammar::specs::Steps::bind, tsdl_grammar::specs::Steps::optional))]
+fn optional_align<'t, 'a>(tokens: &'t [Token<'a>]) -> Read<'t, 'a, Option<u64>>
+    ensures reads { Gives (λ x. (x.0, x.1.now)) result (optional (begins s.Align) align_at tokens.now) }
+    ensures within { IfOk result (λ x. length x.1.now ≤ length tokens.now) }
+{
+    if !begins(Symbol::Align, tokens) {
+        return Ok((None, tokens));
+    }
+    let (align, rest) = align(tokens)?;
+    Ok((Some(align), rest))
+}
+
+/// `<path>`
+#[tactic(auto, unfolding(tsdl_grammar::specs::Steps::bind, tsdl_grammar::specs::Reading::tag_at))]
+fn tag<'t, 'a>(alloc: Global, tokens: &'t [Token<'a>]) -> Read<'t, 'a, Path>
+    ensures reads { Gives (λ x. (x.0, x.1.now)) result (tag_at tokens.now) }
+    ensures shorter { IfOk result (λ x. length x.1.now < length tokens.now) }
+{
+    let rest = expect(Symbol::Less, tokens)?;
+    let (tag, rest) = path(alloc, rest)?;
+    let rest = expect(Symbol::Greater, rest)?;
+    Ok((tag, rest))
+}
+
+/// The tag of a variant, where there is one.
+#[tactic(auto, unfolding(tsdl_grammar::specs::Steps::bind, tsdl_grammar::specs::Steps::optional))]
+fn optional_tag<'t, 'a>(alloc: Global, tokens: &'t [Token<'a>]) -> Read<'t, 'a, Option<Path>>
+    ensures reads { Gives (λ x. (x.0, x.1.now)) result (optional (begins s.Less) tag_at tokens.now) }
+    ensures within { IfOk result (λ x. length x.1.now ≤ length tokens.now) }
+{
+    if !begins(Symbol::Less, tokens) {
+        return Ok((None, tokens));
+    }
+    let (tag, rest) = tag(alloc, tokens)?;
+    Ok((Some(tag), rest))
+}
+
+/// Whether a struct, a variant or an enum comes first.
+fn begins_compound(tokens: &[Token<'_>]) -> bool
+    ensures { result ≡ begins_compound tokens.now }
+{
+    begins(Symbol::Struct, tokens)
+        || begins(Symbol::Variant, tokens)
+        || begins(Symbol::Enum, tokens)
+}
+
+/// `integer { settings }`
+#[tactic(auto, unfolding(tsdl_grammar::specs::Steps::bind, tsdl_grammar::specs::Reading::integer_at))]
+fn integer<'t, 'a>(alloc: Global, depth: u32, tokens: &'t [Token<'a>]) -> Read<'t, 'a, Specifier>
+    ensures reads { Gives (λ x. (x.0, x.1.now)) result (integer_at depth tokens.now) }
+    ensures shorter { IfOk result (λ x. length x.1.now < length tokens.now) }
+{
+    let rest = expect(Symbol::Integer, tokens)?;
+    let (settings, rest) = attributes(alloc, depth, rest)?;
+    Ok((Specifier::Integer(settings), rest))
+}
+
+/// `floating_point { settings }`
+#[tactic(auto, unfolding(tsdl_grammar::specs::Steps::bind, tsdl_grammar::specs::Reading::floating_point_at))]
+fn floating_point<'t, 'a>(
+    alloc: Global,
+    depth: u32,
+    tokens: &'t [Token<'a>],
+) -> Read<'t, 'a, Specifier>
+    ensures reads { Gives (λ x. (x.0, x.1.now)) result (floating_point_at depth tokens.now) }
+    ensures shorter { IfOk result (λ x. length x.1.now < length tokens.now) }
+{
+    let rest = expect(Symbol::FloatingPoint, tokens)?;
+    let (settings, rest) = attributes(alloc, depth, rest)?;
+    Ok((Specifier::FloatingPoint(settings), rest))
+}
+
+/// `string { settings }`, with or without the braces.
+#[tactic(auto, unfolding(tsdl_grammar::specs::Steps::bind, tsdl_grammar::specs::Reading::string_at))]
+fn string<'t, 'a>(alloc: Global, depth: u32, tokens: &'t [Token<'a>]) -> Read<'t, 'a, Specifier>
+    ensures reads { Gives (λ x. (x.0, x.1.now)) result (string_at depth tokens.now) }
+    ensures shorter { IfOk result (λ x. length x.1.now < length tokens.now) }
+{
+    let rest = expect(Symbol::String, tokens)?;
+    if !begins(Symbol::OpenBrace, rest) {
+        return Ok((Specifier::Text(List::from_vec(Vec::new(alloc))), rest));
+    }
+    let (settings, rest) = attributes(alloc, depth, rest)?;
+    Ok((Specifier::Text(settings), rest))
+}
+
+/// `declarator, ..;` behind a class.
+#[tactic(auto, unfolding(tsdl_grammar::specs::Steps::bind, tsdl_grammar::specs::Reading::fields_behind))]
+fn fields_behind<'t, 'a>(
+    alloc: Global,
+    class: Specifier,
+    tokens: &'t [Token<'a>],
+) -> Read<'t, 'a, Item>
+    ensures reads { Gives (λ x. (x.0, x.1.now)) result (fields_behind class tokens.now) }
+    ensures shorter { IfOk result (λ x. length x.1.now < length tokens.now) }
+{
+    let (declarators, rest) = declarators(alloc, tokens)?;
+    let end = expect(Symbol::Semicolon, rest)?;
+    Ok((Item::Fields(class, declarators), end))
+}
+
+/// Whether the class is a compound with a name and a body.
+#[tactic(auto, unfolding(tsdl_grammar::specs::Grammar::has_name_and_body))]
+fn has_name_and_body(class: &Specifier) -> bool
+    ensures { result ≡ has_name_and_body class.now }
+{
+    matches!(
+        class,
+        Specifier::Struct(Some(_), ..)
+            | Specifier::Variant(Some(_), ..)
+            | Specifier::Enum(Some(_), ..)
+    )
+}
+
+/// The semicolon behind a compound with a name and a body.
+#[tactic(auto, unfolding(tsdl_grammar::specs::Steps::bind, tsdl_grammar::specs::Reading::compound_behind))]
+fn compound_behind<'t, 'a>(
+    class: Specifier,
+    tokens: &'t [Token<'a>],
+) -> Read<'t, 'a, TypeDeclaration>
+    ensures reads { Gives (λ x. (x.0, x.1.now)) result (compound_behind class tokens.now) }
+    ensures shorter { IfOk result (λ x. length x.1.now < length tokens.now) }
+{
+    if !has_name_and_body(&class) {
+        return Err(Failure::Syntax(tokens.len()));
+    }
+    let rest = expect(Symbol::Semicolon, tokens)?;
+    Ok((TypeDeclaration::Compound(class), rest))
+}
+
+/// `struct name { items } align(n)`, or its name alone.
+#[cycle(classes)]
+#[tactic(auto, unfolding(tsdl_grammar::specs::Steps::bind, tsdl_grammar::specs::Reading::struct_at))]
+fn structure<'t, 'a>(alloc: Global, depth: u32, tokens: &'t [Token<'a>]) -> Read<'t, 'a, Specifier>
+    ensures reads { Gives (λ x. (x.0, x.1.now)) result (struct_at (body_at depth) tokens.now) }
+    ensures shorter { IfOk result (λ x. length x.1.now < length tokens.now) }
+{
+    let rest = expect(Symbol::Struct, tokens)?;
+    let (name, rest) = optional_name(alloc, rest)?;
+    if begins(Symbol::OpenBrace, rest) {
+        let (items, rest) = body(alloc, depth, rest)?;
+        let (align, rest) = optional_align(rest)?;
+        return Ok((Specifier::Struct(name, items, align), rest));
+    }
+    match name {
+        Some(name) => Ok((Specifier::Named(Name::Struct(name), None), rest)),
+        None => Err(Failure::Syntax(rest.len())),
+    }
+}
+
+/// `variant name <tag> { items }`, or its name and tag alone.
+#[cycle(classes)]
+#[tactic(auto, unfolding(tsdl_grammar::specs::Steps::bind, tsdl_grammar::specs::Reading::variant_at))]
+fn variant<'t, 'a>(alloc: Global, depth: u32, tokens: &'t [Token<'a>]) -> Read<'t, 'a, Specifier>
+    ensures reads { Gives (λ x. (x.0, x.1.now)) result (variant_at (body_at depth) tokens.now) }
+    ensures shorter { IfOk result (λ x. length x.1.now < length tokens.now) }
+{
+    let rest = expect(Symbol::Variant, tokens)?;
+    let (name, rest) = optional_name(alloc, rest)?;
+    let (tag, rest) = optional_tag(alloc, rest)?;
+    if begins(Symbol::OpenBrace, rest) {
+        let (items, rest) = body(alloc, depth, rest)?;
+        return Ok((Specifier::Variant(name, tag, items), rest));
+    }
+    match name {
+        Some(name) => Ok((Specifier::Named(Name::Variant(name), tag), rest)),
+        None => Err(Failure::Syntax(rest.len())),
+    }
+}
+
+/// A struct, a variant or an enum.
+#[cycle(classes)]
+#[tactic(auto, unfolding(tsdl_grammar::specs::Steps::bind, tsdl_grammar::specs::Reading::compound_at))]
+fn compound<'t, 'a>(alloc: Global, depth: u32, tokens: &'t [Token<'a>]) -> Read<'t, 'a, Specifier>
+    ensures reads { Gives (λ x. (x.0, x.1.now)) result (compound_at (body_at depth) depth tokens.now) }
+    ensures shorter { IfOk result (λ x. length x.1.now < length tokens.now) }
+{
+    if begins(Symbol::Struct, tokens) {
+        return structure(alloc, depth, tokens);
+    }
+    if begins(Symbol::Variant, tokens) {
+        return variant(alloc, depth, tokens);
+    }
+    enumeration(alloc, depth, tokens)
+}
+
+/// A class, with or without `const` before it. Before a declarator a typename leaves it the run's last
+/// word.
+#[cycle(classes)]
+#[tactic(auto, unfolding(tsdl_grammar::specs::Steps::bind, tsdl_grammar::specs::Reading::class_at, tsdl_grammar::specs::Reading::plain_at))]
+pub(crate) fn class<'t, 'a>(
+    alloc: Global,
+    before_declarator: bool,
+    depth: u32,
+    tokens: &'t [Token<'a>],
+) -> Read<'t, 'a, Specifier>
+    ensures reads { Gives (λ x. (x.0, x.1.now)) result (class_at (body_at depth) before_declarator depth tokens.now) }
+    ensures within { IfOk result (λ x. length x.1.now ≤ length tokens.now) }
+{
+    let tokens = past(Symbol::Const, tokens);
+    if begins(Symbol::Integer, tokens) {
+        return integer(alloc, depth, tokens);
+    }
+    if begins(Symbol::FloatingPoint, tokens) {
+        return floating_point(alloc, depth, tokens);
+    }
+    if begins(Symbol::String, tokens) {
+        return string(alloc, depth, tokens);
+    }
+    if begins_compound(tokens) {
+        return compound(alloc, depth, tokens);
+    }
+    let (words, rest) = typename(alloc, before_declarator, tokens)?;
+    Ok((Specifier::Named(Name::Plain(words), None), rest))
+}
+
+/// `typealias class := words;`
+#[cycle(classes)]
+#[tactic(auto, unfolding(tsdl_grammar::specs::Steps::bind, tsdl_grammar::specs::Reading::alias_at))]
+fn alias<'t, 'a>(
+    alloc: Global,
+    depth: u32,
+    tokens: &'t [Token<'a>],
+) -> Read<'t, 'a, TypeDeclaration>
+    ensures reads { Gives (λ x. (x.0, x.1.now)) result (alias_at (body_at depth) depth tokens.now) }
+    ensures shorter { IfOk result (λ x. length x.1.now < length tokens.now) }
+{
+    let rest = expect(Symbol::Typealias, tokens)?;
+    let (class, rest) = class(alloc, false, depth, rest)?;
+    let rest = expect(Symbol::Assign, rest)?;
+    let (words, rest) = typename(alloc, false, rest)?;
+    let rest = expect(Symbol::Semicolon, rest)?;
+    Ok((TypeDeclaration::Alias(class, words), rest))
+}
+
+/// `typedef class declarator, ..;`
+#[cycle(classes)]
+#[tactic(auto, unfolding(tsdl_grammar::specs::Steps::bind, tsdl_grammar::specs::Reading::definition_at))]
+fn definition<'t, 'a>(
+    alloc: Global,
+    depth: u32,
+    tokens: &'t [Token<'a>],
+) -> Read<'t, 'a, TypeDeclaration>
+    ensures reads { Gives (λ x. (x.0, x.1.now)) result (definition_at (body_at depth) depth tokens.now) }
+    ensures shorter { IfOk result (λ x. length x.1.now < length tokens.now) }
+{
+    let rest = expect(Symbol::Typedef, tokens)?;
+    let (class, rest) = class(alloc, true, depth, rest)?;
+    let (declarators, rest) = declarators(alloc, rest)?;
+    let rest = expect(Symbol::Semicolon, rest)?;
+    Ok((TypeDeclaration::Definition(class, declarators), rest))
+}
+
+/// A typealias, a typedef, or a compound with a name and a body.
+#[tactic(auto, unfolding(tsdl_grammar::specs::Steps::bind, tsdl_grammar::specs::Reading::typedecl_at))]
+pub(crate) fn type_declaration<'t, 'a>(
+    alloc: Global,
+    depth: u32,
+    tokens: &'t [Token<'a>],
+) -> Read<'t, 'a, TypeDeclaration>
+    ensures reads { Gives (λ x. (x.0, x.1.now)) result (typedecl_at (body_at depth) depth tokens.now) }
+    ensures shorter { IfOk result (λ x. length x.1.now < length tokens.now) }
+{
+    if begins(Symbol::Typealias, tokens) {
+        return alias(alloc, depth, tokens);
+    }
+    if begins(Symbol::Typedef, tokens) {
+        return definition(alloc, depth, tokens);
+    }
+    let (class, rest) = compound(alloc, depth, tokens)?;
+    compound_behind(class, rest)
+}
+
+/// A declaration of fields or of names.
+#[cycle(classes)]
+#[tactic(auto, unfolding(tsdl_grammar::specs::Steps::bind, tsdl_grammar::specs::Reading::item_at))]
+fn item<'t, 'a>(alloc: Global, depth: u32, tokens: &'t [Token<'a>]) -> Read<'t, 'a, Item>
+    ensures reads { Gives (λ x. (x.0, x.1.now)) result (item_at (body_at depth) depth tokens.now) }
+    ensures shorter { IfOk result (λ x. length x.1.now < length tokens.now) }
+{
+    if begins(Symbol::Typealias, tokens) {
+        let (names, rest) = alias(alloc, depth, tokens)?;
+        return Ok((Item::Names(names), rest));
+    }
+    if begins(Symbol::Typedef, tokens) {
+        let (names, rest) = definition(alloc, depth, tokens)?;
+        return Ok((Item::Names(names), rest));
+    }
+    if !begins_compound(tokens) {
+        let (class, rest) = class(alloc, true, depth, tokens)?;
+        return fields_behind(alloc, class, rest);
+    }
+    let (class, rest) = compound(alloc, depth, tokens)?;
+    if begins(Symbol::Semicolon, rest) {
+        let (names, rest) = compound_behind(class, rest)?;
+        return Ok((Item::Names(names), rest));
+    }
+    fields_behind(alloc, class, rest)
+}
+
+/// The items up to a closing brace.
+#[cycle(classes)]
+fn items<'t, 'a>(alloc: Global, depth: u32, tokens: &'t [Token<'a>]) -> Read<'t, 'a, List<Item>>
+    ensures reads { Gives (λ x. (x.0, x.1.now)) result (all before_close (item_at (body_at depth) depth) tokens.now) }
+    ensures within { IfOk result (λ x. length x.1.now ≤ length tokens.now) }
+{
+    let mut found = Vec::new(alloc);
+    let (_, mut rest) = tokens.split_at(0);
+    'turns: while goes_on(rest) {
+        let (next, after) = item(alloc, depth, rest)?;
+        found.push(next)?;
+        rest = after;
+    }
+    Ok((List::from_vec(found), rest))
+}
+
+/// Items in braces, of which so many more may nest.
+#[cycle(classes)]
+#[tactic(auto, using(crate::proofs::Bodies::body_is), unfolding(tsdl_grammar::specs::Steps::bind))]
+fn body<'t, 'a>(alloc: Global, depth: u32, tokens: &'t [Token<'a>]) -> Read<'t, 'a, List<Item>>
+    ensures reads { Gives (λ x. (x.0, x.1.now)) result (body_at depth tokens.now) }
+    ensures shorter { IfOk result (λ x. length x.1.now < length tokens.now) }
+{
+    let rest = open(depth, tokens)?;
+    let (items, rest) = items(alloc, depth - 1, rest)?;
+    let rest = expect(Symbol::CloseBrace, rest)?;
+    Ok((items, rest))
+}

@@ -1,0 +1,46 @@
+//! Why a part of the tree could not be read.
+
+ghost use Rattle.std.specs.Prelude.{◌≡◌};
+ghost use Rattle.tsdl_parse.specs.declared.failure.Failure.TheVariants.{Memory};
+
+use ctf_list::NoMemory;
+use std::alloc::{AllocError, AllocFailed};
+use tsdl_text::Token;
+
+/// Why tokens could not be read.
+#[derive(Debug, Drop)]
+pub(crate) enum Failure {
+    /// A growth was refused.
+    Memory,
+    /// No tree is spelled. So many tokens were left.
+    Syntax(usize),
+    /// Braces nest too deep.
+    Deep,
+}
+
+/// What is read and the tokens behind it.
+pub(crate) type Read<'t, 'a, T> = Result<(T, &'t [Token<'a>]), Failure>;
+
+impl From<NoMemory> for Failure {
+    ghost from_gives = { λ _ e. e ≡ Memory };
+
+    fn from(_refused: NoMemory) -> Failure {
+        Failure::Memory
+    }
+}
+
+impl From<AllocError> for Failure {
+    ghost from_gives = { λ _ e. e ≡ Memory };
+
+    fn from(_refused: AllocError) -> Failure {
+        Failure::Memory
+    }
+}
+
+impl<T: Drop> From<AllocFailed<T>> for Failure {
+    ghost from_gives = { λ _ e. e ≡ Memory };
+
+    fn from(_refused: AllocFailed<T>) -> Failure {
+        Failure::Memory
+    }
+}
