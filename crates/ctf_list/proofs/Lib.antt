@@ -1,0 +1,3 @@
+pub mod Options
+pub mod Prefix
+pub mod Row
