@@ -1,23 +1,28 @@
 //! Numbers that stand at any bit of a list of bytes, where bytes come from, and where they go.
 #![tactic(auto)]
 
+mod align;
+mod drip_sink;
 mod failing_sink;
 mod from_read;
 mod number;
+mod parts;
+mod rest;
+mod signed;
 mod sink;
 mod slices;
 mod source;
 mod to_write;
 mod vec_sink;
 
+pub use align::up;
+pub use drip_sink::DripSink;
 pub use failing_sink::FailingSink;
 pub use from_read::FromRead;
 pub use number::{Order, uint};
+pub use signed::sint;
 pub use sink::{Sink, SinkFault};
-pub use slices::{FailingSource, SliceSource};
+pub use slices::{FailingSource, PieceSource, SliceSource};
 pub use source::{Ending, Source, SourceFault};
 pub use to_write::ToWrite;
 pub use vec_sink::VecSink;
-
-#[cfg(test)]
-mod tests;

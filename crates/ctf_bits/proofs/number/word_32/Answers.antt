@@ -1,0 +1,15 @@
+use Rattle.std.proofs.Common.{◌∙◌, ap, sym}
+use Rattle.ctf_bits.specs.declared.number.Order.{Order}
+use Rattle.ctf_bits.specs.Number.{number}
+use Rattle.ctf_bits.proofs.Words.{little_from-number, big_from-number}
+use Rattle.ctf_bits.proofs.number.word_32.Goals as goal
+
+pub returns-in-Le : goal.returns-in-Le
+returns-in-Le c =
+    c.read_u32.ensures ∙ little_from-number c.args.bytes.now 0 4 (λ j. (c.type_inv.bytes j).fits)
+    ∙ ap (λ (order : Order). number order c.args.bytes.now 0 32) (sym c.in-Le.is)
+
+pub returns-in-Be : goal.returns-in-Be
+returns-in-Be c =
+    c.read_u32-in-Be.ensures ∙ big_from-number c.args.bytes.now 0 4 (λ j. (c.type_inv.bytes j).fits)
+    ∙ ap (λ (order : Order). number order c.args.bytes.now 0 32) (sym c.in-Be.is)

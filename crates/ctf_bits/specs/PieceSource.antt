@@ -1,0 +1,16 @@
+-- What a source over a slice has given, and what is left.
+use Rattle.std.specs.Prelude.{ℕ, List}
+use Rattle.ctf_bits.specs.Rest as rest
+use Rattle.ctf_bits.specs.declared.slices.PieceSource.{PieceSource}
+
+-- the bytes that are left
+abbrev pub left_of : PieceSource → List ℕ
+left_of source = rest.left_of source.rest
+
+-- how many bytes were given
+abbrev pub given_of : PieceSource → ℕ
+given_of source = rest.given_of source.rest
+
+-- the most bytes that it gives at a call
+abbrev pub piece_of : PieceSource → ℕ
+piece_of source = source.piece

@@ -1,0 +1,28 @@
+//! Numbers in two's complement.
+
+ghost use Rattle.std.specs.Prelude.{◌≡◌, ◌+◌, ◌-◌, ◌*◌, ◌/◌, ◌^◌, ◌<◌, ◌≤◌, ◌-ℤ◌, pos, length, SomeIff};
+ghost use Rattle.ctf_bits.specs.Number.{signed_number};
+
+use crate::number::{Order, uint};
+
+/// The number in two's complement of `n` bits, 1 to 64, at the bit `pos` of some bytes: `None` exactly
+/// where these bits pass the end of the bytes (CTF 1.8.3, section 4.1.5).
+pub fn sint(bytes: &[u8], pos: u64, n: u32, order: Order) -> Option<i64>
+    requires some_bits { 1 ≤ n }
+    requires in_a_word { n ≤ 64 }
+    ensures { SomeIff result (pos + n ≤ 8 * length bytes.now) (signed_number order bytes.now pos n) }
+{
+    let value = uint(bytes, pos, n, order)?;
+    Some(twos_complement(value, n))
+}
+
+/// A number of `n` bits, less 2 ^ n where its top bit is set.
+fn twos_complement(value: u64, n: u32) -> i64
+    requires some_bits { 1 ≤ n }
+    requires in_a_word { n ≤ 64 }
+    requires bits { value < 2 ^ n }
+    ensures { result ≡ pos value -ℤ pos (value / 2 ^ (n - 1) * 2 ^ n) }
+{
+    let above = 64 - n;
+    (value << above).cast_signed() >> above
+}
