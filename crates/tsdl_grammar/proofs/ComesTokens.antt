@@ -1,25 +1,16 @@
 -- What a token is not, when it is something else.
-use Rattle.std.proofs.Common.{◌≡◌, ℕ, ◌⊎◌, inl, inr, Bool, true, false, List, [], ◌∷◌, Some, None, refl, ap, ◌∙◌}
-use Rattle.std.specs.Prelude.{nat_eq, nat_le, nat_lt, ◌&&◌}
-use Rattle.std.proofs.lemmas.Bool.{eqb-true}
+use Rattle.std.proofs.Common.{◌≡◌, ℕ, inl, inr, true, false, List, [], ◌∷◌, Some, None, refl, ap, ◌∙◌}
+use Rattle.std.proofs.lemmas.Bool.{cases_Bool}
 use Rattle.tsdl_text.specs.declared.token.Symbol.{Symbol}
 use Rattle.tsdl_text.specs.declared.token.Kind.{Kind}
 use Rattle.tsdl_text.specs.declared.token.Kind.TheVariants as kinds
 use Rattle.tsdl_text.specs.declared.token.Token.{Token}
-use Rattle.tsdl_text.specs.Symbols.{code, is_symbol, is_word, is_typeword, is_identifier, is_string, constant_of}
+use Rattle.tsdl_text.specs.Symbols.{is_keyword, is_type_keyword, is_same, is_symbol, is_word, is_typeword, is_identifier, is_string, constant_of}
+use Rattle.tsdl_text.proofs.SameSymbols.{same_true}
 use Rattle.tsdl_grammar.specs.Terminals.{is, Is, IsIdentifier, IsConstant, IsString, IsWord}
 use Rattle.tsdl_grammar.specs.Spelling.{run}
 use Rattle.tsdl_grammar.specs.Steps.{past, begins, begins_identifier}
-
--- two symbols differ
-other_kind : (a b : Symbol) (q : Kind) → nat_eq (code a) (code b) ≡ false → is_symbol a q ≡ true → is_symbol b q ≡ false
-other_kind a b kinds.Identifier d e = absurd cc
-other_kind a b (kinds.Constant n) d e = absurd cc
-other_kind a b kinds.String d e = absurd cc
-other_kind a b (kinds.Symbol c) d e = ap (λ n. nat_eq n (code b)) (eqb-true (code c) (code a) e) ∙ d
-
-pub is_other : (b : Symbol) {a : Symbol} {t : Token} → Is a t → nat_eq (code a) (code b) ≡ false → is b t ≡ false
-is_other b {a} {t} i d = other_kind a b t.kind d i.holds
+use Rattle.tsdl_grammar.proofs.Room.{is_other}
 
 not_identifier : (a : Symbol) (q : Kind) → is_symbol a q ≡ true → is_identifier q ≡ false
 not_identifier a kinds.Identifier e = absurd cc
@@ -30,23 +21,19 @@ not_identifier a (kinds.Symbol c) e = refl
 pub no_identifier : {a : Symbol} {t : Token} → Is a t → is_identifier t.kind ≡ false
 no_identifier {a} {t} i = not_identifier a t.kind i.holds
 
-symbol_typeword : (a : Symbol) (q : Kind) → is_symbol a q ≡ true → is_typeword q ≡ (nat_le 15 (code a) && nat_lt (code a) 28)
+symbol_typeword : (a : Symbol) (q : Kind) → is_symbol a q ≡ true → is_typeword q ≡ is_type_keyword a
 symbol_typeword a kinds.Identifier e = absurd cc
 symbol_typeword a (kinds.Constant n) e = absurd cc
 symbol_typeword a kinds.String e = absurd cc
-symbol_typeword a (kinds.Symbol c) e = ap (λ n. nat_le 15 n && nat_lt n 28) (eqb-true (code c) (code a) e)
+symbol_typeword a (kinds.Symbol c) e = ap is_type_keyword (same_true c a e)
 
--- a symbol is a typeword by its place
-pub typeword_by : {a : Symbol} {t : Token} → Is a t → is_typeword t.kind ≡ (nat_le 15 (code a) && nat_lt (code a) 28)
+-- a symbol is a typeword where it is such a keyword
+pub typeword_by : {a : Symbol} {t : Token} → Is a t → is_typeword t.kind ≡ is_type_keyword a
 typeword_by {a} {t} i = symbol_typeword a t.kind i.holds
 
-test : (b : Bool) → (b ≡ true) ⊎ (b ≡ false)
-test true = inl refl
-test false = inr refl
-
 -- a typeword is no other symbol
-pub typeword_other : (b : Symbol) (t : Token) → is_typeword t.kind ≡ true → (nat_le 15 (code b) && nat_lt (code b) 28) ≡ false → is b t ≡ false
-typeword_other b t w d = elim (test (is b t)) [ inl e ↦ let q = symbol_typeword b t.kind e in absurd (cc (q, w, d)) | inr e ↦ e ]
+pub typeword_other : (b : Symbol) (t : Token) → is_typeword t.kind ≡ true → is_type_keyword b ≡ false → is b t ≡ false
+typeword_other b t w d = elim (cases_Bool (is b t)) [ inl e ↦ let q = symbol_typeword b t.kind e in absurd (cc (q, w, d)) | inr e ↦ e ]
 
 identifier_kind : (b : Symbol) (q : Kind) → is_identifier q ≡ true → is_symbol b q ≡ false
 identifier_kind b kinds.Identifier e = refl
@@ -69,19 +56,19 @@ typeword_of {t} i = identifier_typeword t.kind i.holds
 
 -- ---- words, strings and constants
 
-symbol_word : (a : Symbol) (q : Kind) → is_symbol a q ≡ true → is_word q ≡ nat_lt (code a) 28
+symbol_word : (a : Symbol) (q : Kind) → is_symbol a q ≡ true → is_word q ≡ is_keyword a
 symbol_word a kinds.Identifier e = absurd cc
 symbol_word a (kinds.Constant n) e = absurd cc
 symbol_word a kinds.String e = absurd cc
-symbol_word a (kinds.Symbol c) e = ap (λ n. nat_lt n 28) (eqb-true (code c) (code a) e)
+symbol_word a (kinds.Symbol c) e = ap is_keyword (same_true c a e)
 
--- a symbol is a word by its place
-pub word_by : {a : Symbol} {t : Token} → Is a t → is_word t.kind ≡ nat_lt (code a) 28
+-- a symbol is a word where it is a keyword
+pub word_by : {a : Symbol} {t : Token} → Is a t → is_word t.kind ≡ is_keyword a
 word_by {a} {t} i = symbol_word a t.kind i.holds
 
 -- a word is no punctuator
-pub word_other : (b : Symbol) {t : Token} → IsWord t → nat_lt (code b) 28 ≡ false → is b t ≡ false
-word_other b {t} w d = elim (test (is b t)) [ inl e ↦ let q = symbol_word b t.kind e in absurd (cc (q, w.holds, d)) | inr e ↦ e ]
+pub word_other : (b : Symbol) {t : Token} → IsWord t → is_keyword b ≡ false → is b t ≡ false
+word_other b {t} w d = elim (cases_Bool (is b t)) [ inl e ↦ let q = symbol_word b t.kind e in absurd (cc (q, w.holds, d)) | inr e ↦ e ]
 
 word_constant : (q : Kind) → is_word q ≡ true → constant_of q ≡ None
 word_constant kinds.Identifier e = refl
@@ -130,7 +117,7 @@ constant_other b {n} {t} i = ap (is_symbol b) (constant_kind t.kind n i.holds)
 
 -- ---- what stands first
 
-pub begins_other : (b a : Symbol) (ts : List Token) → begins a ts ≡ true → nat_eq (code a) (code b) ≡ false → begins b ts ≡ false
+pub begins_other : (b a : Symbol) (ts : List Token) → begins a ts ≡ true → is_same a b ≡ false → begins b ts ≡ false
 begins_other b a [] e d = refl
 begins_other b a (t ∷ ts) e d = is_other b {a = a} {t = t} (record { holds = e }) d
 
@@ -148,11 +135,11 @@ past_none a [] e = refl
 past_none a (t ∷ ts) e = rw e refl
 
 -- no typeword stands first
-pub no_run : {a : Symbol} {t : Token} (post : List Token) → Is a t → (nat_le 15 (code a) && nat_lt (code a) 28) ≡ false → run (t ∷ post) ≡ 0
+pub no_run : {a : Symbol} {t : Token} (post : List Token) → Is a t → is_type_keyword a ≡ false → run (t ∷ post) ≡ 0
 unfolding run
 no_run {a} {t} post i d = let e : is_typeword t.kind ≡ false = typeword_by i ∙ d in rw e refl
 
-pub begins_no_run : (a : Symbol) (ts : List Token) → begins a ts ≡ true → (nat_le 15 (code a) && nat_lt (code a) 28) ≡ false → run ts ≡ 0
+pub begins_no_run : (a : Symbol) (ts : List Token) → begins a ts ≡ true → is_type_keyword a ≡ false → run ts ≡ 0
 unfolding run
 begins_no_run a [] e d = refl
 begins_no_run a (t ∷ ts) e d = no_run {a = a} {t = t} ts (record { holds = e }) d

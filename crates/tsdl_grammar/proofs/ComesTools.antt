@@ -8,7 +8,7 @@ use Rattle.tsdl_text.specs.declared.token.Symbol.TheVariants as s
 use Rattle.tsdl_text.specs.declared.token.Token.{Token}
 use Rattle.tsdl_grammar.specs.Terminals.{Is}
 use Rattle.tsdl_grammar.specs.Repeats.{Many, Listed}
-use Rattle.tsdl_grammar.specs.Steps.{Refusal, deep, ◌>>=◌, bind, Parse, expect, open_at, loop, all, optional}
+use Rattle.tsdl_grammar.specs.Steps.{Refusal, deep, ◌>>=◌, Parse, expect, open_at, loop, all, optional}
 
 -- the reading comes to this, unless braces nest too deep
 pub record Comes {A : Type 0} (r : Result A Refusal) (x : A) : Type 0 where
@@ -22,12 +22,10 @@ comes_deep e = record { comes = inr e }
 
 -- a step, and then the rest
 pub comes_then : {A B : Type 0} {r : Result A Refusal} (f : A → Result B Refusal) {x : A} {y : B} → Comes r x → Comes (f x) y → Comes (r >>= f) y
-unfolding bind
 comes_then {r = r} f {x = x} {y = y} h g = elim h.comes [ inl e ↦ subst (λ z. Comes (z >>= f) y) (sym e) g | inr e ↦ comes_deep (ap (λ z. z >>= f) e) ]
 
 -- a first step that is refused for its depth
 pub deep_then : {A B : Type 0} {r : Result A Refusal} (f : A → Result B Refusal) {y : B} → r ≡ Err deep → Comes (r >>= f) y
-unfolding bind
 deep_then f e = comes_deep (ap (λ z. z >>= f) e)
 
 -- another reading that is the same
@@ -62,11 +60,11 @@ module _ {A : Type 0} (go : List Token → Bool) (item : Parse A) where
 -- ---- braces
 
 pub open_deep : {o : Token} (ts : List Token) → Is s.OpenBrace o → open_at 0 (o ∷ ts) ≡ Err deep
-unfolding open_at bind
+unfolding open_at
 open_deep {o} ts i = rw (expect_is s.OpenBrace o ts i) refl
 
 pub open_is : {o : Token} (d : ℕ) (ts : List Token) → Is s.OpenBrace o → open_at (suc d) (o ∷ ts) ≡ Ok ts
-unfolding open_at bind
+unfolding open_at
 open_is {o} d ts i = let e : (suc d == 0) ≡ false = grind (arith, nat_tests) in rw (expect_is s.OpenBrace o ts i) (rw e refl)
 
 -- an opening brace, and what stands behind it

@@ -1,31 +1,31 @@
 -- Blocks and whole trees that are spelled so are read, unless braces nest too deep.
 use Rattle.std.proofs.Common.{◌≡◌, ℕ, ◌-◌, ◌≤◌, true, false, List, [], ◌∷◌, ◌++◌, length, Some, None, refl, append_assoc, arith}
-use Rattle.std.specs.Prelude.{nat_eq}
 use Rattle.std.proofs.lemmas.List.{append-nil, length-append}
 use Rattle.tsdl_text.specs.declared.token.Symbol.{Symbol}
 use Rattle.tsdl_text.specs.declared.token.Symbol.TheVariants as s
 use Rattle.tsdl_text.specs.declared.token.Token.{Token}
-use Rattle.tsdl_text.specs.Symbols.{code}
-use Rattle.tsdl_grammar.specs.declared.tree.Setting.{Setting}
-use Rattle.tsdl_grammar.specs.declared.tree.Specifier.{Specifier}
-use Rattle.tsdl_grammar.specs.declared.tree.TypeDeclaration.{TypeDeclaration}
-use Rattle.tsdl_grammar.specs.declared.tree.BlockEntry.{BlockEntry}
-use Rattle.tsdl_grammar.specs.declared.tree.BlockEntry.TheVariants as entries
-use Rattle.tsdl_grammar.specs.declared.tree.BlockKind.{BlockKind}
-use Rattle.tsdl_grammar.specs.declared.tree.TableKind.{TableKind}
-use Rattle.tsdl_grammar.specs.declared.tree.Declaration.{Declaration}
-use Rattle.tsdl_grammar.specs.declared.tree.Declaration.TheVariants as declarations
-use Rattle.tsdl_grammar.specs.declared.tree.Tree.{Tree}
+use Rattle.tsdl_text.specs.Symbols.{is_same}
+use Rattle.tsdl_tree.specs.declared.tree.Setting.{Setting}
+use Rattle.tsdl_tree.specs.declared.tree.Specifier.{Specifier}
+use Rattle.tsdl_tree.specs.declared.tree.TypeDeclaration.{TypeDeclaration}
+use Rattle.tsdl_tree.specs.declared.tree.BlockEntry.{BlockEntry}
+use Rattle.tsdl_tree.specs.declared.tree.BlockEntry.TheVariants as entries
+use Rattle.tsdl_tree.specs.declared.tree.BlockKind.{BlockKind}
+use Rattle.tsdl_tree.specs.declared.tree.TableKind.{TableKind}
+use Rattle.tsdl_tree.specs.declared.tree.Declaration.{Declaration}
+use Rattle.tsdl_tree.specs.declared.tree.Declaration.TheVariants as declarations
+use Rattle.tsdl_tree.specs.declared.tree.Tree.{Tree}
 use Rattle.tsdl_grammar.specs.Terminals.{Words, Is, IsEntryWord}
 use Rattle.tsdl_grammar.specs.Repeats.{Many}
-use Rattle.tsdl_grammar.specs.Grammar.{IsPath, IsSetting, AreAttributes, IsCompound, IsClass, IsTypedecl, IsBlockWord, IsTableWord, IsEntry, IsDeclaration}
+use Rattle.tsdl_grammar.specs.Grammar.{IsPath, IsSetting, AreAttributes, IsClass, IsTypedecl, IsBlockWord, IsTableWord, IsEntry, IsDeclaration}
 use Rattle.tsdl_grammar.specs.Spelling.{Spells}
 use Rattle.tsdl_grammar.specs.Steps.{loop, all, begins, begins_declaration, before_close, before_end}
 use Rattle.tsdl_grammar.specs.Reading.{body_at, typedecl_at, class_behind, entry_at, block_kind, table_kind, block_at, table_at, declaration_at, tree_at}
 use Rattle.tsdl_grammar.proofs.ComesTools.{Comes, comes_is, comes_then, comes_token, comes_open, many_come}
-use Rattle.tsdl_grammar.proofs.ComesTokens.{is_other, no_run}
+use Rattle.tsdl_grammar.proofs.Room.{is_other}
+use Rattle.tsdl_grammar.proofs.ComesTokens.{no_run}
 use Rattle.tsdl_grammar.proofs.CompleteTerms.{path_comes, path_begins, setting_behind_comes, setting_begins, attributes_come}
-use Rattle.tsdl_grammar.proofs.CompleteCompounds.{ends_at, compound_other}
+use Rattle.tsdl_grammar.proofs.CompleteCompounds.{ends_at, Opens, IsEither, either_opens, opens_other}
 use Rattle.tsdl_grammar.proofs.CompleteBodies.{class_comes, typedecl_begins, typedecl_comes}
 
 -- ---- entries
@@ -46,20 +46,17 @@ unfolding entry_at
 entry_setting d post (IsSetting.setting {us = us} {e = e} {c = c} p i q j) z =
     rw z (rw (append_assoc, append_assoc) (comes_then _ (path_comes p (e ∷ (us ++ (c ∷ post))) (is_other s.Dot i refl)) (rw i.holds (comes_then _ (setting_behind_comes post i q j) (comes_is refl)))))
 
-compound_declares : {c : Specifier} {ts : List Token} → IsCompound c ts → (post : List Token) → begins_declaration (ts ++ post) ≡ true
-compound_declares (IsCompound.struct_name i n) post = rw i.holds refl
-compound_declares (IsCompound.struct i p q r) post = rw i.holds refl
-compound_declares (IsCompound.variant_name i n p) post = rw (is_other s.Struct i refl, i.holds) refl
-compound_declares (IsCompound.variant i p q r) post = rw (is_other s.Struct i refl, i.holds) refl
-compound_declares (IsCompound.enum_name i n) post = rw (is_other s.Struct i refl, is_other s.Variant i refl, i.holds) refl
-compound_declares (IsCompound.enum i p q r) post = rw (is_other s.Struct i refl, is_other s.Variant i refl, i.holds) refl
+opens_declares : {ts : List Token} → Opens ts → begins_declaration ts ≡ true
+opens_declares (Opens.struct i) = rw i.holds refl
+opens_declares (Opens.variant i) = rw (is_other s.Struct i refl, i.holds) refl
+opens_declares (Opens.enum i) = rw (is_other s.Struct i refl, is_other s.Variant i refl, i.holds) refl
 
 typedecl_declares : {x : TypeDeclaration} {ts : List Token} → IsTypedecl x ts → (post : List Token) → begins_declaration (ts ++ post) ≡ true
 typedecl_declares (IsTypedecl.alias i p j q l) post = rw (is_other s.Struct i refl, is_other s.Variant i refl, is_other s.Enum i refl, is_other s.Typedef i refl, i.holds) refl
 typedecl_declares (IsTypedecl.definition i p q l) post = rw (is_other s.Struct i refl, is_other s.Variant i refl, is_other s.Enum i refl, i.holds) refl
-typedecl_declares (IsTypedecl.declared p w l) post = rw append_assoc (compound_declares p _)
+typedecl_declares (IsTypedecl.declared p l) post = rw append_assoc (opens_declares (either_opens (IsEither.whole p) _))
 
-entry_typedecl : {x : TypeDeclaration} {ts : List Token} (d : ℕ) (post : List Token) → IsTypedecl x ts → Comes (entry_at (body_at d) d (ts ++ post)) (entries.Names x, post)
+entry_typedecl : {x : TypeDeclaration} {ts : List Token} (d : ℕ) (post : List Token) → IsTypedecl x ts → Comes (entry_at (body_at d) d (ts ++ post)) (entries.Types x, post)
 unfolding entry_at
 entry_typedecl d post p = rw (typedecl_declares p post) (comes_then _ (typedecl_comes p d post) (comes_is refl))
 
@@ -114,14 +111,14 @@ declaration_table : {k : TableKind} {t : Token} {x : Declaration × List Token} 
 unfolding declaration_at
 declaration_table d ts i h = rw (no_block_kind i, table_kind_is i) h
 
-typedecl_other : (b : Symbol) {x : TypeDeclaration} {ts : List Token} → IsTypedecl x ts → (post : List Token) → nat_eq (code s.Struct) (code b) ≡ false → nat_eq (code s.Variant) (code b) ≡ false → nat_eq (code s.Enum) (code b) ≡ false
-    → nat_eq (code s.Typedef) (code b) ≡ false → nat_eq (code s.Typealias) (code b) ≡ false → begins b (ts ++ post) ≡ false
+typedecl_other : (b : Symbol) {x : TypeDeclaration} {ts : List Token} → IsTypedecl x ts → (post : List Token) → is_same s.Struct b ≡ false → is_same s.Variant b ≡ false → is_same s.Enum b ≡ false
+    → is_same s.Typedef b ≡ false → is_same s.Typealias b ≡ false → begins b (ts ++ post) ≡ false
 typedecl_other b (IsTypedecl.alias i p j q l) post x y z u v = is_other b i v
 typedecl_other b (IsTypedecl.definition i p q l) post x y z u v = is_other b i u
-typedecl_other b (IsTypedecl.declared p w l) post x y z u v = rw append_assoc (compound_other b p _ x y z)
+typedecl_other b (IsTypedecl.declared p l) post x y z u v = rw append_assoc (opens_other b (either_opens (IsEither.whole p) _) x y z)
 
 declaration_typedecl : {x : TypeDeclaration} (d : ℕ) (ts post : List Token) → before_close ts ≡ true → begins s.Trace ts ≡ false → begins s.Stream ts ≡ false → begins s.Event ts ≡ false → begins s.Clock ts ≡ false → begins s.Env ts ≡ false → begins s.Callsite ts ≡ false
-    → Comes (typedecl_at (body_at d) d ts) (x, post) → Comes (declaration_at d ts) (declarations.Names x, post)
+    → Comes (typedecl_at (body_at d) d ts) (x, post) → Comes (declaration_at d ts) (declarations.Types x, post)
 unfolding declaration_at
 declaration_typedecl d [] post n x y z u v w h = absurd cc
 declaration_typedecl d (t ∷ ts) post n x y z u v w h = rw (x, y, z, u, v, w) (comes_then _ h (comes_is refl))

@@ -1,30 +1,35 @@
 -- Bodies and declarations of names that are spelled so are read, unless braces nest too deep.
-use Rattle.std.proofs.Common.{◌≡◌, ℕ, zero, suc, ◌≤◌, inl, inr, Bool, true, false, cond, List, [], ◌∷◌, ◌++◌, length, refl, sym, append_assoc, arith}
+use Rattle.std.proofs.Common.{◌≡◌, ℕ, zero, suc, ◌≤◌, inl, inr, Bool, true, false, cond, List, [], ◌∷◌, ◌++◌, length, Option, Some, refl, sym, append_assoc, arith}
 use Rattle.std.proofs.lemmas.List.{length-append}
 use Rattle.tsdl_text.specs.declared.token.Symbol.TheVariants as s
 use Rattle.tsdl_text.specs.declared.token.Token.{Token}
-use Rattle.tsdl_grammar.specs.declared.tree.Declarator.{Declarator}
-use Rattle.tsdl_grammar.specs.declared.tree.Specifier.{Specifier}
-use Rattle.tsdl_grammar.specs.declared.tree.TypeDeclaration.{TypeDeclaration}
-use Rattle.tsdl_grammar.specs.declared.tree.TypeDeclaration.TheVariants as typedecls
-use Rattle.tsdl_grammar.specs.declared.tree.Item.{Item}
-use Rattle.tsdl_grammar.specs.declared.tree.Item.TheVariants as items
-use Rattle.tsdl_grammar.specs.Terminals.{Words, Is}
+use Rattle.tsdl_tree.specs.declared.tree.Declarator.{Declarator}
+use Rattle.tsdl_tree.specs.declared.tree.Typename.{Typename}
+use Rattle.tsdl_tree.specs.declared.tree.Reference.{Reference}
+use Rattle.tsdl_tree.specs.declared.tree.Specifier.{Specifier}
+use Rattle.tsdl_tree.specs.declared.tree.Specifier.TheVariants as classes
+use Rattle.tsdl_tree.specs.declared.tree.Compound.{Compound}
+use Rattle.tsdl_tree.specs.declared.tree.TypeDeclaration.{TypeDeclaration}
+use Rattle.tsdl_tree.specs.declared.tree.TypeDeclaration.TheVariants as typedecls
+use Rattle.tsdl_tree.specs.declared.tree.Item.{Item}
+use Rattle.tsdl_tree.specs.declared.tree.Item.TheVariants as items
+use Rattle.tsdl_grammar.specs.Terminals.{Word, Is}
 use Rattle.tsdl_grammar.specs.Repeats.{Listed}
-use Rattle.tsdl_grammar.specs.Grammar.{IsTypename, IsDeclarator, HasNameAndBody, IsClass, IsPlain, IsCompound, IsBody, AreItems, IsItem, IsTypedecl}
+use Rattle.tsdl_grammar.specs.Grammar.{IsTypename, IsDeclarator, IsCompoundName, IsClass, IsPlain, IsCompound, IsBody, AreItems, IsItem, IsTypedecl}
 use Rattle.tsdl_grammar.specs.Spelling.{run}
 use Rattle.tsdl_grammar.specs.Steps.{Parse, loop, before_close}
 use Rattle.tsdl_grammar.specs.Reading.{fields_behind, compound_behind, compound_at, plain_at, class_at, alias_at, definition_at, typedecl_at, item_at, body_at}
 use Rattle.tsdl_grammar.proofs.ComesTools.{Comes, comes_is, comes_then, deep_then, comes_as, comes_token, comes_more, comes_end, open_deep, open_is, not_empty, shorter, no_turn}
-use Rattle.tsdl_grammar.proofs.ComesTokens.{is_other, no_run}
+use Rattle.tsdl_grammar.proofs.Room.{is_other}
+use Rattle.tsdl_grammar.proofs.ComesTokens.{no_run}
 use Rattle.tsdl_grammar.proofs.CompleteParts.{typename_comes, declarators_come}
-use Rattle.tsdl_grammar.proofs.CompleteCompounds.{Ends, ends_at, declarators_other, declarators_end, declarators_run, struct_name_comes, struct_comes, variant_name_comes, variant_comes, enum_name_comes, enum_comes, compound_is, compound_other}
-use Rattle.tsdl_grammar.proofs.CompleteClasses.{plain_integer, plain_floating_point, plain_string, plain_string_with, plain_compound, plain_typename, class_const, class_of_plain, class_compound, class_begins, compound_begins, NoDeclaration, class_or}
+use Rattle.tsdl_grammar.proofs.CompleteCompounds.{Ends, ends_at, declarators_other, declarators_end, declarators_run, struct_name_comes, struct_comes, variant_name_comes, variant_comes, enum_name_comes, enum_comes, Opens, IsEither, either_opens, opens_is, opens_other}
+use Rattle.tsdl_grammar.proofs.CompleteClasses.{plain_integer, plain_floating_point, plain_string, plain_string_with, plain_compound, plain_typename, class_const, class_of_plain, class_compound, class_begins, opens_begins, NoDeclaration, class_or}
 
 -- ---- declarations of names
 
-alias_comes : {t a e : Token} {c : Specifier} {ws : Words} (ts : List Token) {us : List Token} (body : Parse (List Item)) (d : ℕ) (post : List Token) → Is s.Typealias t → Is s.Assign a → IsTypename ws us → Is s.Semicolon e
-    → Comes (class_at body false d (ts ++ (a ∷ (us ++ (e ∷ post))))) (c, a ∷ (us ++ (e ∷ post))) → Comes (alias_at body d ((t ∷ (ts ++ (a ∷ (us ++ e ∷ [])))) ++ post)) (typedecls.Alias c ws, post)
+alias_comes : {t a e : Token} {c : Specifier} {n : Typename} (ts : List Token) {us : List Token} (body : Parse (List Item)) (d : ℕ) (post : List Token) → Is s.Typealias t → Is s.Assign a → IsTypename n us → Is s.Semicolon e
+    → Comes (class_at body false d (ts ++ (a ∷ (us ++ (e ∷ post))))) (c, a ∷ (us ++ (e ∷ post))) → Comes (alias_at body d ((t ∷ (ts ++ (a ∷ (us ++ e ∷ [])))) ++ post)) (typedecls.Alias c n, post)
 unfolding alias_at
 alias_comes {e = e} ts body d post i j q l h =
     rw (append_assoc, append_assoc) (comes_token _ i (comes_then _ h (comes_token _ j (comes_then _ (typename_comes q false (e ∷ post) (no_run post l refl)) (comes_token _ l (comes_is refl))))))
@@ -35,9 +40,9 @@ unfolding definition_at
 definition_comes {e = e} ts body d post i q l h =
     rw (append_assoc, append_assoc) (comes_token _ i (comes_then _ h (comes_then _ (declarators_come q e post l) (comes_token _ l (comes_is refl)))))
 
-behind_comes : {e : Token} {c : Specifier} (post : List Token) → HasNameAndBody c → Is s.Semicolon e → Comes (compound_behind c (e ∷ post)) (typedecls.Compound c, post)
+behind_comes : {e : Token} (n : Word) (c : Compound) (post : List Token) → Is s.Semicolon e → Comes (compound_behind (classes.Compound (Some n) c) (e ∷ post)) (typedecls.Compound n c, post)
 unfolding compound_behind
-behind_comes post w l = rw w.holds (comes_token _ l (comes_is refl))
+behind_comes n c post l = comes_token _ l (comes_is refl)
 
 fields_come : {c : Specifier} {ds : List Declarator} {us : List Token} (e : Token) (post : List Token) → Listed IsDeclarator ds us → Is s.Semicolon e → Comes (fields_behind c (us ++ (e ∷ post))) (items.Fields c ds, post)
 unfolding fields_behind
@@ -51,35 +56,35 @@ typedecl_definition : {t : Token} (ts : List Token) {x : TypeDeclaration × List
 unfolding typedecl_at
 typedecl_definition ts body d i h = rw (is_other s.Typealias i refl, i.holds) h
 
-typedecl_compound : {e : Token} {c : Specifier} {ts : List Token} (body : Parse (List Item)) (d : ℕ) (post : List Token) → IsCompound c ts → HasNameAndBody c → Is s.Semicolon e
-    → Comes (compound_at body d (ts ++ (e ∷ post))) (c, e ∷ post) → Comes (typedecl_at body d ((ts ++ e ∷ []) ++ post)) (typedecls.Compound c, post)
+typedecl_compound : {e : Token} {n : Word} {c : Compound} (ts : List Token) (body : Parse (List Item)) (d : ℕ) (post : List Token) → Opens (ts ++ (e ∷ post)) → Is s.Semicolon e
+    → Comes (compound_at body d (ts ++ (e ∷ post))) (classes.Compound (Some n) c, e ∷ post) → Comes (typedecl_at body d ((ts ++ e ∷ []) ++ post)) (typedecls.Compound n c, post)
 unfolding typedecl_at
-typedecl_compound {e} body d post p w l h =
-    rw (append_assoc, compound_other s.Typealias p (e ∷ post) refl refl refl, compound_other s.Typedef p (e ∷ post) refl refl refl) (comes_then _ h (behind_comes post w l))
+typedecl_compound ts body d post o l h =
+    rw (append_assoc, opens_other s.Typealias o refl refl refl, opens_other s.Typedef o refl refl refl) (comes_then _ h (behind_comes _ _ post l))
 
 -- ---- items
 
-item_alias : {t : Token} (ts : List Token) {post : List Token} {x : TypeDeclaration} (body : Parse (List Item)) (d : ℕ) → Is s.Typealias t → Comes (alias_at body d (t ∷ ts)) (x, post) → Comes (item_at body d (t ∷ ts)) (items.Names x, post)
+item_alias : {t : Token} (ts : List Token) {post : List Token} {x : TypeDeclaration} (body : Parse (List Item)) (d : ℕ) → Is s.Typealias t → Comes (alias_at body d (t ∷ ts)) (x, post) → Comes (item_at body d (t ∷ ts)) (items.Types x, post)
 unfolding item_at
 item_alias ts body d i h = rw i.holds (comes_then _ h (comes_is refl))
 
-item_definition : {t : Token} (ts : List Token) {post : List Token} {x : TypeDeclaration} (body : Parse (List Item)) (d : ℕ) → Is s.Typedef t → Comes (definition_at body d (t ∷ ts)) (x, post) → Comes (item_at body d (t ∷ ts)) (items.Names x, post)
+item_definition : {t : Token} (ts : List Token) {post : List Token} {x : TypeDeclaration} (body : Parse (List Item)) (d : ℕ) → Is s.Typedef t → Comes (definition_at body d (t ∷ ts)) (x, post) → Comes (item_at body d (t ∷ ts)) (items.Types x, post)
 unfolding item_at
 item_definition ts body d i h = rw (is_other s.Typealias i refl, i.holds) (comes_then _ h (comes_is refl))
 
-item_compound : {e : Token} {c : Specifier} {ts : List Token} (body : Parse (List Item)) (d : ℕ) (post : List Token) → IsCompound c ts → HasNameAndBody c → Is s.Semicolon e
-    → Comes (compound_at body d (ts ++ (e ∷ post))) (c, e ∷ post) → Comes (item_at body d ((ts ++ e ∷ []) ++ post)) (items.Names (typedecls.Compound c), post)
+item_compound : {e : Token} {n : Word} {c : Compound} (ts : List Token) (body : Parse (List Item)) (d : ℕ) (post : List Token) → Opens (ts ++ (e ∷ post)) → Is s.Semicolon e
+    → Comes (compound_at body d (ts ++ (e ∷ post))) (classes.Compound (Some n) c, e ∷ post) → Comes (item_at body d ((ts ++ e ∷ []) ++ post)) (items.Types (typedecls.Compound n c), post)
 unfolding item_at
-item_compound {e} body d post p w l h =
-    rw (append_assoc, compound_other s.Typealias p (e ∷ post) refl refl refl, compound_other s.Typedef p (e ∷ post) refl refl refl, compound_is p (e ∷ post))
-    (comes_then _ h (rw l.holds (comes_then _ (behind_comes post w l) (comes_is refl))))
+item_compound ts body d post o l h =
+    rw (append_assoc, opens_other s.Typealias o refl refl refl, opens_other s.Typedef o refl refl refl, opens_is o)
+    (comes_then _ h (rw l.holds (comes_then _ (behind_comes _ _ post l) (comes_is refl))))
 
 -- the fields of a compound
-fields_compound : {c : Specifier} {ds : List Declarator} {ts us : List Token} (body : Parse (List Item)) (d : ℕ) (e : Token) (post : List Token) → IsCompound c ts → Listed IsDeclarator ds us → Is s.Semicolon e
-    → Comes (compound_at body d (ts ++ (us ++ (e ∷ post)))) (c, us ++ (e ∷ post)) → Comes (item_at body d (ts ++ (us ++ (e ∷ post)))) (items.Fields c ds, post)
+fields_compound : {c : Specifier} {ds : List Declarator} (ts : List Token) {us : List Token} (body : Parse (List Item)) (d : ℕ) (e : Token) (post : List Token) → Opens ts → Listed IsDeclarator ds us → Is s.Semicolon e
+    → Comes (compound_at body d ts) (c, us ++ (e ∷ post)) → Comes (item_at body d ts) (items.Fields c ds, post)
 unfolding item_at
-fields_compound {us = us} body d e post p q l h =
-    rw (compound_other s.Typealias p (us ++ (e ∷ post)) refl refl refl, compound_other s.Typedef p (us ++ (e ∷ post)) refl refl refl, compound_is p (us ++ (e ∷ post)))
+fields_compound ts body d e post o q l h =
+    rw (opens_other s.Typealias o refl refl refl, opens_other s.Typedef o refl refl refl, opens_is o)
     (comes_then _ h (rw (declarators_other s.Semicolon q (e ∷ post)) (fields_come e post q l)))
 
 -- the fields of another class
@@ -92,7 +97,7 @@ item_fields : {c : Specifier} {ds : List Declarator} {ts us : List Token} (body 
     → Comes (class_at body true d (ts ++ (us ++ (e ∷ post)))) (c, us ++ (e ∷ post)) → Comes (item_at body d ((ts ++ (us ++ e ∷ [])) ++ post)) (items.Fields c ds, post)
 item_fields {ts = ts} {us = us} body d e post p q l h =
     rw (append_assoc, append_assoc) (elim (class_or p (us ++ (e ∷ post))) [
-      | inl k ↦ fields_compound body d e post k q l (comes_as (sym (class_compound body true d (us ++ (e ∷ post)) k)) h)
+      | inl k ↦ let o = either_opens k (us ++ (e ∷ post)) in fields_compound (ts ++ (us ++ (e ∷ post))) body d e post o q l (comes_as (sym (class_compound body true d o)) h)
       | inr z ↦ fields_other (ts ++ (us ++ (e ∷ post))) body d e post z q l h
     ])
 
@@ -100,7 +105,7 @@ item_fields {ts = ts} {us = us} body d e post p q l h =
 pub typedecl_begins : {x : TypeDeclaration} {ts : List Token} → IsTypedecl x ts → (post : List Token) → before_close (ts ++ post) ≡ true
 typedecl_begins (IsTypedecl.alias i p j q l) post = rw (is_other s.CloseBrace i refl) refl
 typedecl_begins (IsTypedecl.definition i p q l) post = rw (is_other s.CloseBrace i refl) refl
-typedecl_begins (IsTypedecl.declared p w l) post = rw append_assoc (compound_begins p _)
+typedecl_begins (IsTypedecl.declared p l) post = rw append_assoc (opens_begins (either_opens (IsEither.whole p) _))
 
 item_begins : {x : Item} {ts : List Token} → IsItem x ts → (post : List Token) → before_close (ts ++ post) ≡ true
 item_begins (IsItem.fields p q l) post = rw append_assoc (class_begins p _)
@@ -121,6 +126,11 @@ full_body {c = c} ts d post i j h =
 close_ends : (body : Parse (List Item)) (d n : ℕ) (c : Token) (post : List Token) → Is s.CloseBrace c → Comes (loop before_close (item_at body d) n (c ∷ post)) ([], c ∷ post)
 close_ends body d n c post j = comes_end _ _ n (c ∷ post) (rw j.holds refl)
 
+compound_name_comes : {r : Reference} {ts : List Token} → IsCompoundName r ts → (d : ℕ) (post : List Token) → Ends post → Comes (compound_at (body_at d) d (ts ++ post)) (classes.Named r, post)
+compound_name_comes (IsCompoundName.struct i n) d post z = struct_name_comes (body_at d) d post i n z
+compound_name_comes (IsCompoundName.variant i n p) d post z = variant_name_comes (body_at d) d post i n p z
+compound_name_comes (IsCompoundName.enum i n) d post z = enum_name_comes (body_at d) d post i n z
+
 mutual
   pub class_comes : {c : Specifier} {ts : List Token} → IsClass c ts → (d : ℕ) (before : Bool) (post : List Token) → Ends post → run post ≡ cond before 1 0 → Comes (class_at (body_at d) before d (ts ++ post)) (c, post)
   class_comes (IsClass.plain p) d before post z r = class_of_plain (body_at d) before d post p r (plain_comes p d before post z r)
@@ -131,15 +141,13 @@ mutual
   plain_comes (IsPlain.floating_point i p) d before post z r = plain_floating_point (body_at d) before d post i p
   plain_comes (IsPlain.string i) d before post z r = plain_string (body_at d) before d post i z
   plain_comes (IsPlain.string_with i p) d before post z r = plain_string_with (body_at d) before d post i p
-  plain_comes (IsPlain.compound p) d before post z r = plain_compound (body_at d) before d post p (compound_comes p d post z)
+  plain_comes (IsPlain.compound p) d before post z r = plain_compound (body_at d) before d (either_opens (IsEither.whole p) post) (compound_comes p d post z)
+  plain_comes (IsPlain.compound_name p) d before post z r = plain_compound (body_at d) before d (either_opens (IsEither.name p) post) (compound_name_comes p d post z)
   plain_comes (IsPlain.typename p) d before post z r = plain_typename (body_at d) before d post p r
 
-  compound_comes : {c : Specifier} {ts : List Token} → IsCompound c ts → (d : ℕ) (post : List Token) → Ends post → Comes (compound_at (body_at d) d (ts ++ post)) (c, post)
-  compound_comes (IsCompound.struct_name i n) d post z = struct_name_comes (body_at d) d post i n z
+  compound_comes : {n : Option Word} {c : Compound} {ts : List Token} → IsCompound n c ts → (d : ℕ) (post : List Token) → Ends post → Comes (compound_at (body_at d) d (ts ++ post)) (classes.Compound n c, post)
   compound_comes (IsCompound.struct i p q r) d post z = struct_comes (body_at d) d post i p q r z (λ rest. body_comes q d rest)
-  compound_comes (IsCompound.variant_name i n p) d post z = variant_name_comes (body_at d) d post i n p z
   compound_comes (IsCompound.variant i p q r) d post z = variant_comes (body_at d) d post i p q r (body_comes r d post)
-  compound_comes (IsCompound.enum_name i n) d post z = enum_name_comes (body_at d) d post i n z
   compound_comes (IsCompound.enum i p q r) d post z = enum_comes (body_at d) d post i p q r
 
   body_comes : {es : List Item} {ts : List Token} → IsBody es ts → (d : ℕ) (post : List Token) → Comes (body_at d (ts ++ post)) (es, post)
@@ -159,13 +167,13 @@ mutual
       item_alias _ (body_at d) d i (alias_comes ts (body_at d) d post i j q l (class_comes p d false (a ∷ (us ++ (e ∷ post))) (ends_at _ j refl refl refl refl) (no_run _ j refl)))
   item_comes (IsItem.typedecl (IsTypedecl.definition {e = e} {ts = ts} {us = us} i p q l)) d post =
       item_definition _ (body_at d) d i (definition_comes ts (body_at d) d post i q l (class_comes p d true (us ++ (e ∷ post)) (declarators_end q (e ∷ post)) (declarators_run q e post l)))
-  item_comes (IsItem.typedecl (IsTypedecl.declared {e = e} p w l)) d post =
-      item_compound (body_at d) d post p w l (compound_comes p d (e ∷ post) (ends_at post l refl refl refl refl))
+  item_comes (IsItem.typedecl (IsTypedecl.declared {e = e} {ts = ts} p l)) d post =
+      item_compound ts (body_at d) d post (either_opens (IsEither.whole p) (e ∷ post)) l (compound_comes p d (e ∷ post) (ends_at post l refl refl refl refl))
 
 pub typedecl_comes : {x : TypeDeclaration} {ts : List Token} → IsTypedecl x ts → (d : ℕ) (post : List Token) → Comes (typedecl_at (body_at d) d (ts ++ post)) (x, post)
 typedecl_comes (IsTypedecl.alias {a = a} {e = e} {ts = ts} {us = us} i p j q l) d post =
     typedecl_alias _ (body_at d) d i (alias_comes ts (body_at d) d post i j q l (class_comes p d false (a ∷ (us ++ (e ∷ post))) (ends_at _ j refl refl refl refl) (no_run _ j refl)))
 typedecl_comes (IsTypedecl.definition {e = e} {ts = ts} {us = us} i p q l) d post =
     typedecl_definition _ (body_at d) d i (definition_comes ts (body_at d) d post i q l (class_comes p d true (us ++ (e ∷ post)) (declarators_end q (e ∷ post)) (declarators_run q e post l)))
-typedecl_comes (IsTypedecl.declared {e = e} p w l) d post =
-    typedecl_compound (body_at d) d post p w l (compound_comes p d (e ∷ post) (ends_at post l refl refl refl refl))
+typedecl_comes (IsTypedecl.declared {e = e} {ts = ts} p l) d post =
+    typedecl_compound ts (body_at d) d post (either_opens (IsEither.whole p) (e ∷ post)) l (compound_comes p d (e ∷ post) (ends_at post l refl refl refl refl))

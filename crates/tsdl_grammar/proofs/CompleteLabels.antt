@@ -2,16 +2,17 @@
 use Rattle.std.proofs.Common.{◌≡◌, ℕ, true, false, List, ◌∷◌, ◌++◌, Option, Ok, refl, sym, ap, append_assoc}
 use Rattle.tsdl_text.specs.declared.token.Symbol.TheVariants as s
 use Rattle.tsdl_text.specs.declared.token.Token.{Token}
-use Rattle.tsdl_grammar.specs.declared.tree.Number.{Number}
-use Rattle.tsdl_grammar.specs.declared.tree.Span.{Span}
-use Rattle.tsdl_grammar.specs.declared.tree.Label.{Label}
+use Rattle.tsdl_tree.specs.declared.tree.Number.{Number}
+use Rattle.tsdl_tree.specs.declared.tree.Span.{Span}
+use Rattle.tsdl_tree.specs.declared.tree.Label.{Label}
 use Rattle.tsdl_grammar.specs.Terminals.{Word, Is, IsString, IsWord}
 use Rattle.tsdl_grammar.specs.Repeats.{Optional}
 use Rattle.tsdl_grammar.specs.Grammar.{IsNumber, IsSpan, IsLabel, AreLabels}
 use Rattle.tsdl_grammar.specs.Steps.{◌>>=◌, expect, past, begins, before_label, optional}
 use Rattle.tsdl_grammar.specs.Reading.{range_end_at, span_at, label_name_at, label_at, next_label_at, labels_at}
 use Rattle.tsdl_grammar.proofs.ComesTools.{Comes, comes_is, comes_then, comes_token, comes_open, comes_some, comes_none, listed_come}
-use Rattle.tsdl_grammar.proofs.ComesTokens.{is_other, past_is, past_none, word_other, string_no_word, string_other}
+use Rattle.tsdl_grammar.proofs.Room.{is_other}
+use Rattle.tsdl_grammar.proofs.ComesTokens.{past_is, past_none, word_other, string_no_word, string_other}
 use Rattle.tsdl_grammar.proofs.CompleteTerms.{number_comes}
 
 -- what may stand behind a label

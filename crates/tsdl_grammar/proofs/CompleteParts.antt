@@ -1,15 +1,15 @@
 -- Names of types, declarators, and the parts of compounds but labels that are spelled so are read.
 use Rattle.std.proofs.Common.{◌≡◌, ℕ, ◌+◌, Bool, true, false, cond, List, ◌∷◌, ◌++◌, length, Option, Some, Ok, refl, ap, append_assoc, arith}
 use Rattle.std.proofs.lemmas.List.{length-append, take_at, drop_at}
-use Rattle.std.specs.Prelude.{nat_le, nat_lt, ◌&&◌}
 use Rattle.tsdl_text.specs.declared.token.Symbol.{Symbol}
 use Rattle.tsdl_text.specs.declared.token.Symbol.TheVariants as s
 use Rattle.tsdl_text.specs.declared.token.Token.{Token}
-use Rattle.tsdl_text.specs.Symbols.{code}
-use Rattle.tsdl_grammar.specs.declared.tree.Length.{Length}
-use Rattle.tsdl_grammar.specs.declared.tree.Length.TheVariants as lengths
-use Rattle.tsdl_grammar.specs.declared.tree.Declarator.{Declarator}
-use Rattle.tsdl_grammar.specs.declared.tree.Container.{Container}
+use Rattle.tsdl_text.specs.Symbols.{is_type_keyword}
+use Rattle.tsdl_tree.specs.declared.tree.Length.{Length}
+use Rattle.tsdl_tree.specs.declared.tree.Length.TheVariants as lengths
+use Rattle.tsdl_tree.specs.declared.tree.Declarator.{Declarator}
+use Rattle.tsdl_tree.specs.declared.tree.Container.{Container}
+use Rattle.tsdl_tree.specs.declared.tree.Typename.{Typename}
 use Rattle.tsdl_grammar.specs.Terminals.{Word, Words, Is, IsIdentifier, IsConstant}
 use Rattle.tsdl_grammar.specs.Repeats.{Listed, Optional}
 use Rattle.tsdl_grammar.specs.Grammar.{IsPath, IsTypename, AreTypewords, IsLength, IsDeclarator, IsName, IsAlign, IsTag, IsContainer}
@@ -17,7 +17,8 @@ use Rattle.tsdl_grammar.specs.Spelling.{run}
 use Rattle.tsdl_grammar.specs.Steps.{begins, begins_identifier, begins_labels, optional}
 use Rattle.tsdl_grammar.specs.Reading.{identifier_at, words_of, typename_len, typename_at, bound_at, length_at, declarator_at, next_declarator_at, declarators_at, align_at, tag_at, container_at}
 use Rattle.tsdl_grammar.proofs.ComesTools.{Comes, comes_is, comes_then, comes_token, comes_some, comes_none, many_come, listed_come}
-use Rattle.tsdl_grammar.proofs.ComesTokens.{is_other, no_identifier, typeword_by, typeword_other, word_no_constant, begins_other, begins_no_identifier, begins_no_run}
+use Rattle.tsdl_grammar.proofs.Room.{is_other}
+use Rattle.tsdl_grammar.proofs.ComesTokens.{no_identifier, typeword_by, typeword_other, word_no_constant, begins_other, begins_no_identifier, begins_no_run}
 use Rattle.tsdl_grammar.proofs.CompleteTerms.{identifier_is, constant_is, path_comes, attributes_come}
 
 -- ---- names of types
@@ -38,16 +39,16 @@ len_is : {ws : Words} {ts : List Token} → AreTypewords ws ts → (before : Boo
 len_is p true post z = let r = run_behind p post in omega arith
 len_is p false post z = let r = run_behind p post in omega arith
 
-pub typename_comes : {ws : Words} {ts : List Token} → IsTypename ws ts → (before : Bool) (post : List Token) → run post ≡ cond before 1 0 → Comes (typename_at before (ts ++ post)) (ws, post)
+pub typename_comes : {n : Typename} {ts : List Token} → IsTypename n ts → (before : Bool) (post : List Token) → run post ≡ cond before 1 0 → Comes (typename_at before (ts ++ post)) (n, post)
 unfolding typename_at
 typename_comes (IsTypename.typename {ts = ts} p) before post z =
     rw (len_is p before post z, take_at ts post (length ts) refl, drop_at ts post (length ts) refl, words_are p) (comes_is refl)
 
-typewords_other : (b : Symbol) {w : Word} {ws : Words} {ts : List Token} → AreTypewords (w ∷ ws) ts → (post : List Token) → (nat_le 15 (code b) && nat_lt (code b) 28) ≡ false → begins b (ts ++ post) ≡ false
+typewords_other : (b : Symbol) {w : Word} {ws : Words} {ts : List Token} → AreTypewords (w ∷ ws) ts → (post : List Token) → is_type_keyword b ≡ false → begins b (ts ++ post) ≡ false
 typewords_other b (AreTypewords.skip {c = c} i p) post d = typeword_other b c (typeword_by i) d
 typewords_other b (AreTypewords.more {w = t} i p) post d = typeword_other b t i.holds d
 
-pub typename_other : (b : Symbol) {ws : Words} {ts : List Token} → IsTypename ws ts → (post : List Token) → (nat_le 15 (code b) && nat_lt (code b) 28) ≡ false → begins b (ts ++ post) ≡ false
+pub typename_other : (b : Symbol) {n : Typename} {ts : List Token} → IsTypename n ts → (post : List Token) → is_type_keyword b ≡ false → begins b (ts ++ post) ≡ false
 typename_other b (IsTypename.typename p) post d = typewords_other b p post d
 
 -- ---- declarators

@@ -3,17 +3,18 @@ use Rattle.std.proofs.Common.{◌≡◌, ℕ, zero, suc, ◌≤◌, Bool, true, 
 use Rattle.std.proofs.lemmas.List.{length-append}
 use Rattle.tsdl_text.specs.declared.token.Symbol.TheVariants as s
 use Rattle.tsdl_text.specs.declared.token.Token.{Token}
-use Rattle.tsdl_grammar.specs.declared.tree.Number.{Number}
-use Rattle.tsdl_grammar.specs.declared.tree.Value.{Value}
-use Rattle.tsdl_grammar.specs.declared.tree.Value.TheVariants as values
-use Rattle.tsdl_grammar.specs.declared.tree.Setting.{Setting}
+use Rattle.tsdl_tree.specs.declared.tree.Number.{Number}
+use Rattle.tsdl_tree.specs.declared.tree.Value.{Value}
+use Rattle.tsdl_tree.specs.declared.tree.Value.TheVariants as values
+use Rattle.tsdl_tree.specs.declared.tree.Setting.{Setting}
 use Rattle.tsdl_grammar.specs.Terminals.{Word, Words, Is, IsIdentifier, IsConstant, IsWord}
 use Rattle.tsdl_grammar.specs.Repeats.{Many}
 use Rattle.tsdl_grammar.specs.Grammar.{IsPath, IsNumber, IsValue, IsSetting, AreAttributes}
-use Rattle.tsdl_grammar.specs.Steps.{bind, loop, begins, before_close}
+use Rattle.tsdl_grammar.specs.Steps.{loop, begins, before_close}
 use Rattle.tsdl_grammar.specs.Reading.{word_at, identifier_at, constant_at, dotted_at, path_at, magnitude_at, number_at, value_at, setting_behind, setting_at, attributes_at}
 use Rattle.tsdl_grammar.proofs.ComesTools.{Comes, comes_is, comes_then, comes_token, comes_open, comes_more, comes_end, many_come}
-use Rattle.tsdl_grammar.proofs.ComesTokens.{is_other, past_is, past_none, word_by, word_other, string_no_word, symbol_no_string, constant_no_word, constant_no_string, constant_other}
+use Rattle.tsdl_grammar.proofs.Room.{is_other}
+use Rattle.tsdl_grammar.proofs.ComesTokens.{past_is, past_none, word_by, word_other, string_no_word, symbol_no_string, constant_no_word, constant_no_string, constant_other}
 
 -- ---- words
 
@@ -26,7 +27,7 @@ unfolding identifier_at
 identifier_is ts i = rw i.holds refl
 
 pub constant_is : {t : Token} {n : ℕ} (ts : List Token) → IsConstant n t → constant_at (t ∷ ts) ≡ Ok (n, ts)
-unfolding constant_at bind
+unfolding constant_at
 constant_is ts i = rw i.holds refl
 
 rest_comes : {ws : Words} {ts : List Token} → IsPath ws ts → (post : List Token) → begins s.Dot post ≡ false → (n : ℕ) → length ts ≤ n → (d : Token) → Is s.Dot d

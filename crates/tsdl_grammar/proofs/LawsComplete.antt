@@ -2,9 +2,10 @@
 use Rattle.std.proofs.Common.{◌≡◌, ℕ, suc, inl, inr, false, List, ◌∷◌, ◌++◌, length, Result, Ok, Err, refl, subst, arith}
 use Rattle.tsdl_text.specs.declared.token.Token.{Token}
 use Rattle.tsdl_text.specs.Symbols.{is_typeword}
-use Rattle.tsdl_grammar.specs.declared.tree.Declarator.{Declarator}
-use Rattle.tsdl_grammar.specs.declared.tree.Tree.{Tree}
-use Rattle.tsdl_grammar.specs.Terminals.{Words, IsIdentifier}
+use Rattle.tsdl_tree.specs.declared.tree.Declarator.{Declarator}
+use Rattle.tsdl_tree.specs.declared.tree.Tree.{Tree}
+use Rattle.tsdl_tree.specs.declared.tree.Typename.{Typename}
+use Rattle.tsdl_grammar.specs.Terminals.{IsIdentifier}
 use Rattle.tsdl_grammar.specs.Repeats.{Listed}
 use Rattle.tsdl_grammar.specs.Grammar.{IsTypename, IsDeclarator}
 use Rattle.tsdl_grammar.specs.Spelling.{Spells, IsUnspelled, OneTree, WholeRun, run}
@@ -42,10 +43,10 @@ run_ends : (e : Token) (rest : List Token) → is_typeword e.kind ≡ false → 
 unfolding run
 run_ends e rest h = rw h refl
 
-run_alone : {ws : Words} {ts : List Token} → IsTypename ws ts → (e : Token) (rest : List Token) → is_typeword e.kind ≡ false → run (ts ++ (e ∷ rest)) ≡ length ts
+run_alone : {n : Typename} {ts : List Token} → IsTypename n ts → (e : Token) (rest : List Token) → is_typeword e.kind ≡ false → run (ts ++ (e ∷ rest)) ≡ length ts
 run_alone (IsTypename.typename p) e rest h = let r = run_behind p (e ∷ rest) in let z = run_ends e rest h in omega arith
 
-run_before : {ws : Words} {ts : List Token} → IsTypename ws ts → (post : List Token) → run post ≡ 1 → run (ts ++ post) ≡ suc (length ts)
+run_before : {n : Typename} {ts : List Token} → IsTypename n ts → (post : List Token) → run post ≡ 1 → run (ts ++ post) ≡ suc (length ts)
 run_before (IsTypename.typename p) post h = let r = run_behind p post in omega arith
 
 first_is : {ds : List Declarator} {vs : List Token} → Listed IsDeclarator ds vs → (n : Token) (us : List Token) → vs ≡ n ∷ us → IsIdentifier n
@@ -54,6 +55,6 @@ first_is (Listed.more (IsDeclarator.declarator {n = m} i l) c p) n us e = let p 
 
 pub whole_run : WholeRun
 whole_run = record {
-  alone = λ ws ts e rest p h. run_alone p e rest h;
-  before_declarator = λ ws ts ds n us e rest p l i. (first_is l n us refl, run_before p _ (declarators_run l e rest i));
+  alone = λ name ts e rest p h. run_alone p e rest h;
+  before_declarator = λ name ts ds n us e rest p l i. (first_is l n us refl, run_before p _ (declarators_run l e rest i));
 }

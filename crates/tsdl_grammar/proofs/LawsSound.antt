@@ -4,8 +4,8 @@ use Rattle.std.proofs.lemmas.List.{append-nil, length-append}
 use Rattle.std.proofs.lemmas.List.Sums.{count_by-le-length}
 use Rattle.tsdl_text.specs.declared.token.Symbol.TheVariants as s
 use Rattle.tsdl_text.specs.declared.token.Token.{Token}
-use Rattle.tsdl_grammar.specs.declared.tree.Declaration.{Declaration}
-use Rattle.tsdl_grammar.specs.declared.tree.Tree.{Tree}
+use Rattle.tsdl_tree.specs.declared.tree.Declaration.{Declaration}
+use Rattle.tsdl_tree.specs.declared.tree.Tree.{Tree}
 use Rattle.tsdl_grammar.specs.Terminals.{is}
 use Rattle.tsdl_grammar.specs.Repeats.{Many}
 use Rattle.tsdl_grammar.specs.Grammar.{IsDeclaration}

@@ -1,5 +1,6 @@
 -- What a reading took from the front of the tokens, and the room for braces behind it.
 use Rattle.std.proofs.Common.{◌≡◌, ℕ, zero, suc, ◌⊎◌, inl, inr, Bool, true, false, cond, List, [], ◌∷◌, ◌++◌, Option, Some, None, Result, Ok, Err, refl, sym, ap, subst, ◌∙◌, append_assoc, arith}
+use Rattle.std.proofs.lemmas.Bool.{cases_Bool}
 use Rattle.std.specs.Prelude.{◌==◌}
 use Rattle.std.proofs.lemmas.Bool.Decides.{nat_tests}
 use Rattle.std.proofs.lemmas.List.{append-nil}
@@ -8,8 +9,8 @@ use Rattle.tsdl_text.specs.declared.token.Symbol.TheVariants as s
 use Rattle.tsdl_text.specs.declared.token.Token.{Token}
 use Rattle.tsdl_grammar.specs.Terminals.{is, Is}
 use Rattle.tsdl_grammar.specs.Repeats.{Many, Listed, Optional}
-use Rattle.tsdl_grammar.specs.Steps.{Refusal, bad, deep, ◌>>=◌, bind, Parse, or_bad, expect, past, open_at, loop, optional}
-use Rattle.tsdl_grammar.proofs.Room.{room, test, is_brace, symbol_no_brace, room_same, room_open, room_shut, room_close}
+use Rattle.tsdl_grammar.specs.Steps.{Refusal, bad, deep, ◌>>=◌, Parse, or_bad, expect, past, open_at, loop, optional}
+use Rattle.tsdl_grammar.proofs.Room.{room, is_brace, symbol_no_brace, room_same, room_open, room_shut, room_close}
 
 -- What was taken is spelled as Q says, from room for so many braces to room for so many.
 pub record Took {A : Type 0} (d e : ℕ) (ts : List Token) (Q : A → List Token → Type 0) (x : A) (rest : List Token) : Type 0 where
@@ -26,12 +27,10 @@ pub record Reads {A : Type 0} (r : Result (A × List Token) Refusal) (d e : ℕ)
 -- ---- results taken apart
 
 pub bind_ok : {A B : Type 0} (r : Result A Refusal) (f : A → Result B Refusal) (y : B) → (r >>= f) ≡ Ok y → (x : A) × (r ≡ Ok x) × (f x ≡ Ok y)
-unfolding bind
 bind_ok (Ok x) f y e = (x, refl, e)
 bind_ok (Err d) f y e = absurd cc
 
 pub bind_deep : {A B : Type 0} (r : Result A Refusal) (f : A → Result B Refusal) → (r >>= f) ≡ Err deep → (r ≡ Err deep) ⊎ ((x : A) × (r ≡ Ok x) × (f x ≡ Err deep))
-unfolding bind
 bind_deep (Ok x) f e = inr (x, refl, e)
 bind_deep (Err d) f e = inl cc
 
@@ -189,7 +188,7 @@ pub reads_past : {B : Type 0} (a : Symbol) {d e : ℕ} (ts : List Token) (f : Li
     → is_brace a ≡ false → Reads (f ts) d e ts Q → ((t : Token) (rest : List Token) → Is a t → Reads (f rest) d e rest (λ y vs. Q y (t ∷ vs))) → Reads (f (past a ts)) d e ts Q
 unfolding past
 reads_past a [] f z none some = none
-reads_past a {d = d} (t ∷ ts) f {Q = Q} z none some = elim (test (is a t)) [
+reads_past a {d = d} (t ∷ ts) f {Q = Q} z none some = elim (cases_Bool (is a t)) [
   | inl e ↦ rw e (let i : Is a t = record { holds = e } in reads_after (room_same (symbol_no_brace i z) d ts) (some t ts i))
   | inr e ↦ rw e none
 ]
@@ -215,7 +214,6 @@ reads_shut {ts = ts} f = record {
     deep_not_ok x p = cc
 
 ok_again : {A : Type 0} (r : Result A Refusal) → (r >>= λ x. Ok x) ≡ r
-unfolding bind
 ok_again (Ok x) = refl
 ok_again (Err e) = refl
 

@@ -1,15 +1,15 @@
 -- How many more braces may be opened behind tokens.
-use Rattle.std.proofs.Common.{◌≡◌, ℕ, zero, suc, ◌+◌, ◌<◌, ◌⊎◌, inl, inr, Bool, true, false, cond, List, [], ◌∷◌, ◌++◌, Option, Some, None, refl, sym, ap, ◌∙◌, arith}
-use Rattle.std.specs.Prelude.{nat_eq, nat_lt, nat_le, ◌&&◌, count_by}
-use Rattle.std.proofs.lemmas.Bool.{eqb-true}
-use Rattle.std.proofs.lemmas.Bool.Decides.{nat_tests}
+use Rattle.std.proofs.Common.{◌≡◌, ℕ, zero, suc, ◌+◌, ◌<◌, inl, inr, Bool, true, false, cond, List, [], ◌∷◌, ◌++◌, Option, Some, None, refl, sym, ap, ◌∙◌, arith}
+use Rattle.std.specs.Prelude.{count_by}
+use Rattle.std.proofs.lemmas.Bool.{cases_Bool}
 use Rattle.std.proofs.lemmas.List.Sums.{sum_by-cons}
 use Rattle.tsdl_text.specs.declared.token.Symbol.{Symbol}
 use Rattle.tsdl_text.specs.declared.token.Symbol.TheVariants as s
 use Rattle.tsdl_text.specs.declared.token.Kind.{Kind}
 use Rattle.tsdl_text.specs.declared.token.Kind.TheVariants as k
 use Rattle.tsdl_text.specs.declared.token.Token.{Token}
-use Rattle.tsdl_text.specs.Symbols.{code, is_symbol, is_word, is_typeword, is_identifier, is_string, constant_of}
+use Rattle.tsdl_text.specs.Symbols.{is_keyword, is_type_keyword, is_same, is_symbol, is_word, is_typeword, is_identifier, is_string, constant_of}
+use Rattle.tsdl_text.proofs.SameSymbols.{same_true}
 use Rattle.tsdl_grammar.specs.Terminals.{is, Is}
 use Rattle.tsdl_grammar.specs.Nesting.{opening, closing, NestsDeeper}
 
@@ -19,20 +19,16 @@ room n [] = Some n
 room zero (t ∷ ts) = cond (is s.OpenBrace t) None (cond (is s.CloseBrace t) (room 1 ts) (room zero ts))
 room (suc n) (t ∷ ts) = cond (is s.OpenBrace t) (room n ts) (cond (is s.CloseBrace t) (room (suc (suc n)) ts) (room (suc n) ts))
 
-pub test : (b : Bool) → (b ≡ true) ⊎ (b ≡ false)
-test true = inl refl
-test false = inr refl
-
 -- ---- a token is no brace
 
 -- two symbols differ
-other_kind : (a b : Symbol) (q : Kind) → nat_eq (code a) (code b) ≡ false → is_symbol a q ≡ true → is_symbol b q ≡ false
+other_kind : (a b : Symbol) (q : Kind) → is_same a b ≡ false → is_symbol a q ≡ true → is_symbol b q ≡ false
 other_kind a b k.Identifier d e = absurd cc
 other_kind a b (k.Constant n) d e = absurd cc
 other_kind a b k.String d e = absurd cc
-other_kind a b (k.Symbol c) d e = ap (λ n. nat_eq n (code b)) (eqb-true (code c) (code a) e) ∙ d
+other_kind a b (k.Symbol c) d e = ap (λ x. is_same x b) (same_true c a e) ∙ d
 
-pub is_other : (b : Symbol) {a : Symbol} {t : Token} → Is a t → nat_eq (code a) (code b) ≡ false → is b t ≡ false
+pub is_other : (b : Symbol) {a : Symbol} {t : Token} → Is a t → is_same a b ≡ false → is b t ≡ false
 is_other b {a} {t} i d = other_kind a b t.kind d i.holds
 
 pub record NoBrace (t : Token) : Type 0 where
@@ -40,7 +36,7 @@ pub record NoBrace (t : Token) : Type 0 where
   pub no_close : is s.CloseBrace t ≡ false
 
 abbrev pub is_brace : Symbol → Bool
-is_brace a = cond (nat_eq (code a) (code s.OpenBrace)) true (nat_eq (code a) (code s.CloseBrace))
+is_brace a = cond (is_same a s.OpenBrace) true (is_same a s.CloseBrace)
 
 either_false : (a b : Bool) → cond a true b ≡ false → (a ≡ false) × (b ≡ false)
 either_false true b e = absurd cc
@@ -48,31 +44,34 @@ either_false false b e = (refl, e)
 
 pub symbol_no_brace : {a : Symbol} {t : Token} → Is a t → is_brace a ≡ false → NoBrace t
 symbol_no_brace {a} i e =
-    let d = either_false (nat_eq (code a) (code s.OpenBrace)) (nat_eq (code a) (code s.CloseBrace)) e in
+    let d = either_false (is_same a s.OpenBrace) (is_same a s.CloseBrace) e in
     record { no_open = is_other s.OpenBrace i d.0; no_close = is_other s.CloseBrace i d.1 }
 
 -- the same of a token's kind
 abbrev IsPlain : Kind → Type 0
 IsPlain q = (is_symbol s.OpenBrace q ≡ false) × (is_symbol s.CloseBrace q ≡ false)
 
-below_plain : (a : Symbol) → nat_lt (code a) 28 ≡ true → IsPlain (k.Symbol a)
-below_plain a e = (grind (arith, nat_tests), grind (arith, nat_tests))
+keyword_plain : (a : Symbol) → is_keyword a ≡ true → IsPlain (k.Symbol a)
+keyword_plain s.OpenBrace e = absurd cc
+keyword_plain s.CloseBrace e = absurd cc
+keyword_plain a e = (refl, refl)
 
 word_plain : (q : Kind) → is_word q ≡ true → IsPlain q
 word_plain k.Identifier e = (refl, refl)
 word_plain (k.Constant n) e = absurd cc
 word_plain k.String e = absurd cc
-word_plain (k.Symbol a) e = below_plain a e
+word_plain (k.Symbol a) e = keyword_plain a e
 
-and_right : (a b : Bool) → (a && b) ≡ true → b ≡ true
-and_right true b e = e
-and_right false b e = absurd cc
+type_keyword_plain : (a : Symbol) → is_type_keyword a ≡ true → IsPlain (k.Symbol a)
+type_keyword_plain s.OpenBrace e = absurd cc
+type_keyword_plain s.CloseBrace e = absurd cc
+type_keyword_plain a e = (refl, refl)
 
 typeword_plain : (q : Kind) → is_typeword q ≡ true → IsPlain q
 typeword_plain k.Identifier e = (refl, refl)
 typeword_plain (k.Constant n) e = absurd cc
 typeword_plain k.String e = absurd cc
-typeword_plain (k.Symbol a) e = below_plain a (and_right (nat_le 15 (code a)) (nat_lt (code a) 28) e)
+typeword_plain (k.Symbol a) e = type_keyword_plain a e
 
 identifier_plain : (q : Kind) → is_identifier q ≡ true → IsPlain q
 identifier_plain k.Identifier e = (refl, refl)
@@ -143,9 +142,9 @@ pub data Brace (t : Token) : Type 0 where
   other : NoBrace t → Brace t
 
 pub brace : (t : Token) → Brace t
-brace t = elim (test (is s.OpenBrace t)) [
+brace t = elim (cases_Bool (is s.OpenBrace t)) [
   | inl e ↦ opens (record { holds = e })
-  | inr e ↦ elim (test (is s.CloseBrace t)) [ inl f ↦ closes (record { holds = f }) | inr f ↦ other (record { no_open = e; no_close = f }) ]
+  | inr e ↦ elim (cases_Bool (is s.CloseBrace t)) [ inl f ↦ closes (record { holds = f }) | inr f ↦ other (record { no_open = e; no_close = f }) ]
 ]
 
 count_cons : (p : Token → Bool) (t : Token) (ts : List Token) (b : Bool) → p t ≡ b → count_by p (t ∷ ts) ≡ cond b 1 0 + count_by p ts

@@ -1,23 +1,24 @@
 -- What is read is spelled so: words, values, declarators and the parts of compounds.
 use Rattle.std.proofs.Common.{◌≡◌, ℕ, zero, suc, ◌≤◌, inl, inr, Bool, true, false, List, [], ◌∷◌, ◌++◌, take, drop, Option, Some, None, Ok, refl, ◌∙◌, append_assoc, arith}
+use Rattle.std.proofs.lemmas.Bool.{cases_Bool}
 use Rattle.std.proofs.lemmas.List.{append-nil, take-append-drop}
 use Rattle.tsdl_text.specs.declared.token.Symbol.TheVariants as s
 use Rattle.tsdl_text.specs.declared.token.Token.{Token}
 use Rattle.tsdl_text.specs.Symbols.{is_word, is_typeword, is_identifier, is_string, constant_of}
-use Rattle.tsdl_grammar.specs.declared.tree.Number.{Number}
-use Rattle.tsdl_grammar.specs.declared.tree.Value.TheVariants as values
-use Rattle.tsdl_grammar.specs.declared.tree.Length.{Length}
-use Rattle.tsdl_grammar.specs.declared.tree.Length.TheVariants as lengths
-use Rattle.tsdl_grammar.specs.declared.tree.Span.{Span}
-use Rattle.tsdl_grammar.specs.declared.tree.Label.{Label}
-use Rattle.tsdl_grammar.specs.declared.tree.Container.TheVariants as containers
+use Rattle.tsdl_tree.specs.declared.tree.Number.{Number}
+use Rattle.tsdl_tree.specs.declared.tree.Value.TheVariants as values
+use Rattle.tsdl_tree.specs.declared.tree.Length.{Length}
+use Rattle.tsdl_tree.specs.declared.tree.Length.TheVariants as lengths
+use Rattle.tsdl_tree.specs.declared.tree.Span.{Span}
+use Rattle.tsdl_tree.specs.declared.tree.Label.{Label}
+use Rattle.tsdl_tree.specs.declared.tree.Container.TheVariants as containers
 use Rattle.tsdl_grammar.specs.Terminals.{Word, Words, is, Is, IsConstant, IsString, IsWord}
 use Rattle.tsdl_grammar.specs.Repeats.{Many, Listed, Optional}
 use Rattle.tsdl_grammar.specs.Grammar.{IsPath, IsNumber, IsValue, IsSetting, AreAttributes, AreTypewords, IsTypename, IsLength, IsDeclarator, IsName, IsAlign, IsTag, IsContainer, IsSpan, IsLabel, AreLabels}
 use Rattle.tsdl_grammar.specs.Spelling.{run}
-use Rattle.tsdl_grammar.specs.Steps.{◌>>=◌, bind, or_bad, expect, begins}
+use Rattle.tsdl_grammar.specs.Steps.{◌>>=◌, or_bad, expect, begins}
 use Rattle.tsdl_grammar.specs.Reading.{word_at, identifier_at, constant_at, dotted_at, path_at, magnitude_at, number_at, value_at, setting_behind, setting_at, attributes_at, words_of, some_words, typename_len, typename_at, bound_by, bound_at, length_at, declarator_at, next_declarator_at, declarators_at, align_at, tag_at, container_at, range_end_at, span_at, label_name_at, label_at, next_label_at, labels_at}
-use Rattle.tsdl_grammar.proofs.Room.{room, test, word_no_brace, typeword_no_brace, identifier_no_brace, string_no_brace, constant_no_brace, room_same}
+use Rattle.tsdl_grammar.proofs.Room.{room, word_no_brace, typeword_no_brace, identifier_no_brace, string_no_brace, constant_no_brace, room_same}
 use Rattle.tsdl_grammar.proofs.ReadsTools.{Reads, reads_then, reads_last, reads_as, reads_done, reads_bad, reads_first, reads_if, reads_token, reads_close, reads_past, reads_shut, reads_open, reads_loop, reads_optional, reads_front, IsNext, listed_of}
 
 -- ---- tokens
@@ -42,7 +43,6 @@ identifier_reads [] = reads_bad
 identifier_reads {d} (t ∷ ts) = reads_if (is_identifier t.kind) (λ e. reads_first (room_same (identifier_no_brace t e) d ts) (IsName.name (record { holds = e }))) (λ e. reads_bad)
 
 constant_by : {d : ℕ} (t : Token) (ts : List Token) (o : Option ℕ) → constant_of t.kind ≡ o → Reads (or_bad o >>= λ n. Ok (n, ts)) d d (t ∷ ts) IsConstantOf
-unfolding bind
 constant_by t ts None e = reads_bad
 constant_by {d} t ts (Some n) e = reads_first (room_same (constant_no_brace t n e) d ts) (IsConstantOf.constant (record { holds = e }))
 
@@ -126,7 +126,7 @@ typewords_more : (k : ℕ) (t : Token) (ts : List Token) → is_typeword t.kind 
     → AreTypewords (words_of (t ∷ take k ts)) (t ∷ take k ts) × ((d : ℕ) → room d (t ∷ ts) ≡ room d (drop k ts))
 unfolding words_of
 typewords_more k t ts e h = (
-  elim (test (is s.Const t)) [ inl f ↦ rw f (AreTypewords.skip (record { holds = f }) h.0) | inr f ↦ rw f (AreTypewords.more (record { holds = e; kept = f }) h.0) ],
+  elim (cases_Bool (is s.Const t)) [ inl f ↦ rw f (AreTypewords.skip (record { holds = f }) h.0) | inr f ↦ rw f (AreTypewords.more (record { holds = e; kept = f }) h.0) ],
   λ d. room_same (typeword_no_brace t e) d ts ∙ h.1 d,
 )
 
@@ -135,7 +135,7 @@ typewords_are : (k : ℕ) (ts : List Token) → k ≤ run ts → AreTypewords (w
 unfolding run words_of
 typewords_are zero ts le = (AreTypewords.none, λ d. refl)
 typewords_are (suc k) [] le = absurd (omega arith)
-typewords_are (suc k) (t ∷ ts) le = elim (test (is_typeword t.kind)) [
+typewords_are (suc k) (t ∷ ts) le = elim (cases_Bool (is_typeword t.kind)) [
   | inl e ↦ typewords_more k t ts e (typewords_are k ts (omega (arith, simp e at le)))
   | inr e ↦ absurd (omega (arith, simp e at le))
 ]
@@ -209,7 +209,7 @@ pub container_reads : (d : ℕ) (ts : List Token) → Reads (container_at d ts) 
 unfolding container_at
 container_reads d ts = reads_token s.Colon _ refl (λ o rest i. reads_if (begins s.Integer rest)
     (λ e. reads_token s.Integer _ refl (λ t rest j. reads_last (λ xs. containers.Integer xs) (attributes_read d rest) (λ xs us p. IsContainer.integer i j p)))
-    (λ e. reads_last (λ ws. containers.Named ws) (typename_reads false rest) (λ ws us p. IsContainer.typename i p)))
+    (λ e. reads_last (λ n. containers.Named n) (typename_reads false rest) (λ n us p. IsContainer.typename i p)))
 
 data IsRangeEnd : Number → List Token → Type 0 where
   range_end : {d : Token} {n : Number} {us : List Token} → Is s.Ellipsis d → IsNumber n us → IsRangeEnd n (d ∷ us)

@@ -1,15 +1,16 @@
 -- What is read is spelled so: entries, blocks and the tree.
 use Rattle.std.proofs.Common.{◌≡◌, ℕ, zero, suc, ◌-◌, Bool, true, false, cond, List, [], ◌∷◌, ◌++◌, Option, Some, None, Ok, refl, sym, ap, subst, ◌∙◌, append_assoc, arith}
+use Rattle.std.proofs.lemmas.Option.{same_Some}
 use Rattle.tsdl_text.specs.declared.token.Symbol.TheVariants as s
 use Rattle.tsdl_text.specs.declared.token.Token.{Token}
-use Rattle.tsdl_grammar.specs.declared.tree.Setting.{Setting}
-use Rattle.tsdl_grammar.specs.declared.tree.Item.{Item}
-use Rattle.tsdl_grammar.specs.declared.tree.BlockEntry.TheVariants as entries
-use Rattle.tsdl_grammar.specs.declared.tree.BlockKind.{BlockKind}
-use Rattle.tsdl_grammar.specs.declared.tree.BlockKind.TheVariants as blocks
-use Rattle.tsdl_grammar.specs.declared.tree.TableKind.{TableKind}
-use Rattle.tsdl_grammar.specs.declared.tree.TableKind.TheVariants as tables
-use Rattle.tsdl_grammar.specs.declared.tree.Declaration.TheVariants as declarations
+use Rattle.tsdl_tree.specs.declared.tree.Setting.{Setting}
+use Rattle.tsdl_tree.specs.declared.tree.Item.{Item}
+use Rattle.tsdl_tree.specs.declared.tree.BlockEntry.TheVariants as entries
+use Rattle.tsdl_tree.specs.declared.tree.BlockKind.{BlockKind}
+use Rattle.tsdl_tree.specs.declared.tree.BlockKind.TheVariants as blocks
+use Rattle.tsdl_tree.specs.declared.tree.TableKind.{TableKind}
+use Rattle.tsdl_tree.specs.declared.tree.TableKind.TheVariants as tables
+use Rattle.tsdl_tree.specs.declared.tree.Declaration.TheVariants as declarations
 use Rattle.tsdl_grammar.specs.Terminals.{Words, is, Is, IsEntryWord}
 use Rattle.tsdl_grammar.specs.Grammar.{IsPath, AreAttributes, IsBody, IsBlockWord, IsTableWord, IsEntry, IsDeclaration}
 use Rattle.tsdl_grammar.specs.Steps.{◌>>=◌, Parse, begins, begins_declaration}
@@ -40,7 +41,7 @@ module _ (body : Parse (List Item)) (d : ℕ) (h : (ts : List Token) → Reads (
   entry_reads : (ts : List Token) → Reads (entry_at body d ts) d d ts IsEntry
   unfolding entry_at
   entry_reads ts = reads_if (begins_declaration ts)
-      (λ e. reads_last (λ x. entries.Names x) (typedecl_reads body d h ts) (λ x us p. IsEntry.typedecl p))
+      (λ e. reads_last (λ x. entries.Types x) (typedecl_reads body d h ts) (λ x us p. IsEntry.typedecl p))
       (λ e. reads_then_at _ (path_reads ts) (λ n rest us q p. reads_if (begins s.Equals rest)
       (λ f. setting_entry_reads rest (entry_words_of ts rest e q p))
       (λ f. class_entry_reads rest (entry_words_of ts rest e q p))))
@@ -62,14 +63,11 @@ table_reads : (d : ℕ) {t : Token} (kind : TableKind) (ts : List Token) → IsT
 unfolding table_at
 table_reads d kind ts i = reads_then _ (attributes_read d ts) (λ xs rest us p. reads_token s.Semicolon _ refl (λ e rest j. reads_done (table_of i p j)))
 
-some_is : {A : Type 0} (x y : A) → Some x ≡ Some y → x ≡ y
-some_is x y e = cc
-
 block_word_by : (t : Token) (a b c : Bool) → is s.Trace t ≡ a → is s.Stream t ≡ b → is s.Event t ≡ c → (kind : BlockKind)
     → cond a (Some blocks.Trace) (cond b (Some blocks.Stream) (cond c (Some blocks.Event) None)) ≡ Some kind → IsBlockWord kind t
-block_word_by t true b c i j l kind e = subst (λ k. IsBlockWord k t) (some_is blocks.Trace kind e) (IsBlockWord.trace (record { holds = i }))
-block_word_by t false true c i j l kind e = subst (λ k. IsBlockWord k t) (some_is blocks.Stream kind e) (IsBlockWord.stream (record { holds = j }))
-block_word_by t false false true i j l kind e = subst (λ k. IsBlockWord k t) (some_is blocks.Event kind e) (IsBlockWord.event (record { holds = l }))
+block_word_by t true b c i j l kind e = subst (λ k. IsBlockWord k t) (same_Some blocks.Trace kind e) (IsBlockWord.trace (record { holds = i }))
+block_word_by t false true c i j l kind e = subst (λ k. IsBlockWord k t) (same_Some blocks.Stream kind e) (IsBlockWord.stream (record { holds = j }))
+block_word_by t false false true i j l kind e = subst (λ k. IsBlockWord k t) (same_Some blocks.Event kind e) (IsBlockWord.event (record { holds = l }))
 block_word_by t false false false i j l kind e = absurd cc
 
 block_word : (t : Token) (kind : BlockKind) → block_kind t ≡ Some kind → IsBlockWord kind t
@@ -77,9 +75,9 @@ block_word t kind e = block_word_by t (is s.Trace t) (is s.Stream t) (is s.Event
 
 table_word_by : (t : Token) (a b c : Bool) → is s.Clock t ≡ a → is s.Env t ≡ b → is s.Callsite t ≡ c → (kind : TableKind)
     → cond a (Some tables.Clock) (cond b (Some tables.Env) (cond c (Some tables.Callsite) None)) ≡ Some kind → IsTableWord kind t
-table_word_by t true b c i j l kind e = subst (λ k. IsTableWord k t) (some_is tables.Clock kind e) (IsTableWord.clock (record { holds = i }))
-table_word_by t false true c i j l kind e = subst (λ k. IsTableWord k t) (some_is tables.Env kind e) (IsTableWord.env (record { holds = j }))
-table_word_by t false false true i j l kind e = subst (λ k. IsTableWord k t) (some_is tables.Callsite kind e) (IsTableWord.callsite (record { holds = l }))
+table_word_by t true b c i j l kind e = subst (λ k. IsTableWord k t) (same_Some tables.Clock kind e) (IsTableWord.clock (record { holds = i }))
+table_word_by t false true c i j l kind e = subst (λ k. IsTableWord k t) (same_Some tables.Env kind e) (IsTableWord.env (record { holds = j }))
+table_word_by t false false true i j l kind e = subst (λ k. IsTableWord k t) (same_Some tables.Callsite kind e) (IsTableWord.callsite (record { holds = l }))
 table_word_by t false false false i j l kind e = absurd cc
 
 table_word : (t : Token) (kind : TableKind) → table_kind t ≡ Some kind → IsTableWord kind t
@@ -98,7 +96,7 @@ table_word_room (IsTableWord.callsite i) d ts = room_same (symbol_no_brace i ref
 declared_by : (d : ℕ) (t : Token) (ts : List Token) (o : Option BlockKind) (u : Option TableKind) → block_kind t ≡ o → table_kind t ≡ u → Reads (declaration_by d o u t ts) d d (t ∷ ts) IsDeclaration
 declared_by d t ts (Some kind) u e f = let i = block_word t kind e in reads_after (block_word_room i d ts) (block_reads d kind ts i)
 declared_by d t ts None (Some kind) e f = let i = table_word t kind f in reads_after (table_word_room i d ts) (table_reads d kind ts i)
-declared_by d t ts None None e f = reads_last (λ x. declarations.Names x) (typedecl_reads (body_at d) d (body_reads d) (t ∷ ts)) (λ x us p. IsDeclaration.typedecl p)
+declared_by d t ts None None e f = reads_last (λ x. declarations.Types x) (typedecl_reads (body_at d) d (body_reads d) (t ∷ ts)) (λ x us p. IsDeclaration.typedecl p)
 
 pub declaration_reads : (d : ℕ) (ts : List Token) → Reads (declaration_at d ts) d d ts IsDeclaration
 unfolding declaration_at

@@ -1,31 +1,33 @@
 -- What is read is spelled so: classes, declarations of names and bodies.
-use Rattle.std.proofs.Common.{ℕ, zero, suc, Bool, true, false, List, ◌∷◌, ◌++◌, Option, None, refl}
+use Rattle.std.proofs.Common.{ℕ, zero, suc, Bool, true, false, List, ◌∷◌, ◌++◌, Option, Some, None, refl}
 use Rattle.std.proofs.lemmas.List.{append-nil}
 use Rattle.tsdl_text.specs.declared.token.Symbol.TheVariants as s
 use Rattle.tsdl_text.specs.declared.token.Token.{Token}
-use Rattle.tsdl_grammar.specs.declared.tree.Name.TheVariants as names
-use Rattle.tsdl_grammar.specs.declared.tree.Specifier.{Specifier}
-use Rattle.tsdl_grammar.specs.declared.tree.Specifier.TheVariants as classes
-use Rattle.tsdl_grammar.specs.declared.tree.Item.{Item}
-use Rattle.tsdl_grammar.specs.declared.tree.Item.TheVariants as items
+use Rattle.tsdl_tree.specs.declared.tree.Reference.TheVariants as references
+use Rattle.tsdl_tree.specs.declared.tree.Specifier.{Specifier}
+use Rattle.tsdl_tree.specs.declared.tree.Specifier.TheVariants as classes
+use Rattle.tsdl_tree.specs.declared.tree.Compound.TheVariants as compounds
+use Rattle.tsdl_tree.specs.declared.tree.Item.{Item}
+use Rattle.tsdl_tree.specs.declared.tree.Item.TheVariants as items
 use Rattle.tsdl_grammar.specs.Terminals.{Word, Words, Is}
 use Rattle.tsdl_grammar.specs.Repeats.{Many, Optional}
-use Rattle.tsdl_grammar.specs.Grammar.{IsName, IsAlign, IsTag, IsContainer, has_name_and_body, IsClass, IsPlain, IsCompound, IsBody, AreItems, IsItem, IsTypedecl}
+use Rattle.tsdl_grammar.specs.Grammar.{IsName, IsAlign, IsTag, IsContainer, IsCompoundName, IsClass, IsPlain, IsCompound, IsBody, AreItems, IsItem, IsTypedecl}
 use Rattle.tsdl_grammar.specs.Steps.{Parse, begins, begins_compound, begins_labels}
 use Rattle.tsdl_grammar.specs.Reading.{named_by, enum_at, integer_at, floating_point_at, string_at, fields_behind, compound_behind, struct_at, variant_at, compound_at, plain_at, class_at, alias_at, definition_at, typedecl_at, item_at, body_at}
 use Rattle.tsdl_grammar.proofs.ReadsTools.{Reads, reads_then, reads_last, reads_as, reads_done, reads_bad, reads_if, reads_token, reads_close, reads_past, reads_shut, reads_open, reads_loop, reads_optional}
 use Rattle.tsdl_grammar.proofs.Sound.{identifier_reads, attributes_read, typename_reads, declarators_read, align_reads, tag_reads, container_reads, labels_read}
+use Rattle.tsdl_grammar.proofs.CompleteCompounds.{IsEither}
 
 -- ---- classes without bodies
 
-enum_named : {d : ℕ} {t : Token} {n : Option Word} {us : List Token} (rest : List Token) → Is s.Enum t → Optional IsName n us → Reads (named_by names.Enum None n rest) d d rest (λ c vs. IsCompound c (t ∷ (us ++ vs)))
+enum_named : {d : ℕ} {t : Token} {n : Option Word} {us : List Token} (rest : List Token) → Is s.Enum t → Optional IsName n us → Reads (named_by references.Enum n rest) d d rest (λ c vs. IsEither c (t ∷ (us ++ vs)))
 enum_named rest i Optional.none = reads_bad
-enum_named rest i (Optional.some (IsName.name j)) = reads_done (IsCompound.enum_name i j)
+enum_named rest i (Optional.some (IsName.name j)) = reads_done (IsEither.name (IsCompoundName.enum i j))
 
-enum_reads : (d : ℕ) (ts : List Token) → Reads (enum_at d ts) d d ts IsCompound
+enum_reads : (d : ℕ) (ts : List Token) → Reads (enum_at d ts) d d ts IsEither
 unfolding enum_at
 enum_reads d ts = reads_token s.Enum _ refl (λ t rest i. reads_then _ (reads_optional _ _ IsName identifier_reads rest) (λ n rest us p. reads_if (begins_labels rest)
-    (λ e. reads_then _ (reads_optional _ _ IsContainer (container_reads d) rest) (λ k rest vs q. reads_last (λ xs. classes.Enum n k xs) (labels_read d rest) (λ xs ws r. IsCompound.enum i p q r)))
+    (λ e. reads_then _ (reads_optional _ _ IsContainer (container_reads d) rest) (λ k rest vs q. reads_last (λ xs. classes.Compound n (compounds.Enum k xs)) (labels_read d rest) (λ xs ws r. IsEither.whole (IsCompound.enum i p q r))))
     (λ e. enum_named rest i p)))
 
 integer_reads : (d : ℕ) (ts : List Token) → Reads (integer_at d ts) d d ts IsPlain
@@ -39,7 +41,7 @@ floating_point_reads d ts = reads_token s.FloatingPoint _ refl (λ t rest i. rea
 string_reads : (d : ℕ) (ts : List Token) → Reads (string_at d ts) d d ts IsPlain
 unfolding string_at
 string_reads d ts = reads_token s.String _ refl (λ t rest i. reads_if (begins s.OpenBrace rest)
-    (λ e. reads_last (λ xs. classes.Text xs) (attributes_read d rest) (λ xs us p. IsPlain.string_with i p))
+    (λ e. reads_last (λ xs. classes.String xs) (attributes_read d rest) (λ xs us p. IsPlain.string_with i p))
     (λ e. reads_done (IsPlain.string i)))
 
 -- ---- what stands behind a class
@@ -48,38 +50,42 @@ fields_behind_read : {d : ℕ} {c : Specifier} {us : List Token} (ts : List Toke
 unfolding fields_behind
 fields_behind_read ts p = reads_then _ (declarators_read ts) (λ ds rest vs q. reads_token s.Semicolon _ refl (λ e rest i. reads_done (IsItem.fields p q i)))
 
-compound_behind_reads : {d : ℕ} {c : Specifier} {us : List Token} (ts : List Token) → IsCompound c us → Reads (compound_behind c ts) d d ts (λ x vs. IsTypedecl x (us ++ vs))
+compound_behind_reads : {d : ℕ} {c : Specifier} {us : List Token} (ts : List Token) → IsEither c us → Reads (compound_behind c ts) d d ts (λ x vs. IsTypedecl x (us ++ vs))
 unfolding compound_behind
-compound_behind_reads {c = c} ts p = reads_if (has_name_and_body c)
-    (λ h. reads_token s.Semicolon _ refl (λ e rest i. reads_done (IsTypedecl.declared p (record { holds = h }) i)))
-    (λ h. reads_bad)
+compound_behind_reads ts (IsEither.whole {n = Some n} p) = reads_token s.Semicolon _ refl (λ e rest i. reads_done (IsTypedecl.declared p i))
+compound_behind_reads ts (IsEither.whole {n = None} p) = reads_bad
+compound_behind_reads ts (IsEither.name p) = reads_bad
 
 -- ---- compounds
 
-struct_named : {d : ℕ} {t : Token} {n : Option Word} {us : List Token} (rest : List Token) → Is s.Struct t → Optional IsName n us → Reads (named_by names.Struct None n rest) d d rest (λ c vs. IsCompound c (t ∷ (us ++ vs)))
+either_plain : {c : Specifier} {ts : List Token} → IsEither c ts → IsPlain c ts
+either_plain (IsEither.whole p) = IsPlain.compound p
+either_plain (IsEither.name p) = IsPlain.compound_name p
+
+struct_named : {d : ℕ} {t : Token} {n : Option Word} {us : List Token} (rest : List Token) → Is s.Struct t → Optional IsName n us → Reads (named_by references.Struct n rest) d d rest (λ c vs. IsEither c (t ∷ (us ++ vs)))
 struct_named rest i Optional.none = reads_bad
-struct_named rest i (Optional.some (IsName.name j)) = reads_done (IsCompound.struct_name i j)
+struct_named rest i (Optional.some (IsName.name j)) = reads_done (IsEither.name (IsCompoundName.struct i j))
 
 variant_named : {d : ℕ} {t : Token} {n : Option Word} {g : Option Words} {us vs : List Token} (rest : List Token) → Is s.Variant t → Optional IsName n us → Optional IsTag g vs
-    → Reads (named_by names.Variant g n rest) d d rest (λ c ws. IsCompound c (t ∷ (us ++ (vs ++ ws))))
+    → Reads (named_by (λ n. references.Variant n g) n rest) d d rest (λ c ws. IsEither c (t ∷ (us ++ (vs ++ ws))))
 variant_named rest i Optional.none q = reads_bad
-variant_named rest i (Optional.some (IsName.name j)) q = reads_done (rw append-nil (IsCompound.variant_name i j q))
+variant_named rest i (Optional.some (IsName.name j)) q = reads_done (rw append-nil (IsEither.name (IsCompoundName.variant i j q)))
 
 module _ (body : Parse (List Item)) (d : ℕ) (h : (ts : List Token) → Reads (body ts) d d ts IsBody) where
-  struct_reads : (ts : List Token) → Reads (struct_at body ts) d d ts IsCompound
+  struct_reads : (ts : List Token) → Reads (struct_at body ts) d d ts IsEither
   unfolding struct_at
   struct_reads ts = reads_token s.Struct _ refl (λ t rest i. reads_then _ (reads_optional _ _ IsName identifier_reads rest) (λ n rest us p. reads_if (begins s.OpenBrace rest)
-      (λ e. reads_then _ (h rest) (λ es rest vs q. reads_last (λ a. classes.Struct n es a) (reads_optional _ _ IsAlign align_reads rest) (λ a ws r. IsCompound.struct i p q r)))
+      (λ e. reads_then _ (h rest) (λ es rest vs q. reads_last (λ a. classes.Compound n (compounds.Struct es a)) (reads_optional _ _ IsAlign align_reads rest) (λ a ws r. IsEither.whole (IsCompound.struct i p q r))))
       (λ e. struct_named rest i p)))
 
-  variant_reads : (ts : List Token) → Reads (variant_at body ts) d d ts IsCompound
+  variant_reads : (ts : List Token) → Reads (variant_at body ts) d d ts IsEither
   unfolding variant_at
   variant_reads ts = reads_token s.Variant _ refl (λ t rest i. reads_then _ (reads_optional _ _ IsName identifier_reads rest) (λ n rest us p. reads_then _ (reads_optional _ _ IsTag tag_reads rest) (λ g rest vs q.
       reads_if (begins s.OpenBrace rest)
-      (λ e. reads_last (λ es. classes.Variant n g es) (h rest) (λ es ws r. IsCompound.variant i p q r))
+      (λ e. reads_last (λ es. classes.Compound n (compounds.Variant g es)) (h rest) (λ es ws r. IsEither.whole (IsCompound.variant i p q r)))
       (λ e. variant_named rest i p q))))
 
-  compound_reads : (ts : List Token) → Reads (compound_at body d ts) d d ts IsCompound
+  compound_reads : (ts : List Token) → Reads (compound_at body d ts) d d ts IsEither
   unfolding compound_at
   compound_reads ts = reads_if (begins s.Struct ts) (λ e. struct_reads ts) (λ e. reads_if (begins s.Variant ts) (λ f. variant_reads ts) (λ f. enum_reads d ts))
 
@@ -88,8 +94,8 @@ module _ (body : Parse (List Item)) (d : ℕ) (h : (ts : List Token) → Reads (
   plain_reads before ts = reads_if (begins s.Integer ts) (λ e. integer_reads d ts)
       (λ e. reads_if (begins s.FloatingPoint ts) (λ f. floating_point_reads d ts)
       (λ f. reads_if (begins s.String ts) (λ g. string_reads d ts)
-      (λ g. reads_if (begins_compound ts) (λ l. reads_as (compound_reads ts) (λ c us p. IsPlain.compound p))
-      (λ l. reads_last (λ ws. classes.Named (names.Plain ws) None) (typename_reads before ts) (λ ws us p. IsPlain.typename p)))))
+      (λ g. reads_if (begins_compound ts) (λ l. reads_as (compound_reads ts) (λ c us p. either_plain p))
+      (λ l. reads_last (λ n. classes.Named (references.Plain n)) (typename_reads before ts) (λ n us p. IsPlain.typename p)))))
 
   pub class_reads : (before : Bool) (ts : List Token) → Reads (class_at body before d ts) d d ts IsClass
   unfolding class_at
@@ -117,12 +123,12 @@ module _ (body : Parse (List Item)) (d : ℕ) (h : (ts : List Token) → Reads (
 
   item_reads : (ts : List Token) → Reads (item_at body d ts) d d ts IsItem
   unfolding item_at
-  item_reads ts = reads_if (begins s.Typealias ts) (λ e. reads_last (λ x. items.Names x) (alias_reads ts) (λ x us p. IsItem.typedecl p))
-      (λ e. reads_if (begins s.Typedef ts) (λ f. reads_last (λ x. items.Names x) (definition_reads ts) (λ x us p. IsItem.typedecl p))
+  item_reads ts = reads_if (begins s.Typealias ts) (λ e. reads_last (λ x. items.Types x) (alias_reads ts) (λ x us p. IsItem.typedecl p))
+      (λ e. reads_if (begins s.Typedef ts) (λ f. reads_last (λ x. items.Types x) (definition_reads ts) (λ x us p. IsItem.typedecl p))
       (λ f. reads_if (begins_compound ts)
       (λ g. reads_then _ (compound_reads ts) (λ c rest us p. reads_if (begins s.Semicolon rest)
-      (λ l. reads_last (λ x. items.Names x) (compound_behind_reads rest p) (λ x vs q. IsItem.typedecl q))
-      (λ l. fields_behind_read rest (IsClass.plain (IsPlain.compound p)))))
+      (λ l. reads_last (λ x. items.Types x) (compound_behind_reads rest p) (λ x vs q. IsItem.typedecl q))
+      (λ l. fields_behind_read rest (IsClass.plain (either_plain p)))))
       (λ g. reads_then _ (class_reads true ts) (λ c rest us p. fields_behind_read rest p))))
 
 items_of : {es : List Item} {ts : List Token} → Many IsItem es ts → AreItems es ts

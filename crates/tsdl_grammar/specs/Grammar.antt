@@ -1,35 +1,39 @@
 -- The grammar of TSDL (CTF 1.8.3, appendix C.2): which part of the tree a list of tokens spells,
 -- by one case for each alternative, on the whole list. Above each part stand its alternatives as a
 -- grammar writes them: quoted words are tokens, `{ x }` is any number of x, `[ x ]` none or one.
-use Rattle.std.specs.Prelude.{◌≡◌, ℕ, Bool, true, false, List, [], ◌∷◌, ◌++◌, Option, Some, None}
+use Rattle.std.specs.Prelude.{ℕ, true, false, List, [], ◌∷◌, ◌++◌, Option, Some, None}
 use Rattle.tsdl_text.specs.declared.token.Symbol.TheVariants as s
 use Rattle.tsdl_text.specs.declared.token.Token.{Token}
-use Rattle.tsdl_grammar.specs.declared.tree.Number.{Number}
-use Rattle.tsdl_grammar.specs.declared.tree.Value.{Value}
-use Rattle.tsdl_grammar.specs.declared.tree.Value.TheVariants as values
-use Rattle.tsdl_grammar.specs.declared.tree.Setting.{Setting}
-use Rattle.tsdl_grammar.specs.declared.tree.Name.TheVariants as names
-use Rattle.tsdl_grammar.specs.declared.tree.Length.{Length}
-use Rattle.tsdl_grammar.specs.declared.tree.Length.TheVariants as lengths
-use Rattle.tsdl_grammar.specs.declared.tree.Declarator.{Declarator}
-use Rattle.tsdl_grammar.specs.declared.tree.Span.{Span}
-use Rattle.tsdl_grammar.specs.declared.tree.Label.{Label}
-use Rattle.tsdl_grammar.specs.declared.tree.Container.{Container}
-use Rattle.tsdl_grammar.specs.declared.tree.Container.TheVariants as containers
-use Rattle.tsdl_grammar.specs.declared.tree.Specifier.{Specifier, out-Specifier, Specifier-F}
-use Rattle.tsdl_grammar.specs.declared.tree.Specifier.TheVariants as classes
-use Rattle.tsdl_grammar.specs.declared.tree.TypeDeclaration.{TypeDeclaration}
-use Rattle.tsdl_grammar.specs.declared.tree.TypeDeclaration.TheVariants as typedecls
-use Rattle.tsdl_grammar.specs.declared.tree.Item.{Item}
-use Rattle.tsdl_grammar.specs.declared.tree.Item.TheVariants as items
-use Rattle.tsdl_grammar.specs.declared.tree.BlockEntry.{BlockEntry}
-use Rattle.tsdl_grammar.specs.declared.tree.BlockEntry.TheVariants as entries
-use Rattle.tsdl_grammar.specs.declared.tree.BlockKind.{BlockKind}
-use Rattle.tsdl_grammar.specs.declared.tree.BlockKind.TheVariants as blocks
-use Rattle.tsdl_grammar.specs.declared.tree.TableKind.{TableKind}
-use Rattle.tsdl_grammar.specs.declared.tree.TableKind.TheVariants as tables
-use Rattle.tsdl_grammar.specs.declared.tree.Declaration.{Declaration}
-use Rattle.tsdl_grammar.specs.declared.tree.Declaration.TheVariants as declarations
+use Rattle.tsdl_tree.specs.declared.tree.Number.{Number}
+use Rattle.tsdl_tree.specs.declared.tree.Value.{Value}
+use Rattle.tsdl_tree.specs.declared.tree.Value.TheVariants as values
+use Rattle.tsdl_tree.specs.declared.tree.Setting.{Setting}
+use Rattle.tsdl_tree.specs.declared.tree.Typename.{Typename}
+use Rattle.tsdl_tree.specs.declared.tree.Length.{Length}
+use Rattle.tsdl_tree.specs.declared.tree.Length.TheVariants as lengths
+use Rattle.tsdl_tree.specs.declared.tree.Declarator.{Declarator}
+use Rattle.tsdl_tree.specs.declared.tree.Span.{Span}
+use Rattle.tsdl_tree.specs.declared.tree.Label.{Label}
+use Rattle.tsdl_tree.specs.declared.tree.Container.{Container}
+use Rattle.tsdl_tree.specs.declared.tree.Container.TheVariants as containers
+use Rattle.tsdl_tree.specs.declared.tree.Reference.{Reference}
+use Rattle.tsdl_tree.specs.declared.tree.Reference.TheVariants as references
+use Rattle.tsdl_tree.specs.declared.tree.Specifier.{Specifier}
+use Rattle.tsdl_tree.specs.declared.tree.Specifier.TheVariants as classes
+use Rattle.tsdl_tree.specs.declared.tree.Compound.{Compound}
+use Rattle.tsdl_tree.specs.declared.tree.Compound.TheVariants as compounds
+use Rattle.tsdl_tree.specs.declared.tree.TypeDeclaration.{TypeDeclaration}
+use Rattle.tsdl_tree.specs.declared.tree.TypeDeclaration.TheVariants as typedecls
+use Rattle.tsdl_tree.specs.declared.tree.Item.{Item}
+use Rattle.tsdl_tree.specs.declared.tree.Item.TheVariants as items
+use Rattle.tsdl_tree.specs.declared.tree.BlockEntry.{BlockEntry}
+use Rattle.tsdl_tree.specs.declared.tree.BlockEntry.TheVariants as entries
+use Rattle.tsdl_tree.specs.declared.tree.BlockKind.{BlockKind}
+use Rattle.tsdl_tree.specs.declared.tree.BlockKind.TheVariants as blocks
+use Rattle.tsdl_tree.specs.declared.tree.TableKind.{TableKind}
+use Rattle.tsdl_tree.specs.declared.tree.TableKind.TheVariants as tables
+use Rattle.tsdl_tree.specs.declared.tree.Declaration.{Declaration}
+use Rattle.tsdl_tree.specs.declared.tree.Declaration.TheVariants as declarations
 use Rattle.tsdl_grammar.specs.Terminals.{Word, Words, Is, IsIdentifier, IsConstant, IsString, IsWord, IsTypeword, IsEntryWord}
 use Rattle.tsdl_grammar.specs.Repeats.{Many, Listed, Optional}
 
@@ -74,8 +78,8 @@ pub data AreTypewords : Words → List Token → Type 0 where
 -- A typename is a whole run of typewords: behind it stands `:=`, `;` or `{`, which are none, or a
 -- declarator. Before a declarator it lacks the run's last word, which is the declarator's name: behind
 -- that name stands `[`, `,` or `;`. (`WholeRun` of the module Spelling says so of lists of tokens.)
-pub data IsTypename : Words → List Token → Type 0 where
-  typename : {w : Word} {ws : Words} {ts : List Token} → AreTypewords (w ∷ ws) ts → IsTypename (w ∷ ws) ts
+pub data IsTypename : Typename → List Token → Type 0 where
+  typename : {w : Word} {ws : Words} {ts : List Token} → AreTypewords (w ∷ ws) ts → IsTypename (record { words = w ∷ ws }) ts
 
 -- `"[" ( CONST | path ) "]"`
 pub data IsLength : Length → List Token → Type 0 where
@@ -105,7 +109,7 @@ pub data IsTag : Words → List Token → Type 0 where
 pub data IsContainer : Container → List Token → Type 0 where
   integer : {o t : Token} {xs : List Setting} {ts : List Token} → Is s.Colon o → Is s.Integer t → AreAttributes xs ts
       → IsContainer (containers.Integer xs) (o ∷ t ∷ ts)
-  typename : {o : Token} {ws : Words} {ts : List Token} → Is s.Colon o → IsTypename ws ts → IsContainer (containers.Named ws) (o ∷ ts)
+  typename : {o : Token} {n : Typename} {ts : List Token} → Is s.Colon o → IsTypename n ts → IsContainer (containers.Named n) (o ∷ ts)
 
 -- `"=" num [ "..." num ]`
 pub data IsSpan : Span → List Token → Type 0 where
@@ -126,27 +130,13 @@ pub data AreLabels : List Label → List Token → Type 0 where
   with_comma : {o m c : Token} {xs : List Label} {ts : List Token} → Is s.OpenBrace o → Listed IsLabel xs ts → Is s.Comma m → Is s.CloseBrace c
       → AreLabels xs (o ∷ (ts ++ (m ∷ c ∷ [])))
 
+-- a compound by its name alone: `"struct" IDENT | "variant" IDENT [ "<" path ">" ] | "enum" IDENT`
+pub data IsCompoundName : Reference → List Token → Type 0 where
+  struct : {t n : Token} → Is s.Struct t → IsIdentifier n → IsCompoundName (references.Struct n.text.now) (t ∷ n ∷ [])
+  variant : {t n : Token} {g : Option Words} {ts : List Token} → Is s.Variant t → IsIdentifier n → Optional IsTag g ts → IsCompoundName (references.Variant n.text.now g) (t ∷ n ∷ ts)
+  enum : {t n : Token} → Is s.Enum t → IsIdentifier n → IsCompoundName (references.Enum n.text.now) (t ∷ n ∷ [])
+
 -- ---- classes and declarations of names
-
-abbrev pub has_name : Option Word → Bool
-has_name None = false
-has_name (Some n) = true
-
-abbrev pub has_name_and_body_by : Specifier-F Item Specifier TypeDeclaration → Bool
-has_name_and_body_by (Specifier-F.Integer xs) = false
-has_name_and_body_by (Specifier-F.FloatingPoint xs) = false
-has_name_and_body_by (Specifier-F.Text xs) = false
-has_name_and_body_by (Specifier-F.Struct n es a) = has_name n
-has_name_and_body_by (Specifier-F.Variant n g es) = has_name n
-has_name_and_body_by (Specifier-F.Enum n k xs) = has_name n
-has_name_and_body_by (Specifier-F.Named n g) = false
-
--- a compound with an IDENT and a body
-unfoldable pub has_name_and_body : Specifier → Bool
-has_name_and_body c = has_name_and_body_by (out-Specifier c)
-
-pub record HasNameAndBody (c : Specifier) : Type 0 where
-  pub holds : has_name_and_body c ≡ true
 
 mutual
   -- class = `[ "const" ] plain`
@@ -158,26 +148,24 @@ mutual
   pub data IsPlain : Specifier → List Token → Type 0 where
     integer : {t : Token} {xs : List Setting} {ts : List Token} → Is s.Integer t → AreAttributes xs ts → IsPlain (classes.Integer xs) (t ∷ ts)
     floating_point : {t : Token} {xs : List Setting} {ts : List Token} → Is s.FloatingPoint t → AreAttributes xs ts → IsPlain (classes.FloatingPoint xs) (t ∷ ts)
-    string : {t : Token} → Is s.String t → IsPlain (classes.Text []) (t ∷ [])
-    string_with : {t : Token} {xs : List Setting} {ts : List Token} → Is s.String t → AreAttributes xs ts → IsPlain (classes.Text xs) (t ∷ ts)
-    compound : {c : Specifier} {ts : List Token} → IsCompound c ts → IsPlain c ts
-    typename : {ws : Words} {ts : List Token} → IsTypename ws ts → IsPlain (classes.Named (names.Plain ws) None) ts
+    string : {t : Token} → Is s.String t → IsPlain (classes.String []) (t ∷ [])
+    string_with : {t : Token} {xs : List Setting} {ts : List Token} → Is s.String t → AreAttributes xs ts → IsPlain (classes.String xs) (t ∷ ts)
+    compound : {n : Option Word} {c : Compound} {ts : List Token} → IsCompound n c ts → IsPlain (classes.Compound n c) ts
+    compound_name : {r : Reference} {ts : List Token} → IsCompoundName r ts → IsPlain (classes.Named r) ts
+    typename : {n : Typename} {ts : List Token} → IsTypename n ts → IsPlain (classes.Named (references.Plain n)) ts
 
   -- compound = `"struct" [ IDENT ] [ body [ "align" "(" CONST ")" ] ]
   --           | "variant" [ IDENT ] [ "<" path ">" ] [ body ]
   --           | "enum" [ IDENT ] [ [ ":" container ] "{" labels "}" ]`
-  -- with an IDENT or a body: each by its name alone, and each with its body
-  pub data IsCompound : Specifier → List Token → Type 0 where
-    struct_name : {t n : Token} → Is s.Struct t → IsIdentifier n → IsCompound (classes.Named (names.Struct n.text.now) None) (t ∷ n ∷ [])
+  -- with an IDENT or a body: each with its body, and the name that the IDENT is, if there is one. (Each
+  -- by its name alone is IsCompoundName.)
+  pub data IsCompound : Option Word → Compound → List Token → Type 0 where
     struct : {t : Token} {n : Option Word} {es : List Item} {a : Option ℕ} {ts us vs : List Token} → Is s.Struct t → Optional IsName n ts → IsBody es us → Optional IsAlign a vs
-        → IsCompound (classes.Struct n es a) (t ∷ (ts ++ (us ++ vs)))
-    variant_name : {t n : Token} {g : Option Words} {ts : List Token} → Is s.Variant t → IsIdentifier n → Optional IsTag g ts
-        → IsCompound (classes.Named (names.Variant n.text.now) g) (t ∷ n ∷ ts)
+        → IsCompound n (compounds.Struct es a) (t ∷ (ts ++ (us ++ vs)))
     variant : {t : Token} {n : Option Word} {g : Option Words} {es : List Item} {ts us vs : List Token} → Is s.Variant t → Optional IsName n ts → Optional IsTag g us → IsBody es vs
-        → IsCompound (classes.Variant n g es) (t ∷ (ts ++ (us ++ vs)))
-    enum_name : {t n : Token} → Is s.Enum t → IsIdentifier n → IsCompound (classes.Named (names.Enum n.text.now) None) (t ∷ n ∷ [])
+        → IsCompound n (compounds.Variant g es) (t ∷ (ts ++ (us ++ vs)))
     enum : {t : Token} {n : Option Word} {k : Option Container} {xs : List Label} {ts us vs : List Token} → Is s.Enum t → Optional IsName n ts → Optional IsContainer k us → AreLabels xs vs
-        → IsCompound (classes.Enum n k xs) (t ∷ (ts ++ (us ++ vs)))
+        → IsCompound n (compounds.Enum k xs) (t ∷ (ts ++ (us ++ vs)))
 
   -- body = `"{" { item } "}"`
   pub data IsBody : List Item → List Token → Type 0 where
@@ -192,17 +180,17 @@ mutual
   pub data IsItem : Item → List Token → Type 0 where
     fields : {c : Specifier} {ds : List Declarator} {ts us : List Token} {e : Token} → IsClass c ts → Listed IsDeclarator ds us → Is s.Semicolon e
         → IsItem (items.Fields c ds) (ts ++ (us ++ e ∷ []))
-    typedecl : {d : TypeDeclaration} {ts : List Token} → IsTypedecl d ts → IsItem (items.Names d) ts
+    typedecl : {d : TypeDeclaration} {ts : List Token} → IsTypedecl d ts → IsItem (items.Types d) ts
 
   -- typedecl = `"typealias" class ":=" typename ";"
   --           | "typedef" class declarator { "," declarator } ";"
   --           | compound ";"`, the last with an IDENT and a body
   pub data IsTypedecl : TypeDeclaration → List Token → Type 0 where
-    alias : {t a e : Token} {c : Specifier} {ws : Words} {ts us : List Token} → Is s.Typealias t → IsClass c ts → Is s.Assign a → IsTypename ws us → Is s.Semicolon e
-        → IsTypedecl (typedecls.Alias c ws) (t ∷ (ts ++ (a ∷ (us ++ e ∷ []))))
+    alias : {t a e : Token} {c : Specifier} {n : Typename} {ts us : List Token} → Is s.Typealias t → IsClass c ts → Is s.Assign a → IsTypename n us → Is s.Semicolon e
+        → IsTypedecl (typedecls.Alias c n) (t ∷ (ts ++ (a ∷ (us ++ e ∷ []))))
     definition : {t e : Token} {c : Specifier} {ds : List Declarator} {ts us : List Token} → Is s.Typedef t → IsClass c ts → Listed IsDeclarator ds us → Is s.Semicolon e
         → IsTypedecl (typedecls.Definition c ds) (t ∷ (ts ++ (us ++ e ∷ [])))
-    declared : {e : Token} {c : Specifier} {ts : List Token} → IsCompound c ts → HasNameAndBody c → Is s.Semicolon e → IsTypedecl (typedecls.Compound c) (ts ++ e ∷ [])
+    declared : {e : Token} {n : Word} {c : Compound} {ts : List Token} → IsCompound (Some n) c ts → Is s.Semicolon e → IsTypedecl (typedecls.Compound n c) (ts ++ e ∷ [])
 
 -- ---- blocks
 
@@ -224,7 +212,7 @@ pub data IsEntry : BlockEntry → List Token → Type 0 where
   setting : {t : Token} {x : Setting} {ts : List Token} → IsEntryWord t → IsSetting x (t ∷ ts) → IsEntry (entries.Setting x) (t ∷ ts)
   class : {t a e : Token} {n : Words} {c : Specifier} {ts us : List Token} → IsEntryWord t → IsPath n (t ∷ ts) → Is s.Assign a → IsClass c us → Is s.Semicolon e
       → IsEntry (entries.Class n c) (t ∷ (ts ++ (a ∷ (us ++ e ∷ []))))
-  typedecl : {d : TypeDeclaration} {ts : List Token} → IsTypedecl d ts → IsEntry (entries.Names d) ts
+  typedecl : {d : TypeDeclaration} {ts : List Token} → IsTypedecl d ts → IsEntry (entries.Types d) ts
 
 -- `block | typedecl`, where
 -- block = `("trace" | "stream" | "event") "{" { entry | typedecl } "}" ";"
@@ -234,4 +222,4 @@ pub data IsDeclaration : Declaration → List Token → Type 0 where
       → IsDeclaration (declarations.Block k xs) (t ∷ o ∷ (ts ++ (c ∷ e ∷ [])))
   table : {t o c e : Token} {k : TableKind} {xs : List Setting} {ts : List Token} → IsTableWord k t → Is s.OpenBrace o → Many IsSetting xs ts → Is s.CloseBrace c → Is s.Semicolon e
       → IsDeclaration (declarations.Table k xs) (t ∷ o ∷ (ts ++ (c ∷ e ∷ [])))
-  typedecl : {d : TypeDeclaration} {ts : List Token} → IsTypedecl d ts → IsDeclaration (declarations.Names d) ts
+  typedecl : {d : TypeDeclaration} {ts : List Token} → IsTypedecl d ts → IsDeclaration (declarations.Types d) ts

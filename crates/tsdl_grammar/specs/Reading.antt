@@ -4,36 +4,37 @@ use Rattle.tsdl_text.specs.declared.token.Symbol.TheVariants as s
 use Rattle.tsdl_text.specs.declared.token.Token.{Token}
 use Rattle.tsdl_text.specs.Symbols.{is_word, is_identifier, is_string, constant_of}
 use Rattle.tsdl_text.specs.Strings.{string_value}
-use Rattle.tsdl_grammar.specs.declared.tree.Number.{Number}
-use Rattle.tsdl_grammar.specs.declared.tree.Value.{Value}
-use Rattle.tsdl_grammar.specs.declared.tree.Value.TheVariants as values
-use Rattle.tsdl_grammar.specs.declared.tree.Setting.{Setting}
-use Rattle.tsdl_grammar.specs.declared.tree.Name.{Name}
-use Rattle.tsdl_grammar.specs.declared.tree.Name.TheVariants as names
-use Rattle.tsdl_grammar.specs.declared.tree.Length.{Length}
-use Rattle.tsdl_grammar.specs.declared.tree.Length.TheVariants as lengths
-use Rattle.tsdl_grammar.specs.declared.tree.Declarator.{Declarator}
-use Rattle.tsdl_grammar.specs.declared.tree.Span.{Span}
-use Rattle.tsdl_grammar.specs.declared.tree.Label.{Label}
-use Rattle.tsdl_grammar.specs.declared.tree.Container.{Container}
-use Rattle.tsdl_grammar.specs.declared.tree.Container.TheVariants as containers
-use Rattle.tsdl_grammar.specs.declared.tree.Specifier.{Specifier}
-use Rattle.tsdl_grammar.specs.declared.tree.Specifier.TheVariants as classes
-use Rattle.tsdl_grammar.specs.declared.tree.TypeDeclaration.{TypeDeclaration}
-use Rattle.tsdl_grammar.specs.declared.tree.TypeDeclaration.TheVariants as typedecls
-use Rattle.tsdl_grammar.specs.declared.tree.Item.{Item}
-use Rattle.tsdl_grammar.specs.declared.tree.Item.TheVariants as items
-use Rattle.tsdl_grammar.specs.declared.tree.BlockEntry.{BlockEntry}
-use Rattle.tsdl_grammar.specs.declared.tree.BlockEntry.TheVariants as entries
-use Rattle.tsdl_grammar.specs.declared.tree.BlockKind.{BlockKind}
-use Rattle.tsdl_grammar.specs.declared.tree.BlockKind.TheVariants as blocks
-use Rattle.tsdl_grammar.specs.declared.tree.TableKind.{TableKind}
-use Rattle.tsdl_grammar.specs.declared.tree.TableKind.TheVariants as tables
-use Rattle.tsdl_grammar.specs.declared.tree.Declaration.{Declaration}
-use Rattle.tsdl_grammar.specs.declared.tree.Declaration.TheVariants as declarations
-use Rattle.tsdl_grammar.specs.declared.tree.Tree.{Tree}
+use Rattle.tsdl_tree.specs.declared.tree.Number.{Number}
+use Rattle.tsdl_tree.specs.declared.tree.Value.{Value}
+use Rattle.tsdl_tree.specs.declared.tree.Value.TheVariants as values
+use Rattle.tsdl_tree.specs.declared.tree.Setting.{Setting}
+use Rattle.tsdl_tree.specs.declared.tree.Typename.{Typename}
+use Rattle.tsdl_tree.specs.declared.tree.Length.{Length}
+use Rattle.tsdl_tree.specs.declared.tree.Length.TheVariants as lengths
+use Rattle.tsdl_tree.specs.declared.tree.Declarator.{Declarator}
+use Rattle.tsdl_tree.specs.declared.tree.Span.{Span}
+use Rattle.tsdl_tree.specs.declared.tree.Label.{Label}
+use Rattle.tsdl_tree.specs.declared.tree.Container.{Container}
+use Rattle.tsdl_tree.specs.declared.tree.Container.TheVariants as containers
+use Rattle.tsdl_tree.specs.declared.tree.Reference.{Reference}
+use Rattle.tsdl_tree.specs.declared.tree.Reference.TheVariants as references
+use Rattle.tsdl_tree.specs.declared.tree.Specifier.{Specifier}
+use Rattle.tsdl_tree.specs.declared.tree.Specifier.TheVariants as classes
+use Rattle.tsdl_tree.specs.declared.tree.Compound.TheVariants as compounds
+use Rattle.tsdl_tree.specs.declared.tree.TypeDeclaration.{TypeDeclaration}
+use Rattle.tsdl_tree.specs.declared.tree.TypeDeclaration.TheVariants as typedecls
+use Rattle.tsdl_tree.specs.declared.tree.Item.{Item}
+use Rattle.tsdl_tree.specs.declared.tree.Item.TheVariants as items
+use Rattle.tsdl_tree.specs.declared.tree.BlockEntry.{BlockEntry}
+use Rattle.tsdl_tree.specs.declared.tree.BlockEntry.TheVariants as entries
+use Rattle.tsdl_tree.specs.declared.tree.BlockKind.{BlockKind}
+use Rattle.tsdl_tree.specs.declared.tree.BlockKind.TheVariants as blocks
+use Rattle.tsdl_tree.specs.declared.tree.TableKind.{TableKind}
+use Rattle.tsdl_tree.specs.declared.tree.TableKind.TheVariants as tables
+use Rattle.tsdl_tree.specs.declared.tree.Declaration.{Declaration}
+use Rattle.tsdl_tree.specs.declared.tree.Declaration.TheVariants as declarations
+use Rattle.tsdl_tree.specs.declared.tree.Tree.{Tree}
 use Rattle.tsdl_grammar.specs.Terminals.{Word, Words, is}
-use Rattle.tsdl_grammar.specs.Grammar.{has_name_and_body}
 use Rattle.tsdl_grammar.specs.Spelling.{run}
 use Rattle.tsdl_grammar.specs.Steps.{Refusal, bad, ◌>>=◌, Parse, or_bad, expect, past, begins, begins_identifier, begins_compound, begins_labels, begins_declaration, before_close, before_label, before_end, all, optional, open_at}
 
@@ -105,15 +106,15 @@ unfoldable pub words_of : List Token → Words
 words_of [] = []
 words_of (t ∷ ts) = if is s.Const t then words_of ts else t.text.now ∷ words_of ts
 
-abbrev pub some_words : Words → List Token → Result (Words × List Token) Refusal
+abbrev pub some_words : Words → List Token → Result (Typename × List Token) Refusal
 some_words [] ts = Err bad
-some_words (w ∷ ws) ts = Ok (w ∷ ws, ts)
+some_words (w ∷ ws) ts = Ok (record { words = w ∷ ws }, ts)
 
 -- how many tokens are a typename's: the whole run of typewords, or all but its last before a declarator
 abbrev pub typename_len : Bool → List Token → ℕ
 typename_len before_declarator ts = if before_declarator then run ts - 1 else run ts
 
-unfoldable pub typename_at : Bool → Parse Words
+unfoldable pub typename_at : Bool → Parse Typename
 typename_at before_declarator ts = some_words (words_of (take (typename_len before_declarator ts) ts)) (drop (typename_len before_declarator ts) ts)
 
 abbrev pub bound_by : Option ℕ → Token → List Token → Result (Length × List Token) Refusal
@@ -172,7 +173,7 @@ container_at d ts = do
   if begins s.Integer o then (do
     t ← expect s.Integer o
     xs ← attributes_at d t
-    Ok (containers.Integer xs.0, xs.1)) else (typename_at false o >>= λ ws. Ok (containers.Named ws.0, ws.1))
+    Ok (containers.Integer xs.0, xs.1)) else (typename_at false o >>= λ n. Ok (containers.Named n.0, n.1))
 
 -- the end of a range
 unfoldable pub range_end_at : Parse Number
@@ -212,9 +213,9 @@ labels_at d ts = do
   Ok (first.0 ∷ more.0, close)
 
 -- a compound's name alone
-abbrev pub named_by : (Word → Name) → Option Words → Option Word → List Token → Result (Specifier × List Token) Refusal
-named_by kind tag None ts = Err bad
-named_by kind tag (Some n) ts = Ok (classes.Named (kind n) tag, ts)
+abbrev pub named_by : (Word → Reference) → Option Word → List Token → Result (Specifier × List Token) Refusal
+named_by reference None ts = Err bad
+named_by reference (Some n) ts = Ok (classes.Named (reference n), ts)
 
 unfoldable pub enum_at : ℕ → Parse Specifier
 enum_at d ts = do
@@ -223,7 +224,7 @@ enum_at d ts = do
   if begins_labels n.1 then (do
     k ← optional (begins s.Colon) (container_at d) n.1
     xs ← labels_at d k.1
-    Ok (classes.Enum n.0 k.0 xs.0, xs.1)) else named_by names.Enum None n.0 n.1
+    Ok (classes.Compound n.0 (compounds.Enum k.0 xs.0), xs.1)) else named_by references.Enum n.0 n.1
 
 -- ---- classes and declarations of names
 
@@ -242,7 +243,7 @@ floating_point_at d ts = do
 unfoldable pub string_at : ℕ → Parse Specifier
 string_at d ts = do
   rest ← expect s.String ts
-  if begins s.OpenBrace rest then (attributes_at d rest >>= λ xs. Ok (classes.Text xs.0, xs.1)) else Ok (classes.Text [], rest)
+  if begins s.OpenBrace rest then (attributes_at d rest >>= λ xs. Ok (classes.String xs.0, xs.1)) else Ok (classes.String [], rest)
 
 unfoldable pub fields_behind : Specifier → Parse Item
 fields_behind c ts = do
@@ -250,12 +251,14 @@ fields_behind c ts = do
   e ← expect s.Semicolon ds.1
   Ok (items.Fields c ds.0, e)
 
+-- the semicolon behind a compound with a name and a body
 unfoldable pub compound_behind : Specifier → Parse TypeDeclaration
-compound_behind c ts = if has_name_and_body c then (expect s.Semicolon ts >>= λ e. Ok (typedecls.Compound c, e)) else Err bad
+compound_behind (classes.Compound (Some n) c) ts = expect s.Semicolon ts >>= λ e. Ok (typedecls.Compound n c, e)
+compound_behind _ ts = Err bad
 
 -- a declaration of names in the place of an item
 abbrev pub as_item : Result (TypeDeclaration × List Token) Refusal → Result (Item × List Token) Refusal
-as_item read = read >>= λ d. Ok (items.Names d.0, d.1)
+as_item read = read >>= λ d. Ok (items.Types d.0, d.1)
 
 -- The parts that bodies stand in, over the bodies.
 module _ (body : Parse (List Item)) where
@@ -266,14 +269,14 @@ module _ (body : Parse (List Item)) where
     if begins s.OpenBrace n.1 then (do
       es ← body n.1
       a ← optional (begins s.Align) align_at es.1
-      Ok (classes.Struct n.0 es.0 a.0, a.1)) else named_by names.Struct None n.0 n.1
+      Ok (classes.Compound n.0 (compounds.Struct es.0 a.0), a.1)) else named_by references.Struct n.0 n.1
 
   unfoldable pub variant_at : Parse Specifier
   variant_at ts = do
     rest ← expect s.Variant ts
     n ← optional begins_identifier identifier_at rest
     g ← optional (begins s.Less) tag_at n.1
-    if begins s.OpenBrace g.1 then (body g.1 >>= λ es. Ok (classes.Variant n.0 g.0 es.0, es.1)) else named_by names.Variant g.0 n.0 g.1
+    if begins s.OpenBrace g.1 then (body g.1 >>= λ es. Ok (classes.Compound n.0 (compounds.Variant g.0 es.0), es.1)) else named_by (λ n. references.Variant n g.0) n.0 g.1
 
   unfoldable pub compound_at : ℕ → Parse Specifier
   compound_at d ts = if begins s.Struct ts then struct_at ts else (if begins s.Variant ts then variant_at ts else enum_at d ts)
@@ -284,7 +287,7 @@ module _ (body : Parse (List Item)) where
       else (if begins s.FloatingPoint ts then floating_point_at d ts
       else (if begins s.String ts then string_at d ts
       else (if begins_compound ts then compound_at d ts
-      else (typename_at before_declarator ts >>= λ ws. Ok (classes.Named (names.Plain ws.0) None, ws.1)))))
+      else (typename_at before_declarator ts >>= λ n. Ok (classes.Named (references.Plain n.0), n.1)))))
 
   unfoldable pub class_at : Bool → ℕ → Parse Specifier
   class_at before_declarator d ts = plain_at before_declarator d (past s.Const ts)
@@ -294,9 +297,9 @@ module _ (body : Parse (List Item)) where
     rest ← expect s.Typealias ts
     c ← class_at false d rest
     a ← expect s.Assign c.1
-    ws ← typename_at false a
-    e ← expect s.Semicolon ws.1
-    Ok (typedecls.Alias c.0 ws.0, e)
+    n ← typename_at false a
+    e ← expect s.Semicolon n.1
+    Ok (typedecls.Alias c.0 n.0, e)
 
   unfoldable pub definition_at : ℕ → Parse TypeDeclaration
   definition_at d ts = do
@@ -329,7 +332,7 @@ module _ (body : Parse (List Item)) where
 
   unfoldable pub entry_at : ℕ → Parse BlockEntry
   entry_at d ts =
-      if begins_declaration ts then (typedecl_at d ts >>= λ x. Ok (entries.Names x.0, x.1))
+      if begins_declaration ts then (typedecl_at d ts >>= λ x. Ok (entries.Types x.0, x.1))
       else (path_at ts >>= λ n. if begins s.Equals n.1 then (setting_behind n.0 n.1 >>= λ x. Ok (entries.Setting x.0, x.1)) else class_behind d n.0 n.1)
 
 -- A body, with braces that nest no deeper than the number.
@@ -366,7 +369,7 @@ table_at d kind ts = do
 abbrev pub declaration_by : ℕ → Option BlockKind → Option TableKind → Token → List Token → Result (Declaration × List Token) Refusal
 declaration_by d (Some kind) other t ts = block_at d kind ts
 declaration_by d None (Some kind) t ts = table_at d kind ts
-declaration_by d None None t ts = typedecl_at (body_at d) d (t ∷ ts) >>= λ x. Ok (declarations.Names x.0, x.1)
+declaration_by d None None t ts = typedecl_at (body_at d) d (t ∷ ts) >>= λ x. Ok (declarations.Types x.0, x.1)
 
 unfoldable pub declaration_at : ℕ → Parse Declaration
 declaration_at d [] = Err bad

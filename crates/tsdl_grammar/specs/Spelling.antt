@@ -3,9 +3,10 @@ use Rattle.std.specs.Prelude.{◌≡◌, ℕ, suc, false, List, [], ◌∷◌, �
 use Rattle.tsdl_text.specs.declared.token.Symbol.TheVariants as s
 use Rattle.tsdl_text.specs.declared.token.Token.{Token}
 use Rattle.tsdl_text.specs.Symbols.{is_typeword}
-use Rattle.tsdl_grammar.specs.declared.tree.Declarator.{Declarator}
-use Rattle.tsdl_grammar.specs.declared.tree.Tree.{Tree}
-use Rattle.tsdl_grammar.specs.Terminals.{Words, Is, IsIdentifier}
+use Rattle.tsdl_tree.specs.declared.tree.Declarator.{Declarator}
+use Rattle.tsdl_tree.specs.declared.tree.Tree.{Tree}
+use Rattle.tsdl_tree.specs.declared.tree.Typename.{Typename}
+use Rattle.tsdl_grammar.specs.Terminals.{Is, IsIdentifier}
 use Rattle.tsdl_grammar.specs.Repeats.{Many, Listed}
 use Rattle.tsdl_grammar.specs.Grammar.{IsTypename, IsDeclarator, IsDeclaration}
 
@@ -29,10 +30,10 @@ run (t ∷ ts) = if is_typeword t.kind then suc (run ts) else 0
 -- A typename is a whole run of typewords. Before a declarator it lacks the run's last word, which is
 -- the declarator's name.
 pub record WholeRun : Type 0 where
-  pub alone : (ws : Words) (ts : List Token) (e : Token) (rest : List Token) → IsTypename ws ts → is_typeword e.kind ≡ false
+  pub alone : (name : Typename) (ts : List Token) (e : Token) (rest : List Token) → IsTypename name ts → is_typeword e.kind ≡ false
       → run (ts ++ (e ∷ rest)) ≡ length ts
-  pub before_declarator : (ws : Words) (ts : List Token) (ds : List Declarator) (n : Token) (us : List Token) (e : Token) (rest : List Token)
-      → IsTypename ws ts → Listed IsDeclarator ds (n ∷ us) → Is s.Semicolon e
+  pub before_declarator : (name : Typename) (ts : List Token) (ds : List Declarator) (n : Token) (us : List Token) (e : Token) (rest : List Token)
+      → IsTypename name ts → Listed IsDeclarator ds (n ∷ us) → Is s.Semicolon e
       → IsIdentifier n × (run (ts ++ (n ∷ (us ++ (e ∷ rest)))) ≡ suc (length ts))
 
 -- the line of the last token, 1 where there is none

@@ -11,7 +11,7 @@ pub data Refusal : Type 0 where
   bad : Refusal
   deep : Refusal
 
-unfoldable pub bind : {A B : Type 0} → Result A Refusal → (A → Result B Refusal) → Result B Refusal
+abbrev pub bind : {A B : Type 0} → Result A Refusal → (A → Result B Refusal) → Result B Refusal
 bind (Ok x) f = f x
 bind (Err e) f = Err e
 

@@ -2,15 +2,14 @@
 use Rattle.std.proofs.Common.{◌≡◌, ℕ, zero, suc, ◌-◌, List, Result, Ok, Err, refl, ap, arith}
 use Rattle.tsdl_text.specs.declared.token.Symbol.TheVariants as s
 use Rattle.tsdl_text.specs.declared.token.Token.{Token}
-use Rattle.tsdl_grammar.specs.declared.tree.Item.{Item}
-use Rattle.tsdl_grammar.specs.Steps.{Refusal, deep, bad, ◌>>=◌, bind, all, before_close, expect, open_at}
+use Rattle.tsdl_tree.specs.declared.tree.Item.{Item}
+use Rattle.tsdl_grammar.specs.Steps.{Refusal, deep, bad, ◌>>=◌, all, before_close, expect, open_at}
 use Rattle.tsdl_grammar.specs.Reading.{item_at, body_at}
 
 abbrev rest_of : ℕ → List Token → Result (List Item × List Token) Refusal
 rest_of d inner = all before_close (item_at (body_at d) d) inner >>= λ es. expect s.CloseBrace es.1 >>= λ close. Ok (es.0, close)
 
 closed : {A : Type 0} (r : Result (List Token) Refusal) (k : List Token → Result A Refusal) (l : List Token → Result A Refusal) → ((r >>= λ rest. Err deep) >>= k) ≡ ((r >>= λ rest. Err deep) >>= l)
-unfolding bind
 closed (Ok x) k l = refl
 closed (Err e) k l = refl
 

@@ -4,7 +4,7 @@ use Rattle.std.proofs.lemmas.List.{append-nil}
 use Rattle.tsdl_text.specs.declared.token.Token.{Token}
 use Rattle.tsdl_parse.specs.declared.failure.Failure.{Failure}
 use Rattle.tsdl_parse.specs.declared.failure.Failure.TheVariants as failure
-use Rattle.tsdl_grammar.specs.Steps.{Refusal, bad, deep, ◌>>=◌, bind, Parse, loop, all}
+use Rattle.tsdl_grammar.specs.Steps.{Refusal, bad, deep, ◌>>=◌, Parse, loop, all}
 use Rattle.tsdl_parse.specs.Gives.{Fails}
 use Rattle.tsdl_parse.specs.Front.{with_front}
 
@@ -19,24 +19,23 @@ starts go item front ts = record { turns = length ts; enough = omega arith; with
 
 module _ {A : Type 0} (go : List Token → Bool) (item : Parse A) where
   regroup : (front : List A) (x : A) (read : Result (List A × List Token) Refusal) → with_front front (read >>= λ xs. Ok (x ∷ xs.0, xs.1)) ≡ with_front (front ++ x ∷ []) read
-  unfolding bind
   regroup front x (Ok y) = ap (λ (xs : List A). Ok (xs, y.1)) (simp append_assoc)
   regroup front x (Err f) = refl
 
   turn : (n : ℕ) (ts : List Token) (x : A) (after : List Token) → length ts ≤ n → go ts ≡ true → item ts ≡ Ok (x, after) → length after < length ts
       → (m : ℕ) × (length after ≤ m) × (loop go item n ts ≡ (loop go item m after >>= λ xs. Ok (x ∷ xs.0, xs.1)))
-  unfolding loop bind
+  unfolding loop
   turn zero ts x after le g e lt = let never : ⊥ = omega arith in absurd never
   turn (suc n) ts x after le g e lt = (n, omega arith, rw (g, e) refl)
 
   stop : go [] ≡ false → (n : ℕ) (ts : List Token) (r : Refusal) → length ts ≤ n → go ts ≡ true → item ts ≡ Err r → loop go item n ts ≡ Err r
-  unfolding loop bind
+  unfolding loop
   stop z zero [] r le g e = absurd cc
   stop z zero (t ∷ ts) r le g e = let never : ⊥ = omega arith in absurd never
   stop z (suc n) ts r le g e = rw (g, e) refl
 
   finish : (n : ℕ) (ts : List Token) → go ts ≡ false → loop go item n ts ≡ Ok ([], ts)
-  unfolding loop bind
+  unfolding loop
   finish zero ts g = rw g refl
   finish (suc n) ts g = rw g refl
 
@@ -47,17 +46,14 @@ module _ {A : Type 0} (go : List Token → Bool) (item : Parse A) where
         record { turns = t.0; enough = t.1; within = omega (arith, h.within); so_far = sym (ap (with_front front) t.2 ∙ regroup front x (loop go item t.0 after)) ∙ h.so_far }
 
     pub ends : go [] ≡ false → (f : Failure) → go ts ≡ true → Fails f (item ts) → Fails f (with_front front_0 (all go item ts_0))
-    unfolding bind
-    ends z failure.Memory g e = tt
+    ends z failure.NoMemory g e = tt
     ends z (failure.Syntax n) g e = sym h.so_far ∙ ap (with_front front) (stop z h.turns ts bad h.enough g e)
     ends z failure.Deep g e = sym h.so_far ∙ ap (with_front front) (stop z h.turns ts deep h.enough g e)
 
     pub is_done : go ts ≡ false → with_front front_0 (all go item ts_0) ≡ Ok (front, ts)
-    unfolding bind
     is_done g = sym h.so_far ∙ ap (with_front front) (finish h.turns ts g) ∙ ap (λ (xs : List A). Ok (xs, ts)) (append-nil front)
 
-front_nil : {A : Type 0} (read : Result (List A × List Token) Refusal) → with_front [] read ≡ read
-unfolding bind
+pub front_nil : {A : Type 0} (read : Result (List A × List Token) Refusal) → with_front [] read ≡ read
 front_nil (Ok x) = refl
 front_nil (Err e) = refl
 

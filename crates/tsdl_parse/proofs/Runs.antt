@@ -1,6 +1,7 @@
 -- The run of a type's words.
 use Rattle.std.proofs.Common.{◌≡◌, ℕ, suc, ◌+◌, ◌<◌, ◌≤◌, Bool, true, false, cond, List, [], ◌∷◌, ◌++◌, length, take, drop, get_or, Ok, refl, sym, ap, ◌∙◌}
 use Rattle.std.specs.Prelude.{not}
+use Rattle.std.proofs.lemmas.Bool.{not-true, not-false}
 use Rattle.std.proofs.lemmas.List.{at_drop_more, at_drop_all, take_more, append-nil}
 use Rattle.tsdl_text.specs.declared.token.Token.{Token}
 use Rattle.tsdl_text.specs.declared.token.Symbol.TheVariants as s
@@ -39,25 +40,17 @@ words_of-push (u ∷ ts) t b e = simp (words_of-push ts t b e) (other (is s.Cons
     other true w xs ys = refl
     other false w xs ys = refl
 
-kept : (b : Bool) → not b ≡ true → b ≡ false
-kept true e = absurd cc
-kept false e = refl
-
-left_out : (b : Bool) → not b ≡ false → b ≡ true
-left_out true e = refl
-left_out false e = absurd cc
-
 pub words_of_keep : (ts : List Token) (i : ℕ) (t : Token) → i < length ts → t ≡ get_or ts i t → not (is s.Const t) ≡ true → words_of (take (i + 1) ts) ≡ words_of (take i ts) ++ t.text.now ∷ []
 unfolding some_if
 words_of_keep ts i t lt e o =
-    ap words_of (take_more ts i t lt) ∙ words_of-push (take i ts) (get_or ts i t) false (same_test (λ (u : Token). is s.Const u) ts i t false e (kept (is s.Const t) o))
+    ap words_of (take_more ts i t lt) ∙ words_of-push (take i ts) (get_or ts i t) false (same_test (λ (u : Token). is s.Const u) ts i t false e (not-true (is s.Const t) o))
     ∙ ap (λ (u : Token). words_of (take i ts) ++ u.text.now ∷ []) (sym e)
 
 pub words_of_skip : (ts : List Token) (i : ℕ) (t : Token) → i < length ts → t ≡ get_or ts i t → not (is s.Const t) ≡ false → words_of (take (i + 1) ts) ≡ words_of (take i ts)
 unfolding some_if
 words_of_skip ts i t lt e o =
-    ap words_of (take_more ts i t lt) ∙ words_of-push (take i ts) (get_or ts i t) true (same_test (λ (u : Token). is s.Const u) ts i t true e (left_out (is s.Const t) o)) ∙ append-nil (words_of (take i ts))
+    ap words_of (take_more ts i t lt) ∙ words_of-push (take i ts) (get_or ts i t) true (same_test (λ (u : Token). is s.Const u) ts i t true e (not-false (is s.Const t) o)) ∙ append-nil (words_of (take i ts))
 
-pub some_words_some : (ws : List (List ℕ)) (ts : List Token) → (ws ≡ [] → ⊥) → some_words ws ts ≡ Ok (ws, ts)
+pub some_words_some : (ws : List (List ℕ)) (ts : List Token) → (ws ≡ [] → ⊥) → some_words ws ts ≡ Ok (record { words = ws }, ts)
 some_words_some [] ts h = absurd (h refl)
 some_words_some (w ∷ ws) ts h = refl

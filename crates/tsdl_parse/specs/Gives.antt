@@ -5,7 +5,7 @@ use Rattle.tsdl_parse.specs.declared.failure.Failure.{Failure}
 use Rattle.tsdl_parse.specs.declared.failure.Failure.TheVariants as failure
 
 abbrev pub Fails : {Y : Type 0} → Failure → Result Y Refusal → Type 0
-Fails failure.Memory read = Unit {0}
+Fails failure.NoMemory read = Unit {0}
 Fails (failure.Syntax left) read = read ≡ Err bad
 Fails failure.Deep read = read ≡ Err deep
 

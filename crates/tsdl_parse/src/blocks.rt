@@ -1,18 +1,18 @@
 //! Blocks, and all that stands directly in the metadata.
 
-ghost use Rattle.std.specs.Prelude.{◌≡◌, ◌<◌, ◌≤◌, ◌-◌, length, IfOk};
-ghost use Rattle.tsdl_grammar.specs.Steps.{all, before_close, before_end, begins_declaration};
+ghost use Rattle.std.specs.Prelude.{◌≡◌, ◌<◌, ◌-◌, length, refl, IfOk};
+ghost use Rattle.tsdl_grammar.specs.Steps.{before_close, before_end, begins_declaration};
 ghost use Rattle.tsdl_grammar.specs.Reading.{class_behind, entry_at, body_at, block_kind, table_kind, block_at, table_at, declaration_at};
 ghost use Rattle.tsdl_parse.specs.Gives.{Gives};
 
 use crate::classes::{class, type_declaration};
 use crate::failure::{Failure, Read};
+use crate::part::{Part, many};
 use crate::settings::{attributes, path, setting_behind};
 use crate::terminals::{begins, expect, goes_on, has_more, open};
-use ctf_list::List;
 use std::alloc::Global;
-use tsdl_grammar::{BlockEntry, BlockKind, Declaration, Path, TableKind};
 use tsdl_text::{Symbol, Token};
+use tsdl_tree::{BlockEntry, BlockKind, Declaration, Path, TableKind};
 
 /// Whether a declaration of names comes first.
 fn begins_declaration(tokens: &[Token<'_>]) -> bool
@@ -26,7 +26,7 @@ fn begins_declaration(tokens: &[Token<'_>]) -> bool
 }
 
 /// The rest of `name := class;`, behind the name.
-#[tactic(auto, unfolding(tsdl_grammar::specs::Steps::bind, tsdl_grammar::specs::Reading::class_behind))]
+#[tactic(auto, unfolding(tsdl_grammar::specs::Reading::class_behind))]
 fn class_behind<'t, 'a>(
     alloc: Global,
     depth: u32,
@@ -39,44 +39,42 @@ fn class_behind<'t, 'a>(
     let rest = expect(Symbol::Assign, tokens)?;
     let (class, rest) = class(alloc, false, depth, rest)?;
     let rest = expect(Symbol::Semicolon, rest)?;
-    Ok((BlockEntry::Class(name, class), rest))
+    Ok((BlockEntry::Class { name, class }, rest))
 }
 
-/// A setting, a class for a name, or a declaration of names.
-#[tactic(auto, unfolding(tsdl_grammar::specs::Steps::bind, tsdl_grammar::specs::Reading::entry_at))]
-fn entry<'t, 'a>(alloc: Global, depth: u32, tokens: &'t [Token<'a>]) -> Read<'t, 'a, BlockEntry>
-    ensures reads { Gives (λ x. (x.0, x.1.now)) result (entry_at (body_at depth) depth tokens.now) }
-    ensures shorter { IfOk result (λ x. length x.1.now < length tokens.now) }
-{
-    if begins_declaration(tokens) {
-        let (names, rest) = type_declaration(alloc, depth, tokens)?;
-        return Ok((BlockEntry::Names(names), rest));
-    }
-    let (name, rest) = path(alloc, tokens)?;
-    if begins(Symbol::Equals, rest) {
-        let (setting, rest) = setting_behind(alloc, name, rest)?;
-        return Ok((BlockEntry::Setting(setting), rest));
-    }
-    class_behind(alloc, depth, name, rest)
-}
-
-/// The entries up to a closing brace.
-fn entries<'t, 'a>(
-    alloc: Global,
+/// A setting, a class for a name, or a declaration of names, up to a closing brace.
+#[derive(Clone, Copy)]
+struct Entry {
     depth: u32,
-    tokens: &'t [Token<'a>],
-) -> Read<'t, 'a, List<BlockEntry>>
-    ensures reads { Gives (λ x. (x.0, x.1.now)) result (all before_close (entry_at (body_at depth) depth) tokens.now) }
-    ensures within { IfOk result (λ x. length x.1.now ≤ length tokens.now) }
-{
-    let mut found = Vec::new(alloc);
-    let (_, mut rest) = tokens.split_at(0);
-    'turns: while goes_on(rest) {
-        let (next, after) = entry(alloc, depth, rest)?;
-        found.push(next)?;
-        rest = after;
+}
+
+impl Part for Entry {
+    type Tree = BlockEntry;
+
+    ghost comes = { λ _. before_close };
+
+    ghost part_at = { λ part. entry_at (body_at part.depth) part.depth };
+
+    fn comes(&self, tokens: &[Token<'_>]) -> bool {
+        goes_on(tokens)
     }
-    Ok((List::from_vec(found), rest))
+
+    #[tactic(auto, unfolding(tsdl_grammar::specs::Reading::entry_at))]
+    fn read<'t, 'a>(&self, alloc: Global, tokens: &'t [Token<'a>]) -> Read<'t, 'a, BlockEntry> {
+        let depth = self.depth;
+        if begins_declaration(tokens) {
+            let (types, rest) = type_declaration(alloc, depth, tokens)?;
+            return Ok((BlockEntry::Types(types), rest));
+        }
+        let (name, rest) = path(alloc, tokens)?;
+        if begins(Symbol::Equals, rest) {
+            let (setting, rest) = setting_behind(alloc, name, rest)?;
+            return Ok((BlockEntry::Setting(setting), rest));
+        }
+        class_behind(alloc, depth, name, rest)
+    }
+
+    ghost stops = { λ _. refl };
 }
 
 /// Which block with classes a word begins.
@@ -112,7 +110,7 @@ fn table_kind(token: &Token<'_>) -> Option<TableKind>
 }
 
 /// `{ entries };` behind a block's word.
-#[tactic(auto, unfolding(tsdl_grammar::specs::Steps::bind, tsdl_grammar::specs::Reading::block_at))]
+#[tactic(auto, unfolding(tsdl_grammar::specs::Reading::block_at))]
 fn block<'t, 'a>(
     alloc: Global,
     depth: u32,
@@ -123,14 +121,15 @@ fn block<'t, 'a>(
     ensures shorter { IfOk result (λ x. length x.1.now < length tokens.now) }
 {
     let rest = open(depth, tokens)?;
-    let (entries, rest) = entries(alloc, depth - 1, rest)?;
+    let inner = Entry { depth: depth - 1 };
+    let (entries, rest) = many(alloc, &inner, rest)?;
     let rest = expect(Symbol::CloseBrace, rest)?;
     let rest = expect(Symbol::Semicolon, rest)?;
-    Ok((Declaration::Block(kind, entries), rest))
+    Ok((Declaration::Block { kind, entries }, rest))
 }
 
 /// `{ settings };` behind a block's word.
-#[tactic(auto, unfolding(tsdl_grammar::specs::Steps::bind, tsdl_grammar::specs::Reading::table_at))]
+#[tactic(auto, unfolding(tsdl_grammar::specs::Reading::table_at))]
 fn table<'t, 'a>(
     alloc: Global,
     depth: u32,
@@ -142,47 +141,41 @@ fn table<'t, 'a>(
 {
     let (settings, rest) = attributes(alloc, depth, tokens)?;
     let rest = expect(Symbol::Semicolon, rest)?;
-    Ok((Declaration::Table(kind, settings), rest))
+    Ok((Declaration::Table { kind, settings }, rest))
 }
 
 /// A block or a declaration of names.
-#[tactic(auto, unfolding(tsdl_grammar::specs::Steps::bind, tsdl_grammar::specs::Reading::declaration_at))]
-fn declaration<'t, 'a>(
-    alloc: Global,
-    depth: u32,
-    tokens: &'t [Token<'a>],
-) -> Read<'t, 'a, Declaration>
-    ensures reads { Gives (λ x. (x.0, x.1.now)) result (declaration_at depth tokens.now) }
-    ensures shorter { IfOk result (λ x. length x.1.now < length tokens.now) }
-{
-    let [first, rest @ ..] = tokens else {
-        return Err(Failure::Syntax(0));
-    };
-    if let Some(kind) = block_kind(first) {
-        return block(alloc, depth, kind, rest);
-    }
-    if let Some(kind) = table_kind(first) {
-        return table(alloc, depth, kind, rest);
-    }
-    let (names, rest) = type_declaration(alloc, depth, tokens)?;
-    Ok((Declaration::Names(names), rest))
+#[derive(Clone, Copy)]
+pub(crate) struct Outermost {
+    pub(crate) depth: u32,
 }
 
-/// The declarations up to the last token.
-pub(crate) fn declarations<'t, 'a>(
-    alloc: Global,
-    depth: u32,
-    tokens: &'t [Token<'a>],
-) -> Read<'t, 'a, List<Declaration>>
-    ensures reads { Gives (λ x. (x.0, x.1.now)) result (all before_end (declaration_at depth) tokens.now) }
-    ensures within { IfOk result (λ x. length x.1.now ≤ length tokens.now) }
-{
-    let mut found = Vec::new(alloc);
-    let (_, mut rest) = tokens.split_at(0);
-    'turns: while has_more(rest) {
-        let (next, after) = declaration(alloc, depth, rest)?;
-        found.push(next)?;
-        rest = after;
+impl Part for Outermost {
+    type Tree = Declaration;
+
+    ghost comes = { λ _. before_end };
+
+    ghost part_at = { λ part. declaration_at part.depth };
+
+    fn comes(&self, tokens: &[Token<'_>]) -> bool {
+        has_more(tokens)
     }
-    Ok((List::from_vec(found), rest))
+
+    #[tactic(auto, unfolding(tsdl_grammar::specs::Reading::declaration_at))]
+    fn read<'t, 'a>(&self, alloc: Global, tokens: &'t [Token<'a>]) -> Read<'t, 'a, Declaration> {
+        let depth = self.depth;
+        let [first, rest @ ..] = tokens else {
+            return Err(Failure::Syntax(0));
+        };
+        if let Some(kind) = block_kind(first) {
+            return block(alloc, depth, kind, rest);
+        }
+        if let Some(kind) = table_kind(first) {
+            return table(alloc, depth, kind, rest);
+        }
+        let (types, rest) = type_declaration(alloc, depth, tokens)?;
+        Ok((Declaration::Types(types), rest))
+    }
+
+    ghost stops = { λ _. refl };
 }

@@ -1,72 +1,74 @@
 //! Classes, and the declarations of names and fields that stand in their bodies.
 
-ghost use Rattle.std.specs.Prelude.{◌≡◌, ◌<◌, ◌≤◌, length, IfOk};
+ghost use Rattle.std.specs.Prelude.{◌≡◌, ◌<◌, ◌≤◌, length, refl, IfOk};
 ghost use Rattle.tsdl_text.specs.declared.token.Symbol.TheVariants as s;
-ghost use Rattle.tsdl_grammar.specs.Grammar.{has_name_and_body};
-ghost use Rattle.tsdl_grammar.specs.Steps.{all, optional, begins, begins_compound, before_close};
+ghost use Rattle.tsdl_grammar.specs.Steps.{all, begins, begins_compound, before_close};
 ghost use Rattle.tsdl_grammar.specs.Reading.{align_at, tag_at, integer_at, floating_point_at, string_at, fields_behind, compound_behind, struct_at, variant_at, compound_at, class_at, alias_at, definition_at, typedecl_at, item_at, body_at};
 ghost use Rattle.tsdl_parse.specs.Gives.{Gives};
 
 use crate::declarators::declarators;
 use crate::enums::enumeration;
 use crate::failure::{Failure, Read};
+use crate::part::{Part, at_most_one, start};
 use crate::settings::{attributes, path};
-use crate::terminals::{begins, constant, expect, goes_on, open, optional_name, past};
+use crate::terminals::{OwnName, begins, constant, expect, goes_on, open, past};
 use crate::typenames::typename;
 use ctf_list::List;
 use std::alloc::Global;
-use tsdl_grammar::{Item, Name, Path, Specifier, TypeDeclaration};
 use tsdl_text::{Symbol, Token};
+use tsdl_tree::{Compound, Item, Path, Reference, Specifier, TypeDeclaration};
 
 /// `align(n)`
-#[tactic(auto, unfolding(tsdl_grammar::specs::Steps::bind, tsdl_grammar::specs::Reading::align_at))]
-fn align<'t, 'a>(tokens: &'t [Token<'a>]) -> Read<'t, 'a, u64>
-    ensures reads { Gives (λ x. (x.0, x.1.now)) result (align_at tokens.now) }
-    ensures shorter { IfOk result (λ x. length x.1.now < length tokens.now) }
-{
-    let rest = expect(Symbol::Align, tokens)?;
-    let rest = expect(Symbol::OpenParen, rest)?;
-    let (align, rest) = constant(rest)?;
-    let rest = expect(Symbol::CloseParen, rest)?;
-    Ok((align, rest))
-}
+#[derive(Clone, Copy)]
+struct OwnAlign;
 
-/// The alignment behind a structure's body, where there is one.
-#[tactic(auto, unfolding(tsdl_grammar::specs::Steps::bind, tsdl_grammar::specs::Steps::optional))]
-fn optional_align<'t, 'a>(tokens: &'t [Token<'a>]) -> Read<'t, 'a, Option<u64>>
-    ensures reads { Gives (λ x. (x.0, x.1.now)) result (optional (begins s.Align) align_at tokens.now) }
-    ensures within { IfOk result (λ x. length x.1.now ≤ length tokens.now) }
-{
-    if !begins(Symbol::Align, tokens) {
-        return Ok((None, tokens));
+impl Part for OwnAlign {
+    type Tree = u64;
+
+    ghost comes = { λ _. begins s.Align };
+
+    ghost part_at = { λ _. align_at };
+
+    fn comes(&self, tokens: &[Token<'_>]) -> bool {
+        begins(Symbol::Align, tokens)
     }
-    let (align, rest) = align(tokens)?;
-    Ok((Some(align), rest))
+
+    #[tactic(auto, unfolding(tsdl_grammar::specs::Reading::align_at))]
+    fn read<'t, 'a>(&self, alloc: Global, tokens: &'t [Token<'a>]) -> Read<'t, 'a, u64> {
+        let rest = expect(Symbol::Align, tokens)?;
+        let rest = expect(Symbol::OpenParen, rest)?;
+        let (align, rest) = constant(rest)?;
+        let rest = expect(Symbol::CloseParen, rest)?;
+        Ok((align, rest))
+    }
+
+    ghost stops = { λ _. refl };
 }
 
 /// `<path>`
-#[tactic(auto, unfolding(tsdl_grammar::specs::Steps::bind, tsdl_grammar::specs::Reading::tag_at))]
-fn tag<'t, 'a>(alloc: Global, tokens: &'t [Token<'a>]) -> Read<'t, 'a, Path>
-    ensures reads { Gives (λ x. (x.0, x.1.now)) result (tag_at tokens.now) }
-    ensures shorter { IfOk result (λ x. length x.1.now < length tokens.now) }
-{
-    let rest = expect(Symbol::Less, tokens)?;
-    let (tag, rest) = path(alloc, rest)?;
-    let rest = expect(Symbol::Greater, rest)?;
-    Ok((tag, rest))
-}
+#[derive(Clone, Copy)]
+struct OwnTag;
 
-/// The tag of a variant, where there is one.
-#[tactic(auto, unfolding(tsdl_grammar::specs::Steps::bind, tsdl_grammar::specs::Steps::optional))]
-fn optional_tag<'t, 'a>(alloc: Global, tokens: &'t [Token<'a>]) -> Read<'t, 'a, Option<Path>>
-    ensures reads { Gives (λ x. (x.0, x.1.now)) result (optional (begins s.Less) tag_at tokens.now) }
-    ensures within { IfOk result (λ x. length x.1.now ≤ length tokens.now) }
-{
-    if !begins(Symbol::Less, tokens) {
-        return Ok((None, tokens));
+impl Part for OwnTag {
+    type Tree = Path;
+
+    ghost comes = { λ _. begins s.Less };
+
+    ghost part_at = { λ _. tag_at };
+
+    fn comes(&self, tokens: &[Token<'_>]) -> bool {
+        begins(Symbol::Less, tokens)
     }
-    let (tag, rest) = tag(alloc, tokens)?;
-    Ok((Some(tag), rest))
+
+    #[tactic(auto, unfolding(tsdl_grammar::specs::Reading::tag_at))]
+    fn read<'t, 'a>(&self, alloc: Global, tokens: &'t [Token<'a>]) -> Read<'t, 'a, Path> {
+        let rest = expect(Symbol::Less, tokens)?;
+        let (tag, rest) = path(alloc, rest)?;
+        let rest = expect(Symbol::Greater, rest)?;
+        Ok((tag, rest))
+    }
+
+    ghost stops = { λ _. refl };
 }
 
 /// Whether a struct, a variant or an enum comes first.
@@ -79,7 +81,7 @@ fn begins_compound(tokens: &[Token<'_>]) -> bool
 }
 
 /// `integer { settings }`
-#[tactic(auto, unfolding(tsdl_grammar::specs::Steps::bind, tsdl_grammar::specs::Reading::integer_at))]
+#[tactic(auto, unfolding(tsdl_grammar::specs::Reading::integer_at))]
 fn integer<'t, 'a>(alloc: Global, depth: u32, tokens: &'t [Token<'a>]) -> Read<'t, 'a, Specifier>
     ensures reads { Gives (λ x. (x.0, x.1.now)) result (integer_at depth tokens.now) }
     ensures shorter { IfOk result (λ x. length x.1.now < length tokens.now) }
@@ -90,7 +92,7 @@ fn integer<'t, 'a>(alloc: Global, depth: u32, tokens: &'t [Token<'a>]) -> Read<'
 }
 
 /// `floating_point { settings }`
-#[tactic(auto, unfolding(tsdl_grammar::specs::Steps::bind, tsdl_grammar::specs::Reading::floating_point_at))]
+#[tactic(auto, unfolding(tsdl_grammar::specs::Reading::floating_point_at))]
 fn floating_point<'t, 'a>(
     alloc: Global,
     depth: u32,
@@ -105,21 +107,21 @@ fn floating_point<'t, 'a>(
 }
 
 /// `string { settings }`, with or without the braces.
-#[tactic(auto, unfolding(tsdl_grammar::specs::Steps::bind, tsdl_grammar::specs::Reading::string_at))]
+#[tactic(auto, unfolding(tsdl_grammar::specs::Reading::string_at))]
 fn string<'t, 'a>(alloc: Global, depth: u32, tokens: &'t [Token<'a>]) -> Read<'t, 'a, Specifier>
     ensures reads { Gives (λ x. (x.0, x.1.now)) result (string_at depth tokens.now) }
     ensures shorter { IfOk result (λ x. length x.1.now < length tokens.now) }
 {
     let rest = expect(Symbol::String, tokens)?;
     if !begins(Symbol::OpenBrace, rest) {
-        return Ok((Specifier::Text(List::from_vec(Vec::new(alloc))), rest));
+        return Ok((Specifier::String(List::from_vec(Vec::new(alloc))), rest));
     }
     let (settings, rest) = attributes(alloc, depth, rest)?;
-    Ok((Specifier::Text(settings), rest))
+    Ok((Specifier::String(settings), rest))
 }
 
 /// `declarator, ..;` behind a class.
-#[tactic(auto, unfolding(tsdl_grammar::specs::Steps::bind, tsdl_grammar::specs::Reading::fields_behind))]
+#[tactic(auto, unfolding(tsdl_grammar::specs::Reading::fields_behind))]
 fn fields_behind<'t, 'a>(
     alloc: Global,
     class: Specifier,
@@ -130,24 +132,11 @@ fn fields_behind<'t, 'a>(
 {
     let (declarators, rest) = declarators(alloc, tokens)?;
     let end = expect(Symbol::Semicolon, rest)?;
-    Ok((Item::Fields(class, declarators), end))
-}
-
-/// Whether the class is a compound with a name and a body.
-#[tactic(auto, unfolding(tsdl_grammar::specs::Grammar::has_name_and_body))]
-fn has_name_and_body(class: &Specifier) -> bool
-    ensures { result ≡ has_name_and_body class.now }
-{
-    matches!(
-        class,
-        Specifier::Struct(Some(_), ..)
-            | Specifier::Variant(Some(_), ..)
-            | Specifier::Enum(Some(_), ..)
-    )
+    Ok((Item::Fields { class, declarators }, end))
 }
 
 /// The semicolon behind a compound with a name and a body.
-#[tactic(auto, unfolding(tsdl_grammar::specs::Steps::bind, tsdl_grammar::specs::Reading::compound_behind))]
+#[tactic(auto, unfolding(tsdl_grammar::specs::Reading::compound_behind))]
 fn compound_behind<'t, 'a>(
     class: Specifier,
     tokens: &'t [Token<'a>],
@@ -155,56 +144,61 @@ fn compound_behind<'t, 'a>(
     ensures reads { Gives (λ x. (x.0, x.1.now)) result (compound_behind class tokens.now) }
     ensures shorter { IfOk result (λ x. length x.1.now < length tokens.now) }
 {
-    if !has_name_and_body(&class) {
+    let Specifier::Compound { name, compound } = class else {
         return Err(Failure::Syntax(tokens.len()));
-    }
+    };
+    let Some(name) = name else {
+        return Err(Failure::Syntax(tokens.len()));
+    };
     let rest = expect(Symbol::Semicolon, tokens)?;
-    Ok((TypeDeclaration::Compound(class), rest))
+    Ok((TypeDeclaration::Compound { name, compound }, rest))
 }
 
 /// `struct name { items } align(n)`, or its name alone.
 #[cycle(classes)]
-#[tactic(auto, unfolding(tsdl_grammar::specs::Steps::bind, tsdl_grammar::specs::Reading::struct_at))]
+#[tactic(auto, unfolding(tsdl_grammar::specs::Reading::struct_at))]
 fn structure<'t, 'a>(alloc: Global, depth: u32, tokens: &'t [Token<'a>]) -> Read<'t, 'a, Specifier>
     ensures reads { Gives (λ x. (x.0, x.1.now)) result (struct_at (body_at depth) tokens.now) }
     ensures shorter { IfOk result (λ x. length x.1.now < length tokens.now) }
 {
     let rest = expect(Symbol::Struct, tokens)?;
-    let (name, rest) = optional_name(alloc, rest)?;
+    let (name, rest) = at_most_one(alloc, &OwnName, rest)?;
     if begins(Symbol::OpenBrace, rest) {
         let (items, rest) = body(alloc, depth, rest)?;
-        let (align, rest) = optional_align(rest)?;
-        return Ok((Specifier::Struct(name, items, align), rest));
+        let (align, rest) = at_most_one(alloc, &OwnAlign, rest)?;
+        let compound = Compound::Struct { items, align };
+        return Ok((Specifier::Compound { name, compound }, rest));
     }
     match name {
-        Some(name) => Ok((Specifier::Named(Name::Struct(name), None), rest)),
+        Some(name) => Ok((Specifier::Named(Reference::Struct(name)), rest)),
         None => Err(Failure::Syntax(rest.len())),
     }
 }
 
 /// `variant name <tag> { items }`, or its name and tag alone.
 #[cycle(classes)]
-#[tactic(auto, unfolding(tsdl_grammar::specs::Steps::bind, tsdl_grammar::specs::Reading::variant_at))]
+#[tactic(auto, unfolding(tsdl_grammar::specs::Reading::variant_at))]
 fn variant<'t, 'a>(alloc: Global, depth: u32, tokens: &'t [Token<'a>]) -> Read<'t, 'a, Specifier>
     ensures reads { Gives (λ x. (x.0, x.1.now)) result (variant_at (body_at depth) tokens.now) }
     ensures shorter { IfOk result (λ x. length x.1.now < length tokens.now) }
 {
     let rest = expect(Symbol::Variant, tokens)?;
-    let (name, rest) = optional_name(alloc, rest)?;
-    let (tag, rest) = optional_tag(alloc, rest)?;
+    let (name, rest) = at_most_one(alloc, &OwnName, rest)?;
+    let (tag, rest) = at_most_one(alloc, &OwnTag, rest)?;
     if begins(Symbol::OpenBrace, rest) {
         let (items, rest) = body(alloc, depth, rest)?;
-        return Ok((Specifier::Variant(name, tag, items), rest));
+        let compound = Compound::Variant { tag, items };
+        return Ok((Specifier::Compound { name, compound }, rest));
     }
     match name {
-        Some(name) => Ok((Specifier::Named(Name::Variant(name), tag), rest)),
+        Some(name) => Ok((Specifier::Named(Reference::Variant { name, tag }), rest)),
         None => Err(Failure::Syntax(rest.len())),
     }
 }
 
 /// A struct, a variant or an enum.
 #[cycle(classes)]
-#[tactic(auto, unfolding(tsdl_grammar::specs::Steps::bind, tsdl_grammar::specs::Reading::compound_at))]
+#[tactic(auto, unfolding(tsdl_grammar::specs::Reading::compound_at))]
 fn compound<'t, 'a>(alloc: Global, depth: u32, tokens: &'t [Token<'a>]) -> Read<'t, 'a, Specifier>
     ensures reads { Gives (λ x. (x.0, x.1.now)) result (compound_at (body_at depth) depth tokens.now) }
     ensures shorter { IfOk result (λ x. length x.1.now < length tokens.now) }
@@ -221,7 +215,7 @@ fn compound<'t, 'a>(alloc: Global, depth: u32, tokens: &'t [Token<'a>]) -> Read<
 /// A class, with or without `const` before it. Before a declarator a typename leaves it the run's last
 /// word.
 #[cycle(classes)]
-#[tactic(auto, unfolding(tsdl_grammar::specs::Steps::bind, tsdl_grammar::specs::Reading::class_at, tsdl_grammar::specs::Reading::plain_at))]
+#[tactic(auto, unfolding(tsdl_grammar::specs::Reading::class_at, tsdl_grammar::specs::Reading::plain_at))]
 pub(crate) fn class<'t, 'a>(
     alloc: Global,
     before_declarator: bool,
@@ -244,13 +238,13 @@ pub(crate) fn class<'t, 'a>(
     if begins_compound(tokens) {
         return compound(alloc, depth, tokens);
     }
-    let (words, rest) = typename(alloc, before_declarator, tokens)?;
-    Ok((Specifier::Named(Name::Plain(words), None), rest))
+    let (name, rest) = typename(alloc, before_declarator, tokens)?;
+    Ok((Specifier::Named(Reference::Plain(name)), rest))
 }
 
-/// `typealias class := words;`
+/// `typealias class := name;`
 #[cycle(classes)]
-#[tactic(auto, unfolding(tsdl_grammar::specs::Steps::bind, tsdl_grammar::specs::Reading::alias_at))]
+#[tactic(auto, unfolding(tsdl_grammar::specs::Reading::alias_at))]
 fn alias<'t, 'a>(
     alloc: Global,
     depth: u32,
@@ -262,14 +256,14 @@ fn alias<'t, 'a>(
     let rest = expect(Symbol::Typealias, tokens)?;
     let (class, rest) = class(alloc, false, depth, rest)?;
     let rest = expect(Symbol::Assign, rest)?;
-    let (words, rest) = typename(alloc, false, rest)?;
+    let (name, rest) = typename(alloc, false, rest)?;
     let rest = expect(Symbol::Semicolon, rest)?;
-    Ok((TypeDeclaration::Alias(class, words), rest))
+    Ok((TypeDeclaration::Alias { class, name }, rest))
 }
 
 /// `typedef class declarator, ..;`
 #[cycle(classes)]
-#[tactic(auto, unfolding(tsdl_grammar::specs::Steps::bind, tsdl_grammar::specs::Reading::definition_at))]
+#[tactic(auto, unfolding(tsdl_grammar::specs::Reading::definition_at))]
 fn definition<'t, 'a>(
     alloc: Global,
     depth: u32,
@@ -282,11 +276,11 @@ fn definition<'t, 'a>(
     let (class, rest) = class(alloc, true, depth, rest)?;
     let (declarators, rest) = declarators(alloc, rest)?;
     let rest = expect(Symbol::Semicolon, rest)?;
-    Ok((TypeDeclaration::Definition(class, declarators), rest))
+    Ok((TypeDeclaration::Definition { class, declarators }, rest))
 }
 
 /// A typealias, a typedef, or a compound with a name and a body.
-#[tactic(auto, unfolding(tsdl_grammar::specs::Steps::bind, tsdl_grammar::specs::Reading::typedecl_at))]
+#[tactic(auto, unfolding(tsdl_grammar::specs::Reading::typedecl_at))]
 pub(crate) fn type_declaration<'t, 'a>(
     alloc: Global,
     depth: u32,
@@ -307,18 +301,18 @@ pub(crate) fn type_declaration<'t, 'a>(
 
 /// A declaration of fields or of names.
 #[cycle(classes)]
-#[tactic(auto, unfolding(tsdl_grammar::specs::Steps::bind, tsdl_grammar::specs::Reading::item_at))]
+#[tactic(auto, unfolding(tsdl_grammar::specs::Reading::item_at))]
 fn item<'t, 'a>(alloc: Global, depth: u32, tokens: &'t [Token<'a>]) -> Read<'t, 'a, Item>
     ensures reads { Gives (λ x. (x.0, x.1.now)) result (item_at (body_at depth) depth tokens.now) }
     ensures shorter { IfOk result (λ x. length x.1.now < length tokens.now) }
 {
     if begins(Symbol::Typealias, tokens) {
-        let (names, rest) = alias(alloc, depth, tokens)?;
-        return Ok((Item::Names(names), rest));
+        let (types, rest) = alias(alloc, depth, tokens)?;
+        return Ok((Item::Types(types), rest));
     }
     if begins(Symbol::Typedef, tokens) {
-        let (names, rest) = definition(alloc, depth, tokens)?;
-        return Ok((Item::Names(names), rest));
+        let (types, rest) = definition(alloc, depth, tokens)?;
+        return Ok((Item::Types(types), rest));
     }
     if !begins_compound(tokens) {
         let (class, rest) = class(alloc, true, depth, tokens)?;
@@ -326,8 +320,8 @@ fn item<'t, 'a>(alloc: Global, depth: u32, tokens: &'t [Token<'a>]) -> Read<'t, 
     }
     let (class, rest) = compound(alloc, depth, tokens)?;
     if begins(Symbol::Semicolon, rest) {
-        let (names, rest) = compound_behind(class, rest)?;
-        return Ok((Item::Names(names), rest));
+        let (types, rest) = compound_behind(class, rest)?;
+        return Ok((Item::Types(types), rest));
     }
     fields_behind(alloc, class, rest)
 }
@@ -338,8 +332,7 @@ fn items<'t, 'a>(alloc: Global, depth: u32, tokens: &'t [Token<'a>]) -> Read<'t,
     ensures reads { Gives (λ x. (x.0, x.1.now)) result (all before_close (item_at (body_at depth) depth) tokens.now) }
     ensures within { IfOk result (λ x. length x.1.now ≤ length tokens.now) }
 {
-    let mut found = Vec::new(alloc);
-    let (_, mut rest) = tokens.split_at(0);
+    let (mut found, mut rest) = start(Vec::new(alloc), tokens);
     'turns: while goes_on(rest) {
         let (next, after) = item(alloc, depth, rest)?;
         found.push(next)?;
@@ -350,7 +343,7 @@ fn items<'t, 'a>(alloc: Global, depth: u32, tokens: &'t [Token<'a>]) -> Read<'t,
 
 /// Items in braces, of which so many more may nest.
 #[cycle(classes)]
-#[tactic(auto, using(crate::proofs::Bodies::body_is), unfolding(tsdl_grammar::specs::Steps::bind))]
+#[tactic(auto, using(crate::proofs::Bodies::body_is))]
 fn body<'t, 'a>(alloc: Global, depth: u32, tokens: &'t [Token<'a>]) -> Read<'t, 'a, List<Item>>
     ensures reads { Gives (λ x. (x.0, x.1.now)) result (body_at depth tokens.now) }
     ensures shorter { IfOk result (λ x. length x.1.now < length tokens.now) }

@@ -1,104 +1,105 @@
 //! Enumerations: their containers and labels.
 
-ghost use Rattle.std.specs.Prelude.{◌≡◌, ◌<◌, ◌≤◌, [], ◌∷◌, length, IfOk};
+ghost use Rattle.std.specs.Prelude.{◌≡◌, ◌<◌, length, refl, IfOk};
 ghost use Rattle.tsdl_text.specs.declared.token.Symbol.TheVariants as s;
-ghost use Rattle.tsdl_grammar.specs.Steps.{all, optional, begins, begins_labels, before_label};
+ghost use Rattle.tsdl_grammar.specs.Steps.{begins, begins_labels, before_label};
 ghost use Rattle.tsdl_grammar.specs.Reading.{container_at, range_end_at, span_at, label_name_at, label_at, next_label_at, labels_at, enum_at};
 ghost use Rattle.tsdl_parse.specs.Gives.{Gives};
-ghost use Rattle.tsdl_parse.specs.Front.{with_front};
 
 use crate::failure::{Failure, Read};
+use crate::part::{Part, at_most_one, more};
 use crate::settings::{attributes, number};
-use crate::terminals::{begins, expect, open, optional_name, past};
+use crate::terminals::{OwnName, begins, expect, open, past};
 use crate::typenames::typename;
 use ctf_list::List;
 use std::alloc::Global;
-use tsdl_grammar::{Container, Label, Name, Number, Span, Specifier, Word};
 use tsdl_text::{Symbol, Token};
+use tsdl_tree::{Compound, Container, Label, Number, Reference, Span, Specifier, Word};
 
 /// `: container`
-#[tactic(auto, unfolding(tsdl_grammar::specs::Steps::bind, tsdl_grammar::specs::Reading::container_at))]
-fn container<'t, 'a>(alloc: Global, depth: u32, tokens: &'t [Token<'a>]) -> Read<'t, 'a, Container>
-    ensures reads { Gives (λ x. (x.0, x.1.now)) result (container_at depth tokens.now) }
-    ensures shorter { IfOk result (λ x. length x.1.now < length tokens.now) }
-{
-    let rest = expect(Symbol::Colon, tokens)?;
-    if begins(Symbol::Integer, rest) {
-        let rest = expect(Symbol::Integer, rest)?;
-        let (settings, rest) = attributes(alloc, depth, rest)?;
-        return Ok((Container::Integer(settings), rest));
-    }
-    let (words, rest) = typename(alloc, false, rest)?;
-    Ok((Container::Named(words), rest))
+#[derive(Clone, Copy)]
+struct OwnContainer {
+    depth: u32,
 }
 
-/// The container of an enumeration, where it has one.
-#[tactic(auto, unfolding(tsdl_grammar::specs::Steps::bind, tsdl_grammar::specs::Steps::optional))]
-fn optional_container<'t, 'a>(
-    alloc: Global,
-    depth: u32,
-    tokens: &'t [Token<'a>],
-) -> Read<'t, 'a, Option<Container>>
-    ensures reads { Gives (λ x. (x.0, x.1.now)) result (optional (begins s.Colon) (container_at depth) tokens.now) }
-    ensures within { IfOk result (λ x. length x.1.now ≤ length tokens.now) }
-{
-    if !begins(Symbol::Colon, tokens) {
-        return Ok((None, tokens));
+impl Part for OwnContainer {
+    type Tree = Container;
+
+    ghost comes = { λ _. begins s.Colon };
+
+    ghost part_at = { λ part. container_at part.depth };
+
+    fn comes(&self, tokens: &[Token<'_>]) -> bool {
+        begins(Symbol::Colon, tokens)
     }
-    let (container, rest) = container(alloc, depth, tokens)?;
-    Ok((Some(container), rest))
+
+    #[tactic(auto, unfolding(tsdl_grammar::specs::Reading::container_at))]
+    fn read<'t, 'a>(&self, alloc: Global, tokens: &'t [Token<'a>]) -> Read<'t, 'a, Container> {
+        let rest = expect(Symbol::Colon, tokens)?;
+        if begins(Symbol::Integer, rest) {
+            let rest = expect(Symbol::Integer, rest)?;
+            let (settings, rest) = attributes(alloc, self.depth, rest)?;
+            return Ok((Container::Integer(settings), rest));
+        }
+        let (name, rest) = typename(alloc, false, rest)?;
+        Ok((Container::Named(name), rest))
+    }
+
+    ghost stops = { λ _. refl };
 }
 
 /// `... last`
-#[tactic(auto, unfolding(tsdl_grammar::specs::Steps::bind, tsdl_grammar::specs::Reading::range_end_at))]
-fn range_end<'t, 'a>(tokens: &'t [Token<'a>]) -> Read<'t, 'a, Number>
-    ensures reads { Gives (λ x. (x.0, x.1.now)) result (range_end_at tokens.now) }
-    ensures shorter { IfOk result (λ x. length x.1.now < length tokens.now) }
-{
-    let rest = expect(Symbol::Ellipsis, tokens)?;
-    number(rest)
-}
+#[derive(Clone, Copy)]
+struct RangeEnd;
 
-/// The end of a range, where it has one.
-#[tactic(auto, unfolding(tsdl_grammar::specs::Steps::bind, tsdl_grammar::specs::Steps::optional))]
-fn optional_end<'t, 'a>(tokens: &'t [Token<'a>]) -> Read<'t, 'a, Option<Number>>
-    ensures reads { Gives (λ x. (x.0, x.1.now)) result (optional (begins s.Ellipsis) range_end_at tokens.now) }
-    ensures within { IfOk result (λ x. length x.1.now ≤ length tokens.now) }
-{
-    if !begins(Symbol::Ellipsis, tokens) {
-        return Ok((None, tokens));
+impl Part for RangeEnd {
+    type Tree = Number;
+
+    ghost comes = { λ _. begins s.Ellipsis };
+
+    ghost part_at = { λ _. range_end_at };
+
+    fn comes(&self, tokens: &[Token<'_>]) -> bool {
+        begins(Symbol::Ellipsis, tokens)
     }
-    let (last, rest) = range_end(tokens)?;
-    Ok((Some(last), rest))
+
+    #[tactic(auto, unfolding(tsdl_grammar::specs::Reading::range_end_at))]
+    fn read<'t, 'a>(&self, alloc: Global, tokens: &'t [Token<'a>]) -> Read<'t, 'a, Number> {
+        let rest = expect(Symbol::Ellipsis, tokens)?;
+        number(rest)
+    }
+
+    ghost stops = { λ _. refl };
 }
 
 /// `= first` or `= first ... last`
-#[tactic(auto, unfolding(tsdl_grammar::specs::Steps::bind, tsdl_grammar::specs::Reading::span_at))]
-fn span<'t, 'a>(tokens: &'t [Token<'a>]) -> Read<'t, 'a, Span>
-    ensures reads { Gives (λ x. (x.0, x.1.now)) result (span_at tokens.now) }
-    ensures shorter { IfOk result (λ x. length x.1.now < length tokens.now) }
-{
-    let rest = expect(Symbol::Equals, tokens)?;
-    let (first, rest) = number(rest)?;
-    let (last, rest) = optional_end(rest)?;
-    Ok((Span { first, last }, rest))
-}
+#[derive(Clone, Copy)]
+struct OwnSpan;
 
-/// The span of a label, where it has one.
-#[tactic(auto, unfolding(tsdl_grammar::specs::Steps::bind, tsdl_grammar::specs::Steps::optional))]
-fn optional_span<'t, 'a>(tokens: &'t [Token<'a>]) -> Read<'t, 'a, Option<Span>>
-    ensures reads { Gives (λ x. (x.0, x.1.now)) result (optional (begins s.Equals) span_at tokens.now) }
-    ensures within { IfOk result (λ x. length x.1.now ≤ length tokens.now) }
-{
-    if !begins(Symbol::Equals, tokens) {
-        return Ok((None, tokens));
+impl Part for OwnSpan {
+    type Tree = Span;
+
+    ghost comes = { λ _. begins s.Equals };
+
+    ghost part_at = { λ _. span_at };
+
+    fn comes(&self, tokens: &[Token<'_>]) -> bool {
+        begins(Symbol::Equals, tokens)
     }
-    let (span, rest) = span(tokens)?;
-    Ok((Some(span), rest))
+
+    #[tactic(auto, unfolding(tsdl_grammar::specs::Reading::span_at))]
+    fn read<'t, 'a>(&self, alloc: Global, tokens: &'t [Token<'a>]) -> Read<'t, 'a, Span> {
+        let rest = expect(Symbol::Equals, tokens)?;
+        let (first, rest) = number(rest)?;
+        let (last, rest) = at_most_one(alloc, &RangeEnd, rest)?;
+        Ok((Span { first, last }, rest))
+    }
+
+    ghost stops = { λ _. refl };
 }
 
 /// A word or a string.
-#[tactic(auto, unfolding(tsdl_grammar::specs::Steps::bind, tsdl_grammar::specs::Reading::label_name_at))]
+#[tactic(auto, unfolding(tsdl_grammar::specs::Reading::label_name_at))]
 fn label_name<'t, 'a>(alloc: Global, tokens: &'t [Token<'a>]) -> Read<'t, 'a, Word>
     ensures reads { Gives (λ x. (x.0, x.1.now)) result (label_name_at tokens.now) }
     ensures shorter { IfOk result (λ x. length x.1.now < length tokens.now) }
@@ -116,67 +117,54 @@ fn label_name<'t, 'a>(alloc: Global, tokens: &'t [Token<'a>]) -> Read<'t, 'a, Wo
 }
 
 /// `name` or `name = span`
-#[tactic(auto, unfolding(tsdl_grammar::specs::Steps::bind, tsdl_grammar::specs::Reading::label_at))]
+#[tactic(auto, unfolding(tsdl_grammar::specs::Reading::label_at))]
 fn label<'t, 'a>(alloc: Global, tokens: &'t [Token<'a>]) -> Read<'t, 'a, Label>
     ensures reads { Gives (λ x. (x.0, x.1.now)) result (label_at tokens.now) }
     ensures shorter { IfOk result (λ x. length x.1.now < length tokens.now) }
 {
     let (name, rest) = label_name(alloc, tokens)?;
-    let (span, rest) = optional_span(rest)?;
+    let (span, rest) = at_most_one(alloc, &OwnSpan, rest)?;
     Ok((Label { name, span }, rest))
 }
 
-/// `,` and a label.
-#[tactic(auto, unfolding(tsdl_grammar::specs::Steps::bind, tsdl_grammar::specs::Reading::next_label_at))]
-fn next_label<'t, 'a>(alloc: Global, tokens: &'t [Token<'a>]) -> Read<'t, 'a, Label>
-    ensures reads { Gives (λ x. (x.0, x.1.now)) result (next_label_at tokens.now) }
-    ensures shorter { IfOk result (λ x. length x.1.now < length tokens.now) }
-{
-    let rest = expect(Symbol::Comma, tokens)?;
-    label(alloc, rest)
-}
+/// `,` and a label. A comma that is the last before the brace is none.
+#[derive(Clone, Copy)]
+struct NextLabel;
 
-/// Whether another label follows: a comma that is not the last before the brace.
-fn before_label(tokens: &[Token<'_>]) -> bool
-    ensures { result ≡ before_label tokens.now }
-{
-    match tokens {
-        [first, rest @ ..] => {
-            first.is_symbol(Symbol::Comma) && !begins(Symbol::CloseBrace, rest)
+impl Part for NextLabel {
+    type Tree = Label;
+
+    ghost comes = { λ _. before_label };
+
+    ghost part_at = { λ _. next_label_at };
+
+    fn comes(&self, tokens: &[Token<'_>]) -> bool {
+        match tokens {
+            [first, rest @ ..] => {
+                first.is_symbol(Symbol::Comma) && !begins(Symbol::CloseBrace, rest)
+            }
+            [] => false,
         }
-        [] => false,
     }
-}
 
-/// The labels behind the first.
-fn more_labels<'t, 'a>(
-    alloc: Global,
-    first: Label,
-    tokens: &'t [Token<'a>],
-) -> Read<'t, 'a, List<Label>>
-    ensures reads { Gives (λ x. (x.0, x.1.now)) result (with_front (first ∷ []) (all before_label next_label_at tokens.now)) }
-    ensures within { IfOk result (λ x. length x.1.now ≤ length tokens.now) }
-{
-    let mut found = Vec::new(alloc);
-    found.push(first)?;
-    let (_, mut rest) = tokens.split_at(0);
-    'turns: while before_label(rest) {
-        let (next, after) = next_label(alloc, rest)?;
-        found.push(next)?;
-        rest = after;
+    #[tactic(auto, unfolding(tsdl_grammar::specs::Reading::next_label_at))]
+    fn read<'t, 'a>(&self, alloc: Global, tokens: &'t [Token<'a>]) -> Read<'t, 'a, Label> {
+        let rest = expect(Symbol::Comma, tokens)?;
+        label(alloc, rest)
     }
-    Ok((List::from_vec(found), rest))
+
+    ghost stops = { λ _. refl };
 }
 
 /// Labels in braces, with commas between them, of which one more may stand behind the last.
-#[tactic(auto, unfolding(tsdl_grammar::specs::Steps::bind, tsdl_grammar::specs::Reading::labels_at))]
+#[tactic(auto, unfolding(tsdl_grammar::specs::Reading::labels_at))]
 fn labels<'t, 'a>(alloc: Global, depth: u32, tokens: &'t [Token<'a>]) -> Read<'t, 'a, List<Label>>
     ensures reads { Gives (λ x. (x.0, x.1.now)) result (labels_at depth tokens.now) }
     ensures shorter { IfOk result (λ x. length x.1.now < length tokens.now) }
 {
     let rest = open(depth, tokens)?;
     let (first, rest) = label(alloc, rest)?;
-    let (labels, rest) = more_labels(alloc, first, rest)?;
+    let (labels, rest) = more(alloc, first, &NextLabel, rest)?;
     let rest = expect(Symbol::CloseBrace, past(Symbol::Comma, rest))?;
     Ok((labels, rest))
 }
@@ -189,7 +177,7 @@ fn begins_labels(tokens: &[Token<'_>]) -> bool
 }
 
 /// `enum name : container { labels }`, or its name alone.
-#[tactic(auto, unfolding(tsdl_grammar::specs::Steps::bind, tsdl_grammar::specs::Reading::enum_at))]
+#[tactic(auto, unfolding(tsdl_grammar::specs::Reading::enum_at))]
 pub(crate) fn enumeration<'t, 'a>(
     alloc: Global,
     depth: u32,
@@ -199,14 +187,15 @@ pub(crate) fn enumeration<'t, 'a>(
     ensures shorter { IfOk result (λ x. length x.1.now < length tokens.now) }
 {
     let rest = expect(Symbol::Enum, tokens)?;
-    let (name, rest) = optional_name(alloc, rest)?;
+    let (name, rest) = at_most_one(alloc, &OwnName, rest)?;
     if begins_labels(rest) {
-        let (container, rest) = optional_container(alloc, depth, rest)?;
+        let (container, rest) = at_most_one(alloc, &OwnContainer { depth }, rest)?;
         let (labels, rest) = labels(alloc, depth, rest)?;
-        return Ok((Specifier::Enum(name, container, labels), rest));
+        let compound = Compound::Enum { container, labels };
+        return Ok((Specifier::Compound { name, compound }, rest));
     }
     match name {
-        Some(name) => Ok((Specifier::Named(Name::Enum(name), None), rest)),
+        Some(name) => Ok((Specifier::Named(Reference::Enum(name)), rest)),
         None => Err(Failure::Syntax(rest.len())),
     }
 }

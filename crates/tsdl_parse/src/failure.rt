@@ -1,7 +1,7 @@
 //! Why a part of the tree could not be read.
 
 ghost use Rattle.std.specs.Prelude.{◌≡◌};
-ghost use Rattle.tsdl_parse.specs.declared.failure.Failure.TheVariants.{Memory};
+ghost use Rattle.tsdl_parse.specs.declared.failure.Failure.TheVariants as failures;
 
 use ctf_list::NoMemory;
 use std::alloc::{AllocError, AllocFailed};
@@ -11,7 +11,7 @@ use tsdl_text::Token;
 #[derive(Debug, Drop)]
 pub(crate) enum Failure {
     /// A growth was refused.
-    Memory,
+    NoMemory,
     /// No tree is spelled. So many tokens were left.
     Syntax(usize),
     /// Braces nest too deep.
@@ -22,25 +22,25 @@ pub(crate) enum Failure {
 pub(crate) type Read<'t, 'a, T> = Result<(T, &'t [Token<'a>]), Failure>;
 
 impl From<NoMemory> for Failure {
-    ghost from_gives = { λ _ e. e ≡ Memory };
+    ghost from_gives = { λ _ failure. failure ≡ failures.NoMemory };
 
     fn from(_refused: NoMemory) -> Failure {
-        Failure::Memory
+        Failure::NoMemory
     }
 }
 
 impl From<AllocError> for Failure {
-    ghost from_gives = { λ _ e. e ≡ Memory };
+    ghost from_gives = { λ _ failure. failure ≡ failures.NoMemory };
 
     fn from(_refused: AllocError) -> Failure {
-        Failure::Memory
+        Failure::NoMemory
     }
 }
 
 impl<T: Drop> From<AllocFailed<T>> for Failure {
-    ghost from_gives = { λ _ e. e ≡ Memory };
+    ghost from_gives = { λ _ failure. failure ≡ failures.NoMemory };
 
     fn from(_refused: AllocFailed<T>) -> Failure {
-        Failure::Memory
+        Failure::NoMemory
     }
 }

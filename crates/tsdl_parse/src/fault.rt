@@ -1,5 +1,8 @@
 //! Why tokens have no tree.
 
+ghost use Rattle.std.specs.Prelude.{◌≡◌};
+ghost use Rattle.tsdl_parse.specs.Fault.{line_of};
+
 use thiserror::Error;
 use tsdl_text::Line;
 
@@ -15,4 +18,16 @@ pub enum SyntaxFault {
     /// A growth was refused.
     #[error("no memory")]
     NoMemory,
+}
+
+impl SyntaxFault {
+    /// The line of a syntax error, and `None` for another fault.
+    pub fn line(&self) -> Option<Line>
+        ensures { result ≡ line_of self.now }
+    {
+        match self {
+            SyntaxFault::Syntax { line } => Some(*line),
+            SyntaxFault::TooDeep | SyntaxFault::NoMemory => None,
+        }
+    }
 }

@@ -1,7 +1,7 @@
 //! From the tokens of TSDL metadata to the syntax tree that they spell.
 //!
-//! The grammar, as a relation between trees and lists of tokens, stands in the crate `tsdl_grammar`,
-//! whose tree is passed on here.
+//! The tree stands in the crate `tsdl_tree`, and the grammar, as a relation between trees and lists of
+//! tokens, in `tsdl_grammar`, whose laws are passed on here.
 #![tactic(auto)]
 
 mod blocks;
@@ -11,16 +11,11 @@ mod enums;
 mod failure;
 mod fault;
 mod metadata;
+mod part;
 mod settings;
 mod terminals;
 mod typenames;
 
 pub use fault::SyntaxFault;
-pub use metadata::parse;
-pub use tsdl_grammar::{
-    BlockEntry, BlockKind, Container, Declaration, Declarator, Item, Label, Length, Name, Number,
-    Path, Setting, Span, Specifier, TableKind, Tree, TypeDeclaration, Value, Word, laws,
-};
-
-#[cfg(test)]
-mod tests;
+pub use metadata::{BRACE_LIMIT, parse};
+pub use tsdl_grammar::laws;

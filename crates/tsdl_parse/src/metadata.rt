@@ -7,22 +7,25 @@ ghost use Rattle.tsdl_grammar.specs.Reading.{tree_at};
 ghost use Rattle.tsdl_parse.specs.Gives.{Gives};
 ghost use Rattle.tsdl_parse.specs.Fault.{IsCause};
 
-use crate::blocks::declarations;
+use crate::blocks::Outermost;
 use crate::failure::Failure;
 use crate::fault::SyntaxFault;
+use crate::part::many;
 use std::alloc::Global;
-use tsdl_grammar::Tree;
 use tsdl_text::{Line, Token};
+use tsdl_tree::Tree;
 
 /// How many braces may stand in one another, those of blocks, bodies, labels and attributes alike.
-const DEPTH: u32 = 64;
+/// (Own, as a limit.)
+pub const BRACE_LIMIT: u32 = 64;
 
 /// The tree, or why there is none.
-#[tactic(auto, unfolding(tsdl_grammar::specs::Steps::bind, tsdl_grammar::specs::Reading::tree_at))]
+#[tactic(auto, unfolding(tsdl_grammar::specs::Reading::tree_at))]
 fn tree(alloc: Global, tokens: &[Token<'_>]) -> Result<Tree, Failure>
-    ensures { Gives (λ tree. tree) result (tree_at 64 tokens.now) }
+    ensures { Gives (λ tree. tree) result (tree_at BRACE_LIMIT tokens.now) }
 {
-    let (declarations, _) = declarations(alloc, DEPTH, tokens)?;
+    let outermost = Outermost { depth: BRACE_LIMIT };
+    let (declarations, _) = many(alloc, &outermost, tokens)?;
     Ok(Tree { declarations })
 }
 
@@ -50,11 +53,11 @@ fn line_at(left: usize, tokens: &[Token<'_>]) -> Line
 
 /// The tree that the tokens spell, by the grammar of TSDL (CTF 1.8.3, appendix C.2).
 ///
-/// It answers S2 where no tree is spelled, and R9 where braces nest more than 64 deep; where both
-/// stand, either. Want of memory may come in the place of any answer.
+/// It answers S2 where no tree is spelled, and R9 where more than [`BRACE_LIMIT`] braces stand in
+/// one another; where both are the case, either. Want of memory may come in the place of any answer.
 pub fn parse(alloc: Global, tokens: &[Token<'_>]) -> Result<Tree, SyntaxFault>
     ensures spelled { IfOk result (λ tree. Spells tree tokens.now) }
-    ensures nested { IfOk result (λ tree. ¬ NestsDeeper 64 tokens.now) }
+    ensures nested { IfOk result (λ tree. ¬ NestsDeeper BRACE_LIMIT tokens.now) }
     ensures fault { IfErr result (λ fault. IsCause fault tokens.now) }
 {
     match tree(alloc, tokens) {
@@ -63,6 +66,6 @@ pub fn parse(alloc: Global, tokens: &[Token<'_>]) -> Result<Tree, SyntaxFault>
             line: line_at(left, tokens),
         }),
         Err(Failure::Deep) => Err(SyntaxFault::TooDeep),
-        Err(Failure::Memory) => Err(SyntaxFault::NoMemory),
+        Err(Failure::NoMemory) => Err(SyntaxFault::NoMemory),
     }
 }

@@ -1,57 +1,55 @@
 //! Names, numbers, values and settings.
 
-ghost use Rattle.std.specs.Prelude.{◌≡◌, ◌<◌, ◌≤◌, [], ◌∷◌, length, IfOk};
+ghost use Rattle.std.specs.Prelude.{◌≡◌, ◌<◌, length, refl, IfOk};
 ghost use Rattle.tsdl_text.specs.declared.token.Symbol.TheVariants as s;
-ghost use Rattle.tsdl_grammar.specs.Steps.{all, begins, before_close};
+ghost use Rattle.tsdl_grammar.specs.Steps.{begins, before_close};
 ghost use Rattle.tsdl_grammar.specs.Reading.{dotted_at, path_at, magnitude_at, number_at, value_at, setting_behind, setting_at, attributes_at};
 ghost use Rattle.tsdl_parse.specs.Gives.{Gives};
-ghost use Rattle.tsdl_parse.specs.Front.{with_front};
 
 use crate::failure::{Failure, Read};
+use crate::part::{Part, many, more};
 use crate::terminals::{begins, constant, expect, goes_on, open, past, word};
 use ctf_list::List;
 use std::alloc::Global;
-use tsdl_grammar::{Number, Path, Setting, Value, Word};
 use tsdl_text::{Symbol, Token};
+use tsdl_tree::{Number, Path, Setting, Value, Word};
 
 /// `.` and a word.
-#[tactic(auto, unfolding(tsdl_grammar::specs::Steps::bind, tsdl_grammar::specs::Reading::dotted_at))]
-fn dotted<'t, 'a>(alloc: Global, tokens: &'t [Token<'a>]) -> Read<'t, 'a, Word>
-    ensures reads { Gives (λ x. (x.0, x.1.now)) result (dotted_at tokens.now) }
-    ensures shorter { IfOk result (λ x. length x.1.now < length tokens.now) }
-{
-    let rest = expect(Symbol::Dot, tokens)?;
-    word(alloc, rest)
-}
+#[derive(Clone, Copy)]
+struct DotWord;
 
-/// A path's words behind its first.
-fn more_words<'t, 'a>(alloc: Global, first: Word, tokens: &'t [Token<'a>]) -> Read<'t, 'a, Path>
-    ensures reads { Gives (λ x. (x.0, x.1.now)) result (with_front (first ∷ []) (all (begins s.Dot) dotted_at tokens.now)) }
-    ensures within { IfOk result (λ x. length x.1.now ≤ length tokens.now) }
-{
-    let mut found = Vec::new(alloc);
-    found.push(first)?;
-    let (_, mut rest) = tokens.split_at(0);
-    'turns: while begins(Symbol::Dot, rest) {
-        let (next, after) = dotted(alloc, rest)?;
-        found.push(next)?;
-        rest = after;
+impl Part for DotWord {
+    type Tree = Word;
+
+    ghost comes = { λ _. begins s.Dot };
+
+    ghost part_at = { λ _. dotted_at };
+
+    fn comes(&self, tokens: &[Token<'_>]) -> bool {
+        begins(Symbol::Dot, tokens)
     }
-    Ok((List::from_vec(found), rest))
+
+    #[tactic(auto, unfolding(tsdl_grammar::specs::Reading::dotted_at))]
+    fn read<'t, 'a>(&self, alloc: Global, tokens: &'t [Token<'a>]) -> Read<'t, 'a, Word> {
+        let rest = expect(Symbol::Dot, tokens)?;
+        word(alloc, rest)
+    }
+
+    ghost stops = { λ _. refl };
 }
 
 /// Words with dots between them.
-#[tactic(auto, unfolding(tsdl_grammar::specs::Steps::bind, tsdl_grammar::specs::Reading::path_at))]
+#[tactic(auto, unfolding(tsdl_grammar::specs::Reading::path_at))]
 pub(crate) fn path<'t, 'a>(alloc: Global, tokens: &'t [Token<'a>]) -> Read<'t, 'a, Path>
     ensures reads { Gives (λ x. (x.0, x.1.now)) result (path_at tokens.now) }
     ensures shorter { IfOk result (λ x. length x.1.now < length tokens.now) }
 {
     let (first, rest) = word(alloc, tokens)?;
-    more_words(alloc, first, rest)
+    more(alloc, first, &DotWord, rest)
 }
 
 /// A constant, with the sign that was read before it.
-#[tactic(auto, unfolding(tsdl_grammar::specs::Steps::bind, tsdl_grammar::specs::Reading::magnitude_at))]
+#[tactic(auto, unfolding(tsdl_grammar::specs::Reading::magnitude_at))]
 fn magnitude<'t, 'a>(is_negative: bool, tokens: &'t [Token<'a>]) -> Read<'t, 'a, Number>
     ensures reads { Gives (λ x. (x.0, x.1.now)) result (magnitude_at is_negative tokens.now) }
     ensures shorter { IfOk result (λ x. length x.1.now < length tokens.now) }
@@ -67,7 +65,7 @@ fn magnitude<'t, 'a>(is_negative: bool, tokens: &'t [Token<'a>]) -> Read<'t, 'a,
 }
 
 /// A constant with its sign.
-#[tactic(auto, unfolding(tsdl_grammar::specs::Steps::bind, tsdl_grammar::specs::Reading::number_at))]
+#[tactic(auto, unfolding(tsdl_grammar::specs::Reading::number_at))]
 pub(crate) fn number<'t, 'a>(tokens: &'t [Token<'a>]) -> Read<'t, 'a, Number>
     ensures reads { Gives (λ x. (x.0, x.1.now)) result (number_at tokens.now) }
     ensures shorter { IfOk result (λ x. length x.1.now < length tokens.now) }
@@ -80,7 +78,7 @@ pub(crate) fn number<'t, 'a>(tokens: &'t [Token<'a>]) -> Read<'t, 'a, Number>
 }
 
 /// What stands behind the `=` of a setting.
-#[tactic(auto, unfolding(tsdl_grammar::specs::Steps::bind, tsdl_grammar::specs::Reading::value_at))]
+#[tactic(auto, unfolding(tsdl_grammar::specs::Reading::value_at))]
 fn value<'t, 'a>(alloc: Global, tokens: &'t [Token<'a>]) -> Read<'t, 'a, Value>
     ensures reads { Gives (λ x. (x.0, x.1.now)) result (value_at tokens.now) }
     ensures shorter { IfOk result (λ x. length x.1.now < length tokens.now) }
@@ -100,7 +98,7 @@ fn value<'t, 'a>(alloc: Global, tokens: &'t [Token<'a>]) -> Read<'t, 'a, Value>
 }
 
 /// The rest of a setting, behind its name.
-#[tactic(auto, unfolding(tsdl_grammar::specs::Steps::bind, tsdl_grammar::specs::Reading::setting_behind))]
+#[tactic(auto, unfolding(tsdl_grammar::specs::Reading::setting_behind))]
 pub(crate) fn setting_behind<'t, 'a>(
     alloc: Global,
     name: Path,
@@ -115,33 +113,32 @@ pub(crate) fn setting_behind<'t, 'a>(
     Ok((Setting { name, value }, rest))
 }
 
-/// `name = value;`
-#[tactic(auto, unfolding(tsdl_grammar::specs::Steps::bind, tsdl_grammar::specs::Reading::setting_at))]
-fn setting<'t, 'a>(alloc: Global, tokens: &'t [Token<'a>]) -> Read<'t, 'a, Setting>
-    ensures reads { Gives (λ x. (x.0, x.1.now)) result (setting_at tokens.now) }
-    ensures shorter { IfOk result (λ x. length x.1.now < length tokens.now) }
-{
-    let (name, rest) = path(alloc, tokens)?;
-    setting_behind(alloc, name, rest)
-}
+/// `name = value;`, up to a closing brace.
+#[derive(Clone, Copy)]
+struct NextSetting;
 
-/// The settings up to a closing brace.
-fn settings<'t, 'a>(alloc: Global, tokens: &'t [Token<'a>]) -> Read<'t, 'a, List<Setting>>
-    ensures reads { Gives (λ x. (x.0, x.1.now)) result (all before_close setting_at tokens.now) }
-    ensures within { IfOk result (λ x. length x.1.now ≤ length tokens.now) }
-{
-    let mut found = Vec::new(alloc);
-    let (_, mut rest) = tokens.split_at(0);
-    'turns: while goes_on(rest) {
-        let (next, after) = setting(alloc, rest)?;
-        found.push(next)?;
-        rest = after;
+impl Part for NextSetting {
+    type Tree = Setting;
+
+    ghost comes = { λ _. before_close };
+
+    ghost part_at = { λ _. setting_at };
+
+    fn comes(&self, tokens: &[Token<'_>]) -> bool {
+        goes_on(tokens)
     }
-    Ok((List::from_vec(found), rest))
+
+    #[tactic(auto, unfolding(tsdl_grammar::specs::Reading::setting_at))]
+    fn read<'t, 'a>(&self, alloc: Global, tokens: &'t [Token<'a>]) -> Read<'t, 'a, Setting> {
+        let (name, rest) = path(alloc, tokens)?;
+        setting_behind(alloc, name, rest)
+    }
+
+    ghost stops = { λ _. refl };
 }
 
 /// Settings in braces, of which so many more may nest.
-#[tactic(auto, unfolding(tsdl_grammar::specs::Steps::bind, tsdl_grammar::specs::Reading::attributes_at))]
+#[tactic(auto, unfolding(tsdl_grammar::specs::Reading::attributes_at))]
 pub(crate) fn attributes<'t, 'a>(
     alloc: Global,
     depth: u32,
@@ -151,7 +148,7 @@ pub(crate) fn attributes<'t, 'a>(
     ensures shorter { IfOk result (λ x. length x.1.now < length tokens.now) }
 {
     let rest = open(depth, tokens)?;
-    let (settings, rest) = settings(alloc, rest)?;
+    let (settings, rest) = many(alloc, &NextSetting, rest)?;
     let rest = expect(Symbol::CloseBrace, rest)?;
     Ok((settings, rest))
 }

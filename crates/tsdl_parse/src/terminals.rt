@@ -1,15 +1,16 @@
 //! Steps over single tokens.
 
-ghost use Rattle.std.specs.Prelude.{◌≡◌, ◌<◌, ◌≤◌, length, option_map, IfOk, OnOk};
-ghost use Rattle.tsdl_grammar.specs.Steps.{after, expect, past, begins, begins_identifier, before_close, before_end, open_at, optional};
+ghost use Rattle.std.specs.Prelude.{◌≡◌, ◌<◌, ◌≤◌, length, option_map, refl, IfOk, OnOk};
+ghost use Rattle.tsdl_grammar.specs.Steps.{after, expect, past, begins, begins_identifier, before_close, before_end, open_at};
 ghost use Rattle.tsdl_grammar.specs.Reading.{word_at, identifier_at, constant_at};
 ghost use Rattle.tsdl_parse.specs.Gives.{Gives};
 
 use crate::failure::{Failure, Read};
+use crate::part::Part;
 use ctf_list::List;
 use std::alloc::Global;
-use tsdl_grammar::Word;
 use tsdl_text::{Kind, Symbol, Token};
+use tsdl_tree::Word;
 
 /// What follows the symbol, where it comes first.
 fn after<'t, 'a>(symbol: Symbol, tokens: &'t [Token<'a>]) -> Option<&'t [Token<'a>]>
@@ -22,7 +23,7 @@ fn after<'t, 'a>(symbol: Symbol, tokens: &'t [Token<'a>]) -> Option<&'t [Token<'
 }
 
 /// What follows the symbol, which must come first.
-#[tactic(auto, unfolding(tsdl_grammar::specs::Steps::bind, tsdl_grammar::specs::Steps::expect))]
+#[tactic(auto, unfolding(tsdl_grammar::specs::Steps::expect))]
 pub(crate) fn expect<'t, 'a>(
     symbol: Symbol,
     tokens: &'t [Token<'a>],
@@ -58,16 +59,6 @@ pub(crate) fn begins(symbol: Symbol, tokens: &[Token<'_>]) -> bool
     }
 }
 
-/// Whether an identifier comes first.
-fn begins_identifier(tokens: &[Token<'_>]) -> bool
-    ensures { result ≡ begins_identifier tokens.now }
-{
-    match tokens {
-        [first, ..] => matches!(first.kind, Kind::Identifier),
-        [] => false,
-    }
-}
-
 /// Whether what stands in braces goes on.
 pub(crate) fn goes_on(tokens: &[Token<'_>]) -> bool
     ensures { result ≡ before_close tokens.now }
@@ -89,7 +80,7 @@ pub(crate) fn has_more(tokens: &[Token<'_>]) -> bool
 }
 
 /// What follows an opening brace, of which so many more may nest.
-#[tactic(auto, unfolding(tsdl_grammar::specs::Steps::bind, tsdl_grammar::specs::Steps::open_at))]
+#[tactic(auto, unfolding(tsdl_grammar::specs::Steps::open_at))]
 pub(crate) fn open<'t, 'a>(depth: u32, tokens: &'t [Token<'a>]) -> Result<&'t [Token<'a>], Failure>
     ensures reads { Gives (λ rest. rest.now) result (open_at depth tokens.now) }
     ensures shorter { IfOk result (λ rest. length rest.now < length tokens.now) }
@@ -103,7 +94,7 @@ pub(crate) fn open<'t, 'a>(depth: u32, tokens: &'t [Token<'a>]) -> Result<&'t [T
 }
 
 /// An identifier or a keyword.
-#[tactic(auto, unfolding(tsdl_grammar::specs::Steps::bind, tsdl_grammar::specs::Reading::word_at))]
+#[tactic(auto, unfolding(tsdl_grammar::specs::Reading::word_at))]
 pub(crate) fn word<'t, 'a>(alloc: Global, tokens: &'t [Token<'a>]) -> Read<'t, 'a, Word>
     ensures reads { Gives (λ x. (x.0, x.1.now)) result (word_at tokens.now) }
     ensures shorter { IfOk result (λ x. length x.1.now < length tokens.now) }
@@ -115,7 +106,7 @@ pub(crate) fn word<'t, 'a>(alloc: Global, tokens: &'t [Token<'a>]) -> Read<'t, '
 }
 
 /// A name that is no keyword.
-#[tactic(auto, unfolding(tsdl_grammar::specs::Steps::bind, tsdl_grammar::specs::Reading::identifier_at))]
+#[tactic(auto, unfolding(tsdl_grammar::specs::Reading::identifier_at))]
 pub(crate) fn identifier<'t, 'a>(alloc: Global, tokens: &'t [Token<'a>]) -> Read<'t, 'a, Word>
     ensures reads { Gives (λ x. (x.0, x.1.now)) result (identifier_at tokens.now) }
     ensures shorter { IfOk result (λ x. length x.1.now < length tokens.now) }
@@ -129,24 +120,33 @@ pub(crate) fn identifier<'t, 'a>(alloc: Global, tokens: &'t [Token<'a>]) -> Read
     }
 }
 
-/// The name of a compound, where it has one.
-#[tactic(auto, unfolding(tsdl_grammar::specs::Steps::bind, tsdl_grammar::specs::Steps::optional))]
-pub(crate) fn optional_name<'t, 'a>(
-    alloc: Global,
-    tokens: &'t [Token<'a>],
-) -> Read<'t, 'a, Option<Word>>
-    ensures reads { Gives (λ x. (x.0, x.1.now)) result (optional begins_identifier identifier_at tokens.now) }
-    ensures within { IfOk result (λ x. length x.1.now ≤ length tokens.now) }
-{
-    if !begins_identifier(tokens) {
-        return Ok((None, tokens));
+/// The name of a compound.
+#[derive(Clone, Copy)]
+pub(crate) struct OwnName;
+
+impl Part for OwnName {
+    type Tree = Word;
+
+    ghost comes = { λ _. begins_identifier };
+
+    ghost part_at = { λ _. identifier_at };
+
+    fn comes(&self, tokens: &[Token<'_>]) -> bool {
+        match tokens {
+            [first, ..] => matches!(first.kind, Kind::Identifier),
+            [] => false,
+        }
     }
-    let (name, rest) = identifier(alloc, tokens)?;
-    Ok((Some(name), rest))
+
+    fn read<'t, 'a>(&self, alloc: Global, tokens: &'t [Token<'a>]) -> Read<'t, 'a, Word> {
+        identifier(alloc, tokens)
+    }
+
+    ghost stops = { λ _. refl };
 }
 
 /// The value of a constant.
-#[tactic(auto, unfolding(tsdl_grammar::specs::Steps::bind, tsdl_grammar::specs::Reading::constant_at))]
+#[tactic(auto, unfolding(tsdl_grammar::specs::Reading::constant_at))]
 pub(crate) fn constant<'t, 'a>(tokens: &'t [Token<'a>]) -> Read<'t, 'a, u64>
     ensures reads { Gives (λ x. (x.0, x.1.now)) result (constant_at tokens.now) }
     ensures shorter { IfOk result (λ x. length x.1.now < length tokens.now) }

@@ -10,8 +10,8 @@ ghost use Rattle.tsdl_parse.specs.Gives.{Gives};
 use crate::failure::{Failure, Read};
 use ctf_list::List;
 use std::alloc::{AllocError, Global};
-use tsdl_grammar::Path;
 use tsdl_text::{Symbol, Token};
+use tsdl_tree::{Typename, Word};
 
 /// How many typewords stand first.
 fn run(tokens: &[Token<'_>]) -> usize
@@ -36,7 +36,7 @@ fn is_kept(token: &Token<'_>) -> bool
 }
 
 /// The words but `const`.
-fn words(alloc: Global, tokens: &[Token<'_>]) -> Result<Path, AllocError>
+fn words(alloc: Global, tokens: &[Token<'_>]) -> Result<List<Word>, AllocError>
     ensures { IfOk result (λ words. words ≡ words_of tokens.now) }
 {
     let mut found = Vec::new(alloc);
@@ -49,12 +49,12 @@ fn words(alloc: Global, tokens: &[Token<'_>]) -> Result<Path, AllocError>
 }
 
 /// The whole run of typewords, without its last word before a declarator. `const` is not kept.
-#[tactic(auto, using(crate::proofs::Runs::some_words_some), unfolding(tsdl_grammar::specs::Steps::bind, tsdl_grammar::specs::Reading::typename_at))]
+#[tactic(auto, using(crate::proofs::Runs::some_words_some), unfolding(tsdl_grammar::specs::Reading::typename_at))]
 pub(crate) fn typename<'t, 'a>(
     alloc: Global,
     before_declarator: bool,
     tokens: &'t [Token<'a>],
-) -> Read<'t, 'a, Path>
+) -> Read<'t, 'a, Typename>
     ensures reads { Gives (λ x. (x.0, x.1.now)) result (typename_at before_declarator tokens.now) }
     ensures within { IfOk result (λ x. length x.1.now ≤ length tokens.now) }
 {
@@ -69,5 +69,5 @@ pub(crate) fn typename<'t, 'a>(
     if words.is_empty() {
         return Err(Failure::Syntax(rest.len()));
     }
-    Ok((words, rest))
+    Ok((Typename { words }, rest))
 }

@@ -1,7 +1,7 @@
 -- Facts on classes of bytes: by a table below 128, and none of the classes has a byte from 128 on.
 use Rattle.std.proofs.Common.{◌≡◌, ℕ, ◌<◌, ◌≤◌, Bool, true, false, not, ◌&&◌, ◌||◌, refl, ap, ◌∙◌, arith, ⊎_elim, eqb, ltb, leb}
 use Rattle.std.specs.Char.{is_digit, digit_value, is_ascii_digit}
-use Rattle.std.proofs.lemmas.Bool.{ne_eqb, le-ltb, lt-leb, cases_lt, agree_below, agree_below_at, and_right, ltb-true, lt-ltb}
+use Rattle.std.proofs.lemmas.Bool.{ne_eqb, le-ltb, lt-leb, cases_lt, agree_below, agree_below_at, and_right, ltb-true, lt-ltb, not-true, or_from}
 use Rattle.tsdl_text.specs.Bytes.{is_blank, is_word_start, is_word_byte}
 
 -- one class within another
@@ -47,18 +47,12 @@ range_high low high b h l = and_right (leb low b) (leb b high) (above b high h l
 start_high : (b : ℕ) → 128 ≤ b → is_word_start b ≡ false
 unfolding is_word_start
 start_high b h =
-    or_false _ _ (or_false _ _ (range_high 65 90 b h (omega arith)) (range_high 97 122 b h (omega arith))) (is_other b 95 h (omega arith))
-  where
-    or_false : (x y : Bool) → x ≡ false → y ≡ false → (x || y) ≡ false
-    or_false x y e f = cc
+    or_from _ _ (or_from _ _ (range_high 65 90 b h (omega arith)) (range_high 97 122 b h (omega arith))) (is_other b 95 h (omega arith))
 
 word_high : (b : ℕ) → 128 ≤ b → is_word_byte b ≡ false
 unfolding is_word_byte
 word_high b h =
-    or_false _ _ (or_false _ _ (or_false _ _ (range_high 48 57 b h (omega arith)) (range_high 65 90 b h (omega arith))) (range_high 97 122 b h (omega arith))) (is_other b 95 h (omega arith))
-  where
-    or_false : (x y : Bool) → x ≡ false → y ≡ false → (x || y) ≡ false
-    or_false x y e f = cc
+    or_from _ _ (or_from _ _ (or_from _ _ (range_high 48 57 b h (omega arith)) (range_high 65 90 b h (omega arith))) (range_high 97 122 b h (omega arith))) (is_other b 95 h (omega arith))
 
 ascii_digit_high : (b : ℕ) → 128 ≤ b → is_ascii_digit b ≡ false
 ascii_digit_high b h = range_high 48 57 b h (omega arith)
@@ -72,24 +66,16 @@ start_is_word b e = by_table is_word_start is_word_byte refl start_high b e
 -- the first byte of a word is neither a blank nor `/`
 pub start_is_apart : (b : ℕ) → is_word_start b ≡ true → (is_blank b ≡ false) × (eqb b 47 ≡ false)
 unfolding is_word_start is_blank
-start_is_apart b e = (not_true _ (by_table is_word_start (λ c. not (is_blank c)) refl start_high b e), not_true _ (by_table is_word_start (λ c. not (eqb c 47)) refl start_high b e))
-  where
-    not_true : (x : Bool) → not x ≡ true → x ≡ false
-    not_true true e = absurd cc
-    not_true false e = refl
+start_is_apart b e = (not-true _ (by_table is_word_start (λ c. not (is_blank c)) refl start_high b e), not-true _ (by_table is_word_start (λ c. not (eqb c 47)) refl start_high b e))
 
 pub digit_is_apart : (b : ℕ) → is_ascii_digit b ≡ true → (is_blank b ≡ false) × (eqb b 47 ≡ false) × (is_word_start b ≡ false) × (is_word_byte b ≡ true)
 unfolding is_word_start is_blank is_word_byte
 digit_is_apart b e = (
-  not_true _ (by_table is_ascii_digit (λ c. not (is_blank c)) refl ascii_digit_high b e),
-  not_true _ (by_table is_ascii_digit (λ c. not (eqb c 47)) refl ascii_digit_high b e),
-  not_true _ (by_table is_ascii_digit (λ c. not (is_word_start c)) refl ascii_digit_high b e),
+  not-true _ (by_table is_ascii_digit (λ c. not (is_blank c)) refl ascii_digit_high b e),
+  not-true _ (by_table is_ascii_digit (λ c. not (eqb c 47)) refl ascii_digit_high b e),
+  not-true _ (by_table is_ascii_digit (λ c. not (is_word_start c)) refl ascii_digit_high b e),
   by_table is_ascii_digit is_word_byte refl ascii_digit_high b e,
 )
-  where
-    not_true : (x : Bool) → not x ≡ true → x ≡ false
-    not_true true e = absurd cc
-    not_true false e = refl
 
 -- a digit of a base is a letter or a digit
 pub digit_is_word : (base b : ℕ) → base ≤ 16 → is_digit b base ≡ true → is_word_byte b ≡ true

@@ -3,13 +3,14 @@ use Rattle.std.proofs.Common.{◌≡◌, ℕ, ◌<◌, ◌≤◌, ◌^◌, Bool,
 use Rattle.std.specs.List.{list_all}
 use Rattle.std.specs.Char.{is_digit, is_ascii_digit}
 use Rattle.std.proofs.lemmas.List.{length-append, take_at, drop_at}
-use Rattle.std.proofs.lemmas.Bool.{eqb-true, eqb-false, ne_eqb, lt-leb, leb-false, or_parts, or_cases, and_parts, not-false, and_left}
-use Rattle.tsdl_text.specs.Bytes.{begins, number, AreDigits, is_word_byte}
+use Rattle.std.proofs.lemmas.Bool.{eqb-true, eqb-false, ne_eqb, lt-leb, leb-false, or_parts, or_cases, and_parts, not-false, and_left, or_left, or_right}
+use Rattle.ctf_list.specs.Prefix.{begins}
+use Rattle.tsdl_text.specs.Bytes.{number, AreDigits, is_word_byte}
 use Rattle.tsdl_text.specs.Strings.{digit_count}
 use Rattle.tsdl_text.specs.Constants.{is_u, is_l, is_suffix, Mark, decimal, octal, hexadecimal, IsConstant}
 use Rattle.tsdl_text.specs.Scanning.{unmarked_value, is_hexadecimal, begins_with_zero, constant_value}
-use Rattle.tsdl_text.proofs.Runs.{limited, limited_is, all_also, all-append}
-use Rattle.tsdl_text.proofs.StringLemmas.{none_or, either_way}
+use Rattle.ctf_list.proofs.Prefix.{list_all-both, limited, limited_is, list_all_also}
+use Rattle.ctf_list.proofs.Options.{none_or, either_way}
 use Rattle.tsdl_text.proofs.ByteFacts.{digit_is_word, decimal_is_digit}
 
 -- ---- suffixes
@@ -45,14 +46,10 @@ suffix_begins p a b d f [] e = refl
 suffix_begins p a b d f (c ∷ s) e = by_letters p false a b d f c (suffix_first c s e)
 
 u_is_ul : (c : ℕ) → is_u c ≡ true → is_ul c ≡ true
-u_is_ul c e = ap (λ (x : Bool). x || is_l c) e
+u_is_ul c e = or_left (is_u c) (is_l c) e
 
 l_is_ul : (c : ℕ) → is_l c ≡ true → is_ul c ≡ true
-l_is_ul c e = or_true (is_u c) (is_l c) e
-  where
-    or_true : (x y : Bool) → y ≡ true → (x || y) ≡ true
-    or_true true y e = refl
-    or_true false y e = e
+l_is_ul c e = or_right (is_u c) (is_l c) e
 
 ul_is_word : (c : ℕ) → is_ul c ≡ true → is_word_byte c ≡ true
 unfolding is_word_byte
@@ -228,7 +225,7 @@ constant_from_value bytes value e =
 -- ---- a constant is letters and digits, the first of them a digit
 
 digits_are_word : (base : ℕ) (digits : List ℕ) → base ≤ 16 → list_all (λ digit. is_digit digit base) digits ≡ true → list_all is_word_byte digits ≡ true
-digits_are_word base digits h e = all_also (λ digit. is_digit digit base) is_word_byte (λ b k. digit_is_word base b h k) digits e
+digits_are_word base digits h e = list_all_also (λ digit. is_digit digit base) is_word_byte (λ b k. digit_is_word base b h k) digits e
 
 x_is_word : (x : ℕ) → (x ≡ 120) ⊎ (x ≡ 88) → is_word_byte x ≡ true
 unfolding is_word_byte
@@ -237,10 +234,10 @@ x_is_word x (inr e) = ap is_word_byte e
 
 marked_is_word : (base : ℕ) (mark digits suffix : List ℕ) → Mark base mark digits → AreDigits base digits → is_suffix suffix ≡ true → list_all is_word_byte (mark ++ (digits ++ suffix)) ≡ true
 unfolding is_word_byte
-marked_is_word _ _ _ suffix (decimal {first} {digits} other) are suffixed = all-append is_word_byte (first ∷ digits) suffix (digits_are_word 10 (first ∷ digits) (omega arith) are.all) (suffix_is_word suffix suffixed)
-marked_is_word _ _ _ suffix (octal {digits}) are suffixed = all-append is_word_byte (48 ∷ digits) suffix (digits_are_word 8 (48 ∷ digits) (omega arith) are.all) (suffix_is_word suffix suffixed)
+marked_is_word _ _ _ suffix (decimal {first} {digits} other) are suffixed = list_all-both is_word_byte (first ∷ digits) suffix (digits_are_word 10 (first ∷ digits) (omega arith) are.all) (suffix_is_word suffix suffixed)
+marked_is_word _ _ _ suffix (octal {digits}) are suffixed = list_all-both is_word_byte (48 ∷ digits) suffix (digits_are_word 8 (48 ∷ digits) (omega arith) are.all) (suffix_is_word suffix suffixed)
 marked_is_word _ _ _ suffix (hexadecimal {x} {digits} is) are suffixed =
-    let rest = all-append is_word_byte digits suffix (digits_are_word 16 digits (omega arith) are.all) (suffix_is_word suffix suffixed) in
+    let rest = list_all-both is_word_byte digits suffix (digits_are_word 16 digits (omega arith) are.all) (suffix_is_word suffix suffixed) in
     ap (λ (b : Bool). b && list_all is_word_byte (digits ++ suffix)) (x_is_word x is) ∙ rest
 
 pub constant_is_word : (bytes : List ℕ) (value : ℕ) → IsConstant bytes value → list_all is_word_byte bytes ≡ true

@@ -3,23 +3,15 @@ use Rattle.std.proofs.Common.{◌≡◌, ℕ, ◌+◌, ◌<◌, ◌≤◌, cond,
 use Rattle.std.specs.Option.{option_map, option_to_list}
 use Rattle.std.proofs.lemmas.List.{append-nil, length-append, length-drop, length-take-le, take_all, take_at, drop_at, drop-drop, map-append, take-append-drop, drop_all}
 use Rattle.std.proofs.lemmas.List.Sums.{sum_by-append}
+use Rattle.std.proofs.lemmas.Option.{none-some}
+use Rattle.ctf_list.specs.Row.{NothingStands}
+use Rattle.ctf_list.proofs.Row.{AllStand-push, flat_map-push}
 use Rattle.tsdl_text.specs.declared.token.Kind.{Kind}
 use Rattle.tsdl_text.specs.declared.token.Token.{Token}
 use Rattle.tsdl_text.specs.declared.lexer.Extent.{Extent}
-use Rattle.tsdl_text.specs.Tokens.{Piece, Stands, joined, AllStand, Lexeme, lexeme, lexemes, newlines, line_behind, Lexes, NoToken}
+use Rattle.tsdl_text.specs.Tokens.{Piece, Stands, joined, AllPieces, Lexeme, lexeme, lexemes, newlines, line_behind, Lexes, NoToken}
 use Rattle.tsdl_text.specs.Scanning.{piece_at}
 use Rattle.tsdl_text.proofs.PieceLaws.{PieceFront, piece_front, piece_is_read}
-
--- ---- one more piece at the end
-
-pub joined-push : (pieces : List Piece) (piece : Piece) → joined (pieces ++ piece ∷ []) ≡ joined pieces ++ piece.bytes
-joined-push [] piece = append-nil piece.bytes
-joined-push (p ∷ pieces) piece = ap (λ bs. p.bytes ++ bs) (joined-push pieces piece) ∙ sym (append_assoc p.bytes (joined pieces) piece.bytes)
-
-pub AllStand-push : (pieces : List Piece) (piece : Piece) (after : List ℕ) → AllStand pieces (piece.bytes ++ after) → Stands piece after → AllStand (pieces ++ piece ∷ []) after
-AllStand-push [] piece after all stands = (stands, tt)
-AllStand-push (p ∷ pieces) piece after all stands =
-    (subst (Stands p) (sym (append_assoc (joined pieces) piece.bytes after) ∙ ap (λ bs. bs ++ after) (sym (joined-push pieces piece))) all.0, AllStand-push pieces piece after all.1 stands)
 
 -- the token, if it is one, that a piece is
 abbrev pub piece_token : Option Kind → List ℕ → ℕ → ℕ → List Lexeme
@@ -42,7 +34,7 @@ pub record CutTo (text : List ℕ) (start line : ℕ) (found : List Token) : Typ
   pub within : start ≤ length text
   pub pieces : List Piece
   pub front : joined pieces ≡ take start text
-  pub stand : AllStand pieces (drop start text)
+  pub stand : AllPieces pieces (drop start text)
   pub tokens_are : map lexeme found ≡ lexemes [] pieces
   pub line_is : line ≡ line_behind (take start text)
 
@@ -70,8 +62,8 @@ cut_more text start line line' found found' x e found_is line_is cut =
     record {
       within = omega arith;
       pieces = cut.pieces ++ piece ∷ [];
-      front = joined-push cut.pieces piece ∙ ap (λ bs. bs ++ f.bytes) cut.front ∙ ap (λ bs. take start text ++ bs) (sym b.0) ∙ sym (take-add start x.len text);
-      stand = subst (AllStand (cut.pieces ++ piece ∷ [])) (sym behind) (AllStand-push cut.pieces piece f.after (subst (AllStand cut.pieces) f.whole cut.stand) f.stands);
+      front = flat_map-push (λ (p : Piece). p.bytes) cut.pieces piece ∙ ap (λ bs. bs ++ f.bytes) cut.front ∙ ap (λ bs. take start text ++ bs) (sym b.0) ∙ sym (take-add start x.len text);
+      stand = subst (AllPieces (cut.pieces ++ piece ∷ [])) (sym behind) (AllStand-push (λ (p : Piece). p.bytes) Stands cut.pieces piece f.after (subst (AllPieces cut.pieces) f.whole cut.stand) f.stands);
       tokens_are = found_is ∙ ap (λ ls. ls ++ piece_token x.kind (take x.len (drop start text)) start line) cut.tokens_are
           ∙ ap (λ bs. lexemes [] cut.pieces ++ piece_token x.kind bs start line) b.0
           ∙ ap (λ n. lexemes [] cut.pieces ++ piece_token x.kind f.bytes n line) (sym len_front)
@@ -91,14 +83,11 @@ pub piece_some : (s : List ℕ) (x : Extent) → piece_at s ≡ Some x → 0 < x
 piece_some s x e = let f = piece_front s x e in omega (arith, f.len, f.some)
 
 -- where no piece is read, none stands
-pub nothing_stands : (s : List ℕ) → piece_at s ≡ None → (piece : Piece) (rest : List ℕ) → s ≡ piece.bytes ++ rest → Stands piece rest → ⊥
+pub nothing_stands : (s : List ℕ) → piece_at s ≡ None → NothingStands (λ (piece : Piece). piece.bytes) Stands s
 nothing_stands s e piece rest h stands =
     let r = piece_is_read piece rest stands in
     let n : piece_at (piece.bytes ++ rest) ≡ None = ap piece_at (sym h) ∙ e in
-    differ (record { kind = piece.kind; len = length piece.bytes }) (sym n ∙ r.read)
-  where
-    differ : (x : Extent) → ◌≡◌ {A = Option Extent} None (Some x) → ⊥
-    differ x e = cc
+    none-some (record { kind = piece.kind; len = length piece.bytes }) (sym n ∙ r.read)
 
 pub cut_stuck : (text : List ℕ) (start line : ℕ) (found : List Token) → start < length text → piece_at (drop start text) ≡ None → CutTo text start line found → NoToken text line
 cut_stuck text start line found h e cut =
@@ -118,7 +107,7 @@ cut_all text start line found h cut =
     record {
       pieces = cut.pieces;
       whole = cut.front ∙ take_all start text h;
-      stand = subst (AllStand cut.pieces) (drop_all start text h) cut.stand;
+      stand = subst (AllPieces cut.pieces) (drop_all start text h) cut.stand;
       tokens_are = cut.tokens_are;
     }
 

@@ -5,7 +5,7 @@ pub mod Lexing
 pub mod PacketLaws
 pub mod PacketLemmas
 pub mod PieceLaws
-pub mod Runs
+pub mod SameSymbols
 pub mod ScanLemmas
 pub mod StringLaws
 pub mod StringLemmas

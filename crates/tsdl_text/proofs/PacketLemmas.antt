@@ -1,12 +1,15 @@
 -- Packets at the front of bytes.
-use Rattle.std.proofs.Common.{◌≡◌, ℕ, ◌+◌, ◌-◌, ◌*◌, ◌/◌, ◌%◌, ◌<◌, ◌≤◌, Bool, true, false, cond, not, ◌&&◌, List, [], ◌∷◌, ◌++◌, length, take, drop, get_or, Option, Some, None, refl, sym, ap, subst, ◌∙◌, arith, eqb, ltb, append_assoc, take-add}
+use Rattle.std.proofs.Common.{◌≡◌, ℕ, ◌+◌, ◌-◌, ◌*◌, ◌/◌, ◌%◌, ◌<◌, ◌≤◌, Bool, true, false, cond, not, ◌&&◌, List, [], ◌∷◌, ◌++◌, length, take, drop, get_or, Option, Some, None, refl, sym, ap, subst, ◌∙◌, arith, eqb, ltb, take-add}
 use Rattle.std.proofs.lemmas.Bool.{eqb-true, ltb-false, leb-true, and_parts, and_from, not-false, false_from_ne_true, le-leb, le-ltb, lt-ltb, eq-eqb}
-use Rattle.std.proofs.lemmas.List.{append-nil, take-append-le, drop-append-le, get_or_append_left, length-drop, length-take-le, take-append-drop, take-take, take_all, drop-take}
+use Rattle.std.proofs.lemmas.List.{take-append-le, drop-append-le, get_or_append_left, length-drop, length-take-le, take-append-drop, take-take, take_all, drop-take, drop-drop, drop_all}
 use Rattle.std.proofs.lemmas.Slice.Eq.{bytes_eq-Decides}
+use Rattle.ctf_list.proofs.Row.{AllStand-push, flat_map-push}
+use Rattle.tsdl_text.specs.declared.packet.TheConstants.{HEADER_LEN}
 use Rattle.tsdl_text.specs.declared.packet.Order.{Order}
 use Rattle.tsdl_text.specs.declared.fault.MetaFault.{MetaFault}
 use Rattle.tsdl_text.specs.declared.fault.MetaFault.TheVariants as faults
-use Rattle.tsdl_text.specs.Packets.{magic, word, uuid, content_size, packet_size, is_plain, is_version_1_8, sizes_fit, HasEnds, BeginsPacket, or_else, header_fault, first_fault, IsJoined, IsBrokenBehind, JoinRefused, order_of, Packet, IsPacket, AllPackets, bytes_of, contents_of}
+use Rattle.tsdl_text.specs.PacketReading.{HasEnds, BeginsPacket, JoinRefused}
+use Rattle.tsdl_text.specs.Packets.{Stands, magic, word, uuid, content_size, packet_size, is_plain, is_version_1_8, sizes_fit, or_else, header_fault, first_fault, IsJoined, IsBrokenBehind, order_of, Packet, AllPackets, bytes_of, contents_of}
 
 -- ---- the checks, one by one
 
@@ -63,7 +66,7 @@ HasEnds-fit order rest ends h =
     whole : (n m : ℕ) → n ≡ 8 * m → n % 8 ≡ 0
     whole n m h = omega arith
 
-    least : (n m : ℕ) → n ≡ 8 * m → 37 ≤ m → 37 ≤ n / 8
+    least : (n m : ℕ) → n ≡ 8 * m → HEADER_LEN ≤ m → HEADER_LEN ≤ n / 8
     least n m h k = omega arith
 
     scaled : (a b m n : ℕ) → a ≡ 8 * m → b ≡ 8 * n → m ≤ n → a ≤ b
@@ -73,18 +76,18 @@ HasEnds-fit order rest ends h =
     most a n l p h = omega arith
 
 -- sizes that are whole bytes, in order, are where the parts end; others do not fit
-pub has_ends : (order : Order) (rest : List ℕ) (cs ps : ℕ) → cs ≡ content_size order rest → ps ≡ packet_size order rest → cs % 8 ≡ 0 → ps % 8 ≡ 0 → 37 ≤ cs / 8 → cs / 8 ≤ ps / 8 → ps / 8 ≤ length rest → HasEnds order rest (cs / 8, ps / 8)
+pub has_ends : (order : Order) (rest : List ℕ) (cs ps : ℕ) → cs ≡ content_size order rest → ps ≡ packet_size order rest → cs % 8 ≡ 0 → ps % 8 ≡ 0 → HEADER_LEN ≤ cs / 8 → cs / 8 ≤ ps / 8 → ps / 8 ≤ length rest → HasEnds order rest (cs / 8, ps / 8)
 has_ends order rest cs ps c p cw pw low mid high = record { content_is = sym c ∙ eighths cs cw; packet_is = sym p ∙ eighths ps pw; behind_header = low; within_packet = mid; within = high }
   where
     eighths : (n : ℕ) → n % 8 ≡ 0 → n ≡ 8 * (n / 8)
     eighths n h = omega arith
 
-pub no_ends : (order : Order) (rest : List ℕ) (cs ps : ℕ) → cs ≡ content_size order rest → ps ≡ packet_size order rest → ((cs % 8 ≡ 0) → (ps % 8 ≡ 0) → 37 ≤ cs / 8 → cs / 8 ≤ ps / 8 → ps / 8 ≤ length rest → ⊥) → sizes_fit order rest ≡ false
+pub no_ends : (order : Order) (rest : List ℕ) (cs ps : ℕ) → cs ≡ content_size order rest → ps ≡ packet_size order rest → ((cs % 8 ≡ 0) → (ps % 8 ≡ 0) → HEADER_LEN ≤ cs / 8 → cs / 8 ≤ ps / 8 → ps / 8 ≤ length rest → ⊥) → sizes_fit order rest ≡ false
 no_ends order rest cs ps c p none =
     false_from_ne_true _ (λ fit.
     let h = sizes_fit-parts order rest fit in
     none (whole cs (cs / 8) (c ∙ h.content_is ∙ ap (λ n. 8 * (n / 8)) (sym c))) (whole ps (ps / 8) (p ∙ h.packet_is ∙ ap (λ n. 8 * (n / 8)) (sym p)))
-    (subst (λ n. 37 ≤ n / 8) (sym c) h.behind_header)
+    (subst (λ n. HEADER_LEN ≤ n / 8) (sym c) h.behind_header)
     (subst (λ n. n / 8 ≤ ps / 8) (sym c) (subst (λ n. content_size order rest / 8 ≤ n / 8) (sym p) h.within_packet))
     (subst (λ n. n / 8 ≤ length rest) (sym p) h.within))
   where
@@ -93,7 +96,7 @@ no_ends order rest cs ps c p none =
 
 -- a header that passes every check but for the sizes
 pub record Passes (order : Order) (id rest : List ℕ) : Type 0 where
-  pub has_header : 37 ≤ length rest
+  pub has_header : HEADER_LEN ≤ length rest
   pub has_magic : take 4 rest ≡ magic order
   pub plain : is_plain rest ≡ true
   pub version : is_version_1_8 rest ≡ true
@@ -118,7 +121,7 @@ header_fault-none order id rest e =
 pub Passes-none : (order : Order) (id rest : List ℕ) → Passes order id rest → header_fault order id rest ≡ None
 unfolding header_fault
 Passes-none order id rest p =
-    let short : ltb (length rest) 37 ≡ false = le-ltb _ _ p.has_header in
+    let short : ltb (length rest) HEADER_LEN ≡ false = le-ltb _ _ p.has_header in
     rw short
     (pass _ _ _ ((bytes_eq-Decides (take 4 rest) (magic order)).1 p.has_magic)
     (pass _ _ _ p.plain
@@ -140,10 +143,10 @@ size-front order n xs after h =
     let l = length-drop n xs in
     ap (λ ys. word order (take 4 ys)) (drop-append-le n xs after (omega arith)) ∙ ap (word order) (take-append-le 4 (drop n xs) after (omega arith))
 
-pub same_header : (order : Order) (xs after : List ℕ) → 37 ≤ length xs → SameHeader order (xs ++ after) xs
+pub same_header : (order : Order) (xs after : List ℕ) → HEADER_LEN ≤ length xs → SameHeader order (xs ++ after) xs
 same_header order xs after h =
     let l = length-drop 4 xs in
-    let g : (i : ℕ) → i < 37 → get_or (xs ++ after) i 0 ≡ get_or xs i 0 = λ i k. get_or_append_left xs after 0 i (omega arith) in
+    let g : (i : ℕ) → i < HEADER_LEN → get_or (xs ++ after) i 0 ≡ get_or xs i 0 = λ i k. get_or_append_left xs after 0 i (omega arith) in
     record {
       front = take-append-le 4 xs after (omega arith);
       id = ap (take 16) (drop-append-le 4 xs after (omega arith)) ∙ take-append-le 16 (drop 4 xs) after (omega arith);
@@ -162,18 +165,18 @@ same_header order xs after h =
 -- ---- a packet at the front
 
 -- a header that passes every check begins a packet
-pub begins_packet : (order : Order) (id rest content : List ℕ) (ends : ℕ × ℕ) → Passes order id rest → HasEnds order rest ends → content ≡ take (ends.0 - 37) (drop 37 rest) → BeginsPacket order id rest content ends.1
+pub begins_packet : (order : Order) (id rest content : List ℕ) (ends : ℕ × ℕ) → Passes order id rest → HasEnds order rest ends → content ≡ take (ends.0 - HEADER_LEN) (drop HEADER_LEN rest) → BeginsPacket order id rest content ends.1
 begins_packet order id rest content ends p h is =
     let n = ends.1 in
     let c = ends.0 in
     let behind = h.behind_header in
-    let c_is : c ≡ 37 + (c - 37) = omega arith in
-    let cut : drop 37 (take c rest) ≡ take (c - 37) (drop 37 rest) = ap (λ k. drop 37 (take k rest)) c_is ∙ drop-take 37 (c - 37) rest in
+    let c_is : c ≡ HEADER_LEN + (c - HEADER_LEN) = omega arith in
+    let cut : drop HEADER_LEN (take c rest) ≡ take (c - HEADER_LEN) (drop HEADER_LEN rest) = ap (λ k. drop HEADER_LEN (take k rest)) c_is ∙ drop-take HEADER_LEN (c - HEADER_LEN) rest in
     let front = take n rest in
     let l : length front ≡ n = length-take-le n rest h.within in
     let low = h.behind_header in
     let high = h.within_packet in
-    let long : 37 ≤ length front = omega arith in
+    let long : HEADER_LEN ≤ length front = omega arith in
     let same = subst (λ xs. SameHeader order xs front) (take-append-drop n rest) (same_header order front (drop n rest) long) in
     record {
       good = record {
@@ -187,7 +190,7 @@ begins_packet order id rest content ends p h is =
         content_size_is = sym same.content ∙ h.content_is;
         behind_header = low;
         within = omega arith;
-        content_is = is ∙ sym cut ∙ ap (drop 37) (sym (take-take c n rest high));
+        content_is = is ∙ sym cut ∙ ap (drop HEADER_LEN) (sym (take-take c n rest high));
       };
       within = h.within;
     }
@@ -195,7 +198,7 @@ begins_packet order id rest content ends p h is =
 -- the packets up to a place, and the text so far
 pub record JoinedSoFar (order : Order) (bytes : List ℕ) (start : ℕ) (text : List ℕ) : Type 0 where
   pub packets : List Packet
-  pub good : AllPackets order (uuid bytes) packets
+  pub good : AllPackets order (uuid bytes) packets (drop start bytes)
   pub front : bytes_of packets ≡ take start bytes
   pub text_is : text ≡ contents_of packets
 
@@ -209,44 +212,34 @@ unfolding first_fault
 faulty_sizes order id rest e s = ap (λ f. or_else f (cond (sizes_fit order rest) None (Some faults.CutShort))) e ∙ ap (λ b. cond b None (Some faults.CutShort)) s
 
 -- fewer bytes than a header has
-short_header : (order : Order) (id rest : List ℕ) → length rest < 37 → Some faults.CutShort ≡ header_fault order id rest
+short_header : (order : Order) (id rest : List ℕ) → length rest < HEADER_LEN → Some faults.CutShort ≡ header_fault order id rest
 unfolding header_fault
-short_header order id rest h = let e : ltb (length rest) 37 ≡ true = lt-ltb _ _ h in rw e refl
+short_header order id rest h = let e : ltb (length rest) HEADER_LEN ≡ true = lt-ltb _ _ h in rw e refl
 
-pub faulty_front : (order : Order) (id rest : List ℕ) → length rest < 37 → first_fault order id rest ≡ Some faults.CutShort
+pub faulty_front : (order : Order) (id rest : List ℕ) → length rest < HEADER_LEN → first_fault order id rest ≡ Some faults.CutShort
 faulty_front order id rest h = faulty_header order id rest faults.CutShort (short_header order id rest h)
 
 -- the text of no packets
 pub joined_none : (order : Order) (bytes : List ℕ) → JoinedSoFar order bytes 0 []
 joined_none order bytes = record { packets = []; good = tt; front = refl; text_is = refl }
 
-pub AllPackets-push : (order : Order) (id : List ℕ) (packets : List Packet) (packet : Packet) → AllPackets order id packets → IsPacket order id packet → AllPackets order id (packets ++ packet ∷ [])
-AllPackets-push order id [] packet all good = (good, tt)
-AllPackets-push order id (p ∷ packets) packet all good = (all.0, AllPackets-push order id packets packet all.1 good)
-
-pub bytes_of-push : (packets : List Packet) (packet : Packet) → bytes_of (packets ++ packet ∷ []) ≡ bytes_of packets ++ packet.bytes
-bytes_of-push [] packet = append-nil packet.bytes
-bytes_of-push (p ∷ packets) packet = ap (λ bs. p.bytes ++ bs) (bytes_of-push packets packet) ∙ sym (append_assoc p.bytes (bytes_of packets) packet.bytes)
-
-contents_of-push : (packets : List Packet) (packet : Packet) → contents_of (packets ++ packet ∷ []) ≡ contents_of packets ++ packet.content
-contents_of-push [] packet = append-nil packet.content
-contents_of-push (p ∷ packets) packet = ap (λ bs. p.content ++ bs) (contents_of-push packets packet) ∙ sym (append_assoc p.content (contents_of packets) packet.content)
-
 -- the text of one more packet
 pub joined_more : (order : Order) (bytes content text text' : List ℕ) (start len : ℕ) → BeginsPacket order (uuid bytes) (drop start bytes) content len → text' ≡ text ++ content → JoinedSoFar order bytes start text → JoinedSoFar order bytes (start + len) text'
 joined_more order bytes content text text' start len found is so_far =
-    let packet : Packet = record { bytes = take len (drop start bytes); content = content } in
+    let rest = drop start bytes in
+    let packet : Packet = record { bytes = take len rest; content = content } in
+    let whole : rest ≡ take len rest ++ drop (start + len) bytes = sym (take-append-drop len rest) ∙ ap (λ bs. take len rest ++ bs) (drop-drop len start bytes) in
     record {
       packets = so_far.packets ++ packet ∷ [];
-      good = AllPackets-push order (uuid bytes) so_far.packets packet so_far.good found.good;
-      front = bytes_of-push so_far.packets packet ∙ ap (λ bs. bs ++ take len (drop start bytes)) so_far.front ∙ sym (take-add start len bytes);
-      text_is = is ∙ ap (λ bs. bs ++ content) so_far.text_is ∙ sym (contents_of-push so_far.packets packet);
+      good = AllStand-push (λ (p : Packet). p.bytes) (Stands order (uuid bytes)) so_far.packets packet (drop (start + len) bytes) (subst (AllPackets order (uuid bytes) so_far.packets) whole so_far.good) found.good;
+      front = flat_map-push (λ (p : Packet). p.bytes) so_far.packets packet ∙ ap (λ bs. bs ++ take len (drop start bytes)) so_far.front ∙ sym (take-add start len bytes);
+      text_is = is ∙ ap (λ bs. bs ++ content) so_far.text_is ∙ sym (flat_map-push (λ (p : Packet). p.content) so_far.packets packet);
     }
 
 -- the text of all packets
 pub joined_all : (order : Order) (bytes text : List ℕ) (start : ℕ) → length bytes ≤ start → JoinedSoFar order bytes start text → IsJoined order bytes text
 joined_all order bytes text start h so_far =
-    record { packets = so_far.packets; good = so_far.good; whole = so_far.front ∙ take_all start bytes h; text_is = so_far.text_is }
+    record { packets = so_far.packets; good = subst (AllPackets order (uuid bytes) so_far.packets) (drop_all start bytes h) so_far.good; whole = so_far.front ∙ take_all start bytes h; text_is = so_far.text_is }
 
 -- a packet is not good
 pub broken_behind : (order : Order) (bytes text : List ℕ) (start : ℕ) (fault : MetaFault) → start < length bytes → first_fault order (uuid bytes) (drop start bytes) ≡ Some fault → JoinedSoFar order bytes start text → IsBrokenBehind order bytes fault

@@ -4,14 +4,16 @@ use Rattle.std.specs.Prelude.{codes}
 use Rattle.std.specs.Option.{option_map}
 use Rattle.std.specs.Str.{bytes_eq}
 use Rattle.std.proofs.lemmas.List.{length-append}
-use Rattle.std.proofs.lemmas.Bool.{eqb-true, and_parts, false≢true}
+use Rattle.std.proofs.lemmas.Bool.{eqb-true, and_parts, false≢true, false_from_ne_true}
 use Rattle.tsdl_text.specs.declared.token.Kind.{Kind}
 use Rattle.tsdl_text.specs.declared.lexer.Extent.{Extent}
-use Rattle.tsdl_text.specs.Bytes.{is_blank, begins}
+use Rattle.ctf_list.specs.Prefix.{begins}
+use Rattle.tsdl_text.specs.Bytes.{is_blank}
 use Rattle.tsdl_text.specs.Tokens.{IsToken, Skipped, blank, block, rest_of_line, Piece, Stands}
 use Rattle.tsdl_text.specs.Scanning.{block_len, line_len, comment_len, token_at, skipped, token_of, piece_at}
-use Rattle.tsdl_text.proofs.Runs.{run_is, run, begins-front}
-use Rattle.tsdl_text.proofs.StringLemmas.{either_way, some_is}
+use Rattle.ctf_list.proofs.Prefix.{prefix_len_at, prefix, begins-append}
+use Rattle.std.proofs.lemmas.Option.{same_Some}
+use Rattle.ctf_list.proofs.Options.{either_way, map_some}
 use Rattle.tsdl_text.proofs.TokenLaws.{token_front, token_is_read}
 
 -- ---- a comment up to its first end
@@ -62,14 +64,10 @@ block_step : (a : ℕ) (t : List ℕ) (b : Bool) → bytes_eq (codes "*/") (take
 unfolding block_len
 block_step a t b e = ap (λ c. cond c (Some 2) (option_map (λ n. 1 + n) (block_len t))) e
 
-decided : (b : Bool) → (b ≡ true → ⊥) → b ≡ false
-decided true no_way = absurd (no_way refl)
-decided false no_way = refl
-
 pub block_len-is : (inside after : List ℕ) → EndsFirst inside → block_len ((inside ++ codes "*/") ++ after) ≡ Some (length inside + 2)
 block_len-is [] after first = block_step 42 (47 ∷ after) true refl
 block_len-is (a ∷ inside) after first =
-    block_step a ((inside ++ codes "*/") ++ after) false (decided _ (not_yet a inside after first))
+    block_step a ((inside ++ codes "*/") ++ after) false (false_from_ne_true _ (not_yet a inside after first))
     ∙ ap (option_map (λ n. 1 + n)) (block_len-is inside after (later_end a inside first))
     ∙ ap Some (omega arith)
 
@@ -80,10 +78,6 @@ record BlockFront (t : List ℕ) (n : ℕ) : Type 0 where
   whole : t ≡ (inside ++ codes "*/") ++ after
   first : EndsFirst inside
   len : n ≡ length inside + 2
-
-map_more : (o : Option ℕ) (n : ℕ) → option_map (λ k. 1 + k) o ≡ Some n → (k : ℕ) × (o ≡ Some k) × (n ≡ 1 + k)
-map_more None n e = absurd cc
-map_more (Some k) n e = (k, refl, sym (some_is (1 + k) n e))
 
 heads_are : (a b : ℕ) (s t : List ℕ) → a ∷ s ≡ b ∷ t → (a ≡ b) × (s ≡ t)
 heads_are a b s t e = (cc, cc)
@@ -101,9 +95,9 @@ longer_first a inside after no_end first (c ∷ front) rest e = first front rest
 block_front_by : (a : ℕ) (t : List ℕ) (n : ℕ) (b : Bool) → bytes_eq (codes "*/") (take 2 (a ∷ t)) ≡ b → ((k : ℕ) → block_len t ≡ Some k → BlockFront t k) → cond b (Some 2) (option_map (λ k. 1 + k) (block_len t)) ≡ Some n → BlockFront (a ∷ t) n
 block_front_by a t n true e later h =
     let f = at_end (a ∷ t) e in
-    record { inside = []; after = f.0; whole = f.1; first = ends_at_once; len = sym (some_is 2 n h) }
+    record { inside = []; after = f.0; whole = f.1; first = ends_at_once; len = sym (same_Some 2 n h) }
 block_front_by a t n false e later h =
-    let m = map_more (block_len t) n h in
+    let m = map_some (λ k. 1 + k) (block_len t) n h in
     let f = later m.0 m.1 in
     record {
       inside = a ∷ f.inside;
@@ -128,17 +122,9 @@ pub record PieceFront (s : List ℕ) (x : Extent) : Type 0 where
   pub len : x.len ≡ length bytes
   pub some : 0 < length bytes
 
-map_extent : (f : ℕ → Extent) (o : Option ℕ) (x : Extent) → option_map f o ≡ Some x → (n : ℕ) × (o ≡ Some n) × (f n ≡ x)
-map_extent f None x e = absurd cc
-map_extent f (Some n) x e = (n, refl, some_is (f n) x e)
-
-map_token : (o : Option (Kind × ℕ)) (x : Extent) → option_map token_of o ≡ Some x → (y : Kind × ℕ) × (o ≡ Some y) × (token_of y ≡ x)
-map_token None x e = absurd cc
-map_token (Some y) x e = (y, refl, some_is (token_of y) x e)
-
 read_block : (text : List ℕ) (n : ℕ) → option_map (λ k. k + 1) (block_len text) ≡ Some n → PieceFront (47 ∷ 42 ∷ text) (skipped (1 + n))
 read_block text n e =
-    let m = map_one (block_len text) n e in
+    let m = map_some (λ k. k + 1) (block_len text) n e in
     let f = block_front text m.0 m.1 in
     let l = length-append f.inside (codes "*/") in
     record {
@@ -149,15 +135,11 @@ read_block text n e =
       len = omega (arith, m.2, f.len);
       some = omega arith;
     }
-  where
-    map_one : (o : Option ℕ) (n : ℕ) → option_map (λ k. k + 1) o ≡ Some n → (k : ℕ) × (o ≡ Some k) × (n ≡ k + 1)
-    map_one None n e = absurd cc
-    map_one (Some k) n e = (k, refl, sym (some_is (k + 1) n e))
 
 read_line : (text : List ℕ) (n : ℕ) → Some (1 + line_len text) ≡ Some n → PieceFront (47 ∷ 47 ∷ text) (skipped (1 + n))
 read_line text n e =
-    let r = run (λ b. not (eqb b 10)) text in
-    let n_is = some_is (1 + line_len text) n e in
+    let r = prefix (λ b. not (eqb b 10)) text in
+    let n_is = same_Some (1 + line_len text) n e in
     let l = r.len in
     record {
       bytes = codes "//" ++ r.front;
@@ -191,11 +173,11 @@ unfolding piece_at
 piece_front [] x e = absurd cc
 piece_front (b ∷ text) x e =
     ⊎_elim
-    (λ h. subst (PieceFront (b ∷ text)) (some_is (skipped 1) x h.1) (blank_front b text h.0))
+    (λ h. subst (PieceFront (b ∷ text)) (same_Some (skipped 1) x h.1) (blank_front b text h.0))
     (λ h. ⊎_elim
-    (λ k. let m = map_extent (λ n. skipped (1 + n)) (comment_len text) x k.1 in
+    (λ k. let m = map_some (λ n. skipped (1 + n)) (comment_len text) x k.1 in
     subst (λ (n : ℕ). PieceFront (n ∷ text) x) (sym (eqb-true b 47 k.0)) (subst (PieceFront (47 ∷ text)) m.2 (read_comment text m.0 m.1)))
-    (λ k. let m = map_token (token_at (b ∷ text)) x k.1 in
+    (λ k. let m = map_some token_of (token_at (b ∷ text)) x k.1 in
     let f = token_front (b ∷ text) m.0 m.1 in
     subst (PieceFront (b ∷ text)) m.2 (record { bytes = f.bytes; after = f.after; whole = f.whole; stands = f.is; len = f.len; some = f.some }))
     (either_way (eqb b 47) (option_map (λ n. skipped (1 + n)) (comment_len text)) (option_map token_of (token_at (b ∷ text))) x h.1))
@@ -240,7 +222,7 @@ skipped_is_read (block inside {after} first) =
     }
 skipped_is_read (rest_of_line {inside} {after} all stops) = record {
   read = piece_by_slash (47 ∷ (inside ++ after))
-      ∙ ap (option_map (λ n. skipped (1 + n))) (comment_line (inside ++ after) ∙ ap (λ n. Some (1 + n)) (run_is (λ b. not (eqb b 10)) inside after all stops))
+      ∙ ap (option_map (λ n. skipped (1 + n))) (comment_line (inside ++ after) ∙ ap (λ n. Some (1 + n)) (prefix_len_at (λ b. not (eqb b 10)) inside after all stops))
       ∙ ap (λ n. Some (skipped n)) (omega arith);
   some = omega arith;
 }
@@ -249,7 +231,7 @@ token_piece : (kind : Kind) (bytes after : List ℕ) → IsToken kind bytes afte
 token_piece kind bytes after token =
     let r = token_is_read kind bytes after token in
     record {
-      read = piece_by_token (bytes ++ after) (begins-front is_blank bytes after r.some ∙ r.no_blank) (begins-front (λ b. eqb b 47) bytes after r.some ∙ r.no_slash) ∙ ap (option_map token_of) r.read;
+      read = piece_by_token (bytes ++ after) (begins-append is_blank bytes after r.some ∙ r.no_blank) (begins-append (λ b. eqb b 47) bytes after r.some ∙ r.no_slash) ∙ ap (option_map token_of) r.read;
       some = r.some;
     }
 

@@ -4,7 +4,7 @@ use Rattle.std.specs.Prelude.{codes, option_and_then}
 use Rattle.std.specs.Option.{option_map}
 use Rattle.std.specs.Str.{bytes_eq}
 use Rattle.std.proofs.lemmas.List.{drop_more, drop_all, drop-drop, length-drop}
-use Rattle.tsdl_text.specs.Bytes.{begins}
+use Rattle.ctf_list.specs.Prefix.{begins}
 use Rattle.tsdl_text.specs.Strings.{character_at}
 use Rattle.tsdl_text.specs.Scanning.{block_len, closing_len, string_len, keyword_of, keywords_with}
 use Rattle.tsdl_text.proofs.StringLemmas.{character_at-bounds}

@@ -6,11 +6,15 @@ use Rattle.std.specs.List.{list_all}
 use Rattle.std.specs.Char.{is_digit}
 use Rattle.std.proofs.lemmas.List.{length-append, take_at, drop_at}
 use Rattle.std.proofs.lemmas.Bool.{eqb-true, eqb-false, ne_eqb, le-ltb, or_parts, or_cases, and_parts}
-use Rattle.tsdl_text.specs.Bytes.{begins, number}
-use Rattle.tsdl_text.specs.Strings.{simple_escape, IsNumeric, Character, plain, escape, octal, hexadecimal, Closes, close, next, digit_count, numeric_at, escape_at, character_at}
+use Rattle.ctf_list.specs.Prefix.{begins}
+use Rattle.tsdl_text.specs.Bytes.{number}
+use Rattle.tsdl_text.specs.Characters.{StandsFor, simple_escape, IsNumeric, Character, plain, escape, octal, hexadecimal, Closes, close, next}
+use Rattle.tsdl_text.specs.Strings.{string_value, digit_count, numeric_at, escape_at, character_at}
 use Rattle.tsdl_text.specs.Scanning.{closing_len, string_len}
-use Rattle.tsdl_text.proofs.Runs.{limited, limited_is, begins-front}
-use Rattle.tsdl_text.proofs.StringLemmas.{none_or, either_way, some_is, map_or_some, numeric_at-some, all_values, all_values-some, all_values-none}
+use Rattle.ctf_list.proofs.Prefix.{limited, limited_is, begins-append}
+use Rattle.std.proofs.lemmas.Option.{same_Some, option_and_then_some}
+use Rattle.ctf_list.proofs.Options.{none_or, either_way, map_or_some, by_arm, map_some}
+use Rattle.tsdl_text.proofs.StringLemmas.{string_value-rest, numeric_at-some, all_values, all_values-some, all_values-none}
 use Rattle.tsdl_text.proofs.ScanLemmas.{string_here, string_later}
 
 -- ---- numeric escapes
@@ -65,10 +69,6 @@ numeric_at-is base most skipped digits after value is =
 
 -- ---- escapes by one letter
 
-arm : {A : Type 0} (b : Bool) (u v : Option A) (x : A) {P : Type 0} → (b ≡ true → P) → (v ≡ Some x → P) → cond b u v ≡ Some x → P
-arm true u v x here later e = here refl
-arm false u v x here later e = later e
-
 -- such a letter is no `x` and no digit
 pub record IsLetter (c : ℕ) : Type 0 where
   pub no_x : eqb c 120 ≡ false
@@ -80,15 +80,15 @@ letter_at c k a b e = let s : k ≡ c = sym (eqb-true c k e) in record { no_x = 
 pub letter : (c value : ℕ) → simple_escape c ≡ Some value → IsLetter c
 unfolding simple_escape
 letter c value e =
-    arm _ _ _ value (letter_at c 97 refl refl)
-    (arm _ _ _ value (letter_at c 98 refl refl)
-    (arm _ _ _ value (letter_at c 102 refl refl)
-    (arm _ _ _ value (letter_at c 110 refl refl)
-    (arm _ _ _ value (letter_at c 114 refl refl)
-    (arm _ _ _ value (letter_at c 116 refl refl)
-    (arm _ _ _ value (letter_at c 118 refl refl)
-    (arm _ _ _ value
-    (λ t. ⊎_elim (letter_at c 92 refl refl) (λ u. ⊎_elim (letter_at c 39 refl refl) (λ v. ⊎_elim (letter_at c 34 refl refl) (letter_at c 63 refl refl) (or_cases _ _ v)) (or_cases _ _ u)) (or_cases _ _ t))
+    by_arm _ _ _ value (λ t _. letter_at c 97 refl refl t)
+    (by_arm _ _ _ value (λ t _. letter_at c 98 refl refl t)
+    (by_arm _ _ _ value (λ t _. letter_at c 102 refl refl t)
+    (by_arm _ _ _ value (λ t _. letter_at c 110 refl refl t)
+    (by_arm _ _ _ value (λ t _. letter_at c 114 refl refl t)
+    (by_arm _ _ _ value (λ t _. letter_at c 116 refl refl t)
+    (by_arm _ _ _ value (λ t _. letter_at c 118 refl refl t)
+    (by_arm _ _ _ value
+    (λ t _. ⊎_elim (letter_at c 92 refl refl) (λ u. ⊎_elim (letter_at c 39 refl refl) (λ v. ⊎_elim (letter_at c 34 refl refl) (letter_at c 63 refl refl) (or_cases _ _ v)) (or_cases _ _ u)) (or_cases _ _ t))
     (λ z. absurd cc)))))))) e
 
 pub digit_no_escape : (c : ℕ) (o : Option ℕ) → simple_escape c ≡ o → is_digit c 8 ≡ true → o ≡ None
@@ -159,7 +159,7 @@ escape_front (c ∷ s) x e =
     let c_is : c ≡ 120 = eqb-true c 120 h.0 in
     record { bytes = 92 ∷ 120 ∷ n.digits; after = n.after; whole = ap (λ (k : ℕ). 92 ∷ k ∷ s) c_is ∙ ap (λ t. 92 ∷ 120 ∷ t) n.whole; is = hexadecimal n.is; len = n.len ∙ omega arith })
     (λ h. ⊎_elim
-    (λ k. let p : (k.0, 2) ≡ x = some_is _ _ k.2 in
+    (λ k. let p : (k.0, 2) ≡ x = same_Some _ _ k.2 in
     record { bytes = 92 ∷ c ∷ []; after = s; whole = refl; is = escape (k.1 ∙ ap (λ (y : ℕ × ℕ). Some y.0) p); len = sym (ap (λ (y : ℕ × ℕ). y.1) p) })
     (λ k. let n = numeric_front 8 3 1 (c ∷ s) x k.1 in
     record { bytes = 92 ∷ n.digits; after = n.after; whole = ap (λ t. 92 ∷ t) n.whole; is = octal n.is; len = n.len ∙ omega arith })
@@ -202,7 +202,7 @@ string_len-is after (next {bytes} {rest} {values} {value} c r) =
     let s = (bytes ++ rest) ++ after in
     let assoc : s ≡ bytes ++ (rest ++ after) = append_assoc bytes rest after in
     let some = closes_some r in
-    let read : character_at s ≡ Some (value, length bytes) = ap character_at assoc ∙ character_at-is (character_before (rest ++ after) (λ p. sym (begins-front p rest after some)) c) in
+    let read : character_at s ≡ Some (value, length bytes) = ap character_at assoc ∙ character_at-is (character_before (rest ++ after) (λ p. sym (begins-append p rest after some)) c) in
     let first : begins (λ b. eqb b 34) s ≡ false = ap (begins (λ b. eqb b 34)) assoc ∙ no_quote (rest ++ after) c in
     let behind : drop (length bytes) s ≡ rest ++ after = ap (drop (length bytes)) assoc ∙ drop_at bytes (rest ++ after) (length bytes) refl in
     string_later s (value, length bytes) first read
@@ -232,17 +232,9 @@ pub record ThenMore (x : ℕ × ℕ) (o : Option ℕ) (k : ℕ) : Type 0 where
   pub is : o ≡ Some more
   pub sum : k ≡ x.1 + more
 
-map_some : (m : ℕ) (o : Option ℕ) (k : ℕ) → option_map (λ n. m + n) o ≡ Some k → (n : ℕ) × (o ≡ Some n) × (k ≡ m + n)
-map_some m None k e = absurd cc
-map_some m (Some n) k e = (n, refl, sym (some_is (m + n) k e))
-
-then_some : (o : Option (ℕ × ℕ)) (f : ℕ × ℕ → Option ℕ) (k : ℕ) → option_and_then f o ≡ Some k → (x : ℕ × ℕ) × (o ≡ Some x) × (f x ≡ Some k)
-then_some None f k e = absurd cc
-then_some (Some x) f k e = (x, refl, e)
-
 quote_front : (s : List ℕ) (n : ℕ) → begins (λ b. eqb b 34) s ≡ true → Some 1 ≡ Some n → StringFront s n
 quote_front [] n e h = absurd cc
-quote_front (b ∷ s) n e h = record { inside = 34 ∷ []; after = s; values = []; whole = ap (λ (k : ℕ). k ∷ s) (eqb-true b 34 e); is = close; len = sym (some_is 1 n h) }
+quote_front (b ∷ s) n e h = record { inside = 34 ∷ []; after = s; values = []; whole = ap (λ (k : ℕ). k ∷ s) (eqb-true b 34 e); is = close; len = sym (same_Some 1 n h) }
 
 string_join : (s : List ℕ) (x : ℕ × ℕ) (n m : ℕ) → CharacterFront s x → StringFront (drop x.1 s) m → n ≡ x.1 + m → StringFront s n
 string_join s x n m c r e =
@@ -255,7 +247,7 @@ string_join s x n m c r e =
       after = r.after;
       values = x.0 ∷ r.values;
       whole = c.whole ∙ ap (λ t. c.bytes ++ t) after_is ∙ sym (append_assoc c.bytes r.inside r.after);
-      is = next (character_before r.inside (λ p. ap (begins p) after_is ∙ begins-front p r.inside r.after some) c.is) r.is;
+      is = next (character_before r.inside (λ p. ap (begins p) after_is ∙ begins-append p r.inside r.after some) c.is) r.is;
       len = omega (arith, c.len, r.len);
     }
 
@@ -265,11 +257,16 @@ closing_front zero s n e = absurd cc
 closing_front (suc turns) s n e =
     ⊎_elim
     (λ h. quote_front s n h.0 h.1)
-    (λ h. let a = then_some (character_at s) (λ x. option_map (λ k. x.1 + k) (closing_len turns (drop x.1 s))) n h.1 in
-    let b = map_some a.0.1 (closing_len turns (drop a.0.1 s)) n a.2 in
-    string_join s a.0 n b.0 (character_front s a.0 a.1) (closing_front turns (drop a.0.1 s) b.0 b.1) b.2)
+    (λ h. option_and_then_some (λ x. option_map (λ k. x.1 + k) (closing_len turns (drop x.1 s))) (character_at s) n h.1 (λ x is more.
+    let b = map_some (λ k. x.1 + k) (closing_len turns (drop x.1 s)) n more in
+    string_join s x n b.0 (character_front s x is) (closing_front turns (drop x.1 s) b.0 b.1) (sym b.2)))
     (either_way (begins (λ b. eqb b 34) s) (Some 1) (option_and_then (λ x. option_map (λ k. x.1 + k) (closing_len turns (drop x.1 s))) (character_at s)) n e)
 
 pub string_front : (s : List ℕ) (n : ℕ) → string_len s ≡ Some n → StringFront s n
 unfolding string_len
 string_front s n e = closing_front (length s) s n e
+
+-- ---- what a string stands for
+
+pub strings_stand : (slice values : List ℕ) → StandsFor slice values → string_value slice ≡ values
+strings_stand slice values stands = ap string_value stands.opened ∙ sym (string_value-rest (34 ∷ stands.inside)) ∙ string_values-are stands.closed

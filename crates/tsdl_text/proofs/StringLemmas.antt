@@ -1,29 +1,15 @@
 -- What reading one character of a string gives, and the bytes that a string stands for.
-use Rattle.std.proofs.Common.{◌≡◌, ℕ, zero, suc, ◌+◌, ◌<◌, ◌≤◌, Bool, true, false, cond, ◌||◌, List, [], ◌∷◌, ◌++◌, length, take, drop, Option, Some, None, refl, sym, ap, ◌∙◌, arith, ◌⊎◌, inl, inr, ⊎_elim, eqb, ltb, append_assoc}
+use Rattle.std.proofs.Common.{◌≡◌, ℕ, zero, suc, ◌+◌, ◌<◌, ◌≤◌, cond, ◌||◌, List, [], ◌∷◌, ◌++◌, length, take, drop, Option, Some, None, refl, sym, ap, ◌∙◌, arith, ⊎_elim, eqb, ltb, append_assoc}
 use Rattle.std.specs.Option.{option_map_or}
 use Rattle.std.specs.Char.{is_digit}
 use Rattle.std.proofs.lemmas.List.{append-nil, length-drop, length-take}
 use Rattle.std.proofs.lemmas.List.Sums.{prefix_len-le-length}
 use Rattle.std.proofs.lemmas.Bool.{eqb-false, ltb-false, or_parts}
+use Rattle.std.proofs.lemmas.Option.{same_Some}
+use Rattle.ctf_list.proofs.Options.{none_or, either_way, map_or_some}
 use Rattle.tsdl_text.specs.Bytes.{number}
-use Rattle.tsdl_text.specs.Strings.{simple_escape, digit_count, numeric_at, escape_at, character_at, values, string_value}
-
--- ---- small tools
-
-pub none_or : {A : Type 0} (b : Bool) (v x : A) → cond b None (Some v) ≡ Some x → (b ≡ false) × (v ≡ x)
-none_or true v x e = absurd cc
-none_or false v x e = (refl, cc)
-
-pub either_way : {A : Type 0} (b : Bool) (u v : Option A) (x : A) → cond b u v ≡ Some x → ((b ≡ true) × (u ≡ Some x)) ⊎ ((b ≡ false) × (v ≡ Some x))
-either_way true u v x e = inl (refl, e)
-either_way false u v x e = inr (refl, e)
-
-pub some_is : {A : Type 0} (v x : A) → Some v ≡ Some x → v ≡ x
-some_is v x e = cc
-
-pub map_or_some : {A B : Type 0} (f : A → Option B) (o : Option A) (d : Option B) (x : B) → option_map_or f o d ≡ Some x → ((y : A) × (o ≡ Some y) × (f y ≡ Some x)) ⊎ ((o ≡ None) × (d ≡ Some x))
-map_or_some f None d x e = inr (refl, e)
-map_or_some f (Some y) d x e = inl (y, refl, e)
+use Rattle.tsdl_text.specs.Characters.{simple_escape}
+use Rattle.tsdl_text.specs.Strings.{digit_count, numeric_at, escape_at, character_at, values, string_value}
 
 -- ---- how far a character goes
 
@@ -69,7 +55,7 @@ escape_at-bounds (c ∷ s) x e =
     ⊎_elim
     (λ h. let n = numeric_at-some 16 2 2 s x h.1 in let l = digit_count-le 16 2 s in (omega (arith, n.len_is), omega (arith, n.len_is)))
     (λ h. ⊎_elim
-    (λ k. let e : (k.0, 2) ≡ x = some_is _ _ k.2 in let f : 2 ≡ x.1 = ap (λ (y : ℕ × ℕ). y.1) e in (omega arith, omega arith))
+    (λ k. let e : (k.0, 2) ≡ x = same_Some _ _ k.2 in let f : 2 ≡ x.1 = ap (λ (y : ℕ × ℕ). y.1) e in (omega arith, omega arith))
     (λ k. let n = numeric_at-some 8 3 1 (c ∷ s) x k.1 in let l = digit_count-le 8 3 (c ∷ s) in (omega (arith, n.len_is, n.some), omega (arith, n.len_is)))
     (map_or_some (λ value. Some (value, 2)) (simple_escape c) (numeric_at 8 3 1 (c ∷ s)) x h.1))
     (either_way (eqb c 120) (numeric_at 16 2 2 s) (option_map_or (λ value. Some (value, 2)) (simple_escape c) (numeric_at 8 3 1 (c ∷ s))) x e)

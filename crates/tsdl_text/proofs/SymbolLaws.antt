@@ -1,5 +1,5 @@
 -- Keywords and punctuators by their spellings.
-use Rattle.std.proofs.Common.{◌≡◌, ℕ, ◌≤◌, Bool, true, false, cond, ◌&&◌, ◌||◌, List, [], ◌∷◌, ◌++◌, length, drop, Option, Some, None, refl, sym, ap, subst, ◌∙◌, arith, ⊎_elim, eqb, leb}
+use Rattle.std.proofs.Common.{◌≡◌, ℕ, ◌≤◌, Bool, true, false, cond, ◌&&◌, ◌||◌, List, [], ◌∷◌, ◌++◌, length, drop, Some, None, refl, sym, ap, subst, ◌∙◌, arith, ⊎_elim, eqb, leb}
 use Rattle.std.specs.Option.{option_map}
 use Rattle.std.specs.List.{find, list_all}
 use Rattle.std.specs.Str.{bytes_eq}
@@ -9,16 +9,18 @@ use Rattle.std.proofs.lemmas.Slice.Eq.{bytes_eq-Decides}
 use Rattle.tsdl_text.specs.declared.token.Symbol.{Symbol}
 use Rattle.tsdl_text.specs.declared.token.Symbol.TheVariants as symbols
 use Rattle.tsdl_text.specs.Symbols.{spelling}
-use Rattle.tsdl_text.specs.Bytes.{is_word_start, is_word_byte, is_blank, begins}
+use Rattle.ctf_list.specs.Prefix.{begins}
+use Rattle.tsdl_text.specs.Bytes.{is_word_start, is_word_byte, is_blank}
 use Rattle.tsdl_text.specs.Scanning.{keywords_with, keyword_of, single, begins_with, is_ellipsis, is_assign, first_single, punctuator_at}
-use Rattle.tsdl_text.proofs.StringLemmas.{either_way, some_is}
+use Rattle.std.proofs.lemmas.Option.{same_Some}
+use Rattle.ctf_list.proofs.Options.{either_way, by_arm, map_some}
 
 -- ---- keywords
 
 find_passes : (p : Symbol → Bool) (all : List Symbol) (s : Symbol) → find p all ≡ Some s → p s ≡ true
 find_passes p [] s e = absurd cc
 find_passes p (x ∷ all) s e =
-    ⊎_elim (λ h. ap p (sym (some_is x s h.1)) ∙ h.0) (λ h. find_passes p all s h.1) (either_way (p x) (Some x) (find p all) s e)
+    ⊎_elim (λ h. ap p (sym (same_Some x s h.1)) ∙ h.0) (λ h. find_passes p all s h.1) (either_way (p x) (Some x) (find p all) s e)
 
 pub keyword_spelled : (word : List ℕ) (s : Symbol) → keyword_of word ≡ Some s → word ≡ spelling s
 unfolding keyword_of
@@ -65,31 +67,27 @@ spelling_some s = refl
 
 -- ---- punctuators
 
-arm : {A : Type 0} (b : Bool) (u v : Option A) (x : A) {P : Type 0} → (b ≡ true → u ≡ Some x → P) → (v ≡ Some x → P) → cond b u v ≡ Some x → P
-arm true u v x here later e = here refl e
-arm false u v x here later e = later e
-
 spelled_by : (b k : ℕ) (known s : Symbol) → spelling known ≡ k ∷ [] → eqb b k ≡ true → Some known ≡ Some s → spelling s ≡ b ∷ []
-spelled_by b k known s e t h = ap spelling (sym (some_is known s h)) ∙ e ∙ ap (λ (n : ℕ). n ∷ []) (sym (eqb-true b k t))
+spelled_by b k known s e t h = ap spelling (sym (same_Some known s h)) ∙ e ∙ ap (λ (n : ℕ). n ∷ []) (sym (eqb-true b k t))
 
 single_spelled : (b : ℕ) (s : Symbol) → single b ≡ Some s → spelling s ≡ b ∷ []
 unfolding single
 single_spelled b s e =
-    arm _ _ _ s (spelled_by b 123 symbols.OpenBrace s refl)
-    (arm _ _ _ s (spelled_by b 125 symbols.CloseBrace s refl)
-    (arm _ _ _ s (spelled_by b 91 symbols.OpenBracket s refl)
-    (arm _ _ _ s (spelled_by b 93 symbols.CloseBracket s refl)
-    (arm _ _ _ s (spelled_by b 40 symbols.OpenParen s refl)
-    (arm _ _ _ s (spelled_by b 41 symbols.CloseParen s refl)
-    (arm _ _ _ s (spelled_by b 60 symbols.Less s refl)
-    (arm _ _ _ s (spelled_by b 62 symbols.Greater s refl)
-    (arm _ _ _ s (spelled_by b 59 symbols.Semicolon s refl)
-    (arm _ _ _ s (spelled_by b 58 symbols.Colon s refl)
-    (arm _ _ _ s (spelled_by b 44 symbols.Comma s refl)
-    (arm _ _ _ s (spelled_by b 46 symbols.Dot s refl)
-    (arm _ _ _ s (spelled_by b 61 symbols.Equals s refl)
-    (arm _ _ _ s (spelled_by b 43 symbols.Plus s refl)
-    (arm _ _ _ s (spelled_by b 45 symbols.Minus s refl)
+    by_arm _ _ _ s (spelled_by b 123 symbols.OpenBrace s refl)
+    (by_arm _ _ _ s (spelled_by b 125 symbols.CloseBrace s refl)
+    (by_arm _ _ _ s (spelled_by b 91 symbols.OpenBracket s refl)
+    (by_arm _ _ _ s (spelled_by b 93 symbols.CloseBracket s refl)
+    (by_arm _ _ _ s (spelled_by b 40 symbols.OpenParen s refl)
+    (by_arm _ _ _ s (spelled_by b 41 symbols.CloseParen s refl)
+    (by_arm _ _ _ s (spelled_by b 60 symbols.Less s refl)
+    (by_arm _ _ _ s (spelled_by b 62 symbols.Greater s refl)
+    (by_arm _ _ _ s (spelled_by b 59 symbols.Semicolon s refl)
+    (by_arm _ _ _ s (spelled_by b 58 symbols.Colon s refl)
+    (by_arm _ _ _ s (spelled_by b 44 symbols.Comma s refl)
+    (by_arm _ _ _ s (spelled_by b 46 symbols.Dot s refl)
+    (by_arm _ _ _ s (spelled_by b 61 symbols.Equals s refl)
+    (by_arm _ _ _ s (spelled_by b 43 symbols.Plus s refl)
+    (by_arm _ _ _ s (spelled_by b 45 symbols.Minus s refl)
     (λ z. absurd cc))))))))))))))) e
 
 -- the punctuator at the front
@@ -106,7 +104,7 @@ ellipsis_front : (t : List ℕ) (x : Symbol × ℕ) → is_ellipsis t ≡ true �
 ellipsis_front t x e h =
     let parts = and_parts (begins_with 46 t) (begins_with 46 (drop 1 t) && begins_with 46 (drop 2 t)) e in
     let more = and_parts (begins_with 46 (drop 1 t)) (begins_with 46 (drop 2 t)) parts.1 in
-    subst (PunctuatorFront t) (some_is _ x h) (record {
+    subst (PunctuatorFront t) (same_Some _ x h) (record {
       after = drop 1 (drop 2 t);
       whole = begun 46 t parts.0 ∙ ap (λ u. 46 ∷ u) (begun 46 (drop 1 t) more.0) ∙ ap (λ u. 46 ∷ 46 ∷ u) (two t ∙ begun 46 (drop 2 t) more.1);
       len = refl;
@@ -119,27 +117,23 @@ ellipsis_front t x e h =
 assign_front : (t : List ℕ) (x : Symbol × ℕ) → is_assign t ≡ true → Some (symbols.Assign, 2) ≡ Some x → PunctuatorFront t x
 assign_front t x e h =
     let parts = and_parts (begins_with 58 t) (begins_with 61 (drop 1 t)) e in
-    subst (PunctuatorFront t) (some_is _ x h) (record {
+    subst (PunctuatorFront t) (same_Some _ x h) (record {
       after = drop 1 (drop 1 t);
       whole = begun 58 t parts.0 ∙ ap (λ u. 58 ∷ u) (begun 61 (drop 1 t) parts.1);
       len = refl;
     })
 
-map_symbol : (o : Option Symbol) (x : Symbol × ℕ) → option_map (λ symbol. (symbol, 1)) o ≡ Some x → (s : Symbol) × (o ≡ Some s) × ((s, 1) ≡ x)
-map_symbol None x e = absurd cc
-map_symbol (Some s) x e = (s, refl, some_is _ x e)
-
 single_front : (t : List ℕ) (x : Symbol × ℕ) → option_map (λ symbol. (symbol, 1)) (first_single t) ≡ Some x → PunctuatorFront t x
 single_front [] x e = absurd cc
 single_front (b ∷ t) x e =
-    let m = map_symbol (single b) x e in
+    let m = map_some (λ symbol. (symbol, 1)) (single b) x e in
     let spelled = single_spelled b m.0 m.1 in
     subst (PunctuatorFront (b ∷ t)) m.2 (record { after = t; whole = ap (λ u. u ++ t) (sym spelled); len = sym (ap length spelled) })
 
 pub punctuator_front : (t : List ℕ) (x : Symbol × ℕ) → punctuator_at t ≡ Some x → PunctuatorFront t x
 unfolding punctuator_at
 punctuator_front t x e =
-    arm _ _ _ x (ellipsis_front t x) (arm _ _ _ x (assign_front t x) (single_front t x)) e
+    by_arm _ _ _ x (ellipsis_front t x) (by_arm _ _ _ x (assign_front t x) (single_front t x)) e
 
 -- where a punctuator stands, one at least as long is found
 reach_by : (word : Bool) (n k : ℕ) → (word || leb n 1) ≡ true → word ≡ false → 1 ≤ k → n ≤ k
@@ -151,8 +145,8 @@ positive t x e = let f = punctuator_front t x e in let s = leb-true 1 _ (spellin
 
 pub punctuator_reach : (s : Symbol) (after : List ℕ) (x : Symbol × ℕ) → begins is_word_start (spelling s) ≡ false → punctuator_at (spelling s ++ after) ≡ Some x → length (spelling s) ≤ x.1
 unfolding is_word_start punctuator_at
-punctuator_reach symbols.Ellipsis after x w e = let l : 3 ≡ x.1 = ap (λ (y : Symbol × ℕ). y.1) (some_is _ x e) in omega arith
-punctuator_reach symbols.Assign after x w e = let l : 2 ≡ x.1 = ap (λ (y : Symbol × ℕ). y.1) (some_is _ x e) in omega arith
+punctuator_reach symbols.Ellipsis after x w e = let l : 3 ≡ x.1 = ap (λ (y : Symbol × ℕ). y.1) (same_Some _ x e) in omega arith
+punctuator_reach symbols.Assign after x w e = let l : 2 ≡ x.1 = ap (λ (y : Symbol × ℕ). y.1) (same_Some _ x e) in omega arith
 punctuator_reach s after x w e = reach_by (begins is_word_start (spelling s)) (length (spelling s)) x.1 refl w (positive (spelling s ++ after) x e)
 
 -- a punctuator is found where no longer one stands

@@ -9,12 +9,14 @@ use Rattle.tsdl_text.specs.declared.token.Symbol.{Symbol}
 use Rattle.tsdl_text.specs.declared.token.Kind.{Kind}
 use Rattle.tsdl_text.specs.declared.token.Kind.TheVariants as kinds
 use Rattle.tsdl_text.specs.Symbols.{spelling}
-use Rattle.tsdl_text.specs.Bytes.{is_word_start, is_word_byte, is_blank, begins}
-use Rattle.tsdl_text.specs.Strings.{Closes}
+use Rattle.ctf_list.specs.Prefix.{begins}
+use Rattle.tsdl_text.specs.Bytes.{is_word_start, is_word_byte, is_blank}
+use Rattle.tsdl_text.specs.Characters.{Closes}
 use Rattle.tsdl_text.specs.Tokens.{IsWord, IsString, Spells, IsLongest, is_constant, IsToken}
 use Rattle.tsdl_text.specs.Scanning.{constant_value, word_len, keyword_of, word_kind, string_len, punctuator_at, token_at}
-use Rattle.tsdl_text.proofs.Runs.{run_is, run_longest, all-append, run, begins-front}
-use Rattle.tsdl_text.proofs.StringLemmas.{either_way, some_is}
+use Rattle.ctf_list.proofs.Prefix.{list_all-both, prefix_len_at, longest_prefix, prefix, begins-append}
+use Rattle.std.proofs.lemmas.Option.{same_Some}
+use Rattle.ctf_list.proofs.Options.{either_way, map_some}
 use Rattle.tsdl_text.proofs.StringLaws.{string_len-is, string_front}
 use Rattle.tsdl_text.proofs.ConstantLaws.{constant_value-is, constant_from_value, constant_is_word, constant_begins}
 use Rattle.tsdl_text.proofs.ByteFacts.{start_is_word, start_is_apart, digit_is_apart, word_is}
@@ -44,7 +46,7 @@ quote_no_word b e = ap is_word_byte (eqb-true b 34 e)
 words_only : (kind : Kind) (bytes : List ℕ) → Spells kind bytes → begins is_word_byte bytes ≡ true → list_all is_word_byte bytes ≡ true
 words_only kinds.Identifier bytes is e = is.word.each
 words_only (kinds.Constant value) bytes is e = constant_is_word bytes value is
-words_only kinds.String bytes is e = let f : begins is_word_byte bytes ≡ false = ap (begins is_word_byte) is.opened ∙ quote_no_word 34 refl in absurd cc
+words_only kinds.String bytes is e = let f : begins is_word_byte bytes ≡ false = ap (begins is_word_byte) is.stands.opened ∙ quote_no_word 34 refl in absurd cc
 words_only (kinds.Symbol s) bytes is e = ap (list_all is_word_byte) is ∙ spelling_word s (spelling_start s (ap (begins is_word_byte) (sym is) ∙ e))
 
 -- a token that begins with a quote is a string
@@ -67,8 +69,12 @@ symbols_only kinds.Identifier bytes is e f = let g = begins_also is_word_start i
 symbols_only (kinds.Constant value) bytes is e f =
     let g = begins_also is_ascii_digit is_word_byte (λ b h. (digit_is_apart b h).3) bytes (constant_begins bytes value is) in
     absurd cc
-symbols_only kinds.String bytes is e f = let g : begins (λ b. eqb b 34) bytes ≡ true = ap (begins (λ b. eqb b 34)) is.opened in absurd cc
+symbols_only kinds.String bytes is e f = let g : begins (λ b. eqb b 34) bytes ≡ true = ap (begins (λ b. eqb b 34)) is.stands.opened in absurd cc
 symbols_only (kinds.Symbol s) bytes is e f = (s, is)
+
+goes_on : (p : ℕ → Bool) (s t : List ℕ) → begins p s ≡ true → begins p (s ++ t) ≡ true
+goes_on p [] t e = absurd cc
+goes_on p (b ∷ s) t e = e
 
 -- ---- the longest
 
@@ -82,12 +88,8 @@ word_longest : (bytes after : List ℕ) → begins is_word_byte bytes ≡ true �
 word_longest bytes after first all stops kind other rest e spelled =
     ⊎_elim
     (λ z. let l = ap length z in omega arith)
-    (λ b. run_longest is_word_byte bytes after other rest all stops (words_only kind other spelled b) e)
-    (same_first is_word_byte true bytes after other rest e (begins_front bytes after first))
-  where
-    begins_front : (s t : List ℕ) → begins is_word_byte s ≡ true → begins is_word_byte (s ++ t) ≡ true
-    begins_front [] t e = absurd cc
-    begins_front (b ∷ s) t e = e
+    (λ b. longest_prefix is_word_byte bytes after other rest all stops (words_only kind other spelled b) e)
+    (same_first is_word_byte true bytes after other rest e (goes_on is_word_byte bytes after first))
 
 -- a string is the longest token
 string_longest : (inside after values : List ℕ) → Closes inside values → IsLongest (34 ∷ inside) after
@@ -96,10 +98,10 @@ string_longest inside after values closes kind other rest e spelled =
     (λ z. let l = ap length z in omega arith)
     (λ b.
     let is = strings_only kind other spelled b in
-    let tails : inside ++ after ≡ is.inside ++ rest = tail_is (inside ++ after) (is.inside ++ rest) (e ∙ ap (λ t. t ++ rest) is.opened) in
-    let same : Some (length inside) ≡ Some (length is.inside) = sym (string_len-is after closes) ∙ ap string_len tails ∙ string_len-is rest is.closed in
-    let l = some_is (length inside) (length is.inside) same in
-    let m = ap length is.opened in
+    let tails : inside ++ after ≡ is.stands.inside ++ rest = tail_is (inside ++ after) (is.stands.inside ++ rest) (e ∙ ap (λ t. t ++ rest) is.stands.opened) in
+    let same : Some (length inside) ≡ Some (length is.stands.inside) = sym (string_len-is after closes) ∙ ap string_len tails ∙ string_len-is rest is.stands.closed in
+    let l = same_Some (length inside) (length is.stands.inside) same in
+    let m = ap length is.stands.opened in
     omega arith)
     (same_first (λ b. eqb b 34) true (34 ∷ inside) after other rest e refl)
   where
@@ -168,7 +170,7 @@ record WordFront (b : ℕ) (text : List ℕ) : Type 0 where
 
 word_front : (b : ℕ) (text : List ℕ) → is_word_byte b ≡ true → WordFront b text
 word_front b text e =
-    let r = run is_word_byte (b ∷ text) in
+    let r = prefix is_word_byte (b ∷ text) in
     let long : 0 < length r.front = some (is_word_byte b) e r.len in
     let f = first_is r.front r.back r.whole long in
     record {
@@ -196,7 +198,7 @@ read_word b text x e h =
     let w = word_front b text (start_is_word b e) in
     let is : IsWord w.word = record { first = ap (begins is_word_start) w.first ∙ e; each = w.all } in
     let l = ap length w.first in
-    subst (TokenFront (b ∷ text)) (some_is _ x h) (record {
+    subst (TokenFront (b ∷ text)) (same_Some _ x h) (record {
       bytes = w.word;
       after = w.after;
       whole = w.whole;
@@ -205,18 +207,10 @@ read_word b text x e h =
       some = omega arith;
     })
 
-map_value : (f : ℕ → Kind × ℕ) (o : Option ℕ) (x : Kind × ℕ) → option_map f o ≡ Some x → (v : ℕ) × (o ≡ Some v) × (f v ≡ x)
-map_value f None x e = absurd cc
-map_value f (Some v) x e = (v, refl, some_is (f v) x e)
-
-map_pair : (f : Symbol × ℕ → Kind × ℕ) (o : Option (Symbol × ℕ)) (x : Kind × ℕ) → option_map f o ≡ Some x → (v : Symbol × ℕ) × (o ≡ Some v) × (f v ≡ x)
-map_pair f None x e = absurd cc
-map_pair f (Some v) x e = (v, refl, some_is (f v) x e)
-
 read_number : (b : ℕ) (text : List ℕ) (x : Kind × ℕ) → is_ascii_digit b ≡ true → option_map (λ value. (kinds.Constant value, word_len (b ∷ text))) (constant_value (take (word_len (b ∷ text)) (b ∷ text))) ≡ Some x → TokenFront (b ∷ text) x
 read_number b text x e h =
     let w = word_front b text ((digit_is_apart b e).3) in
-    let m = map_value (λ value. (kinds.Constant value, word_len (b ∷ text))) (constant_value (take (word_len (b ∷ text)) (b ∷ text))) x h in
+    let m = map_some (λ value. (kinds.Constant value, word_len (b ∷ text))) (constant_value (take (word_len (b ∷ text)) (b ∷ text))) x h in
     let value : constant_value w.word ≡ Some m.0 = ap constant_value (sym w.front) ∙ m.1 in
     let first : begins is_word_byte w.word ≡ true = ap (begins is_word_byte) w.first ∙ (digit_is_apart b e).3 in
     let l = ap length w.first in
@@ -231,20 +225,20 @@ read_number b text x e h =
 
 read_string : (text : List ℕ) (x : Kind × ℕ) → option_map (λ n. (kinds.String, 1 + n)) (string_len text) ≡ Some x → TokenFront (34 ∷ text) x
 read_string text x h =
-    let m = map_value (λ n. (kinds.String, 1 + n)) (string_len text) x h in
+    let m = map_some (λ n. (kinds.String, 1 + n)) (string_len text) x h in
     let f = string_front text m.0 m.1 in
     subst (TokenFront (34 ∷ text)) m.2 (record {
       bytes = 34 ∷ f.inside;
       after = f.after;
       whole = ap (λ t. 34 ∷ t) f.whole;
-      is = record { spelled = record { inside = f.inside; values = f.values; opened = refl; closed = f.is }; longest = string_longest f.inside f.after f.values f.is; apart = λ c. absurd cc };
+      is = record { spelled = record { values = f.values; stands = record { inside = f.inside; opened = refl; closed = f.is } }; longest = string_longest f.inside f.after f.values f.is; apart = λ c. absurd cc };
       len = ap (λ n. 1 + n) f.len ∙ omega arith;
       some = omega arith;
     })
 
 read_symbol : (text : List ℕ) (x : Kind × ℕ) → begins is_word_byte text ≡ false → begins (λ b. eqb b 34) text ≡ false → option_map (λ y. (kinds.Symbol y.0, y.1)) (punctuator_at text) ≡ Some x → TokenFront text x
 read_symbol text x no_word no_quote h =
-    let m = map_pair (λ y. (kinds.Symbol y.0, y.1)) (punctuator_at text) x h in
+    let m = map_some (λ y. (kinds.Symbol y.0, y.1)) (punctuator_at text) x h in
     let f = punctuator_front text m.0 m.1 in
     let s = m.0.0 in
     let pair : m.0 ≡ (s, length (spelling s)) = ap (λ n. (s, n)) f.len in
@@ -281,16 +275,12 @@ word_stops : (kind : Kind) (word after : List ℕ) → IsWord word → IsToken k
 word_stops kind word [] is token = refl
 word_stops kind word (c ∷ after) is token = false_from_ne_true _ (λ e.
     let longer = word ++ c ∷ [] in
-    let each : list_all is_word_byte longer ≡ true = all-append is_word_byte word (c ∷ []) is.each (ap (λ (b : Bool). b && true) e) in
-    let is_longer : IsWord longer = record { first = first_of word (c ∷ []) is.first; each = each } in
+    let each : list_all is_word_byte longer ≡ true = list_all-both is_word_byte word (c ∷ []) is.each (ap (λ (b : Bool). b && true) e) in
+    let is_longer : IsWord longer = record { first = goes_on is_word_start word (c ∷ []) is.first; each = each } in
     let same : word ++ (c ∷ after) ≡ longer ++ after = sym (append_assoc word (c ∷ []) after) in
     let l = token.longest (option_map_or kinds.Symbol (keyword_of longer) kinds.Identifier) longer after same (word_spelled longer (keyword_of longer) is_longer refl) in
     let m = length-append word (c ∷ []) in
     absurd (omega arith))
-  where
-    first_of : (s t : List ℕ) → begins is_word_start s ≡ true → begins is_word_start (s ++ t) ≡ true
-    first_of [] t e = absurd cc
-    first_of (b ∷ s) t e = e
 
 token_by_word : (t : List ℕ) → begins is_word_start t ≡ true → token_at t ≡ Some (word_kind (take (word_len t) t), word_len t)
 unfolding token_at
@@ -325,7 +315,7 @@ pub record IsRead (kind : Kind) (bytes after : List ℕ) : Type 0 where
 word_is_read : (kind : Kind) (word after : List ℕ) → IsWord word → IsToken kind word after → word_kind word ≡ kind → IsRead kind word after
 word_is_read kind word after is token k =
     let stops = word_stops kind word after is token in
-    let len = run_is is_word_byte word after is.each stops in
+    let len = prefix_len_at is_word_byte word after is.each stops in
     let a = at_first is_word_start word is.first in
     let l = ap length a.2 in
     let first : begins is_word_start (word ++ after) ≡ true = ap (λ s. begins is_word_start (s ++ after)) a.2 ∙ a.3 in
@@ -352,7 +342,7 @@ constant_is_read : (value : ℕ) (bytes after : List ℕ) → IsToken (kinds.Con
 constant_is_read value bytes after token =
     let first = constant_begins bytes value token.spelled in
     let each = constant_is_word bytes value token.spelled in
-    let len = run_is is_word_byte bytes after each (token.apart refl) in
+    let len = prefix_len_at is_word_byte bytes after each (token.apart refl) in
     let a = at_first is_ascii_digit bytes first in
     let l = ap length a.2 in
     let facts = digit_is_apart a.0 a.3 in
@@ -370,8 +360,8 @@ string_is_read : (bytes after : List ℕ) → IsToken kinds.String bytes after �
 unfolding is_blank
 string_is_read bytes after token =
     let is = token.spelled in
-    subst (λ s. IsRead kinds.String s after) (sym is.opened) (record {
-      read = token_by_quote (is.inside ++ after) ∙ ap (option_map (λ n. (kinds.String, 1 + n))) (string_len-is after is.closed) ∙ ap (λ n. Some (kinds.String, n)) (one_more (length is.inside));
+    subst (λ s. IsRead kinds.String s after) (sym is.stands.opened) (record {
+      read = token_by_quote (is.stands.inside ++ after) ∙ ap (option_map (λ n. (kinds.String, 1 + n))) (string_len-is after is.stands.closed) ∙ ap (λ n. Some (kinds.String, n)) (one_more (length is.stands.inside));
       some = omega arith;
       no_blank = refl;
       no_slash = refl;
@@ -381,7 +371,7 @@ string_is_read bytes after token =
     one_more n = omega arith
 
 spelled_front : (p : ℕ → Bool) (v : Bool) (s : Symbol) (after : List ℕ) → begins p (spelling s) ≡ v → begins p (spelling s ++ after) ≡ v
-spelled_front p v s after e = begins-front p (spelling s) after (leb-true 1 _ (spelling_some s)) ∙ e
+spelled_front p v s after e = begins-append p (spelling s) after (leb-true 1 _ (spelling_some s)) ∙ e
 
 punctuator_is_read : (s : Symbol) (after : List ℕ) → IsToken (kinds.Symbol s) (spelling s) after → begins is_word_start (spelling s) ≡ false → IsRead (kinds.Symbol s) (spelling s) after
 punctuator_is_read s after token no_start = record {

@@ -1,5 +1,5 @@
 -- Classes of bytes, and the numbers that digits spell.
-use Rattle.std.specs.Prelude.{ℕ, ◌+◌, ◌*◌, ◌^◌, ◌<◌, Bool, false, ◌||◌, ◌&&◌, ◌==◌, nat_le, List, [], ◌∷◌, length, IsTrue}
+use Rattle.std.specs.Prelude.{ℕ, ◌+◌, ◌*◌, ◌^◌, ◌<◌, Bool, ◌||◌, ◌&&◌, ◌==◌, nat_le, List, [], ◌∷◌, length, IsTrue}
 use Rattle.std.specs.List.{list_all}
 use Rattle.std.specs.Char.{is_ascii_alphabetic, is_ascii_alphanumeric, digit_value, is_digit}
 
@@ -14,11 +14,6 @@ is_word_start b = is_ascii_alphabetic b || b == 95
 -- a letter, a digit or `_`, with which it goes on (CTF 1.8.3, C.1.3)
 unfoldable pub is_word_byte : ℕ → Bool
 is_word_byte b = is_ascii_alphanumeric b || b == 95
-
--- the first byte passes
-abbrev pub begins : (ℕ → Bool) → List ℕ → Bool
-begins test [] = false
-begins test (b ∷ bytes) = test b
 
 -- the number that digits spell in a base: each digit times the power of its place, added up
 unfoldable pub number : ℕ → List ℕ → ℕ

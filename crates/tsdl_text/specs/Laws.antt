@@ -1,8 +1,13 @@
 -- What holds of the definitions alone, as statements. The functions of the module `laws` prove them.
-use Rattle.std.specs.Prelude.{◌≡◌, ◌⊎◌, ℕ, List, ◌∷◌, map}
+use Rattle.std.specs.Prelude.{◌≡◌, ◌⊎◌, ◌↔◌, ℕ, true, List, map}
 use Rattle.std.specs.List.Sorted.{IsNonDecreasing}
+use Rattle.tsdl_text.specs.declared.token.Symbol.{Symbol}
+use Rattle.tsdl_text.specs.declared.token.Kind.{Kind}
+use Rattle.tsdl_text.specs.declared.token.Kind.TheVariants as kinds
 use Rattle.tsdl_text.specs.declared.fault.MetaFault.{MetaFault}
-use Rattle.tsdl_text.specs.Strings.{Closes, string_value}
+use Rattle.tsdl_text.specs.Characters.{StandsFor}
+use Rattle.tsdl_text.specs.Strings.{string_value}
+use Rattle.tsdl_text.specs.Symbols.{is_symbol}
 use Rattle.tsdl_text.specs.Tokens.{Lexeme, Lexes, NoToken}
 use Rattle.tsdl_text.specs.Packets.{MetaText, MetaBroken}
 
@@ -26,9 +31,13 @@ NeverBoth = (text : List ℕ) (tokens : List Lexeme) (line : ℕ) → Lexes text
 abbrev pub LinesNeverFall : Type 0
 LinesNeverFall = (text : List ℕ) (tokens : List Lexeme) → Lexes text tokens → IsNonDecreasing (map (λ token. token.line) tokens)
 
--- a string stands for the bytes that its characters stand for
+-- what a reader makes of a string is the bytes that its characters stand for
 abbrev pub StringsStand : Type 0
-StringsStand = (inside values : List ℕ) → Closes inside values → string_value (34 ∷ inside) ≡ values
+StringsStand = (slice values : List ℕ) → StandsFor slice values → string_value slice ≡ values
+
+-- a token is told to be a symbol exactly where its kind is that symbol
+abbrev pub SymbolsAreCompared : Type 0
+SymbolsAreCompared = (symbol : Symbol) (kind : Kind) → (is_symbol symbol kind ≡ true) ↔ (kind ≡ kinds.Symbol symbol)
 
 -- bytes are metadata of at most one text
 abbrev pub OneText : Type 0

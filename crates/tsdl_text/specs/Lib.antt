@@ -1,6 +1,8 @@
 pub mod Bytes
+pub mod Characters
 pub mod Constants
 pub mod Laws
+pub mod PacketReading
 pub mod Packets
 pub mod Scanning
 pub mod Strings

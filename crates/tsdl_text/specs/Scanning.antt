@@ -10,7 +10,8 @@ use Rattle.tsdl_text.specs.declared.token.Kind.{Kind}
 use Rattle.tsdl_text.specs.declared.token.Kind.TheVariants as kinds
 use Rattle.tsdl_text.specs.declared.lexer.Extent.{Extent}
 use Rattle.tsdl_text.specs.Symbols.{spelling}
-use Rattle.tsdl_text.specs.Bytes.{is_blank, is_word_start, is_word_byte, begins, number}
+use Rattle.ctf_list.specs.Prefix.{begins}
+use Rattle.tsdl_text.specs.Bytes.{is_blank, is_word_start, is_word_byte, number}
 use Rattle.tsdl_text.specs.Constants.{is_suffix}
 use Rattle.tsdl_text.specs.Strings.{digit_count, character_at}
 

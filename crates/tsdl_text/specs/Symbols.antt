@@ -1,57 +1,9 @@
--- The symbols of TSDL, their spellings, and tests of a token's kind.
-use Rattle.std.specs.Prelude.{ℕ, Bool, true, false, ◌&&◌, List, Option, Some, None, codes, nat_eq, nat_lt, nat_le}
+-- The symbols of TSDL, their spellings, which of them are keywords, and tests of a token's kind.
+use Rattle.std.specs.Prelude.{ℕ, Bool, true, false, List, Option, Some, None, codes}
 use Rattle.tsdl_text.specs.declared.token.Symbol.{Symbol}
 use Rattle.tsdl_text.specs.declared.token.Symbol.TheVariants as symbols
 use Rattle.tsdl_text.specs.declared.token.Kind.{Kind}
 use Rattle.tsdl_text.specs.declared.token.Kind.TheVariants as kinds
-
--- the place of a symbol among all: keywords first, those of type names last among these, then punctuators
-abbrev pub code : Symbol → ℕ
-code symbols.Align = 0
-code symbols.Callsite = 1
-code symbols.Clock = 2
-code symbols.Enum = 3
-code symbols.Env = 4
-code symbols.Event = 5
-code symbols.FloatingPoint = 6
-code symbols.Integer = 7
-code symbols.Stream = 8
-code symbols.String = 9
-code symbols.Struct = 10
-code symbols.Trace = 11
-code symbols.Typealias = 12
-code symbols.Typedef = 13
-code symbols.Variant = 14
-code symbols.Const = 15
-code symbols.Char = 16
-code symbols.Double = 17
-code symbols.Float = 18
-code symbols.Int = 19
-code symbols.Long = 20
-code symbols.Short = 21
-code symbols.Signed = 22
-code symbols.Unsigned = 23
-code symbols.Void = 24
-code symbols.Bool = 25
-code symbols.Complex = 26
-code symbols.Imaginary = 27
-code symbols.OpenBrace = 28
-code symbols.CloseBrace = 29
-code symbols.OpenBracket = 30
-code symbols.CloseBracket = 31
-code symbols.OpenParen = 32
-code symbols.CloseParen = 33
-code symbols.Less = 34
-code symbols.Greater = 35
-code symbols.Semicolon = 36
-code symbols.Colon = 37
-code symbols.Comma = 38
-code symbols.Dot = 39
-code symbols.Ellipsis = 40
-code symbols.Equals = 41
-code symbols.Assign = 42
-code symbols.Plus = 43
-code symbols.Minus = 44
 
 -- how a symbol is written (CTF 1.8.3, appendix C.1)
 abbrev pub spelling : Symbol → List ℕ
@@ -101,26 +53,126 @@ spelling symbols.Assign = codes ":="
 spelling symbols.Plus = codes "+"
 spelling symbols.Minus = codes "-"
 
+-- ---- tests of a token's kind
+
+-- a keyword (CTF 1.8.3, C.1.2)
+abbrev pub is_keyword : Symbol → Bool
+is_keyword symbols.Align = true
+is_keyword symbols.Callsite = true
+is_keyword symbols.Clock = true
+is_keyword symbols.Enum = true
+is_keyword symbols.Env = true
+is_keyword symbols.Event = true
+is_keyword symbols.FloatingPoint = true
+is_keyword symbols.Integer = true
+is_keyword symbols.Stream = true
+is_keyword symbols.String = true
+is_keyword symbols.Struct = true
+is_keyword symbols.Trace = true
+is_keyword symbols.Typealias = true
+is_keyword symbols.Typedef = true
+is_keyword symbols.Variant = true
+is_keyword symbols.Const = true
+is_keyword symbols.Char = true
+is_keyword symbols.Double = true
+is_keyword symbols.Float = true
+is_keyword symbols.Int = true
+is_keyword symbols.Long = true
+is_keyword symbols.Short = true
+is_keyword symbols.Signed = true
+is_keyword symbols.Unsigned = true
+is_keyword symbols.Void = true
+is_keyword symbols.Bool = true
+is_keyword symbols.Complex = true
+is_keyword symbols.Imaginary = true
+is_keyword symbol = false
+
+-- a keyword of C's types or `const`, which may stand in the name of a type
+abbrev pub is_type_keyword : Symbol → Bool
+is_type_keyword symbols.Const = true
+is_type_keyword symbols.Char = true
+is_type_keyword symbols.Double = true
+is_type_keyword symbols.Float = true
+is_type_keyword symbols.Int = true
+is_type_keyword symbols.Long = true
+is_type_keyword symbols.Short = true
+is_type_keyword symbols.Signed = true
+is_type_keyword symbols.Unsigned = true
+is_type_keyword symbols.Void = true
+is_type_keyword symbols.Bool = true
+is_type_keyword symbols.Complex = true
+is_type_keyword symbols.Imaginary = true
+is_type_keyword symbol = false
+
+-- they are the same symbol
+abbrev pub is_same : Symbol → Symbol → Bool
+is_same symbols.Align symbols.Align = true
+is_same symbols.Callsite symbols.Callsite = true
+is_same symbols.Clock symbols.Clock = true
+is_same symbols.Enum symbols.Enum = true
+is_same symbols.Env symbols.Env = true
+is_same symbols.Event symbols.Event = true
+is_same symbols.FloatingPoint symbols.FloatingPoint = true
+is_same symbols.Integer symbols.Integer = true
+is_same symbols.Stream symbols.Stream = true
+is_same symbols.String symbols.String = true
+is_same symbols.Struct symbols.Struct = true
+is_same symbols.Trace symbols.Trace = true
+is_same symbols.Typealias symbols.Typealias = true
+is_same symbols.Typedef symbols.Typedef = true
+is_same symbols.Variant symbols.Variant = true
+is_same symbols.Const symbols.Const = true
+is_same symbols.Char symbols.Char = true
+is_same symbols.Double symbols.Double = true
+is_same symbols.Float symbols.Float = true
+is_same symbols.Int symbols.Int = true
+is_same symbols.Long symbols.Long = true
+is_same symbols.Short symbols.Short = true
+is_same symbols.Signed symbols.Signed = true
+is_same symbols.Unsigned symbols.Unsigned = true
+is_same symbols.Void symbols.Void = true
+is_same symbols.Bool symbols.Bool = true
+is_same symbols.Complex symbols.Complex = true
+is_same symbols.Imaginary symbols.Imaginary = true
+is_same symbols.OpenBrace symbols.OpenBrace = true
+is_same symbols.CloseBrace symbols.CloseBrace = true
+is_same symbols.OpenBracket symbols.OpenBracket = true
+is_same symbols.CloseBracket symbols.CloseBracket = true
+is_same symbols.OpenParen symbols.OpenParen = true
+is_same symbols.CloseParen symbols.CloseParen = true
+is_same symbols.Less symbols.Less = true
+is_same symbols.Greater symbols.Greater = true
+is_same symbols.Semicolon symbols.Semicolon = true
+is_same symbols.Colon symbols.Colon = true
+is_same symbols.Comma symbols.Comma = true
+is_same symbols.Dot symbols.Dot = true
+is_same symbols.Ellipsis symbols.Ellipsis = true
+is_same symbols.Equals symbols.Equals = true
+is_same symbols.Assign symbols.Assign = true
+is_same symbols.Plus symbols.Plus = true
+is_same symbols.Minus symbols.Minus = true
+is_same first second = false
+
 -- it is that symbol
 abbrev pub is_symbol : Symbol → Kind → Bool
 is_symbol symbol kinds.Identifier = false
 is_symbol symbol (kinds.Constant value) = false
 is_symbol symbol kinds.String = false
-is_symbol symbol (kinds.Symbol other) = nat_eq (code other) (code symbol)
+is_symbol symbol (kinds.Symbol other) = is_same other symbol
 
 -- an identifier or a keyword
 abbrev pub is_word : Kind → Bool
 is_word kinds.Identifier = true
 is_word (kinds.Constant value) = false
 is_word kinds.String = false
-is_word (kinds.Symbol symbol) = nat_lt (code symbol) 28
+is_word (kinds.Symbol symbol) = is_keyword symbol
 
 -- an identifier, `const` or a keyword of C's types
 abbrev pub is_typeword : Kind → Bool
 is_typeword kinds.Identifier = true
 is_typeword (kinds.Constant value) = false
 is_typeword kinds.String = false
-is_typeword (kinds.Symbol symbol) = nat_le 15 (code symbol) && nat_lt (code symbol) 28
+is_typeword (kinds.Symbol symbol) = is_type_keyword symbol
 
 abbrev pub is_identifier : Kind → Bool
 is_identifier kinds.Identifier = true

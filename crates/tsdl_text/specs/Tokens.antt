@@ -1,7 +1,8 @@
 -- A text as blanks, comments and tokens (CTF 1.8.3, C.1.1 to C.1.7; C99, 6.4).
 use Rattle.std.specs.Prelude.{◌≡◌, ◌≢◌, ℕ, ◌+◌, ◌≤◌, Bool, true, false, not, ◌==◌, List, [], ◌∷◌, ◌++◌, length, Option, MatchOption, codes, count_by}
 use Rattle.std.specs.Option.{option_map, option_to_list}
-use Rattle.std.specs.List.{list_all}
+use Rattle.std.specs.List.{list_all, flat_map}
+use Rattle.ctf_list.specs.Row.{AllStand, NothingStands}
 use Rattle.tsdl_text.specs.declared.token.Symbol.{Symbol}
 use Rattle.tsdl_text.specs.declared.token.Kind.{Kind}
 use Rattle.tsdl_text.specs.declared.token.Kind.TheVariants as kinds
@@ -9,9 +10,10 @@ use Rattle.tsdl_text.specs.declared.token.Token.{Token}
 use Rattle.tsdl_text.specs.declared.fault.MetaFault.{MetaFault}
 use Rattle.tsdl_text.specs.declared.fault.MetaFault.TheVariants as faults
 use Rattle.tsdl_text.specs.Symbols.{spelling}
-use Rattle.tsdl_text.specs.Bytes.{is_blank, is_word_start, is_word_byte, begins}
+use Rattle.ctf_list.specs.Prefix.{begins}
+use Rattle.tsdl_text.specs.Bytes.{is_blank, is_word_start, is_word_byte}
 use Rattle.tsdl_text.specs.Constants.{IsConstant}
-use Rattle.tsdl_text.specs.Strings.{Closes}
+use Rattle.tsdl_text.specs.Characters.{StandsFor}
 
 -- ---- what spells a token
 
@@ -27,10 +29,8 @@ pub record IsIdentifier (bytes : List ℕ) : Type 0 where
 
 -- characters between quotes
 pub record IsString (bytes : List ℕ) : Type 0 where
-  pub inside : List ℕ
   pub values : List ℕ
-  pub opened : bytes ≡ 34 ∷ inside
-  pub closed : Closes inside values
+  pub stands : StandsFor bytes values
 
 -- these bytes are a token of this kind
 abbrev pub Spells : Kind → List ℕ → Type 0
@@ -78,13 +78,11 @@ Stands piece after = MatchOption piece.kind (Skipped piece.bytes after) (λ kind
 
 -- the bytes of pieces, one after the other
 abbrev pub joined : List Piece → List ℕ
-joined [] = []
-joined (piece ∷ pieces) = piece.bytes ++ joined pieces
+joined pieces = flat_map (λ (piece : Piece). piece.bytes) pieces
 
 -- the pieces stand one after the other, the last before these bytes
-abbrev pub AllStand : List Piece → List ℕ → Type 0
-AllStand [] after = Unit {0}
-AllStand (piece ∷ pieces) after = Stands piece (joined pieces ++ after) × AllStand pieces after
+abbrev pub AllPieces : List Piece → List ℕ → Type 0
+AllPieces pieces after = AllStand (λ (piece : Piece). piece.bytes) Stands pieces after
 
 -- ---- tokens
 
@@ -117,7 +115,7 @@ lexemes front (piece ∷ pieces) =
 pub record Lexes (text : List ℕ) (tokens : List Lexeme) : Type 0 where
   pub pieces : List Piece
   pub whole : joined pieces ≡ text
-  pub stand : AllStand pieces []
+  pub stand : AllPieces pieces []
   pub tokens_are : tokens ≡ lexemes [] pieces
 
 -- There is a place on this line at which the text goes on and neither a token, a blank nor a comment
@@ -126,9 +124,9 @@ pub record NoToken (text : List ℕ) (line : ℕ) : Type 0 where
   pub pieces : List Piece
   pub after : List ℕ
   pub whole : joined pieces ++ after ≡ text
-  pub stand : AllStand pieces after
+  pub stand : AllPieces pieces after
   pub goes_on : after ≢ []
-  pub nothing : (piece : Piece) (rest : List ℕ) → after ≡ piece.bytes ++ rest → Stands piece rest → ⊥
+  pub nothing : NothingStands (λ (piece : Piece). piece.bytes) Stands after
   pub line_is : line ≡ line_behind (joined pieces)
 
 -- what a refusal of a text says: nothing where memory was wanting

@@ -1,8 +1,9 @@
 //! Why bytes are no metadata, or a text has no tokens.
 
+ghost use Rattle.std.specs.Prelude.{◌≡◌, ◌≢◌, ℕ, MatchOption};
+
 use crate::line::Line;
-use ctf_list::NoMemory;
-use std::alloc::{AllocError, AllocFailed};
+use std::alloc::AllocError;
 use thiserror::Error;
 
 /// Why bytes are no metadata (M1 to M6), or a text has no tokens (S1).
@@ -34,17 +35,27 @@ pub enum MetaFault {
     NoMemory,
 }
 
-impl From<NoMemory> for MetaFault {
-    ghost use Rattle.std.specs.Prelude.{◌≡◌};
-    ghost use Rattle.tsdl_text.specs.declared.fault.MetaFault.TheVariants as faults;
-
-    ghost from_gives = { λ _ fault. fault ≡ faults.NoMemory };
-
-    fn from(_refused: NoMemory) -> MetaFault {
-        MetaFault::NoMemory
+impl MetaFault {
+    /// The line of a place at which no token begins, and `None` of another fault.
+    pub fn line(&self) -> Option<Line>
+        ensures { MatchOption result
+            ((line : ℕ) → self.now ≢ MetaFault.NoToken line)
+            (λ line. self.now ≡ MetaFault.NoToken line) }
+    {
+        match self {
+            MetaFault::NoToken(line) => Some(*line),
+            MetaFault::CutShort
+            | MetaFault::WrongMagic
+            | MetaFault::SchemeUnsupported
+            | MetaFault::WrongVersion
+            | MetaFault::UuidDiffers
+            | MetaFault::TooLong
+            | MetaFault::NoMemory => None,
+        }
     }
 }
 
+/// Each growth of this crate under which a `MetaFault` can come answers an `AllocError`.
 impl From<AllocError> for MetaFault {
     ghost use Rattle.std.specs.Prelude.{◌≡◌};
     ghost use Rattle.tsdl_text.specs.declared.fault.MetaFault.TheVariants as faults;
@@ -52,17 +63,6 @@ impl From<AllocError> for MetaFault {
     ghost from_gives = { λ _ fault. fault ≡ faults.NoMemory };
 
     fn from(_refused: AllocError) -> MetaFault {
-        MetaFault::NoMemory
-    }
-}
-
-impl<T: Drop> From<AllocFailed<T>> for MetaFault {
-    ghost use Rattle.std.specs.Prelude.{◌≡◌};
-    ghost use Rattle.tsdl_text.specs.declared.fault.MetaFault.TheVariants as faults;
-
-    ghost from_gives = { λ _ fault. fault ≡ faults.NoMemory };
-
-    fn from(_refused: AllocFailed<T>) -> MetaFault {
         MetaFault::NoMemory
     }
 }

@@ -1,7 +1,7 @@
 //! What holds of the definitions of texts and tokens alone. Each function does nothing; what it
 //! ensures is a law.
 
-ghost use Rattle.tsdl_text.specs.Laws.{OneLexing, OneLine, LexesOrNot, NeverBoth, LinesNeverFall, StringsStand, OneText, OneBreak, TextOrBroken, NeverBroken};
+ghost use Rattle.tsdl_text.specs.Laws.{OneLexing, OneLine, LexesOrNot, NeverBoth, LinesNeverFall, StringsStand, SymbolsAreCompared, OneText, OneBreak, TextOrBroken, NeverBroken};
 
 /// A text has at most one list of tokens.
 pub fn one_lexing()
@@ -28,9 +28,14 @@ pub fn lines_never_fall()
     ensures { LinesNeverFall }
 {}
 
-/// A string stands for the bytes that its characters stand for.
+/// What a reader makes of a string is the bytes that its characters stand for.
 pub fn strings_stand()
     ensures { StringsStand }
+{}
+
+/// A token is told to be a symbol exactly where its kind is that symbol.
+pub fn symbols_are_compared()
+    ensures { SymbolsAreCompared }
 {}
 
 /// Bytes are metadata of at most one text.

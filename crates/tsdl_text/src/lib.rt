@@ -12,8 +12,5 @@ mod token;
 pub use fault::MetaFault;
 pub use lexer::tokens;
 pub use line::Line;
-pub use packet::metadata_text;
+pub use packet::{HEADER_LEN, MOST_BYTES, metadata_text};
 pub use token::{Kind, Symbol, Token};
-
-#[cfg(test)]
-mod tests;

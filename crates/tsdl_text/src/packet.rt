@@ -1,17 +1,18 @@
 //! Metadata packets.
 
 ghost use Rattle.std.specs.Prelude.{◌≡◌, ◌≤◌, false, length, MatchOption, MatchResult};
-ghost use Rattle.tsdl_text.specs.Packets.{magic, word, order_of, sizes_fit, header_fault, first_fault, HasEnds, BeginsPacket, IsJoined, MetaText, MetaRefused, JoinRefused};
+ghost use Rattle.tsdl_text.specs.Packets.{magic, word, order_of, sizes_fit, header_fault, first_fault, IsJoined, MetaText, MetaRefused};
+ghost use Rattle.tsdl_text.specs.PacketReading.{HasEnds, BeginsPacket, JoinRefused};
 
 use crate::fault::MetaFault;
 use byteorder::{BigEndian, ByteOrder, LittleEndian};
 use std::alloc::Global;
 
-/// How many bytes metadata has at the most.
-const MOST_BYTES: usize = 67_108_864;
+/// How many bytes metadata has at the most (own).
+pub const MOST_BYTES: usize = 67_108_864;
 
-/// How many bytes the header of a packet has.
-const HEADER_LEN: usize = 37;
+/// How many bytes the header of a metadata packet has (CTF 1.8.3, 7.1).
+pub const HEADER_LEN: usize = 37;
 
 /// The byte order of the headers.
 #[derive(Clone, Copy)]
@@ -61,7 +62,7 @@ impl Order {
 
 /// Where the content ends and where the packet ends, in bytes, if the sizes in the header are possible.
 fn ends(order: Order, rest: &[u8]) -> Option<(usize, usize)>
-    requires { 37 ≤ length rest.now }
+    requires { HEADER_LEN ≤ length rest.now }
     ensures { MatchOption result (sizes_fit order rest.now ≡ false) (HasEnds order rest.now) }
 {
     let content_size = order.word(&rest[24..28]) as usize;

@@ -3,7 +3,8 @@
 ghost use Rattle.std.specs.Prelude.{◌≡◌, ◌+◌, ◌*◌, ◌<◌, ◌≤◌, ◌^◌, length, MatchOption, IfOk, IfSome};
 ghost use Rattle.std.specs.Char.{digit_value};
 ghost use Rattle.tsdl_text.specs.Bytes.{number};
-ghost use Rattle.tsdl_text.specs.Strings.{simple_escape, numeric_at, escape_at, character_at, string_value, digit_count};
+ghost use Rattle.tsdl_text.specs.Characters.{simple_escape};
+ghost use Rattle.tsdl_text.specs.Strings.{numeric_at, escape_at, character_at, string_value, digit_count};
 
 use ctf_list::NoMemory;
 use std::alloc::Global;
@@ -64,7 +65,7 @@ fn numeric(base: u8, most: usize, skipped: usize, text: &[u8]) -> Option<(u8, us
 }
 
 /// The byte that a backslash and this character stand for.
-#[tactic(auto, unfolding(crate::specs::Strings::simple_escape))]
+#[tactic(auto, unfolding(crate::specs::Characters::simple_escape))]
 fn simple_escape(character: u8) -> Option<u8>
     ensures { result ≡ simple_escape character }
 {

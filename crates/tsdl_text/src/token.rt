@@ -1,7 +1,8 @@
 //! The tokens of TSDL.
 
-ghost use Rattle.std.specs.Prelude.{◌≡◌, ◌↔◌, true, false, IsTrue, IfOk, MatchOption};
-ghost use Rattle.tsdl_text.specs.Symbols.{spelling, is_symbol, is_word, is_typeword, is_string, constant_of};
+ghost use Rattle.std.specs.Prelude.{◌≡◌, ◌↔◌, not, List, ℕ, true, false, IsTrue, IfOk, IfSome, MatchOption};
+ghost use Rattle.tsdl_text.specs.Symbols.{spelling, is_keyword, is_type_keyword, is_symbol, is_word, is_typeword, is_string, constant_of};
+ghost use Rattle.tsdl_text.specs.Characters.{StandsFor};
 ghost use Rattle.tsdl_text.specs.Strings.{string_value};
 
 use crate::line::Line;
@@ -113,6 +114,54 @@ impl Symbol {
             Symbol::Minus => b"-",
         }
     }
+
+    /// Whether this is no keyword.
+    fn is_punctuator(self) -> bool
+        ensures { result ≡ not (is_keyword self) }
+    {
+        matches!(
+            self,
+            Symbol::OpenBrace
+                | Symbol::CloseBrace
+                | Symbol::OpenBracket
+                | Symbol::CloseBracket
+                | Symbol::OpenParen
+                | Symbol::CloseParen
+                | Symbol::Less
+                | Symbol::Greater
+                | Symbol::Semicolon
+                | Symbol::Colon
+                | Symbol::Comma
+                | Symbol::Dot
+                | Symbol::Ellipsis
+                | Symbol::Equals
+                | Symbol::Assign
+                | Symbol::Plus
+                | Symbol::Minus
+        )
+    }
+
+    /// Whether this is a keyword that may stand in the name of a type.
+    fn is_type_keyword(self) -> bool
+        ensures { result ≡ is_type_keyword self }
+    {
+        matches!(
+            self,
+            Symbol::Const
+                | Symbol::Char
+                | Symbol::Double
+                | Symbol::Float
+                | Symbol::Int
+                | Symbol::Long
+                | Symbol::Short
+                | Symbol::Signed
+                | Symbol::Unsigned
+                | Symbol::Void
+                | Symbol::Bool
+                | Symbol::Complex
+                | Symbol::Imaginary
+        )
+    }
 }
 
 /// What a token is.
@@ -143,7 +192,7 @@ impl Token<'_> {
         ensures { result ≡ is_symbol symbol self.now.kind }
     {
         match self.kind {
-            Kind::Symbol(own) => own as u8 == symbol as u8,
+            Kind::Symbol(own) => own == symbol,
             Kind::Identifier | Kind::Constant(_) | Kind::String => false,
         }
     }
@@ -154,7 +203,7 @@ impl Token<'_> {
     {
         match self.kind {
             Kind::Identifier => true,
-            Kind::Symbol(symbol) => (symbol as u8) < Symbol::OpenBrace as u8,
+            Kind::Symbol(symbol) => !symbol.is_punctuator(),
             Kind::Constant(_) | Kind::String => false,
         }
     }
@@ -165,9 +214,7 @@ impl Token<'_> {
     {
         match self.kind {
             Kind::Identifier => true,
-            Kind::Symbol(symbol) => {
-                Symbol::Const as u8 <= symbol as u8 && (symbol as u8) < Symbol::OpenBrace as u8
-            }
+            Kind::Symbol(symbol) => symbol.is_type_keyword(),
             Kind::Constant(_) | Kind::String => false,
         }
     }
@@ -192,6 +239,11 @@ impl Token<'_> {
     /// The bytes that a string stands for, quotes taken off and escapes undone, and `None` for another
     /// token. It fails where memory is refused.
     pub fn string(&self, alloc: Global) -> Result<Option<Vec<u8>>, NoMemory>
+        // What the characters between the quotes stand for.
+        ensures spelled { IfOk result (λ found. IfSome found
+            (λ value. (values : List ℕ) → StandsFor self.now.text.now values → value.items ≡ values)) }
+
+        // What the layers above compute with, also of a slice that is no string.
         ensures string { IfOk result
             (λ found. MatchOption found (is_string self.now.kind ≡ false)
             (λ value. (is_string self.now.kind ≡ true) × (value.items ≡ string_value self.now.text.now))) }

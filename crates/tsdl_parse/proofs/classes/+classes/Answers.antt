@@ -1,12 +1,15 @@
 use Rattle.std.proofs.Common.{sym, ◌∙◌, refl}
 use Rattle.std.proofs.lemmas.Result.{err_from_is_err_and}
-use Rattle.tsdl_parse.proofs.Loops.{goes_on, ends_nil, is_done_nil}
+use Rattle.tsdl_parse.proofs.Loops.{starts, goes_on, ends_nil, is_done_nil}
 use Rattle.tsdl_parse.proofs.classes.+classes.Goals as goal
+
+pub items-turns-init : goal.items-turns-init
+items-turns-init t c = rw (c.start-found.ensures.found, c.new.ensures.items, c.start-found.ensures.rest) (starts _ _ _ _)
 
 pub items-returns-in_err-next-clause-reads : goal.items-returns-in_err-next-clause-reads
 items-returns-in_err-next-clause-reads t c =
     let p = err_from_is_err_and c.from_residual.result c.from_residual.ensures.1 in
-    let e = ends_nil _ _ _ _ _ (rw c.new-found.ensures.items at c.turns.invariant) refl _ (sym c.goes_on.ensures ∙ c.turns-test.true) c.in_err-next.ensures.reads in
+    let e = ends_nil _ _ _ _ _ c.turns.invariant refl _ (sym c.goes_on.ensures ∙ c.turns-test.true) c.in_err-next.ensures.reads in
     rw (p.1, p.2) e
 
 pub items-turns-preserved : goal.items-turns-preserved
@@ -15,5 +18,5 @@ items-turns-preserved t c =
 
 pub items-returns-clause-reads : goal.items-returns-clause-reads
 items-returns-clause-reads t c =
-    let e = is_done_nil _ _ _ _ _ (rw c.new-found.ensures.items at c.turns.invariant) (sym c.goes_on.ensures ∙ c.turns-test.false) in
+    let e = is_done_nil _ _ _ _ _ c.turns.invariant (sym c.goes_on.ensures ∙ c.turns-test.false) in
     rw c.from_vec.ensures e

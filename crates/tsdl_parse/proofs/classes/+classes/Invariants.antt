@@ -1,4 +1,4 @@
-use Rattle.std.proofs.Common.{◌+◌, ◌*◌, length}
+use Rattle.std.proofs.Common.{◌+◌, ◌*◌, [], length}
 use Rattle.tsdl_grammar.specs.Steps.{before_close}
 use Rattle.tsdl_grammar.specs.Reading.{item_at, body_at}
 use Rattle.tsdl_parse.proofs.Loops.{Going}
@@ -35,4 +35,4 @@ abbrev pub decreases-items-turns : goal.decreases-items-turns
 decreases-items-turns l = length l.rest
 
 abbrev pub invariant-items-turns : goal.invariant-items-turns
-invariant-items-turns l = Going before_close (item_at (body_at l.depth) l.depth) l.initial.found.items l.fn.tokens l.found.items l.rest
+invariant-items-turns l = Going before_close (item_at (body_at l.depth) l.depth) [] l.fn.tokens l.found.items l.rest

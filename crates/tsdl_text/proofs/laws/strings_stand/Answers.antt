@@ -1,4 +1,4 @@
-use Rattle.tsdl_text.proofs.TextLaws.{strings_stand}
+use Rattle.tsdl_text.proofs.StringLaws.{strings_stand}
 use Rattle.tsdl_text.proofs.laws.strings_stand.Goals as goal
 
 pub returns : goal.returns

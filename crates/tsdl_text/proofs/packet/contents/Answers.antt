@@ -1,7 +1,8 @@
 use Rattle.std.proofs.Common.{◌∙◌, ◌≡◌, [], Some, drop, sym, ap, subst}
 use Rattle.std.proofs.lemmas.List.{take_rest}
 use Rattle.std.proofs.lemmas.Result.{err_from_is_err_and}
-use Rattle.tsdl_text.specs.Packets.{first_fault, BeginsPacket, uuid}
+use Rattle.tsdl_text.specs.Packets.{first_fault, uuid}
+use Rattle.tsdl_text.specs.PacketReading.{BeginsPacket}
 use Rattle.tsdl_text.proofs.PacketLemmas.{joined_none, joined_more, broken_behind, faulty_front, refused_by, order_of-some}
 use Rattle.tsdl_text.proofs.packet.contents.Goals as goal
 
