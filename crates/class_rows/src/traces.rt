@@ -1,0 +1,109 @@
+//! The parts of event, stream and trace classes.
+
+use ctf_bits::Order;
+use ctf_class::{
+    Align, Base, Class, EventClass, FieldName, Heading, Indexed, Integer, Kind, Member,
+    StreamClass, TraceClass, Width,
+};
+use ctf_list::{List, NoMemory};
+use std::alloc::Global;
+use std::test::Fail;
+
+/// An unsigned integer of so many bits, where there can be one.
+fn integer_of(bits: u32) -> Option<Class> {
+    let integer = Integer {
+        size: Width::new(bits)?,
+        is_signed: false,
+        base: Base::Decimal,
+        order: Order::Le,
+        is_moving: false,
+    };
+    Some(Class {
+        align: Align::new(8)?,
+        depth: 1,
+        nodes: 1,
+        kind: Kind::Integer(integer),
+    })
+}
+
+/// A structure of a single member.
+fn structure(alloc: Global, class: Class) -> Result<Class, NoMemory> {
+    let name = FieldName::new(alloc, List::from_slice(alloc, b"a")?)?;
+    let align = class.align;
+    let mut members = Vec::new(alloc);
+    members.push(Member { name, class })?;
+    Ok(Class {
+        align,
+        depth: 2,
+        nodes: 2,
+        kind: Kind::Structure {
+            members: List::from_vec(members),
+        },
+    })
+}
+
+/// An event class of a number and of some fields.
+fn event(alloc: Global, id: u64, fields: Class) -> Result<EventClass, NoMemory> {
+    let heading = Heading::new(alloc, None, List::from_slice(alloc, b"tick")?)?;
+    Ok(EventClass {
+        id,
+        heading,
+        context: integer_of(16),
+        fields,
+    })
+}
+
+/// A stream class of some event classes.
+fn stream(alloc: Global, events: Vec<EventClass>) -> Result<StreamClass, NoMemory> {
+    let events = Indexed::new(alloc, List::from_vec(events))?;
+    Ok(StreamClass {
+        id: 4,
+        packet_context: integer_of(32),
+        event_header: integer_of(64),
+        event_context: None,
+        clock: None,
+        events,
+    })
+}
+
+#[test]
+fn events(rt: HostRuntime) -> Result<(), Fail> {
+    let alloc = rt.alloc();
+    let Some(fields) = integer_of(8) else {
+        return Ok(());
+    };
+    let event = event(alloc, 7, structure(alloc, fields)?)?;
+    assert_eq!(rt; event.name(), b"tick".as_slice());
+    assert!(rt; event.context() == integer_of(16).as_ref());
+    assert_eq!(rt; event.fields().nodes, 2);
+    Ok(())
+}
+
+#[test]
+fn streams(rt: HostRuntime) -> Result<(), Fail> {
+    let alloc = rt.alloc();
+    let stream = stream(alloc, Vec::new(alloc))?;
+    assert!(rt; stream.packet_context() == integer_of(32).as_ref());
+    assert!(rt; stream.event_header() == integer_of(64).as_ref());
+    assert!(rt; stream.event_context().is_none() && stream.clock().is_none());
+    assert!(rt; stream.only().is_none() && stream.event(7).is_none());
+    Ok(())
+}
+
+#[test]
+fn traces(rt: HostRuntime) -> Result<(), Fail> {
+    let alloc = rt.alloc();
+    let mut streams = Vec::new(alloc);
+    streams.push(stream(alloc, Vec::new(alloc))?)?;
+    let trace = TraceClass {
+        uuid: None,
+        host: Some(List::from_slice(alloc, b"host")?),
+        packet_header: integer_of(8),
+        streams: Indexed::new(alloc, List::from_vec(streams))?,
+    };
+    assert!(rt; trace.host() == Some(b"host".as_slice()));
+    assert!(rt; trace.packet_header() == integer_of(8).as_ref());
+    assert!(rt; trace.only().is_some());
+    assert!(rt; trace.stream(4).is_some() && trace.stream(0).is_none());
+    Ok(())
+}

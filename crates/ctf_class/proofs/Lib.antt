@@ -1,0 +1,4 @@
+pub mod AlignmentLemmas
+pub mod EscapesLemmas
+pub mod PlacesLemmas
+pub mod WordsLemmas

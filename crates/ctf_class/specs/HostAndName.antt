@@ -1,0 +1,17 @@
+-- What is printed between an event's time and its fields.
+use Rattle.std.specs.Prelude.{ℕ, List, [], ◌++◌, Option, Some, None, codes}
+use Rattle.ctf_class.specs.Escapes.{escaped}
+
+-- the host of a trace, and the name of an event class
+pub record HostAndName : Type 0 where
+  pub host : Option (List ℕ)
+  pub name : List ℕ
+
+-- the host and a space, where there is one (own)
+abbrev pub host_text : Option (List ℕ) → List ℕ
+host_text None = []
+host_text (Some host) = escaped host ++ codes " "
+
+-- the host, the name and a colon (own)
+abbrev pub heading_text : HostAndName → List ℕ
+heading_text heading = host_text heading.host ++ (escaped heading.name ++ codes ": ")

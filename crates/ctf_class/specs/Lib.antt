@@ -1,0 +1,7 @@
+pub mod Alignment
+pub mod Escapes
+pub mod HostAndName
+pub mod Items
+pub mod Names
+pub mod Places
+pub mod Words

@@ -1,0 +1,64 @@
+//! Alignments.
+
+ghost use Rattle.std.specs.Prelude.{◌≡◌, ◌+◌, ◌^◌, ◌<◌, ◌≤◌, SomeIff};
+ghost use Rattle.std.specs.Int.{next_multiple_of};
+ghost use Rattle.ctf_bits.specs.Align.{IsLeastMultiple};
+ghost use Rattle.ctf_class.specs.Alignment.{IsAlignment};
+
+use std::marker::Model;
+
+/// The exponent of the largest alignment.
+const LAST_EXPONENT: u32 = 31;
+
+/// An alignment in bits: a power of two from 1 to 2^31 (CTF 1.8.3, section 4.1.2). Contracts see the
+/// number.
+#[derive(Clone, Copy, Debug, PartialEq, Eq)]
+pub struct Align {
+    bits: u32,
+}
+
+impl Model for Align {
+    ghost use Rattle.std.specs.Prelude.{ℕ};
+    ghost use Rattle.ctf_class.specs.Alignment.{IsAlignment};
+
+    ghost Value = { ℕ };
+
+    ghost view = { λ align. align.bits };
+
+    ghost invariant = { λ align. IsAlignment align.bits };
+
+    ghost inverse = { λ bits. record { bits = bits } };
+}
+
+impl Align {
+    /// An alignment of so many bits; `None` exactly where that is no power of two from 1 to 2^31.
+    pub fn new(bits: u64) -> Option<Align>
+        ensures { SomeIff result (IsAlignment bits) bits }
+    {
+        let exponent = bits.trailing_zeros();
+        if exponent > LAST_EXPONENT || bits != 1 << exponent {
+            return None;
+        }
+        Some(Align { bits: bits as u32 })
+    }
+
+    /// The number of bits.
+    pub fn bits(self) -> u32
+        ensures value { result ≡ self }
+        ensures power { IsAlignment result }
+    {
+        self.bits
+    }
+
+    /// Where a field begins that could begin at a place, both in bits: the least multiple of the
+    /// alignment that is not below the place (CTF 1.8.3, section 4.1.2).
+    pub fn up(self, place: u64) -> u64
+        requires { place ≤ 2 ^ 62 }
+        ensures value { result ≡ next_multiple_of place self }
+        ensures least { IsLeastMultiple place self result }
+        ensures near { result < place + self }
+    {
+        let mask = u64::from(self.bits) - 1;
+        (place + mask) & !mask
+    }
+}

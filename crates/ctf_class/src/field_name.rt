@@ -1,0 +1,85 @@
+//! Names of members and options, with the texts that are printed for them.
+
+ghost use Rattle.std.specs.Prelude.{◌≡◌, nat_eq, IfOk};
+ghost use Rattle.std.specs.Cmp.{partial_equiv_from_equiv};
+ghost use Rattle.std.specs.Cmp.Lexicographic.{pointwise, nat_list_eq_equiv};
+ghost use Rattle.ctf_class.specs.Names.{shown_name, field_text};
+
+use crate::ready::Ready;
+use ctf_list::{List, NoMemory};
+use std::alloc::Global;
+use std::marker::Model;
+
+/// The name of a member or an option. Contracts see its bytes, as they are written.
+#[derive(Debug, Drop)]
+pub struct FieldName {
+    name: List<u8>,
+    /// What is printed before the value.
+    ready: Ready,
+}
+
+impl Model for FieldName {
+    ghost use Rattle.std.specs.Prelude.{◌≡◌, List, ℕ};
+    ghost use Rattle.std.specs.Coded.{coded_list, coded_ℕ};
+    ghost use Rattle.ctf_class.specs.Names.{field_text};
+
+    ghost Value = { List ℕ };
+
+    ghost coded = { coded_list coded_ℕ };
+
+    ghost view = { λ field. field.name };
+
+    ghost invariant = { λ field. field.ready ≡ field_text field.name };
+}
+
+impl FieldName {
+    /// A name, with what is printed for it.
+    pub fn new(alloc: Global, name: List<u8>) -> Result<FieldName, NoMemory>
+        ensures { IfOk result (λ field. field ≡ name) }
+    {
+        let mut text = Vec::new(alloc);
+        text.extend_from_slice(shown(name.as_slice()))?;
+        text.extend_from_slice(b" = ")?;
+        let ready = Ready::new(alloc, text.as_slice())?;
+        Ok(FieldName { name, ready })
+    }
+
+    /// The name as it is written.
+    pub fn as_slice(&self) -> &[u8]
+        ensures { result.now ≡ self.now }
+    {
+        self.name.as_slice()
+    }
+
+    /// What is printed before the value: the name without its leading `_`, and ` = `.
+    pub fn ready(&self) -> &Ready
+        ensures { result.now ≡ field_text self.now }
+    {
+        &self.ready
+    }
+}
+
+impl PartialEq for FieldName {
+    ghost eq = { λ x y. pointwise nat_eq x y };
+
+    ghost laws = { partial_equiv_from_equiv nat_list_eq_equiv };
+
+    fn eq(&self, other: &Self) -> bool {
+        self.name == other.name
+    }
+}
+
+impl Eq for FieldName {
+    ghost laws = { nat_list_eq_equiv };
+}
+
+/// The part of a name that is shown.
+fn shown(name: &[u8]) -> &[u8]
+    ensures { result.now ≡ shown_name name.now }
+{
+    if name.len() > 1 && name[0] == b'_' {
+        &name[1..]
+    } else {
+        name
+    }
+}

@@ -1,0 +1,35 @@
+//! Field classes, event, stream and trace classes: what decoding and printing know of a trace.
+//! There is no syntax in them: names of classes are gone, and paths are resolved.
+#![tactic(auto)]
+
+mod align;
+mod class;
+mod escape;
+mod field_name;
+mod frequency;
+mod heading;
+mod indexed;
+mod integer;
+mod label_name;
+mod ready;
+mod route;
+mod sorted;
+mod span;
+mod trace;
+mod width;
+mod words;
+
+pub use align::Align;
+pub use class::{Class, Kind, Member};
+pub use escape::escaped;
+pub use field_name::FieldName;
+pub use frequency::Frequency;
+pub use heading::Heading;
+pub use indexed::{HasId, Indexed};
+pub use integer::{Base, Integer};
+pub use label_name::LabelName;
+pub use ready::Ready;
+pub use route::{Length, Origin, Route, Scope};
+pub use span::{Choice, Label, Span};
+pub use trace::{Clock, EventClass, StreamClass, TraceClass};
+pub use width::Width;

@@ -1,0 +1,41 @@
+//! Where lengths and tags are found.
+
+use ctf_list::List;
+
+/// The scopes of a packet and of an event record, in the order in which they are decoded (CTF 1.8.3,
+/// section 7.3.2).
+#[derive(Clone, Copy, Debug, PartialEq, Eq)]
+pub enum Scope {
+    PacketHeader,
+    PacketContext,
+    EventHeader,
+    StreamEventContext,
+    EventContext,
+    EventFields,
+}
+
+/// Where a route begins.
+#[derive(Clone, Copy, Debug, PartialEq, Eq)]
+pub enum Origin {
+    /// A structure around the class, 0 being the innermost.
+    Enclosing(u32),
+    /// The structure of an earlier scope.
+    Earlier(Scope),
+}
+
+/// The way to a length or a tag: a member of the structure at the origin, a member of that one, and so
+/// on, by their places.
+#[derive(Debug, Drop, PartialEq, Eq)]
+pub struct Route {
+    pub origin: Origin,
+    pub steps: List<u32>,
+}
+
+/// How many elements an array has.
+#[derive(Debug, Drop, PartialEq, Eq)]
+pub enum Length {
+    /// As many as the class says (CTF 1.8.3, section 4.2.3).
+    Fixed(u64),
+    /// As many as an earlier field says (CTF 1.8.3, section 4.2.4).
+    Field(Route),
+}

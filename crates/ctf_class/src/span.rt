@@ -1,0 +1,37 @@
+//! Ranges of an enumeration's numbers.
+
+ghost use Rattle.std.specs.Prelude.{◌↔◌, ◌≤ℤ◌, IsTrue};
+
+use crate::label_name::LabelName;
+
+/// The numbers from `first` to `last`, both included (CTF 1.8.3, section 4.1.8). Some of them may lie
+/// outside of what an enumeration's container holds.
+#[derive(Clone, Copy, Debug, PartialEq, Eq)]
+pub struct Span {
+    pub first: i128,
+    pub last: i128,
+}
+
+impl Span {
+    /// Whether a number is one of these.
+    pub fn covers(&self, number: i128) -> bool
+        ensures { IsTrue result ↔ ((self.now.first ≤ℤ number) × (number ≤ℤ self.now.last)) }
+    {
+        self.first <= number && number <= self.last
+    }
+}
+
+/// A label of an enumeration, with numbers that it covers.
+#[derive(Debug, Drop, PartialEq, Eq)]
+pub struct Label {
+    pub name: LabelName,
+    pub span: Span,
+}
+
+/// The option that some of a tag's numbers name.
+#[derive(Clone, Copy, Debug, PartialEq, Eq)]
+pub struct Choice {
+    pub span: Span,
+    /// The option's place among the variant's options.
+    pub option: usize,
+}
