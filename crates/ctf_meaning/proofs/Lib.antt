@@ -1,0 +1,11 @@
+pub mod Lists
+pub mod Sees
+pub mod Order
+pub mod Seen
+pub mod Shaped
+pub mod Linked
+pub mod Clean
+pub mod Complete
+pub mod Classes
+pub mod Members
+pub mod Earlier

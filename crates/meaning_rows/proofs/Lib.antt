@@ -1,0 +1,11 @@
+pub mod Writing
+pub mod Texts
+pub mod Examples
+pub mod Names
+pub mod Attributes
+pub mod Blocks
+pub mod Paths
+pub mod Clocks
+pub mod Limits
+pub mod Choices
+pub mod Readings
