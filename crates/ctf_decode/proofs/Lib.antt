@@ -1,0 +1,11 @@
+pub mod Sound
+pub mod Only
+pub mod Prefix
+pub mod Views
+pub mod Steps
+pub mod Aligns
+pub mod Arrays
+pub mod Told
+pub mod Needs
+pub mod Beyond
+pub mod Numbered

@@ -1,0 +1,22 @@
+use Rattle.std.proofs.Common.{◌≡◌, ◌-◌, ◌≤◌, [], map, take, drop, length}
+use Rattle.ctf_decode.specs.Forms.{parts_of}
+use Rattle.ctf_decode.specs.Views.{form, member_part, val, env, input}
+use Rattle.ctf_decode.specs.Walk.{walk, walk_members, repeat}
+use Rattle.ctf_decode.specs.declared.scopes.TheConstants.{MOST_VALUES}
+use Rattle.ctf_decode.proofs.walk.+walk.Given as goal
+
+abbrev pub invariant-each_member_into-loop-i : goal.invariant-each_member_into-loop-i
+invariant-each_member_into-loop-i l = record {
+  kept : length l.values ≡ length l.members;
+  walked : walk_members (parts_of (map member_part (drop l.i l.members))) (input l.packet) (env l.frame) (map val (take l.i l.values)) l.reached.end l.reached.spent ≡ walk_members (parts_of (map member_part l.members)) (input l.packet) (env l.frame) [] l.start l.spent;
+  within : l.reached.end ≤ l.packet.content;
+  few : l.reached.spent ≤ MOST_VALUES;
+}
+
+abbrev pub invariant-elements_into-loop-i : goal.invariant-elements_into-loop-i
+invariant-elements_into-loop-i l = record {
+  room : l.i ≤ length l.values.items;
+  walked : repeat (walk (form l.element) (input l.packet) (env l.frame)) (l.count - l.i) (map val (take l.i l.values.items)) l.reached.end l.reached.spent ≡ repeat (walk (form l.element) (input l.packet) (env l.frame)) l.count [] l.start l.spent;
+  within : l.reached.end ≤ l.packet.content;
+  few : l.reached.spent ≤ MOST_VALUES;
+}

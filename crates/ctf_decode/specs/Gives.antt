@@ -1,0 +1,31 @@
+-- A call gives what the function on lists finds, unless memory runs out.
+use Rattle.std.specs.Prelude.{◌≡◌, List, [], ◌∷◌, ◌++◌, Result, Ok, Err}
+use Rattle.ctf_decode.specs.declared.fault.DecodeFault.{DecodeFault}
+use Rattle.ctf_decode.specs.declared.fault.DecodeFault.TheVariants.{ContentEnds, NoOption, TooManyValues, NoMemory}
+use Rattle.ctf_decode.specs.declared.place.Reached.{Reached}
+use Rattle.ctf_decode.specs.Values.{Val}
+use Rattle.ctf_decode.specs.Breaks.{Fault, too_many, past, no_option}
+use Rattle.ctf_decode.specs.Walk.{Step}
+
+abbrev pub Fails : {A : Type 0} → DecodeFault → Step A → Type 0
+Fails (ContentEnds e) step = step ≡ Err (past e)
+Fails NoOption step = step ≡ Err no_option
+Fails TooManyValues step = step ≡ Err too_many
+Fails NoMemory step = Unit {0}
+
+-- what stands is x, and decoding has come so far; or the fault is this
+abbrev pub Gives : {A : Type 0} → Result Reached DecodeFault → A → Step A → Type 0
+Gives (Ok r) x step = step ≡ Ok (x, r.end, r.spent)
+Gives (Err e) x step = Fails e step
+
+-- the same of a value that stands behind others
+abbrev pub GivesNext : Result Reached DecodeFault → List Val → List Val → Step Val → Type 0
+GivesNext (Ok r) done all step = (v : Val) × (all ≡ done ++ v ∷ []) × (step ≡ Ok (v, r.end, r.spent))
+GivesNext (Err e) done all step = Fails e step
+
+-- the fault that was told stands, unless memory ran out
+abbrev pub Told : (Fault → Type 0) → DecodeFault → Type 0
+Told B (ContentEnds e) = B (past e)
+Told B NoOption = B no_option
+Told B TooManyValues = B too_many
+Told B NoMemory = Unit {0}

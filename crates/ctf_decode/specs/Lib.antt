@@ -1,0 +1,13 @@
+pub mod Values
+pub mod Forms
+pub mod Input
+pub mod Routes
+pub mod Stands
+pub mod Breaks
+pub mod Walk
+pub mod Laws
+pub mod Known
+pub mod Views
+pub mod Gives
+pub mod Fronts
+pub mod Fields

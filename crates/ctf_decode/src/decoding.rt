@@ -1,0 +1,97 @@
+//! Values of classes, and their faults.
+
+ghost use Rattle.std.specs.Prelude.{◌≡◌, ◌+◌, ◌*◌, ◌^◌, ◌≤◌, [], length, IfOk, IfErr};
+ghost use Rattle.ctf_decode.specs.Values.{count};
+ghost use Rattle.ctf_decode.specs.Stands.{Stands};
+ghost use Rattle.ctf_decode.specs.Breaks.{Breaks};
+ghost use Rattle.ctf_decode.specs.Views.{form, val, input_in};
+ghost use Rattle.ctf_decode.specs.Gives.{Told};
+
+use crate::fault::DecodeFault;
+use crate::place::{Frame, Packet, Reached};
+use crate::scopes::{MOST_VALUES, Scopes};
+use crate::value::Value;
+use crate::walk::value_into;
+use ctf_class::Class;
+use std::alloc::Global;
+
+/// A decoded value.
+#[derive(Debug, Drop, PartialEq, Eq)]
+pub struct Decoded {
+    pub value: Value,
+    /// The place where it ends, in bits from the packet's first one.
+    pub end: u64,
+    /// How many values were begun so far.
+    pub spent: u64,
+}
+
+/// Makes the value of a class that stands at the bit `start` of a packet the value, whatever it was
+/// before; its memory is used again. `content` is where the packet's content ends, in bits. The value of
+/// each scope that the class may name is in `scopes`, and so is how many values were begun before.
+///
+/// At an error the value is any value: F6 with the place that the content does not reach, F8, F11, or
+/// `NoMemory`.
+pub fn decode_into(
+    alloc: Global,
+    class: &Class,
+    packet: &[u8],
+    start: u64,
+    content: u64,
+    scopes: &Scopes,
+    value: &mut Value,
+) -> Result<Reached, DecodeFault>
+    requires start { start ≤ content }
+    requires content { content ≤ 2 ^ 62 }
+    requires held { content ≤ 8 * length packet.now }
+    ensures value { IfOk result (λ r. Stands (form class.now) (input_in packet.now content scopes.now) [] start (val value.new) r.end) }
+    ensures counted { IfOk result (λ r. r.spent ≡ scopes.now.spent + count (val value.new)) }
+    ensures few { IfOk result (λ r. r.spent ≤ MOST_VALUES) }
+    ensures within { IfOk result (λ r. r.end ≤ content) }
+    ensures fault { IfErr result (Told (Breaks (form class.now) (input_in packet.now content scopes.now) [] start scopes.now.spent)) }
+{
+    let packet = Packet {
+        bytes: packet,
+        content,
+        scopes,
+    };
+    value_into(
+        alloc,
+        class,
+        &packet,
+        &Frame::Top,
+        start,
+        scopes.spent(),
+        value,
+    )
+}
+
+/// The value of a class that stands at the bit `start` of a packet. `content` is where the packet's
+/// content ends, in bits. The value of each scope that the class may name is in `scopes`, and so is how
+/// many values were begun before.
+///
+/// An error is F6 with the place that the content does not reach, F8, F11, or `NoMemory`.
+pub fn decode(
+    alloc: Global,
+    class: &Class,
+    packet: &[u8],
+    start: u64,
+    content: u64,
+    scopes: &Scopes,
+) -> Result<Decoded, DecodeFault>
+    requires start { start ≤ content }
+    requires content { content ≤ 2 ^ 62 }
+    requires held { content ≤ 8 * length packet.now }
+    ensures value { IfOk result (λ d. Stands (form class.now) (input_in packet.now content scopes.now) [] start (val d.value) d.end) }
+    ensures counted { IfOk result (λ d. d.spent ≡ scopes.now.spent + count (val d.value)) }
+    ensures few { IfOk result (λ d. d.spent ≤ MOST_VALUES) }
+    ensures within { IfOk result (λ d. d.end ≤ content) }
+    ensures fault { IfErr result (Told (Breaks (form class.now) (input_in packet.now content scopes.now) [] start scopes.now.spent)) }
+{
+    let mut value = Value::Unsigned(0);
+    let reached = decode_into(alloc, class, packet, start, content, scopes, &mut value)?;
+    Ok(Decoded {
+        value,
+        end: reached.end,
+        spent: reached.spent,
+    })
+}

@@ -1,0 +1,97 @@
+//! Integers and enumerations.
+
+ghost use Rattle.std.specs.Prelude.{◌≡◌, ◌+◌, ◌≤◌, IfOk};
+ghost use Rattle.std.specs.Int.{next_multiple_of};
+ghost use Rattle.ctf_decode.specs.Input.{integer_at, label_at, bits_of};
+ghost use Rattle.ctf_decode.specs.Views.{val, input};
+ghost use Rattle.ctf_decode.specs.Walk.{begin, leaf};
+ghost use Rattle.ctf_decode.specs.Gives.{Gives};
+
+use crate::fault::DecodeFault;
+use crate::place::{Packet, Reached, begin_at};
+use crate::scopes::MOST_VALUES;
+use crate::value::Value;
+use ctf_bits::{sint, uint};
+use ctf_class::{Align, Integer};
+
+/// Makes the integer at a place the value.
+pub fn integer_into(
+    integer: &Integer,
+    align: Align,
+    packet: &Packet<'_>,
+    start: u64,
+    spent: u64,
+    value: &mut Value,
+) -> Result<Reached, DecodeFault>
+    requires start { start ≤ packet.now.content }
+    ensures gives { let b = next_multiple_of start align in
+        Gives result (val value.new) (begin (input packet.now) spent (leaf (input packet.now) (b + bits_of integer.now) spent (integer_at (input packet.now) integer.now b))) }
+    ensures within { IfOk result (λ r. (r.end ≤ packet.now.content) × (r.spent ≤ MOST_VALUES)) }
+{
+    if spent >= MOST_VALUES {
+        return Err(DecodeFault::TooManyValues);
+    }
+    let size = integer.size.bits();
+    let begin = begin_at(start, align);
+    let end = begin + u64::from(size);
+    if end > packet.content {
+        return Err(DecodeFault::ContentEnds(u128::from(end)));
+    }
+    let reached = Reached {
+        end,
+        spent: spent + 1,
+    };
+    if integer.is_signed {
+        match sint(packet.bytes, begin, size, integer.order) {
+            None => return Err(DecodeFault::ContentEnds(u128::from(end))),
+            Some(number) => *value = Value::Signed(number),
+        }
+    } else {
+        match uint(packet.bytes, begin, size, integer.order) {
+            None => return Err(DecodeFault::ContentEnds(u128::from(end))),
+            Some(number) => *value = Value::Unsigned(number),
+        }
+    }
+    Ok(reached)
+}
+
+/// Makes the enumeration at a place the value.
+pub fn enumeration_into(
+    container: &Integer,
+    align: Align,
+    packet: &Packet<'_>,
+    start: u64,
+    spent: u64,
+    value: &mut Value,
+) -> Result<Reached, DecodeFault>
+    requires start { start ≤ packet.now.content }
+    ensures gives { let b = next_multiple_of start align in
+        Gives result (val value.new) (begin (input packet.now) spent (leaf (input packet.now) (b + bits_of container.now) spent (label_at (input packet.now) container.now b))) }
+    ensures within { IfOk result (λ r. (r.end ≤ packet.now.content) × (r.spent ≤ MOST_VALUES)) }
+{
+    if spent >= MOST_VALUES {
+        return Err(DecodeFault::TooManyValues);
+    }
+    let size = container.size.bits();
+    let begin = begin_at(start, align);
+    let end = begin + u64::from(size);
+    if end > packet.content {
+        return Err(DecodeFault::ContentEnds(u128::from(end)));
+    }
+    let reached = Reached {
+        end,
+        spent: spent + 1,
+    };
+    if container.is_signed {
+        match sint(packet.bytes, begin, size, container.order) {
+            None => return Err(DecodeFault::ContentEnds(u128::from(end))),
+            Some(number) => *value = Value::Label(i128::from(number)),
+        }
+    } else {
+        match uint(packet.bytes, begin, size, container.order) {
+            None => return Err(DecodeFault::ContentEnds(u128::from(end))),
+            Some(number) => *value = Value::Label(i128::from(number)),
+        }
+    }
+    Ok(reached)
+}

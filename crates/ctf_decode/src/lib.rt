@@ -1,0 +1,25 @@
+//! Values from bits: a value exactly where one stands, a fault exactly where one stands.
+#![tactic(auto)]
+
+mod decoding;
+mod fault;
+mod find;
+mod front;
+mod ids;
+mod laws;
+mod leaf;
+mod parts;
+mod place;
+mod scopes;
+mod text;
+mod value;
+mod walk;
+
+pub use decoding::{Decoded, decode, decode_into};
+pub use fault::DecodeFault;
+pub use front::{Front, decode_front};
+pub use ids::last_id;
+pub use laws::{needs_so_much, one_stands, stands_in_whole};
+pub use place::Reached;
+pub use scopes::{MOST_VALUES, Scopes};
+pub use value::Value;

@@ -1,0 +1,53 @@
+//! What values are decoded in.
+
+ghost use Rattle.std.specs.Prelude.{◌≡◌, ◌≤◌, ◌<◌, ◌*◌, ◌+◌, ◌^◌, length};
+ghost use Rattle.std.specs.Int.{next_multiple_of};
+
+use crate::scopes::Scopes;
+use crate::value::Value;
+use ctf_bits::up;
+use ctf_class::Align;
+
+/// A packet's bytes, the place in bits where its content ends, and the values of earlier scopes.
+#[derive(Drop)]
+pub struct Packet<'a> {
+    pub bytes: &'a [u8],
+    pub content: u64,
+    pub scopes: &'a Scopes,
+    ghost bounded: { content ≤ 2 ^ 62 },
+    ghost held: { content ≤ 8 * length bytes.now },
+}
+
+/// The earlier members of the structures around a value.
+#[derive(Drop)]
+pub enum Frame<'a> {
+    Top,
+    Within(&'a [Value], &'a Frame<'a>),
+}
+
+/// How far decoding has come.
+#[derive(Clone, Copy, Debug, PartialEq, Eq)]
+pub struct Reached {
+    /// The place where the last value ends, in bits from the packet's first one.
+    pub end: u64,
+    /// How many values were begun so far.
+    pub spent: u64,
+}
+
+/// Where a field begins that is next behind a place, both in bits.
+pub fn begin_at(place: u64, align: Align) -> u64
+    requires { place ≤ 2 ^ 62 }
+    ensures value { result ≡ next_multiple_of place align }
+    ensures bound { result < 2 ^ 63 }
+{
+    up(place, u64::from(align.bits()))
+}
+
+/// Where a byte begins that is next behind a place, both in bits.
+pub fn byte_at(place: u64) -> u64
+    requires { place ≤ 2 ^ 62 }
+    ensures value { result ≡ next_multiple_of place 8 }
+    ensures bound { result < 2 ^ 63 }
+{
+    up(place, 8)
+}

@@ -1,0 +1,111 @@
+//! The values that were decoded before.
+
+ghost use Rattle.std.specs.Prelude.{◌≡◌, ◌≤◌};
+ghost use Rattle.std.specs.Option.{option_copied};
+ghost use Rattle.ctf_decode.specs.Known.{nothing_known, value_at, with_value, with_spent};
+
+use crate::value::Value;
+use ctf_class::Scope;
+use std::marker::Model;
+
+/// How many values may stand in one event record, and in one packet's header and context together.
+pub const MOST_VALUES: u64 = 16_777_216;
+
+/// The values decoded so far, by scope, and how many values were begun for them. Contracts see both.
+#[derive(Debug, Drop)]
+pub struct Scopes {
+    packet_header: Option<Value>,
+    packet_context: Option<Value>,
+    event_header: Option<Value>,
+    stream_event_context: Option<Value>,
+    event_context: Option<Value>,
+    event_fields: Option<Value>,
+    spent: u64,
+}
+
+impl Model for Scopes {
+    ghost use Rattle.std.specs.Prelude.{◌≤◌};
+    ghost use Rattle.ctf_decode.specs.Known.{Known};
+
+    ghost Value = { Known };
+
+    ghost use Rattle.ctf_decode.specs.contracts.value.Value as values;
+    ghost use Rattle.std.specs.Coded.{codes};
+
+    ghost coded = { Prim.hlevel (codes, values.the_row.coded) };
+
+    ghost view = { λ scopes. record {
+      packet_header = scopes.packet_header;
+      packet_context = scopes.packet_context;
+      event_header = scopes.event_header;
+      stream_event_context = scopes.stream_event_context;
+      event_context = scopes.event_context;
+      event_fields = scopes.event_fields;
+      spent = scopes.spent;
+    } };
+
+    ghost use Rattle.ctf_decode.specs.declared.scopes.TheConstants.{MOST_VALUES};
+
+    ghost invariant = { λ scopes. scopes.spent ≤ MOST_VALUES };
+}
+
+impl Scopes {
+    /// No values, and none begun.
+    pub fn new() -> Scopes
+        ensures { result ≡ nothing_known }
+    {
+        Scopes {
+            packet_header: None,
+            packet_context: None,
+            event_header: None,
+            stream_event_context: None,
+            event_context: None,
+            event_fields: None,
+            spent: 0,
+        }
+    }
+
+    /// The value of a scope, in place of the one that was there.
+    pub fn put(&mut self, scope: Scope, value: Value)
+        ensures { self.new ≡ with_value self.old scope value }
+    {
+        match scope {
+            Scope::PacketHeader => self.packet_header = Some(value),
+            Scope::PacketContext => self.packet_context = Some(value),
+            Scope::EventHeader => self.event_header = Some(value),
+            Scope::StreamEventContext => self.stream_event_context = Some(value),
+            Scope::EventContext => self.event_context = Some(value),
+            Scope::EventFields => self.event_fields = Some(value),
+        }
+    }
+
+    /// The value of a scope, if it was decoded.
+    pub fn get(&self, scope: Scope) -> Option<&Value>
+        ensures { option_copied result ≡ value_at self.now scope }
+    {
+        match scope {
+            Scope::PacketHeader => self.packet_header.as_ref(),
+            Scope::PacketContext => self.packet_context.as_ref(),
+            Scope::EventHeader => self.event_header.as_ref(),
+            Scope::StreamEventContext => self.stream_event_context.as_ref(),
+            Scope::EventContext => self.event_context.as_ref(),
+            Scope::EventFields => self.event_fields.as_ref(),
+        }
+    }
+
+    /// How many values were begun before, at most `MOST_VALUES`.
+    pub fn set_spent(&mut self, spent: u64)
+        requires { spent ≤ MOST_VALUES }
+        ensures { self.new ≡ with_spent self.old spent }
+    {
+        self.spent = spent;
+    }
+
+    /// How many values were begun before.
+    pub fn spent(&self) -> u64
+        ensures value { result ≡ self.now.spent }
+        ensures few { result ≤ MOST_VALUES }
+    {
+        self.spent
+    }
+}

@@ -1,0 +1,130 @@
+//! Strings and arrays of characters.
+
+ghost use Rattle.std.specs.Prelude.{◌≡◌, ◌+◌, ◌-◌, ◌*◌, ◌/◌, ◌≤◌, ◌<◌, not, nat_eq, position, take, drop, length, IfOk, IfSome};
+ghost use Rattle.std.specs.Int.{next_multiple_of};
+ghost use Rattle.std.specs.List.{take_while};
+ghost use Rattle.ctf_decode.specs.Values.{text};
+ghost use Rattle.ctf_decode.specs.Input as inputs;
+ghost use Rattle.ctf_decode.specs.Stands.{text_in};
+ghost use Rattle.ctf_decode.specs.Views.{val, input};
+ghost use Rattle.ctf_decode.specs.Walk.{begin, leaf, string_at};
+ghost use Rattle.ctf_decode.specs.Gives.{Gives};
+
+use crate::fault::DecodeFault;
+use crate::place::{Packet, Reached, byte_at};
+use crate::scopes::MOST_VALUES;
+use crate::value::Value;
+use ctf_list::List;
+use std::alloc::{AllocError, Global};
+
+/// Makes a text the value. Memory that the value has is used again.
+fn text_into(alloc: Global, bytes: &[u8], value: &mut Value) -> Result<(), AllocError>
+    ensures { IfOk result (λ _. val value.new ≡ text bytes.now) }
+{
+    if let Value::Text(old) = value {
+        old.clear();
+        old.extend_from_slice(bytes)?;
+        return Ok(());
+    }
+    *value = Value::Text(List::from_slice(alloc, bytes)?);
+    Ok(())
+}
+
+/// The whole bytes from a place to the content's end.
+fn bytes_from<'a>(packet: &Packet<'a>, begin: u64) -> &'a [u8]
+    requires { begin ≤ packet.now.content }
+    ensures { result.now ≡ inputs.bytes_from (input packet.now) begin }
+{
+    let from = (begin / 8) as usize;
+    let count = ((packet.content - begin) / 8) as usize;
+    &packet.bytes[from..from + count]
+}
+
+/// The place of the first zero byte.
+fn zero_in(bytes: &[u8]) -> Option<usize>
+    ensures first { result ≡ position (λ x. nat_eq x 0) bytes.now }
+    ensures within { IfSome result (λ n. n < length bytes.now) }
+{
+    bytes.iter().position(|byte| *byte == 0)
+}
+
+/// Makes the string at a place the value.
+#[tactic(auto, unfolding(crate::specs::Walk::string_at))]
+pub fn string_into(
+    alloc: Global,
+    packet: &Packet<'_>,
+    start: u64,
+    spent: u64,
+    value: &mut Value,
+) -> Result<Reached, DecodeFault>
+    requires start { start ≤ packet.now.content }
+    ensures gives { Gives result (val value.new) (begin (input packet.now) spent (string_at (input packet.now) (next_multiple_of start 8) spent)) }
+    ensures within { IfOk result (λ r. (r.end ≤ packet.now.content) × (r.spent ≤ MOST_VALUES)) }
+{
+    if spent >= MOST_VALUES {
+        return Err(DecodeFault::TooManyValues);
+    }
+    let begin = byte_at(start);
+    if begin > packet.content {
+        return Err(DecodeFault::ContentEnds(u128::from(begin + 8)));
+    }
+    let bytes = bytes_from(packet, begin);
+    match zero_in(bytes) {
+        None => Err(DecodeFault::ContentEnds(u128::from(begin + 8 * (bytes.len() as u64 + 1)))),
+        Some(n) => {
+            text_into(alloc, &bytes[..n], value)?;
+            Ok(Reached {
+                end: begin + 8 * (n as u64 + 1),
+                spent: spent + 1,
+            })
+        }
+    }
+}
+
+/// The bytes before the first zero byte, or all of them.
+fn before_zero(bytes: &[u8]) -> &[u8]
+    ensures { result.now ≡ take_while (λ x. not (nat_eq x 0)) bytes.now }
+{
+    match zero_in(bytes) {
+        None => bytes,
+        Some(n) => &bytes[..n],
+    }
+}
+
+/// So many bytes from a place on.
+fn bytes_at<'a>(packet: &Packet<'a>, begin: u64, count: u64) -> &'a [u8]
+    requires { begin + 8 * count ≤ packet.now.content }
+    ensures { result.now ≡ take count (drop (begin / 8) packet.now.bytes.now) }
+{
+    let from = (begin / 8) as usize;
+    &packet.bytes[from..from + count as usize]
+}
+
+/// Makes the text of so many bytes at a place the value.
+pub fn characters_into(
+    alloc: Global,
+    count: u64,
+    packet: &Packet<'_>,
+    start: u64,
+    spent: u64,
+    value: &mut Value,
+) -> Result<Reached, DecodeFault>
+    requires start { start ≤ packet.now.content }
+    ensures gives { let b = next_multiple_of start 8 in
+        Gives result (val value.new) (begin (input packet.now) spent (leaf (input packet.now) (b + 8 * count) spent (text_in (input packet.now) b count))) }
+    ensures within { IfOk result (λ r. (r.end ≤ packet.now.content) × (r.spent ≤ MOST_VALUES)) }
+{
+    if spent >= MOST_VALUES {
+        return Err(DecodeFault::TooManyValues);
+    }
+    let begin = byte_at(start);
+    let end = u128::from(begin) + 8 * u128::from(count);
+    if end > u128::from(packet.content) {
+        return Err(DecodeFault::ContentEnds(end));
+    }
+    text_into(alloc, before_zero(bytes_at(packet, begin, count)), value)?;
+    Ok(Reached {
+        end: begin + 8 * count,
+        spent: spent + 1,
+    })
+}

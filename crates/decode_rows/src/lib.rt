@@ -1,0 +1,7 @@
+//! Tests of decoding. It is a crate of its own because a crate with tests is proved twice.
+#![tactic(auto)]
+
+#[cfg(test)]
+mod classes;
+#[cfg(test)]
+mod values;
