@@ -16,6 +16,3 @@ pub use arguments::{Options, Usage, options_of};
 pub use fault::{Outcome, RunFault};
 pub use message::io_line;
 pub use session::run;
-
-#[cfg(test)]
-mod tests;

@@ -1,7 +1,7 @@
 //! Rows, whose expected texts come from outside, each public call once with ample memory, and runs that are cut.
 
-use super::*;
 use ctf_bits::{FailingSink, FailingSource, Sink, SinkFault, SliceSource, VecSink};
+use ctf_cli::{Options, Outcome, RunFault, Usage, io_line, laws, options_of, run};
 use ctf_list::Text;
 use std::alloc::Global;
 use std::test::Fail;
