@@ -11,7 +11,8 @@ use Rattle.ctf_meaning.specs.Name.{Name, same_name}
 use Rattle.ctf_meaning.specs.Written.{Form, Declaration, Integer, Float, String, Struct, Variant, Enum, Named, Assigned, Classed, Declared, Block, Table, Names}
 use Rattle.ctf_meaning.specs.Parts.{Place, Part, Located, Given, of_text, of_block, of_body, class_of, given_of, located_from, settings_in}
 use Rattle.ctf_meaning.specs.Settings.{when, minus_faults}
-use Rattle.ctf_meaning.specs.Integers.{DeclaredInteger, integer_faults, integer_of, good_integer, is_none_wrong}
+use Rattle.ctf_meaning.specs.declared.integer.DeclaredInteger.{DeclaredInteger}
+use Rattle.ctf_meaning.specs.Integers.{integer_faults, integer_of, good_integer, is_none_wrong}
 use Rattle.ctf_meaning.specs.Shapes.{integer_in, integer, enum, with_tag, arrays, container_name, container_at}
 use Rattle.ctf_meaning.specs.Labels.{labels_of}
 use Rattle.ctf_meaning.specs.Names.{Entry, same_place, earlier_entry, meaning, shape_named, shape_of, entries_of, entries_behind, entries_in}

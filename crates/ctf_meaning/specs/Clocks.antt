@@ -11,7 +11,7 @@ use Rattle.ctf_meaning.specs.declared.fault.ResolveFault.TheVariants.{Attribute}
 use Rattle.ctf_meaning.specs.Name.{Word, same_word}
 use Rattle.ctf_meaning.specs.There.{◌>>=◌}
 use Rattle.ctf_meaning.specs.Settings.{when, one, attribute, number_of, count_of, text_of, known_as, wrong, repeated}
-use Rattle.ctf_meaning.specs.Integers.{DeclaredInteger}
+use Rattle.ctf_meaning.specs.declared.integer.DeclaredInteger.{DeclaredInteger}
 use Rattle.ctf_meaning.specs.Paths.{Spot}
 
 -- `freq` is from 1 to 2^64 - 1. (The tokens have no greater constant.)

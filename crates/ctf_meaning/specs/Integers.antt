@@ -9,19 +9,9 @@ use Rattle.ctf_class.specs.declared.integer.Base.{Base}
 use Rattle.ctf_class.specs.declared.integer.Base.TheVariants.{Binary, Octal, Decimal, Hexadecimal}
 use Rattle.ctf_meaning.specs.declared.fault.ResolveFault.{ResolveFault}
 use Rattle.ctf_meaning.specs.declared.fault.ResolveFault.TheVariants.{Attribute, SizeOrAlignment}
+use Rattle.ctf_meaning.specs.declared.integer.DeclaredInteger.{DeclaredInteger}
 use Rattle.ctf_meaning.specs.Name.{Word}
 use Rattle.ctf_meaning.specs.Settings.{when, one, attribute, says, is_count, number_of, count_of, text_of, trace_order_of, is_text_of, known_as, wrong, repeated}
-
--- An integer as it is declared: its size and alignment in bits, whether it is signed, its base, its byte order (none where
--- that is the trace's), whether it can be a character, and the name of the clock to which it is mapped.
-pub record DeclaredInteger : Type 0 where
-  pub size : ℕ
-  pub align : ℕ
-  pub is_signed : Bool
-  pub base : Base
-  pub order : Option Order
-  pub is_text : Bool
-  pub clock : Option Word
 
 -- signed: true TRUE 1 or false FALSE 0
 abbrev pub sign_of : Value → Option Bool

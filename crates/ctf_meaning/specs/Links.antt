@@ -17,7 +17,7 @@ use Rattle.ctf_meaning.specs.declared.fault.ResolveFault.TheVariants.{LengthOrTa
 use Rattle.ctf_meaning.specs.Name.{Word}
 use Rattle.ctf_meaning.specs.There.{◌>>=◌}
 use Rattle.ctf_meaning.specs.Settings.{when}
-use Rattle.ctf_meaning.specs.Integers.{DeclaredInteger}
+use Rattle.ctf_meaning.specs.declared.integer.DeclaredInteger.{DeclaredInteger}
 use Rattle.ctf_meaning.specs.Shapes.{Shape, Field, Members, integer, float, string, enum, struct, variant, array, sequence, no_member, member, fields_in, align_of, depth_of, nodes_of}
 use Rattle.ctf_meaning.specs.Paths.{Spot, at_member, below, member_named, length_at, tag_at}
 use Rattle.ctf_meaning.specs.Clocks.{clock_named, moved_clock}

@@ -11,7 +11,8 @@ use Rattle.ctf_meaning.specs.Name.{Word, Words, Name}
 use Rattle.ctf_meaning.specs.Name as name
 use Rattle.ctf_meaning.specs.Written.{Form, Item, Items, Integer, Float, String, Struct, Variant, Enum, Named, Fields, Alias, Definition, Compound, no_item, some_items}
 use Rattle.ctf_meaning.specs.Parts.{Place}
-use Rattle.ctf_meaning.specs.Integers.{DeclaredInteger, good_integer}
+use Rattle.ctf_meaning.specs.declared.integer.DeclaredInteger.{DeclaredInteger}
+use Rattle.ctf_meaning.specs.Integers.{good_integer}
 use Rattle.ctf_meaning.specs.Labels.{labels_of}
 
 mutual

@@ -4,6 +4,8 @@
 #![tactic(auto)]
 
 mod fault;
+mod integer;
 pub mod laws;
 
 pub use fault::ResolveFault;
+pub use integer::DeclaredInteger;
