@@ -10,6 +10,8 @@ mod lookups;
 #[cfg(test)]
 mod names;
 #[cfg(test)]
+mod sizes;
+#[cfg(test)]
 mod traces;
 #[cfg(test)]
 mod written;

@@ -39,6 +39,8 @@ fn names_of_fields(rt: HostRuntime) -> Result<(), Fail> {
     let other = FieldName::new(alloc, List::from_slice(alloc, b"a")?)?;
     assert_eq!(rt; name.as_slice(), b"_a".as_slice());
     assert!(rt; name == name && name != other);
+    let copy = name.clone()?;
+    assert!(rt; copy == name && is_kept(copy.ready(), b"a = "));
     Ok(())
 }
 

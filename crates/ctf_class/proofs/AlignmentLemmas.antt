@@ -1,8 +1,9 @@
 -- Lemmas on alignments.
-use Rattle.std.proofs.Common.{◌≡◌, ℕ, ◌+◌, ◌-◌, ◌*◌, ◌/◌, ◌^◌, ◌<◌, ◌≤◌, bit_and, sym, ap, ◌∙◌, ⊎_elim, subst, lit<, arith}
-use Rattle.std.proofs.Math.Nat.{pow-le-pow_right}
+use Rattle.std.proofs.Common.{◌≡◌, ℕ, ◌+◌, ◌-◌, ◌*◌, ◌/◌, ◌%◌, ◌^◌, ◌<◌, ◌≤◌, bit_and, sym, ap, ◌∙◌, ⊎_elim, subst, lit<, arith}
+use Rattle.std.proofs.Math.Nat.{pow-le-pow_right, mod-mod_of_dvd, zero-mod}
 use Rattle.std.proofs.lemmas.Bool.{cases_eq}
 use Rattle.std.proofs.lemmas.Nat.{pow_pos, pow_below, div-add-mod'}
+use Rattle.std.proofs.lemmas.Nat.Gcd.{dvd_of_mod-eq-zero}
 use Rattle.std.proofs.lemmas.Nat.Bits.{bit_at-trailing_zeros, bit_at-pow_other, and_high_mask}
 use Rattle.std.specs.Int.{w64, trailing_zeros, next_multiple_of}
 use Rattle.ctf_bits.specs.Align.{IsLeastMultiple}
@@ -20,44 +21,37 @@ pub trailing_zeros-alignment : (bits : ℕ) (power : IsAlignment bits) → trail
 trailing_zeros-alignment bits power =
     ap (trailing_zeros w64) power.value ∙ trailing_zeros-pow power.exponent power.bounded
 
--- a sum of a place and a mask, cut to a multiple, is less than one unit above the place
-cut-near : (unit place : ℕ) → 0 < unit → (place + (unit - 1)) / unit * unit < place + unit
-cut-near unit place positive = omega (arith, div-add-mod' (place + (unit - 1)) unit)
-
--- it is the least multiple that is not below the place
-cut-least : (unit place : ℕ) → 0 < unit → IsLeastMultiple place unit ((place + (unit - 1)) / unit * unit)
-cut-least unit place positive =
-    let P : ℕ → Type 0 = λ r. IsLeastMultiple place unit r in
-    subst P (sym (rounded place unit positive)) (IsLeastMultiple-next place unit positive)
-
 -- a mask cuts
-mask-cut : (k place : ℕ) → k ≤ 31 → place ≤ 2 ^ 62 → bit_and (place + (2 ^ k - 1)) (2 ^ 64 - 1 - (2 ^ k - 1)) ≡ (place + (2 ^ k - 1)) / 2 ^ k * 2 ^ k
+mask-cut : (k place : ℕ) → k ≤ 31 → place < 2 ^ 64 → bit_and place (2 ^ 64 - 1 - (2 ^ k - 1)) ≡ place / 2 ^ k * 2 ^ k
 mask-cut k place within low =
     let positive = pow_pos k in
     let bounded : 2 ^ k ≤ 2 ^ 31 = pow-le-pow_right (lit< tt) within in
     let mask : 2 ^ 64 - 1 - (2 ^ k - 1) ≡ 2 ^ 64 - 2 ^ k = omega arith in
-    ap (bit_and (place + (2 ^ k - 1))) mask ∙ and_high_mask 64 k (omega arith) (place + (2 ^ k - 1)) (omega arith)
+    ap (bit_and place) mask ∙ and_high_mask 64 k (omega arith) place low
 
--- what a mask makes of a place, by any names of the alignment
-pub record IsAligned (unit place result : ℕ) : Type 0 where
-  pub least : IsLeastMultiple place unit result
-  pub near : result < place + unit
-  pub value : result ≡ next_multiple_of place unit
+pub cut_by_mask : (unit place : ℕ) → IsAlignment unit → place < 2 ^ 64 → bit_and place (2 ^ 64 - 1 - (unit - 1)) ≡ place / unit * unit
+cut_by_mask unit place power low =
+    let P : ℕ → Type 0 = λ u. bit_and place (2 ^ 64 - 1 - (u - 1)) ≡ place / u * u in
+    subst P (sym power.value) (mask-cut power.exponent place power.bounded low)
 
-mask-aligned : (unit place : ℕ) → IsAlignment unit → place ≤ 2 ^ 62 → IsAligned unit place (bit_and (place + (unit - 1)) (2 ^ 64 - 1 - (unit - 1)))
-mask-aligned unit place power low =
-    let k = power.exponent in
-    let positive = pow_pos k in
-    let P : ℕ → Type 0 = λ u. IsAligned u place (bit_and (place + (u - 1)) (2 ^ 64 - 1 - (u - 1))) in
-    let Q : ℕ → Type 0 = λ r. IsAligned (2 ^ k) place r in
-    subst P (sym power.value) (subst Q (sym (mask-cut k place power.bounded low)) (record {
-      least = cut-least (2 ^ k) place positive;
-      near = cut-near (2 ^ k) place positive;
-      value = rounded place (2 ^ k) positive;
-    }))
+-- a place is rounded up by a cut
+positive : (unit : ℕ) → IsAlignment unit → 0 < unit
+positive unit power = let above = pow_pos power.exponent in let same = power.value in omega arith
 
-pub up-aligned : (bits unit place mask : ℕ) → IsAlignment bits → bits ≡ unit → mask ≡ bits → place ≤ 2 ^ 62 → IsAligned unit place (bit_and (place + (mask - 1)) (2 ^ 64 - 1 - (mask - 1)))
-up-aligned bits unit place mask power same read low =
-    let P : ℕ → Type 0 = λ u. IsAligned u place (bit_and (place + (mask - 1)) (2 ^ 64 - 1 - (mask - 1))) in
-    let Q : ℕ → Type 0 = λ m. IsAligned bits place (bit_and (place + (m - 1)) (2 ^ 64 - 1 - (m - 1))) in
-    subst P same (subst Q (sym read) (mask-aligned bits place power low))
+pub rounded_up : (unit place sum : ℕ) → IsAlignment unit → sum ≡ place + (unit - 1) → sum / unit * unit ≡ next_multiple_of place unit
+rounded_up unit place sum power same =
+    ap (λ n. n / unit * unit) same ∙ rounded place unit (positive unit power)
+
+pub near_up : (unit place sum : ℕ) → 0 < unit → sum ≡ place + (unit - 1) → sum / unit * unit < place + unit
+near_up unit place sum above same = omega (arith, div-add-mod' sum unit)
+
+pub least_up : (unit kept place sum begin : ℕ) → IsAlignment unit → begin ≡ sum / kept * kept → kept ≡ unit → sum ≡ place + (unit - 1) → IsLeastMultiple place unit begin
+least_up unit kept place sum begin power cut read same =
+    let P : ℕ → Type 0 = λ r. IsLeastMultiple place unit r in
+    let value = cut ∙ (ap (λ u. sum / u * u) read ∙ rounded_up unit place sum power same) in
+    subst P (sym value) (IsLeastMultiple-next place unit (positive unit power))
+
+-- the last place of a packet is a multiple of each alignment that divides 8
+pub last-place-aligned : (align : ℕ) → 8 % align ≡ 0 → 2 ^ 62 % align ≡ 0
+last-place-aligned align divides =
+    sym (mod-mod_of_dvd align {b = 8} (2 ^ 62) (dvd_of_mod-eq-zero align divides)) ∙ zero-mod align

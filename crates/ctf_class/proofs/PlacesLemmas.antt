@@ -3,7 +3,7 @@ use Rattle.std.proofs.Common.{◌≡◌, ℕ, zero, suc, ◌+◌, ◌<◌, ◌�
 use Rattle.std.specs.List.{position_from, find, slice_get, range_with_len}
 use Rattle.std.specs.Option.{option_or}
 use Rattle.std.specs.BTreeMap.{is_at}
-use Rattle.std.proofs.lemmas.Bool.{cases_eq, cases_lt, false≢true}
+use Rattle.std.proofs.lemmas.Bool.{cases_eq, false≢true}
 use Rattle.std.proofs.lemmas.Bool.Decides.{nat_tests}
 use Rattle.std.proofs.lemmas.List.{take_more, map-append, length-take-le}
 use Rattle.std.proofs.lemmas.List.Folds.{find_at}
@@ -91,15 +91,3 @@ pub counted-firsts : {T : Type 0} (id_of : T → ℕ) (items : List T) (id : ℕ
 counted-firsts id_of items id counted =
     let none : length items ≡ 0 + length items = omega arith in
     ap (λ n. cond (ltb id n) (Some id) None) none ∙ position_from-counted id_of items 0 id counted (omega arith)
-
--- what stands at the place that is kept for a number is its first item
-pub find-counted : {T : Type 0} (p : T → Bool) (items : List T) (id : ℕ) → cond (ltb id (length items)) (Some id) None ≡ position_from p 0 items → slice_get items id ≡ find p items
-find-counted p items id kept =
-    ⊎_elim
-    (λ inside.
-    let tested : cond (ltb id (length items)) (Some id) None ≡ Some id = grind (arith, nat_tests) in
-    sym (find-at_place p items id (sym kept ∙ tested)))
-    (λ past.
-    let tested : ◌≡◌ {A = Option ℕ} (cond (ltb id (length items)) (Some id) None) None = grind (arith, nat_tests) in
-    slice_get_past items id past ∙ sym (find-nowhere p items (sym kept ∙ tested)))
-    (cases_lt id (length items))

@@ -1,5 +1,6 @@
 pub mod Alignment
 pub mod Escapes
+pub mod FixedSize
 pub mod HostAndName
 pub mod Items
 pub mod Names

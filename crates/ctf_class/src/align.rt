@@ -1,6 +1,6 @@
 //! Alignments.
 
-ghost use Rattle.std.specs.Prelude.{◌≡◌, ◌+◌, ◌^◌, ◌<◌, ◌≤◌, SomeIff};
+ghost use Rattle.std.specs.Prelude.{◌≡◌, ◌+◌, ◌*◌, ◌/◌, ◌^◌, ◌<◌, ◌≤◌, SomeIff};
 ghost use Rattle.std.specs.Int.{next_multiple_of};
 ghost use Rattle.ctf_bits.specs.Align.{IsLeastMultiple};
 ghost use Rattle.ctf_class.specs.Alignment.{IsAlignment};
@@ -52,13 +52,23 @@ impl Align {
 
     /// Where a field begins that could begin at a place, both in bits: the least multiple of the
     /// alignment that is not below the place (CTF 1.8.3, section 4.1.2).
+    #[tactic(auto, using(crate::proofs::AlignmentLemmas::rounded_up, crate::proofs::AlignmentLemmas::near_up))]
     pub fn up(self, place: u64) -> u64
         requires { place ≤ 2 ^ 62 }
         ensures value { result ≡ next_multiple_of place self }
         ensures least { IsLeastMultiple place self result }
         ensures near { result < place + self }
     {
-        let mask = u64::from(self.bits) - 1;
-        (place + mask) & !mask
+        let unit = u64::from(self.bits);
+        cut(place + (unit - 1), unit)
     }
+}
+
+/// The last multiple of a power of two that is not above a place.
+#[tactic(auto, using(crate::proofs::AlignmentLemmas::cut_by_mask))]
+fn cut(place: u64, unit: u64) -> u64
+    requires { IsAlignment unit }
+    ensures { result ≡ place / unit * unit }
+{
+    place & !(unit - 1)
 }

@@ -5,7 +5,7 @@ use crate::field_name::FieldName;
 use crate::integer::Integer;
 use crate::route::{Length, Route};
 use crate::span::{Choice, Label};
-use ctf_list::{Boxed, List};
+use ctf_list::{Boxed, List, Shared};
 
 /// A field class.
 #[cycle(class)]
@@ -29,8 +29,9 @@ pub enum Kind {
     /// CTF 1.8.3, section 4.1.8.
     Enumeration {
         container: Integer,
-        /// In the order of their declaration. One name may stand more than once.
-        labels: List<Label>,
+        /// In the order of their declaration. One name may stand more than once. Classes that are
+        /// made of one declaration share them.
+        labels: Shared<List<Label>>,
     },
     /// The bytes up to a zero byte (CTF 1.8.3, section 4.2.5).
     String,

@@ -6,13 +6,20 @@ ghost use Rattle.std.specs.Cmp.Lexicographic.{pointwise, nat_list_eq_equiv};
 ghost use Rattle.ctf_class.specs.Names.{shown_name, field_text};
 
 use crate::ready::Ready;
-use ctf_list::{List, NoMemory};
-use std::alloc::Global;
+use ctf_list::{List, NoMemory, Shared};
+use std::alloc::{AllocError, Global};
 use std::marker::Model;
 
-/// The name of a member or an option. Contracts see its bytes, as they are written.
+/// The name of a member or an option. Contracts see its bytes, as they are written. Its copies share
+/// them, and what is printed for it.
 #[derive(Debug, Drop)]
 pub struct FieldName {
+    shared: Shared<Kept>,
+}
+
+/// What the copies of a name share.
+#[derive(Debug, Drop)]
+struct Kept {
     name: List<u8>,
     /// What is printed before the value.
     ready: Ready,
@@ -27,9 +34,9 @@ impl Model for FieldName {
 
     ghost coded = { coded_list coded_ℕ };
 
-    ghost view = { λ field. field.name };
+    ghost view = { λ field. field.shared.name };
 
-    ghost invariant = { λ field. field.ready ≡ field_text field.name };
+    ghost invariant = { λ field. field.shared.ready ≡ field_text field.shared.name };
 }
 
 impl FieldName {
@@ -41,21 +48,32 @@ impl FieldName {
         text.extend_from_slice(shown(name.as_slice()))?;
         text.extend_from_slice(b" = ")?;
         let ready = Ready::new(alloc, text.as_slice())?;
-        Ok(FieldName { name, ready })
+        let shared = Shared::new(alloc, Kept { name, ready })?;
+        Ok(FieldName { shared })
     }
 
     /// The name as it is written.
     pub fn as_slice(&self) -> &[u8]
         ensures { result.now ≡ self.now }
     {
-        self.name.as_slice()
+        self.shared.get().name.as_slice()
     }
 
     /// What is printed before the value: the name without its leading `_`, and ` = `.
     pub fn ready(&self) -> &Ready
         ensures { result.now ≡ field_text self.now }
     {
-        &self.ready
+        &self.shared.get().ready
+    }
+}
+
+/// The same name once more. Nothing is copied; it fails where no more owners can be counted.
+impl Clone for FieldName {
+    ghost is_clone = { λ name other. other ≡ name };
+
+    fn clone(&self) -> Result<FieldName, AllocError> {
+        let shared = self.shared.clone()?;
+        Ok(FieldName { shared })
     }
 }
 
@@ -65,7 +83,7 @@ impl PartialEq for FieldName {
     ghost laws = { partial_equiv_from_equiv nat_list_eq_equiv };
 
     fn eq(&self, other: &Self) -> bool {
-        self.name == other.name
+        self.as_slice() == other.as_slice()
     }
 }
 

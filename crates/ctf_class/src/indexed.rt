@@ -72,11 +72,9 @@ impl<T: HasId> Indexed<T> {
     pub fn get(&self, id: u64) -> Option<&T>
         ensures { option_copied result ≡ first_of_id T.id_of id self.now }
     {
-        let place = match &self.places {
-            Places::Counted => id as usize,
-            Places::Sorted(places) => *places.get(&id)?,
-        };
-        item_at(self.items.as_slice(), place)
+        let items = self.items.as_slice();
+        let place = self.places.at(id, items.len())?;
+        item_at(items, place)
     }
 
     /// The item, where there is just one.
@@ -91,7 +89,7 @@ impl<T: HasId> Indexed<T> {
 }
 
 impl Places {
-    ghost use Rattle.ctf_class.specs.Places.{FindsFirst};
+    ghost use Rattle.ctf_class.specs.Places.{FindsFirst, place_of};
 
     /// The places of some items.
     fn of<T: HasId>(alloc: Global, items: &[T]) -> Result<Places, NoMemory>
@@ -101,6 +99,22 @@ impl Places {
             return Ok(Places::Counted);
         }
         Ok(Places::Sorted(sorted_places(alloc, items)?))
+    }
+
+    /// The place that is kept for a number, among so many items.
+    fn at(&self, id: u64, count: usize) -> Option<usize>
+        ensures { result ≡ place_of self.now count id }
+    {
+        match self {
+            Places::Counted => {
+                if id < count as u64 {
+                    Some(id as usize)
+                } else {
+                    None
+                }
+            }
+            Places::Sorted(places) => places.get(&id).copied(),
+        }
     }
 }
 

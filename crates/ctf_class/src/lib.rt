@@ -6,6 +6,7 @@ mod align;
 mod class;
 mod escape;
 mod field_name;
+mod fixed_size;
 mod frequency;
 mod heading;
 mod indexed;

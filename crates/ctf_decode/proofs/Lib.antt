@@ -9,3 +9,4 @@ pub mod Told
 pub mod Needs
 pub mod Beyond
 pub mod Numbered
+pub mod Moved

@@ -14,9 +14,15 @@ pub last_or-append : (o : Option ℤ) (xs ys : List ℤ) → last_or o (xs ++ ys
 last_or-append o [] ys = refl
 last_or-append o (x ∷ xs) ys = last_or-append (Some x) xs ys
 
-here : {A : Type 0} (xs : List A) (i : ℕ) (x : A) → i < length xs → x ≡ get_or xs i x → drop i xs ≡ x ∷ drop (i + 1) xs
+pub here : {A : Type 0} (xs : List A) (i : ℕ) (x : A) → i < length xs → x ≡ get_or xs i x → drop i xs ≡ x ∷ drop (i + 1) xs
 here xs i x h e =
     let one : suc i ≡ i + 1 = omega arith in drop-cons xs i x h ∙ (λ j. sym e j ∷ drop (one j) xs)
+
+pub drop-all : {A : Type 0} (xs : List A) (k : ℕ) → length xs ≤ k → drop k xs ≡ []
+drop-all [] zero l = refl
+drop-all [] (suc k) l = refl
+drop-all (x ∷ xs) zero l = absurd (omega arith)
+drop-all (x ∷ xs) (suc k) l = drop-all xs k (omega arith)
 
 abbrev member_of : List Member → List Value → List ℤ
 member_of ms vs = member_ids (parts_of (map member_part ms)) (vals_of (map val vs))
@@ -37,12 +43,6 @@ members_end o ms vs i h = ap (last_or o) (no_more (drop i ms) (drop i vs) (drop-
     no_more : (ns : List Member) (ws : List Value) → ws ≡ [] → [] ≡ member_of ns ws
     no_more [] ws e = refl
     no_more (n ∷ ns) ws e = sym (ap (λ xs. member_of (n ∷ ns) xs) e)
-
-    drop-all : (ws : List Value) (k : ℕ) → length ws ≤ k → drop k ws ≡ []
-    drop-all [] zero l = refl
-    drop-all [] (suc k) l = refl
-    drop-all (w ∷ ws) zero l = absurd (omega arith)
-    drop-all (w ∷ ws) (suc k) l = drop-all ws k (omega arith)
 
 pub elements_next : (o : Option ℤ) (k : Form) (vs : List Value) (i : ℕ) (v : Value) → i < length vs → v ≡ get_or vs i v
     → last_or (last_or o (ids k (val v))) (of_each (ids k) (vals_of (map val (drop (i + 1) vs)))) ≡ last_or o (of_each (ids k) (vals_of (map val (drop i vs))))

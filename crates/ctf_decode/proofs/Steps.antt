@@ -9,7 +9,8 @@ use Rattle.ctf_decode.specs.Walk.{Step, and_then, repeat, as_choice, walk, walk_
 use Rattle.ctf_decode.specs.Views.{form, member_part}
 use Rattle.ctf_decode.specs.Gives.{Fails, Gives}
 use Rattle.ctf_decode.specs.declared.fault.DecodeFault.{DecodeFault}
-use Rattle.ctf_decode.specs.declared.place.Reached.{Reached}
+use Rattle.ctf_decode.specs.declared.place.Cursor.{Cursor}
+use Rattle.ctf_decode.specs.declared.place.Stopped.{Stopped}
 use Rattle.ctf_decode.specs.declared.fault.DecodeFault.TheVariants.{ContentEnds, NoOption, TooManyValues, NoMemory}
 use Rattle.ctf_decode.proofs.Views.{part-is}
 
@@ -54,6 +55,10 @@ module _ (c : Input) (e : Env) (ms : List Member) (i : ℕ) (m : Member) (within
   pub choice_ok : (v : Val) (q t : ℕ) → walk (form m.class) c e p s ≡ Ok (v, q, t) → option_as ≡ Ok (choice i v, q, t)
   choice_ok v q t h = ap (λ r. and_then r (as_choice i)) (option_is c e ms i m p s within here ∙ h)
 
-  pub choice_gives : (r : Result Reached DecodeFault) (v : Val) → Gives r v (walk (form m.class) c e p s) → Gives r (choice i v) option_as
-  choice_gives (Ok r) v h = choice_ok v r.end r.spent h
-  choice_gives (Err d) v h = choice_fail d h
+  pub choice_gives : (r : Result (Unit {0}) Stopped) (at : Cursor) (v : Val) → Gives r at v (walk (form m.class) c e p s) → Gives r at (choice i v) option_as
+  choice_gives (Ok _) at v h = choice_ok v at.end at.spent h
+  choice_gives (Err _) at v h = choice_fail at.fault h
+
+  -- what was found of the option itself, as the variant's
+  pub choice_as : and_then (walk (form m.class) c e p s) (as_choice i) ≡ option_as
+  choice_as = ap (λ r. and_then r (as_choice i)) (sym (option_is c e ms i m p s within here))

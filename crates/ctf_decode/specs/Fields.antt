@@ -1,6 +1,7 @@
 -- The numbers of a decoded value that tell an event record's class and time.
-use Rattle.std.specs.Prelude.{ℕ, zero, suc, ℤ, pos, List, [], ◌∷◌, ◌++◌, Option, Some, None, if◌then◌else◌, codes}
+use Rattle.std.specs.Prelude.{ℕ, zero, suc, ◌-◌, ◌^◌, ◌<◌, ◌≤◌, ℤ, pos, negsuc, List, [], ◌∷◌, ◌++◌, Option, Some, None, if◌then◌else◌, nat_lt, codes}
 use Rattle.std.specs.Str.{bytes_eq}
+use Rattle.ctf_class.specs.declared.integer.Integer.{Integer}
 use Rattle.ctf_decode.specs.Values.{Val, Vals, no_vals, more_vals, unsigned, signed, label, group, list, choice}
 use Rattle.ctf_decode.specs.Forms.{Form, Parts, integer, enumeration, structure, variant, array, no_parts, part}
 
@@ -39,11 +40,11 @@ number_in _ v = []
 abbrev pub named_id : List ℕ → Form → Val → List ℤ
 named_id name k v = if bytes_eq name (codes "id") then number_in k v else []
 
-abbrev pub of_choice : Option (ℕ × Val) → (ℕ → Val → List ℤ) → List ℤ
+abbrev pub of_choice : {A : Type 0} → Option (ℕ × Val) → (ℕ → Val → List A) → List A
 of_choice None f = []
 of_choice (Some c) f = f c.0 c.1
 
-abbrev pub of_each : (Val → List ℤ) → Vals → List ℤ
+abbrev pub of_each : {A : Type 0} → (Val → List A) → Vals → List A
 of_each f no_vals = []
 of_each f (more_vals v vs) = f v ++ of_each f vs
 
@@ -64,3 +65,48 @@ abbrev mutual
   option_ids no_parts i v = []
   option_ids (part name k ps) zero v = ids k v
   option_ids (part name k ps) (suc i) v = option_ids ps i v
+
+-- the width of an integer, and an unsigned number that so many bits hold
+pub record IsStamp (pair : ℕ × ℕ) : Type 0 where
+  pub some_bits : 1 ≤ pair.0
+  pub in_a_word : pair.0 ≤ 64
+  pub held : pair.1 < 2 ^ pair.0
+
+-- the width and the number of an unsigned integer; nothing where so many bits do not hold it
+abbrev pub unsigned_pair : ℕ → Val → List (ℕ × ℕ)
+unsigned_pair n (unsigned x) = if nat_lt x (2 ^ n) then (n, x) ∷ [] else []
+unsigned_pair n _ = []
+
+-- the width of a number in two's complement, and its bits as an unsigned number; nothing where so many bits
+-- do not hold it (CTF 1.8.3, section 4.1.5)
+abbrev pub bits_pair : ℕ → ℤ → List (ℕ × ℕ)
+bits_pair n (pos x) = if nat_lt x (2 ^ (n - 1)) then (n, x) ∷ [] else []
+bits_pair n (negsuc x) = if nat_lt x (2 ^ (n - 1)) then (n, 2 ^ n - suc x) ∷ [] else []
+
+abbrev pub signed_pair : ℕ → Val → List (ℕ × ℕ)
+signed_pair n (signed z) = bits_pair n z
+signed_pair n _ = []
+
+-- the width and the unsigned number of an integer that sets the clock
+abbrev pub moved_in : Integer → Val → List (ℕ × ℕ)
+moved_in i v = if i.is_moving then (if i.is_signed then signed_pair i.size v else unsigned_pair i.size v) else []
+
+abbrev mutual
+  -- the width and the unsigned number of each integer that sets the clock, at any depth, in the order of
+  -- decoding (own)
+  pub moved : Form → Val → List (ℕ × ℕ)
+  moved (integer a i) v = moved_in i v
+  moved (structure a ps) v = member_moved ps (members_in v)
+  moved (variant a tag choices ps) v = of_choice (choice_in v) (λ i w. option_moved ps i w)
+  moved (array a many k) v = of_each (moved k) (elements_in v)
+  moved _ v = []
+
+  pub member_moved : Parts → Vals → List (ℕ × ℕ)
+  member_moved no_parts vs = []
+  member_moved (part name k ps) no_vals = []
+  member_moved (part name k ps) (more_vals v vs) = moved k v ++ member_moved ps vs
+
+  pub option_moved : Parts → ℕ → Val → List (ℕ × ℕ)
+  option_moved no_parts i v = []
+  option_moved (part name k ps) zero v = moved k v
+  option_moved (part name k ps) (suc i) v = option_moved ps i v

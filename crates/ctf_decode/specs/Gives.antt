@@ -2,7 +2,8 @@
 use Rattle.std.specs.Prelude.{◌≡◌, List, [], ◌∷◌, ◌++◌, Result, Ok, Err}
 use Rattle.ctf_decode.specs.declared.fault.DecodeFault.{DecodeFault}
 use Rattle.ctf_decode.specs.declared.fault.DecodeFault.TheVariants.{ContentEnds, NoOption, TooManyValues, NoMemory}
-use Rattle.ctf_decode.specs.declared.place.Reached.{Reached}
+use Rattle.ctf_decode.specs.declared.place.Cursor.{Cursor}
+use Rattle.ctf_decode.specs.declared.place.Stopped.{Stopped}
 use Rattle.ctf_decode.specs.Values.{Val}
 use Rattle.ctf_decode.specs.Breaks.{Fault, too_many, past, no_option}
 use Rattle.ctf_decode.specs.Walk.{Step}
@@ -14,14 +15,14 @@ Fails TooManyValues step = step ≡ Err too_many
 Fails NoMemory step = Unit {0}
 
 -- what stands is x, and decoding has come so far; or the fault is this
-abbrev pub Gives : {A : Type 0} → Result Reached DecodeFault → A → Step A → Type 0
-Gives (Ok r) x step = step ≡ Ok (x, r.end, r.spent)
-Gives (Err e) x step = Fails e step
+abbrev pub Gives : {A : Type 0} → Result (Unit {0}) Stopped → Cursor → A → Step A → Type 0
+Gives (Ok _) at x step = step ≡ Ok (x, at.end, at.spent)
+Gives (Err _) at x step = Fails at.fault step
 
 -- the same of a value that stands behind others
-abbrev pub GivesNext : Result Reached DecodeFault → List Val → List Val → Step Val → Type 0
-GivesNext (Ok r) done all step = (v : Val) × (all ≡ done ++ v ∷ []) × (step ≡ Ok (v, r.end, r.spent))
-GivesNext (Err e) done all step = Fails e step
+abbrev pub GivesNext : Result (Unit {0}) Stopped → Cursor → List Val → List Val → Step Val → Type 0
+GivesNext (Ok _) at done all step = (v : Val) × (all ≡ done ++ v ∷ []) × (step ≡ Ok (v, at.end, at.spent))
+GivesNext (Err _) at done all step = Fails at.fault step
 
 -- the fault that was told stands, unless memory ran out
 abbrev pub Told : (Fault → Type 0) → DecodeFault → Type 0

@@ -33,5 +33,13 @@ with_value known StreamEventContext value = record known { stream_event_context 
 with_value known EventContext value = record known { event_context = Some value }
 with_value known EventFields value = record known { event_fields = Some value }
 
+abbrev pub without_value : Known → Scope → Known
+without_value known PacketHeader = record known { packet_header = None }
+without_value known PacketContext = record known { packet_context = None }
+without_value known EventHeader = record known { event_header = None }
+without_value known StreamEventContext = record known { stream_event_context = None }
+without_value known EventContext = record known { event_context = None }
+without_value known EventFields = record known { event_fields = None }
+
 abbrev pub with_spent : Known → ℕ → Known
 with_spent known spent = record known { spent = spent }

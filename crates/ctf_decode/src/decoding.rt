@@ -8,7 +8,7 @@ ghost use Rattle.ctf_decode.specs.Views.{form, val, input_in};
 ghost use Rattle.ctf_decode.specs.Gives.{Told};
 
 use crate::fault::DecodeFault;
-use crate::place::{Frame, Packet, Reached};
+use crate::place::{Cursor, Frame, Packet, Reached, Stopped};
 use crate::scopes::{MOST_VALUES, Scopes};
 use crate::value::Value;
 use crate::walk::value_into;
@@ -54,15 +54,18 @@ pub fn decode_into(
         content,
         scopes,
     };
-    value_into(
-        alloc,
-        class,
-        &packet,
-        &Frame::Top,
-        start,
-        scopes.spent(),
-        value,
-    )
+    let mut at = Cursor {
+        end: start,
+        spent: scopes.spent(),
+        fault: DecodeFault::NoMemory,
+    };
+    match value_into(alloc, class, &packet, &Frame::Top, &mut at, value) {
+        Ok(()) => Ok(Reached {
+            end: at.end,
+            spent: at.spent,
+        }),
+        Err(Stopped) => Err(at.fault),
+    }
 }
 
 /// The value of a class that stands at the bit `start` of a packet. `content` is where the packet's

@@ -1,7 +1,6 @@
 //! Why no value was decoded.
 
 use ctf_list::NoMemory;
-use std::alloc::{AllocError, AllocFailed};
 use thiserror::Error;
 
 /// Why no value was decoded (F6, F8, F11).
@@ -28,28 +27,6 @@ impl From<NoMemory> for DecodeFault {
     ghost from_gives = { λ _ fault. fault ≡ faults.NoMemory };
 
     fn from(_refused: NoMemory) -> DecodeFault {
-        DecodeFault::NoMemory
-    }
-}
-
-impl From<AllocError> for DecodeFault {
-    ghost use Rattle.std.specs.Prelude.{◌≡◌};
-    ghost use Rattle.ctf_decode.specs.declared.fault.DecodeFault.TheVariants as faults;
-
-    ghost from_gives = { λ _ fault. fault ≡ faults.NoMemory };
-
-    fn from(_refused: AllocError) -> DecodeFault {
-        DecodeFault::NoMemory
-    }
-}
-
-impl<T: Drop> From<AllocFailed<T>> for DecodeFault {
-    ghost use Rattle.std.specs.Prelude.{◌≡◌};
-    ghost use Rattle.ctf_decode.specs.declared.fault.DecodeFault.TheVariants as faults;
-
-    ghost from_gives = { λ _ fault. fault ≡ faults.NoMemory };
-
-    fn from(_refused: AllocFailed<T>) -> DecodeFault {
         DecodeFault::NoMemory
     }
 }

@@ -12,17 +12,19 @@ use crate::value::Value;
 use ctf_class::{Class, Kind, Member};
 
 /// The number of the last decoded integer or enumeration that is a structure member named `id`, at any
-/// depth. A part of the value that is no value of its class gives nothing.
+/// depth. A part of the value that is of another kind than its class gives nothing.
 pub fn last_id(class: &Class, value: &Value) -> Option<i128>
     ensures { result ≡ last_or None (fields.ids (form class.now) (val value.now)) }
 {
-    last_in(class, value, None)
+    let mut last = None;
+    last_in(class, value, &mut last);
+    last
 }
 
-/// The last number in a value, or else the one that came before.
+/// Keeps the last number in a value, if there is one.
 #[cycle(ids)]
-fn last_in(class: &Class, value: &Value, last: Option<i128>) -> Option<i128>
-    ensures { result ≡ last_or last (fields.ids (form class.now) (val value.now)) }
+fn last_in(class: &Class, value: &Value, last: &mut Option<i128>)
+    ensures { last.new ≡ last_or last.old (fields.ids (form class.now) (val value.now)) }
 {
     match &class.kind {
         Kind::Structure { members } => last_in_members(members.as_slice(), members_in(value), last),
@@ -36,138 +38,130 @@ fn last_in(class: &Class, value: &Value, last: Option<i128>) -> Option<i128>
             elements_in(value),
             last,
         ),
-        Kind::Integer(_) => last,
-        Kind::Enumeration { container, labels } => last,
-        Kind::String => last,
-        Kind::Text { length } => last,
+        Kind::Integer(_) => {}
+        Kind::Enumeration { container, labels } => {}
+        Kind::String => {}
+        Kind::Text { length } => {}
     }
 }
 
-/// The last number in members and in what they hold.
+/// Keeps the last number in members and in what they hold.
 #[cycle(ids)]
-fn last_in_members(members: &[Member], values: &[Value], last: Option<i128>) -> Option<i128>
-    ensures { result ≡ last_or last (fields.member_ids (parts_of (map member_part members.now)) (vals_of (map val values.now))) }
+fn last_in_members(members: &[Member], values: &[Value], last: &mut Option<i128>)
+    ensures { last.new ≡ last_or last.old (fields.member_ids (parts_of (map member_part members.now)) (vals_of (map val values.now))) }
 {
-    let mut found = last;
     for (i, member) in members.iter().enumerate() {
         if i >= values.len() {
-            return found;
+            return;
         }
         let value = &values[i];
-        found = named_id(member, value, found);
-        found = last_in(&member.class, value, found);
+        named_id(member, value, last);
+        last_in(&member.class, value, last);
     }
-    found
 }
 
-/// The last number in elements.
+/// Keeps the last number in elements.
 #[cycle(ids)]
-fn last_in_elements(element: &Class, values: &[Value], last: Option<i128>) -> Option<i128>
-    ensures { result ≡ last_or last (fields.of_each (fields.ids (form element.now)) (vals_of (map val values.now))) }
+fn last_in_elements(element: &Class, values: &[Value], last: &mut Option<i128>)
+    ensures { last.new ≡ last_or last.old (fields.of_each (fields.ids (form element.now)) (vals_of (map val values.now))) }
 {
-    let mut found = last;
     for value in values {
-        found = last_in(element, value, found);
+        last_in(element, value, last);
     }
-    found
 }
 
-/// The last number in an option.
+/// Keeps the last number in an option.
 #[cycle(ids)]
-fn last_in_option(options: &[Member], value: &Value, last: Option<i128>) -> Option<i128>
-    ensures { result ≡ last_or last (fields.of_choice (fields.choice_in (val value.now)) (λ i v. fields.option_ids (parts_of (map member_part options.now)) i v)) }
+fn last_in_option(options: &[Member], value: &Value, last: &mut Option<i128>)
+    ensures { last.new ≡ last_or last.old (fields.of_choice (fields.choice_in (val value.now)) (λ i v. fields.option_ids (parts_of (map member_part options.now)) i v)) }
 {
-    match choice_in(value) {
-        None => last,
-        Some((i, inner)) => last_in_chosen(options, i, inner, last),
+    if let Some((i, inner)) = choice_in(value) {
+        last_in_chosen(options, i, inner, last);
     }
 }
 
-/// The last number in the value of option i.
+/// Keeps the last number in the value of option i.
 #[cycle(ids)]
-fn last_in_chosen(options: &[Member], i: usize, inner: &Value, last: Option<i128>) -> Option<i128>
-    ensures { result ≡ last_or last (fields.option_ids (parts_of (map member_part options.now)) i (val inner.now)) }
+fn last_in_chosen(options: &[Member], i: usize, inner: &Value, last: &mut Option<i128>)
+    ensures { last.new ≡ last_or last.old (fields.option_ids (parts_of (map member_part options.now)) i (val inner.now)) }
 {
-    if i >= options.len() {
-        return last;
+    if i < options.len() {
+        last_in(&options[i].class, inner, last);
     }
-    last_in(&options[i].class, inner, last)
 }
 
-/// The number of a member that is named `id`, or else the one that came before.
-fn named_id(member: &Member, value: &Value, last: Option<i128>) -> Option<i128>
-    ensures { result ≡ last_or last (fields.named_id member.now.name (form member.now.class) (val value.now)) }
+/// Keeps the number of a member that is named `id`.
+fn named_id(member: &Member, value: &Value, last: &mut Option<i128>)
+    ensures { last.new ≡ last_or last.old (fields.named_id member.now.name (form member.now.class) (val value.now)) }
 {
     if member.name.as_slice() == b"id".as_slice() {
-        number_in(&member.class, value, last)
-    } else {
-        last
+        number_in(&member.class, value, last);
     }
 }
 
-/// An integer's or an enumeration's number, or else the one that came before.
-fn number_in(class: &Class, value: &Value, last: Option<i128>) -> Option<i128>
-    ensures { result ≡ last_or last (fields.number_in (form class.now) (val value.now)) }
+/// Keeps an integer's or an enumeration's number.
+fn number_in(class: &Class, value: &Value, last: &mut Option<i128>)
+    ensures { last.new ≡ last_or last.old (fields.number_in (form class.now) (val value.now)) }
 {
     match &class.kind {
         Kind::Integer(integer) => {
             if integer.is_signed {
-                signed_in(value, last)
+                signed_in(value, last);
             } else {
-                unsigned_in(value, last)
+                unsigned_in(value, last);
             }
         }
         Kind::Enumeration { container, labels } => label_in(value, last),
-        Kind::String => last,
-        Kind::Structure { members } => last,
+        Kind::String => {}
+        Kind::Structure { members } => {}
         Kind::Variant {
             tag,
             choices,
             options,
-        } => last,
-        Kind::Array { length, element } => last,
-        Kind::Text { length } => last,
+        } => {}
+        Kind::Array { length, element } => {}
+        Kind::Text { length } => {}
     }
 }
 
-fn unsigned_in(value: &Value, last: Option<i128>) -> Option<i128>
-    ensures { result ≡ last_or last (fields.unsigned_in (val value.now)) }
+fn unsigned_in(value: &Value, last: &mut Option<i128>)
+    ensures { last.new ≡ last_or last.old (fields.unsigned_in (val value.now)) }
 {
     match value {
-        Value::Unsigned(number) => Some(i128::from(*number)),
-        Value::Signed(_) => last,
-        Value::Label(_) => last,
-        Value::Text(_) => last,
-        Value::Group(_) => last,
-        Value::List(_) => last,
-        Value::Choice(_, _) => last,
+        Value::Unsigned(number) => *last = Some(i128::from(*number)),
+        Value::Signed(_) => {}
+        Value::Label(_) => {}
+        Value::Text(_) => {}
+        Value::Group(_) => {}
+        Value::List(_) => {}
+        Value::Choice(_, _) => {}
     }
 }
 
-fn signed_in(value: &Value, last: Option<i128>) -> Option<i128>
-    ensures { result ≡ last_or last (fields.signed_in (val value.now)) }
+fn signed_in(value: &Value, last: &mut Option<i128>)
+    ensures { last.new ≡ last_or last.old (fields.signed_in (val value.now)) }
 {
     match value {
-        Value::Signed(number) => Some(i128::from(*number)),
-        Value::Unsigned(_) => last,
-        Value::Label(_) => last,
-        Value::Text(_) => last,
-        Value::Group(_) => last,
-        Value::List(_) => last,
-        Value::Choice(_, _) => last,
+        Value::Signed(number) => *last = Some(i128::from(*number)),
+        Value::Unsigned(_) => {}
+        Value::Label(_) => {}
+        Value::Text(_) => {}
+        Value::Group(_) => {}
+        Value::List(_) => {}
+        Value::Choice(_, _) => {}
     }
 }
 
-fn label_in(value: &Value, last: Option<i128>) -> Option<i128>
-    ensures { result ≡ last_or last (fields.label_in (val value.now)) }
+fn label_in(value: &Value, last: &mut Option<i128>)
+    ensures { last.new ≡ last_or last.old (fields.label_in (val value.now)) }
 {
     match value {
-        Value::Label(number) => Some(*number),
-        Value::Unsigned(_) => last,
-        Value::Signed(_) => last,
-        Value::Text(_) => last,
-        Value::Group(_) => last,
-        Value::List(_) => last,
-        Value::Choice(_, _) => last,
+        Value::Label(number) => *last = Some(*number),
+        Value::Unsigned(_) => {}
+        Value::Signed(_) => {}
+        Value::Text(_) => {}
+        Value::Group(_) => {}
+        Value::List(_) => {}
+        Value::Choice(_, _) => {}
     }
 }

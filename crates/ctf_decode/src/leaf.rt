@@ -8,7 +8,7 @@ ghost use Rattle.ctf_decode.specs.Walk.{begin, leaf};
 ghost use Rattle.ctf_decode.specs.Gives.{Gives};
 
 use crate::fault::DecodeFault;
-use crate::place::{Packet, Reached, begin_at};
+use crate::place::{Cursor, Packet, Stopped, begin_at};
 use crate::scopes::MOST_VALUES;
 use crate::value::Value;
 use ctf_bits::{sint, uint};
@@ -19,40 +19,37 @@ pub fn integer_into(
     integer: &Integer,
     align: Align,
     packet: &Packet<'_>,
-    start: u64,
-    spent: u64,
+    at: &mut Cursor,
     value: &mut Value,
-) -> Result<Reached, DecodeFault>
-    requires start { start ≤ packet.now.content }
-    ensures gives { let b = next_multiple_of start align in
-        Gives result (val value.new) (begin (input packet.now) spent (leaf (input packet.now) (b + bits_of integer.now) spent (integer_at (input packet.now) integer.now b))) }
-    ensures within { IfOk result (λ r. (r.end ≤ packet.now.content) × (r.spent ≤ MOST_VALUES)) }
+) -> Result<(), Stopped>
+    requires start { at.old.end ≤ packet.now.content }
+    ensures gives { let b = next_multiple_of at.old.end align in
+        Gives result at.new (val value.new) (begin (input packet.now) at.old.spent (leaf (input packet.now) (b + bits_of integer.now) at.old.spent (integer_at (input packet.now) integer.now b))) }
+    ensures within { IfOk result (λ _. (at.new.end ≤ packet.now.content) × (at.new.spent ≤ MOST_VALUES)) }
 {
-    if spent >= MOST_VALUES {
-        return Err(DecodeFault::TooManyValues);
+    if at.spent >= MOST_VALUES {
+        return Err(at.stop(DecodeFault::TooManyValues));
     }
     let size = integer.size.bits();
-    let begin = begin_at(start, align);
+    let begin = begin_at(at.end, align);
     let end = begin + u64::from(size);
     if end > packet.content {
-        return Err(DecodeFault::ContentEnds(u128::from(end)));
+        return Err(at.stop(DecodeFault::ContentEnds(u128::from(end))));
     }
-    let reached = Reached {
-        end,
-        spent: spent + 1,
-    };
     if integer.is_signed {
         match sint(packet.bytes, begin, size, integer.order) {
-            None => return Err(DecodeFault::ContentEnds(u128::from(end))),
+            None => return Err(at.stop(DecodeFault::ContentEnds(u128::from(end)))),
             Some(number) => *value = Value::Signed(number),
         }
     } else {
         match uint(packet.bytes, begin, size, integer.order) {
-            None => return Err(DecodeFault::ContentEnds(u128::from(end))),
+            None => return Err(at.stop(DecodeFault::ContentEnds(u128::from(end)))),
             Some(number) => *value = Value::Unsigned(number),
         }
     }
-    Ok(reached)
+    at.end = end;
+    at.spent += 1;
+    Ok(())
 }
 
 /// Makes the enumeration at a place the value.
@@ -60,38 +57,35 @@ pub fn enumeration_into(
     container: &Integer,
     align: Align,
     packet: &Packet<'_>,
-    start: u64,
-    spent: u64,
+    at: &mut Cursor,
     value: &mut Value,
-) -> Result<Reached, DecodeFault>
-    requires start { start ≤ packet.now.content }
-    ensures gives { let b = next_multiple_of start align in
-        Gives result (val value.new) (begin (input packet.now) spent (leaf (input packet.now) (b + bits_of container.now) spent (label_at (input packet.now) container.now b))) }
-    ensures within { IfOk result (λ r. (r.end ≤ packet.now.content) × (r.spent ≤ MOST_VALUES)) }
+) -> Result<(), Stopped>
+    requires start { at.old.end ≤ packet.now.content }
+    ensures gives { let b = next_multiple_of at.old.end align in
+        Gives result at.new (val value.new) (begin (input packet.now) at.old.spent (leaf (input packet.now) (b + bits_of container.now) at.old.spent (label_at (input packet.now) container.now b))) }
+    ensures within { IfOk result (λ _. (at.new.end ≤ packet.now.content) × (at.new.spent ≤ MOST_VALUES)) }
 {
-    if spent >= MOST_VALUES {
-        return Err(DecodeFault::TooManyValues);
+    if at.spent >= MOST_VALUES {
+        return Err(at.stop(DecodeFault::TooManyValues));
     }
     let size = container.size.bits();
-    let begin = begin_at(start, align);
+    let begin = begin_at(at.end, align);
     let end = begin + u64::from(size);
     if end > packet.content {
-        return Err(DecodeFault::ContentEnds(u128::from(end)));
+        return Err(at.stop(DecodeFault::ContentEnds(u128::from(end))));
     }
-    let reached = Reached {
-        end,
-        spent: spent + 1,
-    };
     if container.is_signed {
         match sint(packet.bytes, begin, size, container.order) {
-            None => return Err(DecodeFault::ContentEnds(u128::from(end))),
+            None => return Err(at.stop(DecodeFault::ContentEnds(u128::from(end)))),
             Some(number) => *value = Value::Label(i128::from(number)),
         }
     } else {
         match uint(packet.bytes, begin, size, container.order) {
-            None => return Err(DecodeFault::ContentEnds(u128::from(end))),
+            None => return Err(at.stop(DecodeFault::ContentEnds(u128::from(end)))),
             Some(number) => *value = Value::Label(i128::from(number)),
         }
     }
-    Ok(reached)
+    at.end = end;
+    at.spent += 1;
+    Ok(())
 }

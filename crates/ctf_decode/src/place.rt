@@ -3,6 +3,7 @@
 ghost use Rattle.std.specs.Prelude.{◌≡◌, ◌≤◌, ◌<◌, ◌*◌, ◌+◌, ◌^◌, length};
 ghost use Rattle.std.specs.Int.{next_multiple_of};
 
+use crate::fault::DecodeFault;
 use crate::scopes::Scopes;
 use crate::value::Value;
 use ctf_bits::up;
@@ -34,13 +35,40 @@ pub struct Reached {
     pub spent: u64,
 }
 
+/// How far decoding has come. Calls hand it on in place: results of many words cost more than the values.
+#[derive(Drop)]
+pub struct Cursor {
+    /// The place where the last value ends, in bits from the packet's first one.
+    pub end: u64,
+    /// How many values were begun so far.
+    pub spent: u64,
+    /// Why it stopped, once it has.
+    pub fault: DecodeFault,
+}
+
+/// No value was decoded. The cursor has the fault.
+#[derive(Clone, Copy, Debug, PartialEq, Eq)]
+pub struct Stopped;
+
+impl Cursor {
+    /// Stops for a fault.
+    #[cold]
+    #[inline(never)]
+    pub fn stop(&mut self, fault: DecodeFault) -> Stopped
+        ensures { self.new.fault ≡ fault }
+    {
+        self.fault = fault;
+        Stopped
+    }
+}
+
 /// Where a field begins that is next behind a place, both in bits.
 pub fn begin_at(place: u64, align: Align) -> u64
     requires { place ≤ 2 ^ 62 }
     ensures value { result ≡ next_multiple_of place align }
     ensures bound { result < 2 ^ 63 }
 {
-    up(place, u64::from(align.bits()))
+    align.up(place)
 }
 
 /// Where a byte begins that is next behind a place, both in bits.

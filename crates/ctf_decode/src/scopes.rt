@@ -2,7 +2,7 @@
 
 ghost use Rattle.std.specs.Prelude.{◌≡◌, ◌≤◌};
 ghost use Rattle.std.specs.Option.{option_copied};
-ghost use Rattle.ctf_decode.specs.Known.{nothing_known, value_at, with_value, with_spent};
+ghost use Rattle.ctf_decode.specs.Known.{nothing_known, value_at, with_value, without_value, with_spent};
 
 use crate::value::Value;
 use ctf_class::Scope;
@@ -90,6 +90,21 @@ impl Scopes {
             Scope::StreamEventContext => self.stream_event_context.as_ref(),
             Scope::EventContext => self.event_context.as_ref(),
             Scope::EventFields => self.event_fields.as_ref(),
+        }
+    }
+
+    /// The value of a scope, which is then not there: it can be renewed in place and put back.
+    pub fn take(&mut self, scope: Scope) -> Option<Value>
+        ensures value { result ≡ value_at self.old scope }
+        ensures rest { self.new ≡ without_value self.old scope }
+    {
+        match scope {
+            Scope::PacketHeader => self.packet_header.take(),
+            Scope::PacketContext => self.packet_context.take(),
+            Scope::EventHeader => self.event_header.take(),
+            Scope::StreamEventContext => self.stream_event_context.take(),
+            Scope::EventContext => self.event_context.take(),
+            Scope::EventFields => self.event_fields.take(),
         }
     }
 

@@ -11,7 +11,7 @@ ghost use Rattle.ctf_decode.specs.Walk.{begin, leaf, string_at};
 ghost use Rattle.ctf_decode.specs.Gives.{Gives};
 
 use crate::fault::DecodeFault;
-use crate::place::{Packet, Reached, byte_at};
+use crate::place::{Cursor, Packet, Stopped, byte_at};
 use crate::scopes::MOST_VALUES;
 use crate::value::Value;
 use ctf_list::List;
@@ -53,32 +53,31 @@ fn zero_in(bytes: &[u8]) -> Option<usize>
 pub fn string_into(
     alloc: Global,
     packet: &Packet<'_>,
-    start: u64,
-    spent: u64,
+    at: &mut Cursor,
     value: &mut Value,
-) -> Result<Reached, DecodeFault>
-    requires start { start ≤ packet.now.content }
-    ensures gives { Gives result (val value.new) (begin (input packet.now) spent (string_at (input packet.now) (next_multiple_of start 8) spent)) }
-    ensures within { IfOk result (λ r. (r.end ≤ packet.now.content) × (r.spent ≤ MOST_VALUES)) }
+) -> Result<(), Stopped>
+    requires start { at.old.end ≤ packet.now.content }
+    ensures gives { Gives result at.new (val value.new) (begin (input packet.now) at.old.spent (string_at (input packet.now) (next_multiple_of at.old.end 8) at.old.spent)) }
+    ensures within { IfOk result (λ _. (at.new.end ≤ packet.now.content) × (at.new.spent ≤ MOST_VALUES)) }
 {
-    if spent >= MOST_VALUES {
-        return Err(DecodeFault::TooManyValues);
+    if at.spent >= MOST_VALUES {
+        return Err(at.stop(DecodeFault::TooManyValues));
     }
-    let begin = byte_at(start);
+    let begin = byte_at(at.end);
     if begin > packet.content {
-        return Err(DecodeFault::ContentEnds(u128::from(begin + 8)));
+        return Err(at.stop(DecodeFault::ContentEnds(u128::from(begin + 8))));
     }
     let bytes = bytes_from(packet, begin);
-    match zero_in(bytes) {
-        None => Err(DecodeFault::ContentEnds(u128::from(begin + 8 * (bytes.len() as u64 + 1)))),
-        Some(n) => {
-            text_into(alloc, &bytes[..n], value)?;
-            Ok(Reached {
-                end: begin + 8 * (n as u64 + 1),
-                spent: spent + 1,
-            })
-        }
-    }
+    let Some(n) = zero_in(bytes) else {
+        let end = begin + 8 * (bytes.len() as u64 + 1);
+        return Err(at.stop(DecodeFault::ContentEnds(u128::from(end))));
+    };
+    let Ok(()) = text_into(alloc, &bytes[..n], value) else {
+        return Err(at.stop(DecodeFault::NoMemory));
+    };
+    at.end = begin + 8 * (n as u64 + 1);
+    at.spent += 1;
+    Ok(())
 }
 
 /// The bytes before the first zero byte, or all of them.
@@ -105,26 +104,27 @@ pub fn characters_into(
     alloc: Global,
     count: u64,
     packet: &Packet<'_>,
-    start: u64,
-    spent: u64,
+    at: &mut Cursor,
     value: &mut Value,
-) -> Result<Reached, DecodeFault>
-    requires start { start ≤ packet.now.content }
-    ensures gives { let b = next_multiple_of start 8 in
-        Gives result (val value.new) (begin (input packet.now) spent (leaf (input packet.now) (b + 8 * count) spent (text_in (input packet.now) b count))) }
-    ensures within { IfOk result (λ r. (r.end ≤ packet.now.content) × (r.spent ≤ MOST_VALUES)) }
+) -> Result<(), Stopped>
+    requires start { at.old.end ≤ packet.now.content }
+    ensures gives { let b = next_multiple_of at.old.end 8 in
+        Gives result at.new (val value.new) (begin (input packet.now) at.old.spent (leaf (input packet.now) (b + 8 * count) at.old.spent (text_in (input packet.now) b count))) }
+    ensures within { IfOk result (λ _. (at.new.end ≤ packet.now.content) × (at.new.spent ≤ MOST_VALUES)) }
 {
-    if spent >= MOST_VALUES {
-        return Err(DecodeFault::TooManyValues);
+    if at.spent >= MOST_VALUES {
+        return Err(at.stop(DecodeFault::TooManyValues));
     }
-    let begin = byte_at(start);
+    let begin = byte_at(at.end);
     let end = u128::from(begin) + 8 * u128::from(count);
     if end > u128::from(packet.content) {
-        return Err(DecodeFault::ContentEnds(end));
+        return Err(at.stop(DecodeFault::ContentEnds(end)));
     }
-    text_into(alloc, before_zero(bytes_at(packet, begin, count)), value)?;
-    Ok(Reached {
-        end: begin + 8 * count,
-        spent: spent + 1,
-    })
+    let text = before_zero(bytes_at(packet, begin, count));
+    let Ok(()) = text_into(alloc, text, value) else {
+        return Err(at.stop(DecodeFault::NoMemory));
+    };
+    at.end = begin + 8 * count;
+    at.spent += 1;
+    Ok(())
 }

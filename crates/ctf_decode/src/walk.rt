@@ -10,7 +10,7 @@ ghost use Rattle.ctf_decode.specs.Gives.{Gives, GivesNext};
 use crate::fault::DecodeFault;
 use crate::find::{length_at, option_at};
 use crate::leaf::{enumeration_into, integer_into};
-use crate::place::{Frame, Packet, Reached, begin_at};
+use crate::place::{Cursor, Frame, Packet, Stopped, begin_at};
 use crate::scopes::MOST_VALUES;
 use crate::text::{characters_into, string_into};
 use crate::value::Value;
@@ -26,25 +26,23 @@ pub fn value_into(
     class: &Class,
     packet: &Packet<'_>,
     frame: &Frame<'_>,
-    start: u64,
-    spent: u64,
+    at: &mut Cursor,
     value: &mut Value,
-) -> Result<Reached, DecodeFault>
-    requires start { start ≤ packet.now.content }
-    ensures gives { Gives result (val value.new) (walk (form class.now) (input packet.now) (env frame.now) start spent) }
-    ensures within { IfOk result (λ r. (r.end ≤ packet.now.content) × (r.spent ≤ MOST_VALUES)) }
+) -> Result<(), Stopped>
+    requires start { at.old.end ≤ packet.now.content }
+    ensures gives { Gives result at.new (val value.new) (walk (form class.now) (input packet.now) (env frame.now) at.old.end at.old.spent) }
+    ensures within { IfOk result (λ _. (at.new.end ≤ packet.now.content) × (at.new.spent ≤ MOST_VALUES)) }
 {
     match &class.kind {
-        Kind::Integer(integer) => integer_into(integer, class.align, packet, start, spent, value),
+        Kind::Integer(integer) => integer_into(integer, class.align, packet, at, value),
         Kind::Enumeration { container, labels } => enumeration_into(
             container,
             class.align,
             packet,
-            start,
-            spent,
+            at,
             value,
         ),
-        Kind::String => string_into(alloc, packet, start, spent, value),
+        Kind::String => string_into(alloc, packet, at, value),
         Kind::Structure { members } => {
             structure_into(
                 alloc,
@@ -52,8 +50,7 @@ pub fn value_into(
                 members.as_slice(),
                 packet,
                 frame,
-                start,
-                spent,
+                at,
                 value,
             )
         }
@@ -63,33 +60,15 @@ pub fn value_into(
             options,
         } => {
             let chosen = option_at(tag, choices.as_slice(), packet.scopes, frame);
-            choice_into(
-                alloc,
-                options.as_slice(),
-                chosen,
-                packet,
-                frame,
-                start,
-                spent,
-                value,
-            )
+            choice_into(alloc, options.as_slice(), chosen, packet, frame, at, value)
         }
         Kind::Array { length, element } => {
             let count = length_at(length, packet.scopes, frame);
-            array_into(
-                alloc,
-                element.get(),
-                count,
-                packet,
-                frame,
-                start,
-                spent,
-                value,
-            )
+            array_into(alloc, element.get(), count, packet, frame, at, value)
         }
         Kind::Text { length } => {
             let count = length_at(length, packet.scopes, frame);
-            characters_into(alloc, count, packet, start, spent, value)
+            characters_into(alloc, count, packet, at, value)
         }
     }
 }
@@ -102,30 +81,51 @@ fn structure_into(
     members: &[Member],
     packet: &Packet<'_>,
     frame: &Frame<'_>,
-    start: u64,
-    spent: u64,
+    at: &mut Cursor,
     value: &mut Value,
-) -> Result<Reached, DecodeFault>
-    requires start { start ≤ packet.now.content }
-    ensures gives { let b = next_multiple_of start align in
-        Gives result (val value.new) (begin (input packet.now) spent (open_at (input packet.now) b (and_then
-        (walk_members (parts_of (map member_part members.now)) (input packet.now) (env frame.now) [] b (spent + 1)) as_group))) }
-    ensures within { IfOk result (λ r. (r.end ≤ packet.now.content) × (r.spent ≤ MOST_VALUES)) }
+) -> Result<(), Stopped>
+    requires start { at.old.end ≤ packet.now.content }
+    ensures gives { let b = next_multiple_of at.old.end align in
+        Gives result at.new (val value.new) (begin (input packet.now) at.old.spent (open_at (input packet.now) b (and_then
+        (walk_members (parts_of (map member_part members.now)) (input packet.now) (env frame.now) [] b (at.old.spent + 1)) as_group))) }
+    ensures within { IfOk result (λ _. (at.new.end ≤ packet.now.content) × (at.new.spent ≤ MOST_VALUES)) }
 {
-    if spent >= MOST_VALUES {
-        return Err(DecodeFault::TooManyValues);
+    if at.spent >= MOST_VALUES {
+        return Err(at.stop(DecodeFault::TooManyValues));
     }
-    let begin = begin_at(start, align);
+    let begin = begin_at(at.end, align);
     if begin > packet.content {
-        return Err(DecodeFault::ContentEnds(u128::from(begin)));
+        return Err(at.stop(DecodeFault::ContentEnds(u128::from(begin))));
     }
+    at.end = begin;
+    at.spent += 1;
     if let Value::Group(values) = value {
-        return members_into(alloc, members, packet, frame, begin, spent + 1, values);
+        return members_into(alloc, members, packet, frame, at, values);
     }
+    new_group_into(alloc, members, packet, frame, at, value)
+}
+
+/// Makes a structure of these members the value, of which no memory is used again.
+#[cycle(walk)]
+#[inline(never)]
+fn new_group_into(
+    alloc: Global,
+    members: &[Member],
+    packet: &Packet<'_>,
+    frame: &Frame<'_>,
+    at: &mut Cursor,
+    value: &mut Value,
+) -> Result<(), Stopped>
+    requires start { at.old.end ≤ packet.now.content }
+    requires spent { at.old.spent ≤ MOST_VALUES }
+    ensures gives { Gives result at.new (val value.new) (and_then
+        (walk_members (parts_of (map member_part members.now)) (input packet.now) (env frame.now) [] at.old.end at.old.spent) as_group) }
+    ensures within { IfOk result (λ _. (at.new.end ≤ packet.now.content) × (at.new.spent ≤ MOST_VALUES)) }
+{
     let mut values = List::new(alloc);
-    let reached = members_into(alloc, members, packet, frame, begin, spent + 1, &mut values)?;
+    members_into(alloc, members, packet, frame, at, &mut values)?;
     *value = Value::Group(values);
-    Ok(reached)
+    Ok(())
 }
 
 /// Keeps so many values, or puts as many there.
@@ -147,25 +147,18 @@ fn members_into(
     members: &[Member],
     packet: &Packet<'_>,
     frame: &Frame<'_>,
-    start: u64,
-    spent: u64,
+    at: &mut Cursor,
     values: &mut List<Value>,
-) -> Result<Reached, DecodeFault>
-    requires start { start ≤ packet.now.content }
-    requires spent { spent ≤ MOST_VALUES }
-    ensures gives { Gives result (map val values.new) (walk_members (parts_of (map member_part members.now)) (input packet.now) (env frame.now) [] start spent) }
-    ensures within { IfOk result (λ r. (r.end ≤ packet.now.content) × (r.spent ≤ MOST_VALUES)) }
+) -> Result<(), Stopped>
+    requires start { at.old.end ≤ packet.now.content }
+    requires spent { at.old.spent ≤ MOST_VALUES }
+    ensures gives { Gives result at.new (map val values.new) (walk_members (parts_of (map member_part members.now)) (input packet.now) (env frame.now) [] at.old.end at.old.spent) }
+    ensures within { IfOk result (λ _. (at.new.end ≤ packet.now.content) × (at.new.spent ≤ MOST_VALUES)) }
 {
-    with_room(values, members.len())?;
-    each_member_into(
-        alloc,
-        members,
-        packet,
-        frame,
-        start,
-        spent,
-        values.as_mut_slice(),
-    )
+    let Ok(()) = with_room(values, members.len()) else {
+        return Err(at.stop(DecodeFault::NoMemory));
+    };
+    each_member_into(alloc, members, packet, frame, at, values.as_mut_slice())
 }
 
 /// Makes the members of a structure the values, of which there are as many.
@@ -175,30 +168,19 @@ fn each_member_into(
     members: &[Member],
     packet: &Packet<'_>,
     frame: &Frame<'_>,
-    start: u64,
-    spent: u64,
+    at: &mut Cursor,
     values: &mut [Value],
-) -> Result<Reached, DecodeFault>
-    requires start { start ≤ packet.now.content }
-    requires spent { spent ≤ MOST_VALUES }
+) -> Result<(), Stopped>
+    requires start { at.old.end ≤ packet.now.content }
+    requires spent { at.old.spent ≤ MOST_VALUES }
     requires room { length values.old ≡ length members.now }
-    ensures gives { Gives result (map val values.new) (walk_members (parts_of (map member_part members.now)) (input packet.now) (env frame.now) [] start spent) }
-    ensures within { IfOk result (λ r. (r.end ≤ packet.now.content) × (r.spent ≤ MOST_VALUES)) }
+    ensures gives { Gives result at.new (map val values.new) (walk_members (parts_of (map member_part members.now)) (input packet.now) (env frame.now) [] at.old.end at.old.spent) }
+    ensures within { IfOk result (λ _. (at.new.end ≤ packet.now.content) × (at.new.spent ≤ MOST_VALUES)) }
 {
-    let mut reached = Reached { end: start, spent };
     for (i, member) in members.iter().enumerate() {
-        reached = member_into(
-            alloc,
-            &member.class,
-            packet,
-            frame,
-            reached.end,
-            reached.spent,
-            values,
-            i,
-        )?;
+        member_into(alloc, &member.class, packet, frame, at, values, i)?;
     }
-    Ok(reached)
+    Ok(())
 }
 
 /// Makes the next member of a structure the value at an index, those before it being there.
@@ -208,24 +190,48 @@ fn member_into(
     class: &Class,
     packet: &Packet<'_>,
     frame: &Frame<'_>,
-    start: u64,
-    spent: u64,
+    at: &mut Cursor,
     values: &mut [Value],
     i: usize,
-) -> Result<Reached, DecodeFault>
-    requires start { start ≤ packet.now.content }
+) -> Result<(), Stopped>
+    requires start { at.old.end ≤ packet.now.content }
     requires room { i < length values.old }
-    ensures gives { GivesNext result (map val (take i values.old)) (map val (take (i + 1) values.new)) (walk (form class.now) (input packet.now) (map val (take i values.old) ∷ env frame.now) start spent) }
-    ensures within { IfOk result (λ r. (r.end ≤ packet.now.content) × (r.spent ≤ MOST_VALUES)) }
+    ensures gives { GivesNext result at.new (map val (take i values.old)) (map val (take (i + 1) values.new)) (walk (form class.now) (input packet.now) (map val (take i values.old) ∷ env frame.now) at.old.end at.old.spent) }
+    ensures within { IfOk result (λ _. (at.new.end ≤ packet.now.content) × (at.new.spent ≤ MOST_VALUES)) }
 {
-    if let Kind::Integer(integer) = &class.kind {
-        return integer_into(integer, class.align, packet, start, spent, &mut values[i]);
+    match &class.kind {
+        Kind::Integer(integer) => integer_into(integer, class.align, packet, at, &mut values[i]),
+        Kind::Enumeration { container, labels } => {
+            enumeration_into(container, class.align, packet, at, &mut values[i])
+        }
+        Kind::String => string_into(alloc, packet, at, &mut values[i]),
+        _ => inner_member_into(alloc, class, packet, frame, at, values, i),
     }
+}
+
+/// Makes the next member of a structure the value at an index, where it may see those before it. It is
+/// taken out meanwhile.
+#[cycle(walk)]
+#[inline(never)]
+fn inner_member_into(
+    alloc: Global,
+    class: &Class,
+    packet: &Packet<'_>,
+    frame: &Frame<'_>,
+    at: &mut Cursor,
+    values: &mut [Value],
+    i: usize,
+) -> Result<(), Stopped>
+    requires start { at.old.end ≤ packet.now.content }
+    requires room { i < length values.old }
+    ensures gives { GivesNext result at.new (map val (take i values.old)) (map val (take (i + 1) values.new)) (walk (form class.now) (input packet.now) (map val (take i values.old) ∷ env frame.now) at.old.end at.old.spent) }
+    ensures within { IfOk result (λ _. (at.new.end ≤ packet.now.content) × (at.new.spent ≤ MOST_VALUES)) }
+{
     let mut value = mem::replace(&mut values[i], Value::Unsigned(0));
     let inner = Frame::Within(&values[..i], &*frame);
-    let reached = value_into(alloc, class, packet, &inner, start, spent, &mut value)?;
+    value_into(alloc, class, packet, &inner, at, &mut value)?;
     values[i] = value;
-    Ok(reached)
+    Ok(())
 }
 
 /// Makes the array of so many elements at a place the value.
@@ -236,39 +242,31 @@ fn array_into(
     count: u64,
     packet: &Packet<'_>,
     frame: &Frame<'_>,
-    start: u64,
-    spent: u64,
+    at: &mut Cursor,
     value: &mut Value,
-) -> Result<Reached, DecodeFault>
-    requires start { start ≤ packet.now.content }
-    ensures gives { let b = next_multiple_of start element.now.align in
-        Gives result (val value.new) (begin (input packet.now) spent (open_at (input packet.now) b (and_then
-        (repeat (walk (form element.now) (input packet.now) (env frame.now)) count [] b (spent + 1)) as_list))) }
-    ensures within { IfOk result (λ r. (r.end ≤ packet.now.content) × (r.spent ≤ MOST_VALUES)) }
+) -> Result<(), Stopped>
+    requires start { at.old.end ≤ packet.now.content }
+    ensures gives { let b = next_multiple_of at.old.end element.now.align in
+        Gives result at.new (val value.new) (begin (input packet.now) at.old.spent (open_at (input packet.now) b (and_then
+        (repeat (walk (form element.now) (input packet.now) (env frame.now)) count [] b (at.old.spent + 1)) as_list))) }
+    ensures within { IfOk result (λ _. (at.new.end ≤ packet.now.content) × (at.new.spent ≤ MOST_VALUES)) }
 {
-    if spent >= MOST_VALUES {
-        return Err(DecodeFault::TooManyValues);
+    if at.spent >= MOST_VALUES {
+        return Err(at.stop(DecodeFault::TooManyValues));
     }
-    let begin = begin_at(start, element.align);
+    let begin = begin_at(at.end, element.align);
     if begin > packet.content {
-        return Err(DecodeFault::ContentEnds(u128::from(begin)));
+        return Err(at.stop(DecodeFault::ContentEnds(u128::from(begin))));
     }
+    at.end = begin;
+    at.spent += 1;
     let mut values = Vec::new(alloc);
     if let Value::List(old) = value {
         values = mem::replace(old, List::new(alloc)).into_vec();
     }
-    let reached = elements_into(
-        alloc,
-        element,
-        count,
-        packet,
-        frame,
-        begin,
-        spent + 1,
-        &mut values,
-    )?;
+    elements_into(alloc, element, count, packet, frame, at, &mut values)?;
     *value = Value::List(List::from_vec(values));
-    Ok(reached)
+    Ok(())
 }
 
 /// Makes so many elements, one after another, the values.
@@ -279,30 +277,19 @@ fn elements_into(
     count: u64,
     packet: &Packet<'_>,
     frame: &Frame<'_>,
-    start: u64,
-    spent: u64,
+    at: &mut Cursor,
     values: &mut Vec<Value>,
-) -> Result<Reached, DecodeFault>
-    requires start { start ≤ packet.now.content }
-    requires spent { spent ≤ MOST_VALUES }
-    ensures gives { Gives result (map val values.new.items) (repeat (walk (form element.now) (input packet.now) (env frame.now)) count [] start spent) }
-    ensures within { IfOk result (λ r. (r.end ≤ packet.now.content) × (r.spent ≤ MOST_VALUES)) }
+) -> Result<(), Stopped>
+    requires start { at.old.end ≤ packet.now.content }
+    requires spent { at.old.spent ≤ MOST_VALUES }
+    ensures gives { Gives result at.new (map val values.new.items) (repeat (walk (form element.now) (input packet.now) (env frame.now)) count [] at.old.end at.old.spent) }
+    ensures within { IfOk result (λ _. (at.new.end ≤ packet.now.content) × (at.new.spent ≤ MOST_VALUES)) }
 {
-    let mut reached = Reached { end: start, spent };
     for i in 0..count {
-        reached = element_into(
-            alloc,
-            element,
-            packet,
-            frame,
-            reached.end,
-            reached.spent,
-            values,
-            i as usize,
-        )?;
+        element_into(alloc, element, packet, frame, at, values, i as usize)?;
     }
     values.truncate(count as usize);
-    Ok(reached)
+    Ok(())
 }
 
 /// Makes the next element the value at an index, those before it being there.
@@ -312,20 +299,21 @@ fn element_into(
     element: &Class,
     packet: &Packet<'_>,
     frame: &Frame<'_>,
-    start: u64,
-    spent: u64,
+    at: &mut Cursor,
     values: &mut Vec<Value>,
     i: usize,
-) -> Result<Reached, DecodeFault>
-    requires start { start ≤ packet.now.content }
+) -> Result<(), Stopped>
+    requires start { at.old.end ≤ packet.now.content }
     requires room { i ≤ length values.old.items }
-    ensures gives { GivesNext result (map val (take i values.old.items)) (map val (take (i + 1) values.new.items)) (walk (form element.now) (input packet.now) (env frame.now) start spent) }
-    ensures within { IfOk result (λ r. (r.end ≤ packet.now.content) × (r.spent ≤ MOST_VALUES) × (i < length values.new.items)) }
+    ensures gives { GivesNext result at.new (map val (take i values.old.items)) (map val (take (i + 1) values.new.items)) (walk (form element.now) (input packet.now) (env frame.now) at.old.end at.old.spent) }
+    ensures within { IfOk result (λ _. (at.new.end ≤ packet.now.content) × (at.new.spent ≤ MOST_VALUES) × (i < length values.new.items)) }
 {
     if i == values.len() {
-        values.push(Value::Unsigned(0))?;
+        let Ok(()) = values.push(Value::Unsigned(0)) else {
+            return Err(at.stop(DecodeFault::NoMemory));
+        };
     }
-    value_into(alloc, element, packet, frame, start, spent, &mut values[i])
+    value_into(alloc, element, packet, frame, at, &mut values[i])
 }
 
 /// Makes the chosen option of a variant the value.
@@ -336,22 +324,22 @@ fn choice_into(
     chosen: Option<usize>,
     packet: &Packet<'_>,
     frame: &Frame<'_>,
-    start: u64,
-    spent: u64,
+    at: &mut Cursor,
     value: &mut Value,
-) -> Result<Reached, DecodeFault>
-    requires start { start ≤ packet.now.content }
-    ensures gives { Gives result (val value.new) (begin (input packet.now) spent (with_option chosen (λ i. and_then
-        (walk_option (parts_of (map member_part options.now)) i (input packet.now) (env frame.now) start (spent + 1)) (as_choice i)))) }
-    ensures within { IfOk result (λ r. (r.end ≤ packet.now.content) × (r.spent ≤ MOST_VALUES)) }
+) -> Result<(), Stopped>
+    requires start { at.old.end ≤ packet.now.content }
+    ensures gives { Gives result at.new (val value.new) (begin (input packet.now) at.old.spent (with_option chosen (λ i. and_then
+        (walk_option (parts_of (map member_part options.now)) i (input packet.now) (env frame.now) at.old.end (at.old.spent + 1)) (as_choice i)))) }
+    ensures within { IfOk result (λ _. (at.new.end ≤ packet.now.content) × (at.new.spent ≤ MOST_VALUES)) }
 {
-    if spent >= MOST_VALUES {
-        return Err(DecodeFault::TooManyValues);
+    if at.spent >= MOST_VALUES {
+        return Err(at.stop(DecodeFault::TooManyValues));
     }
-    match chosen {
-        None => Err(DecodeFault::NoOption),
-        Some(i) => option_into(alloc, options, i, packet, frame, start, spent + 1, value),
-    }
+    let Some(i) = chosen else {
+        return Err(at.stop(DecodeFault::NoOption));
+    };
+    at.spent += 1;
+    option_into(alloc, options, i, packet, frame, at, value)
 }
 
 /// Makes an option of a variant the value.
@@ -362,25 +350,46 @@ fn option_into(
     i: usize,
     packet: &Packet<'_>,
     frame: &Frame<'_>,
-    start: u64,
-    spent: u64,
+    at: &mut Cursor,
     value: &mut Value,
-) -> Result<Reached, DecodeFault>
-    requires start { start ≤ packet.now.content }
-    ensures gives { Gives result (val value.new) (and_then
-        (walk_option (parts_of (map member_part options.now)) i (input packet.now) (env frame.now) start spent) (as_choice i)) }
-    ensures within { IfOk result (λ r. (r.end ≤ packet.now.content) × (r.spent ≤ MOST_VALUES)) }
+) -> Result<(), Stopped>
+    requires start { at.old.end ≤ packet.now.content }
+    ensures gives { Gives result at.new (val value.new) (and_then
+        (walk_option (parts_of (map member_part options.now)) i (input packet.now) (env frame.now) at.old.end at.old.spent) (as_choice i)) }
+    ensures within { IfOk result (λ _. (at.new.end ≤ packet.now.content) × (at.new.spent ≤ MOST_VALUES)) }
 {
     if i >= options.len() {
-        return Err(DecodeFault::NoOption);
+        return Err(at.stop(DecodeFault::NoOption));
     }
     let class = &options[i].class;
     if let Value::Choice(option, inner) = value {
         *option = i;
-        return value_into(alloc, class, packet, frame, start, spent, inner.get_mut());
+        return value_into(alloc, class, packet, frame, at, inner.get_mut());
     }
+    new_choice_into(alloc, class, i, packet, frame, at, value)
+}
+
+/// Makes option i of a variant the value, of which no memory is used again.
+#[cycle(walk)]
+#[inline(never)]
+fn new_choice_into(
+    alloc: Global,
+    class: &Class,
+    i: usize,
+    packet: &Packet<'_>,
+    frame: &Frame<'_>,
+    at: &mut Cursor,
+    value: &mut Value,
+) -> Result<(), Stopped>
+    requires start { at.old.end ≤ packet.now.content }
+    ensures gives { Gives result at.new (val value.new) (and_then (walk (form class.now) (input packet.now) (env frame.now) at.old.end at.old.spent) (as_choice i)) }
+    ensures within { IfOk result (λ _. (at.new.end ≤ packet.now.content) × (at.new.spent ≤ MOST_VALUES)) }
+{
     let mut inner = Value::Unsigned(0);
-    let reached = value_into(alloc, class, packet, frame, start, spent, &mut inner)?;
-    *value = Value::Choice(i, Boxed::new(alloc, inner)?);
-    Ok(reached)
+    value_into(alloc, class, packet, frame, at, &mut inner)?;
+    let Ok(inner) = Boxed::new(alloc, inner) else {
+        return Err(at.stop(DecodeFault::NoMemory));
+    };
+    *value = Value::Choice(i, inner);
+    Ok(())
 }

@@ -5,7 +5,7 @@ use ctf_class::{
     Align, Base, Choice, Class, FieldName, Integer, Kind, Length, Member, Origin, Route, Span,
     Width,
 };
-use ctf_list::{Boxed, List};
+use ctf_list::{Boxed, List, Shared};
 use std::alloc::Global;
 use std::test::Fail;
 
@@ -23,7 +23,7 @@ fn class(align: u64, kind: Kind) -> Result<Class, Fail> {
 }
 
 /// What is known of an integer.
-fn number(size: u32, is_signed: bool, order: Order) -> Result<Integer, Fail> {
+fn number(size: u32, is_signed: bool, order: Order, is_moving: bool) -> Result<Integer, Fail> {
     let Some(size) = Width::new(size) else {
         return Err(Fail::from("no width"));
     };
@@ -32,21 +32,34 @@ fn number(size: u32, is_signed: bool, order: Order) -> Result<Integer, Fail> {
         is_signed,
         base: Base::Decimal,
         order,
-        is_moving: false,
+        is_moving,
     })
 }
 
 pub fn integer(size: u32, align: u64, is_signed: bool, order: Order) -> Result<Class, Fail> {
-    class(align, Kind::Integer(number(size, is_signed, order)?))
+    class(align, Kind::Integer(number(size, is_signed, order, false)?))
 }
 
-/// An enumeration of 8 bits.
-pub fn enumeration(alloc: Global) -> Result<Class, Fail> {
+/// An integer that sets the clock.
+pub fn stamp(size: u32, align: u64, is_signed: bool) -> Result<Class, Fail> {
+    class(
+        align,
+        Kind::Integer(number(size, is_signed, Order::Le, true)?),
+    )
+}
+
+pub fn enumeration(
+    alloc: Global,
+    size: u32,
+    align: u64,
+    is_signed: bool,
+    order: Order,
+) -> Result<Class, Fail> {
     let kind = Kind::Enumeration {
-        container: number(8, false, Order::Be)?,
-        labels: List::new(alloc),
+        container: number(size, is_signed, order, false)?,
+        labels: Shared::new(alloc, List::new(alloc))?,
     };
-    class(8, kind)
+    class(align, kind)
 }
 
 pub fn string() -> Result<Class, Fail> {
@@ -86,12 +99,29 @@ pub fn text(count: u64) -> Result<Class, Fail> {
     class(8, Kind::Text { length })
 }
 
-/// A variant whose tag is the first member: 1 names option 0, 2 names option 1, and so do 0 to 2 behind them.
-pub fn variant(alloc: Global, options: Vec<Member>) -> Result<Class, Fail> {
+/// An array of so many elements.
+pub fn array(alloc: Global, count: u64, align: u64, element: Class) -> Result<Class, Fail> {
+    let length = Length::Fixed(count);
+    let element = Boxed::new(alloc, element)?;
+    class(align, Kind::Array { length, element })
+}
+
+/// A variant whose tag is the first member. Each choice is a first number, a last number and an option.
+pub fn variant(
+    alloc: Global,
+    spans: &[(i128, i128, usize)],
+    options: Vec<Member>,
+) -> Result<Class, Fail> {
     let mut choices = Vec::new(alloc);
-    for (first, last, option) in [(1, 1, 0), (2, 2, 1), (0, 2, 1)] {
-        let span = Span { first, last };
-        choices.push(Choice { span, option })?;
+    for (first, last, option) in spans {
+        let span = Span {
+            first: *first,
+            last: *last,
+        };
+        choices.push(Choice {
+            span,
+            option: *option,
+        })?;
     }
     let kind = Kind::Variant {
         tag: first_member(alloc)?,
@@ -99,4 +129,12 @@ pub fn variant(alloc: Global, options: Vec<Member>) -> Result<Class, Fail> {
         options: List::from_vec(options),
     };
     class(1, kind)
+}
+
+/// A structure of two members, aligned on a byte.
+pub fn pair(alloc: Global, first: (&[u8], Class), second: (&[u8], Class)) -> Result<Class, Fail> {
+    let mut members = Vec::new(alloc);
+    members.push(member(alloc, first.0, first.1)?)?;
+    members.push(member(alloc, second.0, second.1)?)?;
+    structure(8, members)
 }

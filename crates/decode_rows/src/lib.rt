@@ -4,4 +4,12 @@
 #[cfg(test)]
 mod classes;
 #[cfg(test)]
-mod values;
+mod composites;
+#[cfg(test)]
+mod found;
+#[cfg(test)]
+mod headers;
+#[cfg(test)]
+mod leaves;
+#[cfg(test)]
+mod limits;

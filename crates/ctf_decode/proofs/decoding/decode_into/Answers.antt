@@ -8,26 +8,27 @@ use Rattle.ctf_decode.proofs.Views.{env-Top}
 use Rattle.ctf_decode.proofs.Told.{told_value, told_count, told_fault}
 use Rattle.ctf_decode.proofs.decoding.decode_into.Goals as goal
 
-pub returns-clause-value : goal.returns-clause-value
-returns-clause-value c =
+pub returns-in-Ok : goal.returns-in-Ok
+returns-in-Ok c =
     let k = form c.args.class.now in
     let d = input_in c.args.packet.now c.args.content c.args.scopes.now in
     let s = c.args.scopes.now.spent in
-    let g = rw (env-Top, c.spent.ensures.value) at c.value_into.ensures.gives in
-    told_value d (Stands k d [] c.args.start) (Breaks k d [] c.args.start s) s (walk k d [] c.args.start s) (walk_is k d [] c.args.start s) (val c.value_into.new.value) c.value_into.result g
+    let p = c.args.start in
+    let at = c.value_into.new.at in
+    let g = rw (env-Top, c.spent.ensures.value) at c.in-Ok.ensures.gives in
+    record {
+      value = told_value d (Stands k d [] p) (Breaks k d [] p s) s (walk k d [] p s) (walk_is k d [] p s) (val c.value_into.new.value) at.end at.spent g;
+      counted = told_count d (Stands k d [] p) (Breaks k d [] p s) s (walk k d [] p s) (walk_is k d [] p s) (val c.value_into.new.value) at.end at.spent g;
+      few = c.in-Ok.ensures.within.1;
+      within = c.in-Ok.ensures.within.0;
+      fault = tt;
+    }
 
-pub returns-clause-counted : goal.returns-clause-counted
-returns-clause-counted c =
+pub returns-in-Err-clause-fault : goal.returns-in-Err-clause-fault
+returns-in-Err-clause-fault c =
     let k = form c.args.class.now in
     let d = input_in c.args.packet.now c.args.content c.args.scopes.now in
     let s = c.args.scopes.now.spent in
-    let g = rw (env-Top, c.spent.ensures.value) at c.value_into.ensures.gives in
-    told_count d (Stands k d [] c.args.start) (Breaks k d [] c.args.start s) s (walk k d [] c.args.start s) (walk_is k d [] c.args.start s) (val c.value_into.new.value) c.value_into.result g
-
-pub returns-clause-fault : goal.returns-clause-fault
-returns-clause-fault c =
-    let k = form c.args.class.now in
-    let d = input_in c.args.packet.now c.args.content c.args.scopes.now in
-    let s = c.args.scopes.now.spent in
-    let g = rw (env-Top, c.spent.ensures.value) at c.value_into.ensures.gives in
-    told_fault d (Stands k d [] c.args.start) (Breaks k d [] c.args.start s) s (walk k d [] c.args.start s) (walk_is k d [] c.args.start s) (val c.value_into.new.value) c.value_into.result g
+    let p = c.args.start in
+    let g = rw (env-Top, c.spent.ensures.value) at c.in-Err.ensures.gives in
+    told_fault d (Stands k d [] p) (Breaks k d [] p s) s (walk k d [] p s) (walk_is k d [] p s) c.value_into.new.at.fault g

@@ -1,62 +1,46 @@
-use Rattle.std.proofs.Common.{◌+◌, map, take, arith, sym, ap, subst, Ok, ◌∙◌}
+use Rattle.std.proofs.Common.{◌+◌, map, take, arith, ap, subst, ◌∙◌}
 use Rattle.std.proofs.lemmas.Result.{err_from_is_err_and}
-use Rattle.ctf_decode.specs.Values.{choice}
 use Rattle.ctf_decode.specs.Views.{form, val, env, input}
 use Rattle.ctf_decode.specs.Walk.{walk, and_then, as_choice}
 use Rattle.ctf_decode.specs.Gives.{Gives, Fails}
 use Rattle.ctf_decode.proofs.Views.{val-Choice}
-use Rattle.ctf_decode.proofs.Steps.{row_fail, row_ok, option_past, choice_fail, choice_ok, choice_gives}
+use Rattle.ctf_decode.proofs.Steps.{row_fail, row_ok, option_past, choice_gives, choice_as}
 use Rattle.ctf_decode.proofs.Arrays.{walk-array}
 use Rattle.ctf_decode.proofs.walk.+walk.Goals as goal
 
-pub elements_into-returns-in_err-reached-clause-gives : goal.elements_into-returns-in_err-reached-clause-gives
-elements_into-returns-in_err-reached-clause-gives t c =
+pub elements_into-returns-in_err-element_into-clause-gives : goal.elements_into-returns-in_err-element_into-clause-gives
+elements_into-returns-in_err-element_into-clause-gives t c =
     let r = err_from_is_err_and c.from_residual.result c.from_residual.ensures.1 in
-    let d = c.in_err-reached.field-0.0 in
-    let f = row_fail (walk (form c.args.element.now) (input c.args.packet.now) (env c.args.frame.now)) c.args.count c.loop-i.i c.loop-i-test.true (map val (take c.loop-i.i c.loop-i.values.items)) c.loop-i.reached.end c.loop-i.reached.spent d c.in_err-reached.ensures.gives in
-    rw (r.1, r.2) (subst (Fails d) c.loop-i.invariant.walked f)
+    let d = c.element_into.new.at.fault in
+    let f = row_fail (walk (form c.args.element.now) (input c.args.packet.now) (env c.args.frame.now)) c.args.count c.loop-i.i c.loop-i-test.true (map val (take c.loop-i.i c.loop-i.values.items)) c.loop-i.at.end c.loop-i.at.spent d c.in_err-element_into.ensures.gives in
+    rw (r.1) (subst (Fails d) c.loop-i.invariant.walked f)
 
 pub elements_into-loop-i-preserved : goal.elements_into-loop-i-preserved
 elements_into-loop-i-preserved t c = record {
-  room = omega (arith, c.in_ok-reached.ensures.within.2);
+  room = omega (arith, c.in_ok-element_into.ensures.within.2);
   walked =
-      let g = c.in_ok-reached.ensures.gives in
-      row_ok (walk (form c.args.element.now) (input c.args.packet.now) (env c.args.frame.now)) c.args.count c.loop-i.i c.loop-i-test.true (map val (take c.loop-i.i c.loop-i.values.items)) c.loop-i.reached.end c.loop-i.reached.spent g.0 c.in_ok-reached.reached.end c.in_ok-reached.reached.spent (map val (take (c.loop-i.i + 1) c.element_into.new.values.items)) g.1 g.2 ∙ c.loop-i.invariant.walked;
-  within = c.in_ok-reached.ensures.within.0;
-  few = c.in_ok-reached.ensures.within.1;
+      let g = c.in_ok-element_into.ensures.gives in
+      row_ok (walk (form c.args.element.now) (input c.args.packet.now) (env c.args.frame.now)) c.args.count c.loop-i.i c.loop-i-test.true (map val (take c.loop-i.i c.loop-i.values.items)) c.loop-i.at.end c.loop-i.at.spent g.0 c.element_into.new.at.end c.element_into.new.at.spent (map val (take (c.loop-i.i + 1) c.element_into.new.values.items)) g.1 g.2 ∙ c.loop-i.invariant.walked;
+  within = c.in_ok-element_into.ensures.within.0;
+  few = c.in_ok-element_into.ensures.within.1;
 }
 
 pub option_into-returns-then-i-options-clause-gives : goal.option_into-returns-then-i-options-clause-gives
 option_into-returns-then-i-options-clause-gives t c =
-    ap (λ r. and_then r (as_choice c.args.i)) (option_past (input c.args.packet.now) (env c.args.frame.now) c.args.options.now c.args.i c.args.start c.args.spent c.if-i-options.true)
+    rw (c.stop.ensures) (ap (λ r. and_then r (as_choice c.args.i)) (option_past (input c.args.packet.now) (env c.args.frame.now) c.args.options.now c.args.i c.args.at.now.end c.args.at.now.spent c.if-i-options.true))
 
 pub option_into-returns-in-Choice-clause-gives : goal.option_into-returns-in-Choice-clause-gives
 option_into-returns-in-Choice-clause-gives t c =
     let m = rw (← c.index-options-i.is) at c.value_into.ensures.gives in
-    let g = choice_gives (input c.args.packet.now) (env c.args.frame.now) c.args.options.now c.args.i c.index-options-i.result c.if-i-options.false c.index-options-i.is c.args.start c.args.spent c.value_into.result (val c.value_into.new.value) m in
+    let g = choice_gives (input c.args.packet.now) (env c.args.frame.now) c.args.options.now c.args.i c.index-options-i.result c.if-i-options.false c.index-options-i.is c.args.at.now.end c.args.at.now.spent c.value_into.result c.value_into.new.at (val c.value_into.new.value) m in
     rw (val-Choice c.args.i c.value_into.new.value) g
 
-pub option_into-returns-in_err-reached : goal.option_into-returns-in_err-reached
-option_into-returns-in_err-reached t c =
-    let r = err_from_is_err_and c.from_residual.result c.from_residual.ensures.1 in
-    let d = c.in_err-reached.field-0.0 in
-    let m = rw (← c.index-options-i.is) at c.in_err-reached.ensures.gives in
-    record {
-      gives = rw (r.1, r.2) (choice_fail (input c.args.packet.now) (env c.args.frame.now) c.args.options.now c.args.i c.index-options-i.result c.if-i-options.false c.index-options-i.is c.args.start c.args.spent d m);
-      within = rw (r.1) tt;
-    }
-
-pub option_into-returns : goal.option_into-returns
-option_into-returns t c =
-    let m = rw (← c.index-options-i.is) at c.in_ok-reached.ensures.gives in
-    let v = val-Choice c.args.i c.in_ok-new.field-0 ∙ ap (λ x. choice c.args.i (val x)) c.in_ok-new.ensures in
-    let g = choice_ok (input c.args.packet.now) (env c.args.frame.now) c.args.options.now c.args.i c.index-options-i.result c.if-i-options.false c.index-options-i.is c.args.start c.args.spent (val c.value_into-2.new.value) c.in_ok-reached.reached.end c.in_ok-reached.reached.spent m in
-    record {
-      gives = g ∙ ap (λ x. Ok (x, c.in_ok-reached.reached.end, c.in_ok-reached.reached.spent)) (sym v);
-      within = c.in_ok-reached.ensures.within;
-    }
+pub option_into-returns-clause-gives : goal.option_into-returns-clause-gives
+option_into-returns-clause-gives t c =
+    let m = rw (← c.index-options-i.is) at c.new_choice_into.ensures.gives in
+    subst (Gives c.new_choice_into.result c.new_choice_into.new.at (val c.new_choice_into.new.value)) (choice_as (input c.args.packet.now) (env c.args.frame.now) c.args.options.now c.args.i c.index-options-i.result c.if-i-options.false c.index-options-i.is c.args.at.now.end c.args.at.now.spent) m
 
 pub value_into-returns-in-Array-clause-gives : goal.value_into-returns-in-Array-clause-gives
 value_into-returns-in-Array-clause-gives t c =
     let g = rw (c.get.ensures, c.length_at-count.ensures) at c.array_into.ensures.gives in
-    subst (Gives c.array_into.result (val c.array_into.new.value)) (walk-array (input c.args.packet.now) (env c.args.frame.now) c.args.start c.args.spent c.args.class.now c.in-Array.element c.in-Array.length c.in-Array.is) g
+    subst (Gives c.array_into.result c.array_into.new.at (val c.array_into.new.value)) (walk-array (input c.args.packet.now) (env c.args.frame.now) c.args.at.now.end c.args.at.now.spent c.args.class.now c.in-Array.element c.in-Array.length c.in-Array.is) g

@@ -1,0 +1,112 @@
+//! What a place holds, as far as a row of a table says it.
+
+use ctf_class::Class;
+use ctf_decode::{DecodeFault, Scopes, Value, decode};
+use std::alloc::Global;
+use std::test::Fail;
+
+/// A value of a class with the place where it ends, or the fault. Of a text the number of its bytes is
+/// told, of a group and a list the number of parts, of a variant the number of the option.
+#[derive(Clone, Copy, Debug, PartialEq, Eq)]
+pub enum Found {
+    Unsigned(u64, u64),
+    Signed(i64, u64),
+    Label(i128, u64),
+    Text(usize, u64),
+    Group(usize, u64),
+    List(usize, u64),
+    Choice(usize, u64),
+    Fault(DecodeFault),
+    /// The row does not keep to the conditions of `decode`.
+    NotAsked,
+}
+
+/// Looks for what each row says: a place to start at, the content's end, and what stands there.
+pub fn all_stand(
+    alloc: Global,
+    class: &Class,
+    packet: &[u8],
+    rows: &[(u64, u64, Found)],
+) -> Result<(), Fail> {
+    for (start, content, want) in rows {
+        if stands(alloc, class, packet, *start, *content) != *want {
+            return Err(Fail::from("another value or fault stands"));
+        }
+    }
+    Ok(())
+}
+
+/// What stands at a place of a packet where nothing was decoded before.
+pub fn stands(alloc: Global, class: &Class, packet: &[u8], start: u64, content: u64) -> Found {
+    stands_behind(alloc, class, packet, start, content, &Scopes::new())
+}
+
+/// What stands at a place of a packet.
+pub fn stands_behind(
+    alloc: Global,
+    class: &Class,
+    packet: &[u8],
+    start: u64,
+    content: u64,
+    scopes: &Scopes,
+) -> Found {
+    let held = packet.len() as u128 * 8;
+    if start > content || content > 1 << 62 || u128::from(content) > held {
+        return Found::NotAsked;
+    }
+    match decode(alloc, class, packet, start, content, scopes) {
+        Err(fault) => Found::Fault(fault),
+        Ok(decoded) => said(&decoded.value, decoded.end),
+    }
+}
+
+fn said(value: &Value, end: u64) -> Found {
+    match value {
+        Value::Unsigned(number) => Found::Unsigned(*number, end),
+        Value::Signed(number) => Found::Signed(*number, end),
+        Value::Label(number) => Found::Label(*number, end),
+        Value::Text(bytes) => Found::Text(bytes.len(), end),
+        Value::Group(members) => Found::Group(members.len(), end),
+        Value::List(elements) => Found::List(elements.len(), end),
+        Value::Choice(option, _) => Found::Choice(*option, end),
+    }
+}
+
+/// What is said of the first three parts of a value, whose places are 0. Of a variant it is the option's
+/// value alone.
+pub fn parts(value: &Value) -> [Found; 3] {
+    match value {
+        Value::Group(members) => first_three(members.as_slice()),
+        Value::List(elements) => first_three(elements.as_slice()),
+        Value::Choice(_, inner) => [said(inner.get(), 0), Found::NotAsked, Found::NotAsked],
+        _ => [Found::NotAsked; 3],
+    }
+}
+
+fn first_three(values: &[Value]) -> [Found; 3] {
+    [said_at(values, 0), said_at(values, 1), said_at(values, 2)]
+}
+
+fn said_at(values: &[Value], i: usize) -> Found {
+    match values.get(i) {
+        Some(value) => said(value, 0),
+        None => Found::NotAsked,
+    }
+}
+
+/// The second member of a structure, or the value itself.
+pub fn second(value: &Value) -> &Value {
+    match value {
+        Value::Group(members) if members.len() > 1 => &members.as_slice()[1],
+        _ => value,
+    }
+}
+
+/// The same number as that of an enumeration.
+pub fn as_label(found: Found) -> Found {
+    match found {
+        Found::Unsigned(number, end) => Found::Label(i128::from(number), end),
+        Found::Signed(number, end) => Found::Label(i128::from(number), end),
+        other => other,
+    }
+}
