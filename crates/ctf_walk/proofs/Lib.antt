@@ -1,0 +1,13 @@
+pub mod Telling
+pub mod Linked
+pub mod Same
+pub mod Seeing
+pub mod Given
+pub mod Leaves
+pub mod Parts
+pub mod Items
+pub mod Entries
+pub mod Scopes
+pub mod Rows
+pub mod Declarations
+pub mod Text
