@@ -1,0 +1,4 @@
+pub mod ViewsLemmas
+pub mod JoinedLemmas
+pub mod KeptLemmas
+pub mod NamesLemmas

@@ -1,0 +1,16 @@
+//! Classes by their declaration, as the resolver keeps them: shared and not copied, the names of a
+//! compound's members found without a walk, and with each class what is asked of it often.
+#![tactic(auto)]
+
+mod copy;
+mod facts;
+mod firsts;
+mod known;
+mod names;
+mod parts;
+mod shape;
+
+pub use copy::{copied, copied_path};
+pub use known::{Field, Known};
+pub use names::Names;
+pub use shape::{Members, Shape};
