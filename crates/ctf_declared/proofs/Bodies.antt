@@ -1,0 +1,74 @@
+-- Members of a body, one item behind another.
+use Rattle.std.proofs.Common.{◌≡◌, ℕ, ◌+◌, ◌<◌, List, [], ◌∷◌, ◌++◌, map, drop, take, length, get_or, Result, Ok, Err, Some, refl, ap, sym, ◌∙◌}
+use Rattle.std.proofs.Common.{append_assoc}
+use Rattle.std.proofs.lemmas.List.{map-append}
+use Rattle.std.proofs.lemmas.Grind.{take_at_read}
+use Rattle.tsdl_tree.specs.declared.tree.Item.{Item}
+use Rattle.tsdl_tree.specs.declared.tree.TypeDeclaration.{TypeDeclaration}
+use Rattle.tsdl_tree.specs.declared.tree.Declarator.{Declarator}
+use Rattle.ctf_meaning.specs.declared.fault.ResolveFault.{ResolveFault}
+use Rattle.ctf_meaning.specs.Reading.{item_of}
+use Rattle.ctf_meaning.specs.Shapes.{Shape, Field, arrays, declared}
+use Rattle.ctf_meaning.specs.Written.{items_from}
+use Rattle.ctf_walk.specs.Told.{Told, ◌>>=◌, Follows}
+use Rattle.ctf_walk.specs.Seen.{Seen}
+use Rattle.ctf_walk.specs.Classes.{fields_told}
+use Rattle.ctf_walk.specs.Items.{Made, item_told, body_told}
+use Rattle.ctf_declared.specs.Given.{item_form}
+use Rattle.ctf_declared.specs.Members.{member_told, names_told}
+use Rattle.ctf_declared.proofs.Steps.{Tell, tell_same, bind_fault, bind_map, follows_same, follows_map, drop_next}
+use Rattle.ctf_declared.proofs.Forms.{no_fields}
+
+pub append_none : {X : Type 0} (xs : List X) → xs ++ [] ≡ xs
+append_none [] = refl
+append_none (x ∷ xs) = ap (λ l. x ∷ l) (append_none xs)
+
+abbrev pair : Seen → List Field → Seen × List Field
+pair own fields = (own, fields)
+
+-- a declaration of names has no member
+types_made : (t : Told Made) (fields : List Field) (g : Shape → List Field) → ((s : Shape) → g s ≡ []) →
+    ((t >>= λ made. Ok made.own) >>= λ own. Ok (pair own fields)) ≡ (t >>= λ made. Ok (pair made.own (fields ++ g made.shape)))
+types_made (Ok made) fields g none =
+    let same : fields ≡ fields ++ g made.shape = sym (append_none fields) ∙ ap (λ l. fields ++ l) (sym (none made.shape)) in
+    ap (λ (l : List Field). Ok (pair made.own l)) same
+types_made (Err f) fields g none = refl
+
+pub member_types : {V : Type 0} (outer own : Seen) (fields : List Field) (d : TypeDeclaration) (view : V → Seen) (r : Result V ResolveFault) →
+    Follows (names_told outer own (item_of d)) view r → Follows (member_told outer (own, fields) (item_of d)) (λ v. pair (view v) fields) r
+member_types outer own fields d view r h =
+    follows_same (λ v. pair (view v) fields) r (names_told outer own (item_of d) >>= λ o. Ok (pair o fields)) (member_told outer (own, fields) (item_of d))
+    (types_made (item_told outer own (item_of d)) fields (fields_told (item_of d)) (no_fields d))
+    (follows_map (names_told outer own (item_of d)) view (λ o. pair o fields) r h)
+
+module _ (outer own : Seen) (fields : List Field) (xs : List Item) (i : ℕ) (x : Item) (is : x ≡ get_or xs i x) (h : i < length xs) where
+  split : body_told outer own fields (items_from (map item_form (drop i xs))) ≡ (member_told outer (own, fields) (item_form x) >>= λ n. body_told outer n.0 n.1 (items_from (map item_form (drop (i + 1) xs))))
+  split =
+      ap (λ l. body_told outer own fields (items_from (map item_form l))) (drop_next xs i x is h)
+      ∙ bind_map (item_told outer own (item_form x)) (λ made. pair made.own (fields ++ fields_told (item_form x) made.shape)) (λ n. body_told outer n.0 n.1 (items_from (map item_form (drop (i + 1) xs))))
+
+  pub body_next : (after : Seen × List Field) → member_told outer (own, fields) (item_form x) ≡ Ok after →
+      body_told outer after.0 after.1 (items_from (map item_form (drop (i + 1) xs))) ≡ body_told outer own fields (items_from (map item_form (drop i xs)))
+  body_next after e = sym (split ∙ ap (λ t. t >>= λ n. body_told outer n.0 n.1 (items_from (map item_form (drop (i + 1) xs)))) e)
+
+  pub body_fault : (f : ResolveFault) → Tell (member_told outer (own, fields) (item_form x)) f → Tell (body_told outer own fields (items_from (map item_form (drop i xs)))) f
+  body_fault f e =
+      tell_same (member_told outer (own, fields) (item_form x) >>= λ n. body_told outer n.0 n.1 (items_from (map item_form (drop (i + 1) xs)))) (body_told outer own fields (items_from (map item_form (drop i xs)))) f (sym split)
+      (bind_fault (member_told outer (own, fields) (item_form x)) (λ n. body_told outer n.0 n.1 (items_from (map item_form (drop (i + 1) xs)))) f e)
+
+-- a declarator's member
+pub declared_more : (shape : Shape) (ds : List Declarator) (d : Declarator) → declared (Some shape) (ds ++ d ∷ []) ≡ declared (Some shape) ds ++ record { name = d.name; shape = arrays d.lengths shape } ∷ []
+declared_more shape [] d = refl
+declared_more shape (x ∷ ds) d = ap (λ l. record { name = x.name; shape = arrays x.lengths shape } ∷ l) (declared_more shape ds d)
+
+-- the members of one declarator more
+module _ (shape : Shape) (ds : List Declarator) (i : ℕ) (d : Declarator) (is : d ≡ get_or ds i d) (h : i < length ds) where
+  pub declared_next : declared (Some shape) (take (i + 1) ds) ≡ declared (Some shape) (take i ds) ++ record { name = d.name; shape = arrays d.lengths shape } ∷ []
+  declared_next =
+      ap (declared (Some shape)) ((take_at_read ds i d h).1 ∙ ap (λ x. take i ds ++ x ∷ []) (sym is))
+      ∙ declared_more shape (take i ds) d
+
+pub pushed : {X : Type 0} (view : X → Field) (old items after : List X) (x : X) (more next : List Field) (f : Field) → after ≡ items ++ x ∷ [] → view x ≡ f → map view items ≡ map view old ++ more → next ≡ more ++ f ∷ [] → map view after ≡ map view old ++ next
+pushed view old items after x more next f e v m n =
+    ap (map view) e ∙ map-append view items (x ∷ []) ∙ ap (λ l. l ++ view x ∷ []) m ∙ ap (λ y. (map view old ++ more) ++ y ∷ []) v
+    ∙ append_assoc (map view old) more (f ∷ []) ∙ ap (λ l. map view old ++ l) (sym n)

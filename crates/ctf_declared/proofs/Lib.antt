@@ -1,0 +1,10 @@
+pub mod SameKeys
+pub mod Kept
+pub mod Steps
+pub mod Declares
+pub mod Forms
+pub mod Bodies
+pub mod Remembered
+pub mod Settled
+pub mod Counted
+pub mod Declarations
