@@ -1,0 +1,9 @@
+pub mod Whole
+pub mod Gathered
+pub mod Parted
+pub mod Texts
+pub mod Ids
+pub mod Links
+pub mod Events
+pub mod Gone
+pub mod Resolved

@@ -1,0 +1,50 @@
+-- What is known of a text of which no declaration has an own fault, before its classes are linked.
+use Rattle.std.specs.Prelude.{◌≡◌, ℕ, ◌+◌, List, [], ◌∷◌, Option, Some, None, slice_get, flat_map, filter_map}
+use Rattle.ctf_meaning.specs.Written.{BlockEntry, Declaration}
+use Rattle.ctf_meaning.specs.There.{first}
+use Rattle.ctf_meaning.specs.Blocks.{block_faults}
+use Rattle.ctf_meaning.specs.Streams.{Stream, numbered, trace_of}
+use Rattle.ctf_meaning.specs.Faults.{own_faults, link_faults}
+use Rattle.ctf_meaning.specs.Denotes.{trace_entries}
+use Rattle.ctf_attributes.specs.declared.trace.Trace.{Trace}
+use Rattle.ctf_attributes.specs.Settled.{IsTrace}
+use Rattle.ctf_types.specs.declared.streams.StreamAt.{StreamAt}
+use Rattle.ctf_types.specs.declared.trace.TraceAt.{TraceAt}
+
+-- no declaration has an own fault
+abbrev pub HasNoOwn : List Declaration → Type 0
+HasNoOwn text = flat_map (own_faults text) (numbered text) ≡ []
+
+-- no declaration has a link fault
+abbrev pub HasNoLink : List Declaration → Type 0
+HasNoLink text = flat_map (link_faults text) (numbered text) ≡ []
+
+-- nothing is wrong with the settings of a declaration
+abbrev pub IsSettled : Declaration → Type 0
+IsSettled d = block_faults d ≡ []
+
+abbrev pub AreSettled : List Declaration → Type 0
+AreSettled text = (k : ℕ) (d : Declaration) → slice_get text k ≡ Some d → IsSettled d
+
+-- a stream, with the number of its block
+abbrev pub stream_at : StreamAt → Stream
+stream_at stream = record { block = stream.block; id = stream.id }
+
+-- a trace block with its settings, or another declaration
+abbrev pub IsTraceBlock : Declaration → Option Trace → Type 0
+IsTraceBlock d None = trace_entries d ≡ None
+IsTraceBlock d (Some trace) = (entries : List BlockEntry) × (trace_entries d ≡ Some entries) × IsTrace entries trace
+
+-- the first trace block of a text, where there is one
+abbrev pub IsTraceOf : List Declaration → Option TraceAt → Type 0
+IsTraceOf text None = trace_of text ≡ None
+IsTraceOf text (Some trace) = (entries : List BlockEntry) ×
+    (trace_of text ≡ Some trace.number) × (first (filter_map trace_entries text) ≡ Some entries) × IsTrace entries trace.settings
+
+-- each stream keeps its place
+abbrev pub PlacedFrom : ℕ → List StreamAt → Type 0
+PlacedFrom n [] = Unit {0}
+PlacedFrom n (s ∷ ss) = (s.place ≡ n) × PlacedFrom (n + 1) ss
+
+abbrev pub ArePlaced : List StreamAt → Type 0
+ArePlaced streams = PlacedFrom 0 streams

@@ -1,0 +1,49 @@
+//! What a declaration gives to the trace class.
+
+ghost use Rattle.std.specs.Prelude.{◌≡◌};
+ghost use Rattle.ctf_types.specs.Gathered.{joined};
+
+use ctf_class::{Class, Clock, EventClass, Indexed, StreamClass};
+
+/// A stream class without its events.
+#[derive(Debug, Drop)]
+pub struct Head {
+    pub id: u64,
+    pub packet_context: Option<Class>,
+    pub event_header: Option<Class>,
+    /// The stream event context.
+    pub event_context: Option<Class>,
+    /// The clock that its integers move, where they move one.
+    pub clock: Option<Clock>,
+    /// Whether they move a clock of another name too.
+    pub has_several: bool,
+}
+
+/// What a declaration gives to the trace class, its classes where they stand.
+#[derive(Debug, Drop)]
+pub enum Linked {
+    /// A trace block: the class of the packet header.
+    Trace(Option<Class>),
+    /// A stream block.
+    Stream(Head),
+    /// An event block: the place of its stream among the streams, and its class.
+    Event(usize, EventClass),
+    /// Another declaration.
+    Other,
+}
+
+impl Head {
+    /// The stream class with its events.
+    pub fn with_events(self, events: Indexed<EventClass>) -> StreamClass
+        ensures { result ≡ joined self events }
+    {
+        StreamClass {
+            id: self.id,
+            packet_context: self.packet_context,
+            event_header: self.event_header,
+            event_context: self.event_context,
+            clock: self.clock,
+            events,
+        }
+    }
+}

@@ -1,0 +1,86 @@
+//! What each declaration gives to the trace class.
+
+ghost use Rattle.std.specs.Prelude.{◌≡◌, ◌⊎◌, ◌+◌, List, Some, map, slice_get, Contains, MatchResult, OnOk};
+ghost use Rattle.ctf_meaning.specs.declared.fault.ResolveFault.TheVariants as fault;
+ghost use Rattle.ctf_meaning.specs.Faults.{link_faults};
+ghost use Rattle.ctf_meaning.specs.Reading.{declaration_of, entry_of};
+ghost use Rattle.ctf_meaning.specs.Written.{Declaration as WrittenDeclaration, Block};
+ghost use Rattle.ctf_types.specs.Events.{IsRow};
+ghost use Rattle.ctf_types.specs.Ids.{AreIds};
+ghost use Rattle.ctf_types.specs.Texts.{IsText};
+
+use crate::ids::Ids;
+use crate::linked::Linked;
+use crate::text::Text;
+use ctf_attributes::stream_id;
+use ctf_meaning::ResolveFault;
+use std::alloc::Global;
+use tsdl_tree::{BlockEntry, BlockKind, Declaration};
+
+impl<'a> Text<'a> {
+    /// What a declaration gives.
+    pub fn row(
+        &self,
+        alloc: Global,
+        number: usize,
+        declaration: &Declaration,
+        ids: &mut Ids,
+    ) -> Result<Linked, ResolveFault>
+        ghost text: { List WrittenDeclaration }
+        requires whole { IsText text self.now }
+        requires stands { slice_get text number ≡ Some (declaration_of declaration.now) }
+        requires ids { AreIds text number ids.old }
+        ensures row { MatchResult result
+            (IsRow text self.now.order (number, declaration_of declaration.now))
+            (λ f. (f ≡ fault.NoMemory) ⊎ Contains (link_faults text (number, declaration_of declaration.now)) f) }
+        ensures ids { OnOk result (AreIds text (number + 1) ids.new) }
+    {
+        match declaration {
+            Declaration::Block { kind, entries } => {
+                match self.block_row(alloc, number, *kind, entries.as_slice(), ids) {
+                    Ok(row) => Ok(row),
+                    Err(fault) => Err(fault),
+                }
+            }
+            Declaration::Table { .. } => Ok(Linked::Other),
+            Declaration::Types(_) => Ok(Linked::Other),
+        }
+    }
+
+    /// What a block gives.
+    fn block_row(
+        &self,
+        alloc: Global,
+        number: usize,
+        kind: BlockKind,
+        entries: &[BlockEntry],
+        ids: &mut Ids,
+    ) -> Result<Linked, ResolveFault>
+        ghost text: { List WrittenDeclaration }
+        requires whole { IsText text self.now }
+        requires stands { slice_get text number ≡ Some (Block kind (map entry_of entries.now)) }
+        requires ids { AreIds text number ids.old }
+        ensures row { MatchResult result
+            (IsRow text self.now.order (number, Block kind (map entry_of entries.now)))
+            (λ f. (f ≡ fault.NoMemory) ⊎ Contains (link_faults text (number, Block kind (map entry_of entries.now))) f) }
+        ensures ids { OnOk result (AreIds text (number + 1) ids.new) }
+    {
+        match kind {
+            BlockKind::Trace => match self.header(alloc, number) {
+                Ok(header) => Ok(Linked::Trace(header)),
+                Err(fault) => Err(fault),
+            },
+            BlockKind::Stream => match stream_id(entries) {
+                Ok(id) => match self.head(alloc, number, id) {
+                    Ok(head) => Ok(Linked::Stream(head)),
+                    Err(fault) => Err(fault),
+                },
+                Err(fault) => Err(fault),
+            },
+            BlockKind::Event => match self.event_row(alloc, number, entries, ids) {
+                Ok(row) => Ok(row),
+                Err(fault) => Err(fault),
+            },
+        }
+    }
+}

@@ -1,0 +1,45 @@
+//! The scopes that declarations give classes to.
+
+ghost use Rattle.std.specs.Prelude.{◌≡◌, map, option_map, option_copied};
+ghost use Rattle.ctf_meaning.specs.Paths.{rank};
+ghost use Rattle.ctf_shape.specs.Knowns.{known};
+ghost use Rattle.ctf_walk.specs.Laws.{class_among, class_in_row};
+ghost use Rattle.ctf_declared.specs.Courses.{placed_seen};
+
+use ctf_class::Scope;
+use ctf_declared::ScopeShape;
+use ctf_list::List;
+use ctf_shape::Known;
+
+/// The class that a declaration gives to a scope.
+pub fn class_in<'a>(rows: &'a [List<ScopeShape>], number: usize, scope: Scope) -> Option<&'a Known>
+    ensures { option_map known (option_copied result) ≡ class_in_row (map (map placed_seen) rows.now) number scope }
+{
+    class_of(rows.get(number)?.as_slice(), scope)
+}
+
+/// The class of a scope among those of a declaration.
+fn class_of(row: &[ScopeShape], scope: Scope) -> Option<&Known>
+    ensures { option_map known (option_copied result) ≡ class_among scope (map placed_seen row.now) }
+{
+    for placed in row {
+        if rank(placed.scope) == rank(scope) {
+            return Some(&placed.shape);
+        }
+    }
+    None
+}
+
+/// The number of a scope in their order.
+fn rank(scope: Scope) -> u8
+    ensures { result ≡ rank scope }
+{
+    match scope {
+        Scope::PacketHeader => 0,
+        Scope::PacketContext => 1,
+        Scope::EventHeader => 2,
+        Scope::StreamEventContext => 3,
+        Scope::EventContext => 4,
+        Scope::EventFields => 5,
+    }
+}
