@@ -1,0 +1,17 @@
+//! Points in time.
+
+/// A value of a clock, and the time that it tells.
+#[derive(Clone, Copy, Debug, PartialEq, Eq)]
+pub struct Moment {
+    /// In cycles of the clock.
+    pub cycles: u64,
+    /// In nanoseconds since the epoch.
+    pub time: i64,
+}
+
+/// What is added to each time.
+#[derive(Clone, Copy, Debug, PartialEq, Eq)]
+pub struct Shift {
+    pub seconds: i64,
+    pub nanos: i64,
+}

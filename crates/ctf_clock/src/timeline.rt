@@ -1,0 +1,129 @@
+//! Times of a clock's values.
+
+ghost use Rattle.std.specs.Prelude.{◌≡◌, ◌<◌, ◌≤◌, ◌^◌, ◌+ℤ◌, ◌*ℤ◌, ◌≤ℤ◌, pos, neg_ℤ, SomeIff};
+ghost use Rattle.std.specs.Int.{int_div_euclid};
+ghost use Rattle.ctf_clock.specs.Clock as clocks;
+ghost use Rattle.ctf_clock.specs.Counting.{least_from};
+
+use crate::counting::steps_up;
+use crate::moment::{Moment, Shift};
+use ctf_class::{Clock, Frequency, Width};
+use std::marker::Model;
+
+const NANOS_A_SECOND: i128 = 1_000_000_000;
+
+/// How the cycles of a clock become nanoseconds since the epoch (CTF 1.8.3, section 8). Contracts see
+/// where it starts, in nanoseconds, its offset in cycles, and its frequency.
+#[derive(Clone, Copy, Debug)]
+pub struct Timeline {
+    start: i128,
+    offset: i64,
+    frequency: Frequency,
+}
+
+impl Model for Timeline {
+    ghost use Rattle.std.specs.Prelude.{pos, ◌<ℤ◌, ◌^◌, neg_ℤ};
+    ghost use Rattle.ctf_clock.specs.Clock.{Line};
+
+    ghost Value = { Line };
+
+    ghost view = { λ timeline. record { start = timeline.start; offset = timeline.offset; frequency = timeline.frequency } };
+
+    ghost invariant = { λ timeline. (neg_ℤ (pos (2 ^ 96)) <ℤ timeline.start) × (timeline.start <ℤ pos (2 ^ 96)) };
+
+    ghost inverse = { λ line. record { start = line.start; offset = line.offset; frequency = line.frequency } };
+}
+
+impl Timeline {
+    /// The times of a clock, each shifted.
+    pub fn new(clock: &Clock, shift: Shift) -> Timeline
+        ensures { result ≡ clocks.line_of clock.now shift }
+    {
+        let seconds = i128::from(clock.offset_seconds) + i128::from(shift.seconds);
+        Timeline {
+            start: seconds * NANOS_A_SECOND + i128::from(shift.nanos),
+            offset: clock.offset,
+            frequency: clock.frequency,
+        }
+    }
+
+    /// The time at a value of the clock, in nanoseconds since the epoch, rounded down. `None` exactly
+    /// where it has more than 64 bits.
+    pub fn time(&self, cycles: u64) -> Option<i64>
+        ensures { result ≡ clocks.time_of self.now cycles }
+    {
+        let time = self.start + nanos_of(self.offset, cycles, self.frequency);
+        if time < i128::from(i64::MIN) {
+            return None;
+        }
+        if time > i128::from(i64::MAX) {
+            return None;
+        }
+        Some(time as i64)
+    }
+
+    /// The moment at a value of the clock. `None` exactly where its time has more than 64 bits.
+    pub fn moment(&self, cycles: u64) -> Option<Moment>
+        ensures { result ≡ clocks.moment_at self.now cycles }
+    {
+        let time = self.time(cycles)?;
+        Some(Moment { cycles, time })
+    }
+
+    /// The moment at which an integer of `width` bits sets the clock: its value becomes the least number
+    /// that is not below the old one and has the integer's bits (CTF 1.8.3, section 8). `None` exactly
+    /// where that value or its time has more than 64 bits.
+    pub fn advance(&self, from: Moment, width: u32, number: u64) -> Option<Moment>
+        ensures { result ≡ clocks.advanced self.now from width number }
+    {
+        let cycles = match Width::new(width) {
+            Some(width) => from
+                .cycles
+                .checked_add(steps_up(width, from.cycles, number))?,
+            None => outside_words(from.cycles, width, number)?,
+        };
+        self.moment(cycles)
+    }
+
+    /// The moment that is reached where integers set the clock one after the other, each with its width
+    /// in bits. `None` exactly where one of them is refused.
+    pub fn advance_by(&self, from: Moment, moves: &[(u32, u64)]) -> Option<Moment>
+        ensures { result ≡ clocks.advanced_by self.now from moves.now }
+    {
+        let mut reached = from;
+        for (width, number) in moves {
+            reached = self.advance(reached, *width, *number)?;
+        }
+        Some(reached)
+    }
+}
+
+/// The nanoseconds of so many cycles behind an offset, rounded down.
+fn nanos_of(offset: i64, cycles: u64, frequency: Frequency) -> i128
+    ensures value { result ≡ int_div_euclid ((offset +ℤ pos cycles) *ℤ pos 1000000000) (pos frequency) }
+    ensures above { neg_ℤ (pos (2 ^ 96)) ≤ℤ result }
+    ensures below { result ≤ℤ pos (2 ^ 96) }
+{
+    let cycles = i128::from(offset) + i128::from(cycles);
+    let frequency = i128::from(frequency.cycles());
+    // The usual clock needs no division.
+    if frequency == NANOS_A_SECOND {
+        return cycles;
+    }
+    (cycles * NANOS_A_SECOND).div_euclid(frequency)
+}
+
+/// The least value not below an old one that has the bits of a number of no bits, or of more bits than a
+/// word; `None` where it has more bits than a word.
+fn outside_words(old: u64, width: u32, number: u64) -> Option<u64>
+    requires { 1 ≤ width → 64 < width }
+    ensures { SomeIff result (least_from width old number < 2 ^ 64) (least_from width old number) }
+{
+    if width == 0 {
+        return Some(old);
+    }
+    if number < old {
+        return None;
+    }
+    Some(number)
+}

@@ -1,0 +1,13 @@
+pub mod Named
+pub mod Moving
+pub mod Streams
+pub mod Octets
+pub mod Placing
+pub mod Standing
+pub mod Measures
+pub mod Opening
+pub mod Bodies
+pub mod Heads
+pub mod Forward
+pub mod Going
+pub mod Cutting

@@ -1,0 +1,6 @@
+use Rattle.std.proofs.Common.{◌∙◌, ap}
+use Rattle.ctf_packet.specs.Views.{packet_values}
+use Rattle.ctf_packet.proofs.record.next_record.Goals as goal
+
+pub returns-clause-packet : goal.returns-clause-packet
+returns-clause-packet c = c.in_ok-end.ensures.packet ∙ (c.in_ok-head.ensures.packet ∙ ap packet_values c.take_record-header.ensures.values)

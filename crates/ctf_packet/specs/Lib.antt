@@ -1,0 +1,10 @@
+pub mod Moved
+pub mod Classes
+pub mod Scopes
+pub mod Roles
+pub mod Packets
+pub mod Records
+pub mod Items
+pub mod Gives
+pub mod Views
+pub mod Laws

@@ -1,0 +1,128 @@
+//! The clock of a packet, and its counts.
+
+ghost use Rattle.std.specs.Prelude.{◌≡◌, Some, option_map, option_copied};
+ghost use Rattle.ctf_clock.specs.Counting as counting;
+ghost use Rattle.ctf_decode.specs.Views.{form, val};
+ghost use Rattle.ctf_packet.specs.Packets as packets;
+
+use crate::fault::StreamFault;
+use crate::field::Field;
+use crate::moves::moved;
+use crate::reached::Reached;
+use ctf_class::Class;
+use ctf_clock::{Moment, Timeline, discarded_between, lost_between};
+use ctf_decode::Value;
+
+/// The clock before a packet: in the first one it starts at 0.
+///
+/// F9 exactly where the time at that start has more than 64 bits.
+pub fn clock_before(
+    line: Option<&Timeline>,
+    reached: Option<&Reached>,
+) -> Result<Option<Moment>, StreamFault>
+    ensures { result ≡ packets.clock_before (option_copied line.entry) (option_copied reached.entry) }
+{
+    match line {
+        None => Ok(None),
+        Some(line) => match reached {
+            Some(reached) => Ok(reached.clock),
+            None => match line.moment(0) {
+                Some(start) => Ok(Some(start)),
+                None => Err(StreamFault::ClockRefused),
+            },
+        },
+    }
+}
+
+/// The clock behind a scope whose moving integers set it.
+///
+/// F9 exactly where one of them is refused.
+pub fn clock_behind(
+    line: Option<&Timeline>,
+    clock: Option<Moment>,
+    class: Option<&Class>,
+    value: Option<&Value>,
+) -> Result<Option<Moment>, StreamFault>
+    ensures { result ≡ packets.clock_behind (option_copied line.entry) clock (packets.moves (option_map form (option_copied class.entry)) (option_map val (option_copied value.entry))) }
+{
+    match line {
+        None => Ok(None),
+        Some(line) => match clock {
+            None => Ok(None),
+            Some(clock) => set(line, clock, class, value),
+        },
+    }
+}
+
+/// The clock behind a scope, where there is one.
+fn set(
+    line: &Timeline,
+    clock: Moment,
+    class: Option<&Class>,
+    value: Option<&Value>,
+) -> Result<Option<Moment>, StreamFault>
+    ensures { result ≡ packets.clock_behind (Some line.now) (Some clock) (packets.moves (option_map form (option_copied class.entry)) (option_map val (option_copied value.entry))) }
+{
+    match class {
+        None => Ok(Some(clock)),
+        Some(class) => match value {
+            None => Ok(Some(clock)),
+            Some(value) => match moved(line, class, value, clock) {
+                Some(next) => Ok(Some(next)),
+                None => Err(StreamFault::ClockRefused),
+            },
+        },
+    }
+}
+
+/// The clock at a packet's end: `timestamp_end`, extended from the clock behind its context, or that clock
+/// where there is no such field or it is refused.
+pub fn clock_until(
+    line: Option<&Timeline>,
+    clock: Option<Moment>,
+    end: Option<Field>,
+) -> Option<Moment>
+    ensures { result ≡ packets.clock_until (option_copied line.entry) clock end }
+{
+    match line {
+        None => None,
+        Some(line) => match clock {
+            None => None,
+            Some(clock) => match end {
+                None => Some(clock),
+                Some(field) => match line.advance(clock, field.width.bits(), field.number) {
+                    Some(until) => Some(until),
+                    None => Some(clock),
+                },
+            },
+        },
+    }
+}
+
+/// How many packets were lost since one with a sequence number; `None` at the first packet, and where
+/// none was.
+pub fn lost_since(before: Option<u64>, number: Option<Field>) -> Option<u64>
+    ensures { result ≡ packets.since counting.lost_between before number }
+{
+    match before {
+        None => None,
+        Some(before) => match number {
+            None => None,
+            Some(field) => lost_between(field.width, before, field.number),
+        },
+    }
+}
+
+/// How many event records were discarded since a packet with a count; `None` at the first packet, and
+/// where none was.
+pub fn discarded_since(before: Option<u64>, count: Option<Field>) -> Option<u64>
+    ensures { result ≡ packets.since counting.discarded_between before count }
+{
+    match before {
+        None => None,
+        Some(before) => match count {
+            None => None,
+            Some(field) => discarded_between(field.width, before, field.number),
+        },
+    }
+}

@@ -1,0 +1,10 @@
+//! Numbers of a packet's header and context.
+
+use ctf_class::Width;
+
+/// An unsigned integer, with its width.
+#[derive(Clone, Copy, Debug, PartialEq, Eq)]
+pub struct Field {
+    pub width: Width,
+    pub number: u64,
+}

@@ -1,0 +1,20 @@
+//! Laws of what streams mean.
+
+ghost use Rattle.ctf_packet.specs.Laws.{WalkFindsWhatStands, RecordsGoOn, PacketsGoOn};
+
+/// The value or fault that packets and event records are made of is the one that stands.
+pub fn walk_finds_what_stands()
+    ensures { WalkFindsWhatStands }
+{}
+
+/// What comes from a place of a packet on is the event record there and what comes from its end on, or
+/// its fault; behind the content it is what follows the packet.
+pub fn records_go_on()
+    ensures { RecordsGoOn }
+{}
+
+/// What comes from a cut point of a stream on is the packet there and what comes from its end on, or its
+/// fault; where no byte is left it is the end.
+pub fn packets_go_on()
+    ensures { PacketsGoOn }
+{}

@@ -1,0 +1,30 @@
+//! Packets of a stream, and the event records in them: what a stream of bytes means.
+#![tactic(auto)]
+
+mod clock;
+mod fault;
+mod field;
+mod header;
+mod laws;
+mod moves;
+mod open;
+mod packet;
+mod reached;
+mod record;
+mod roles;
+mod scope;
+mod sizes;
+
+pub use clock::{clock_before, clock_behind, clock_until, discarded_since, lost_since};
+pub use fault::StreamFault;
+pub use field::Field;
+pub use header::stream_checked;
+pub use laws::{packets_go_on, records_go_on, walk_finds_what_stands};
+pub use moves::moved;
+pub use open::open_packet;
+pub use packet::{OpenPacket, placed};
+pub use reached::Reached;
+pub use record::{EventRecord, next_record};
+pub use roles::role;
+pub use scope::{cut_short, front_content, front_scope, record_scope};
+pub use sizes::{LONGEST_PACKET, Sizes, are_possible, sizes_checked, told_sizes};

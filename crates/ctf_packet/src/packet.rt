@@ -1,0 +1,123 @@
+//! Packets whose header and context were decoded.
+
+ghost use Rattle.std.specs.Prelude.{◌≡◌, ◌≤◌, ◌^◌, option_map, option_and_then, option_copied, IfOk};
+ghost use Rattle.ctf_decode.specs.Views.{val};
+ghost use Rattle.ctf_packet.specs.Classes.{stream_form};
+ghost use Rattle.ctf_packet.specs.Scopes.{Values};
+ghost use Rattle.ctf_packet.specs.Packets as packets;
+ghost use Rattle.ctf_packet.specs.Views.{opened_of};
+ghost use Rattle.ctf_packet.specs.Gives.{Exactly, Placed};
+
+use crate::clock::{clock_before, clock_behind, clock_until, discarded_since, lost_since};
+use crate::fault::StreamFault;
+use crate::reached::Reached;
+use crate::roles::{number_in, role};
+use crate::sizes::{LONGEST_PACKET, Sizes};
+use ctf_class::StreamClass;
+use ctf_clock::{Moment, Shift, Timeline};
+use ctf_decode::Value;
+
+/// A packet whose header and context were decoded, and whose bytes are there.
+#[derive(Debug, Drop)]
+pub struct OpenPacket<'a> {
+    pub stream: &'a StreamClass,
+    /// The times of the stream's clock, where it has one.
+    pub line: Option<Timeline>,
+    /// Where it begins in the stream, in bytes.
+    pub start: u64,
+    /// Where it ends in the stream, in bytes.
+    pub end: u64,
+    /// Where its event records begin, in bits from its first one.
+    pub first: u64,
+    /// Where its content ends, in bits from its first one.
+    pub content: u64,
+    /// The clock before it.
+    pub before: Option<Moment>,
+    /// The clock behind its context.
+    pub clock: Option<Moment>,
+    /// The clock at its end, as far as it says.
+    pub until: Option<Moment>,
+    /// How many packets were lost before it.
+    pub lost: Option<u64>,
+    /// How many event records were discarded before it.
+    pub dropped: Option<u64>,
+    /// Its count of discarded event records.
+    pub discarded: Option<u64>,
+    /// Its sequence number.
+    pub number: Option<u64>,
+}
+
+/// The times of a stream's clock.
+fn timeline_of(stream: &StreamClass, shift: Shift) -> Option<Timeline>
+    ensures { result ≡ (stream_form shift stream.now).line }
+{
+    match stream.clock() {
+        None => None,
+        Some(clock) => Some(Timeline::new(clock, shift)),
+    }
+}
+
+/// The last packet's sequence number.
+fn number_before(reached: Option<&Reached>) -> Option<u64>
+    ensures { result ≡ option_and_then (λ r. r.number) (option_copied reached.entry) }
+{
+    match reached {
+        None => None,
+        Some(reached) => reached.number,
+    }
+}
+
+/// The last packet's count of discarded event records.
+fn discarded_before(reached: Option<&Reached>) -> Option<u64>
+    ensures { result ≡ option_and_then (λ r. r.discarded) (option_copied reached.entry) }
+{
+    match reached {
+        None => None,
+        Some(reached) => reached.discarded,
+    }
+}
+
+/// A packet of these sizes at a place of its stream, whose context ends at the bit `first` and has this
+/// value.
+///
+/// F9 exactly where its clock is refused.
+#[tactic(auto, unfolding(crate::specs::Packets::placed))]
+pub fn placed<'a>(
+    stream: &'a StreamClass,
+    shift: Shift,
+    reached: Option<&Reached>,
+    start: u64,
+    context: Option<&Value>,
+    first: u64,
+    sizes: Sizes,
+) -> Result<OpenPacket<'a>, StreamFault>
+    requires start { start ≤ 2 ^ 62 }
+    requires packet { sizes.packet ≤ LONGEST_PACKET }
+    ensures exactly { (values : Values) → values.packet_context ≡ option_map val (option_copied context.entry) → Exactly (opened_of shift values) result (packets.placed (stream_form shift stream.now) (option_copied reached.entry) start values first sizes) }
+    ensures line { IfOk result (λ packet. packet.line ≡ (stream_form shift packet.stream.now).line) }
+    ensures places { IfOk result (Placed start first sizes) }
+{
+    let line = timeline_of(stream, shift);
+    let before = clock_before(line.as_ref(), reached)?;
+    let class = stream.packet_context();
+    let clock = clock_behind(line.as_ref(), before, class, context)?;
+    let end = role(class, context, b"timestamp_end");
+    let number = role(class, context, b"packet_seq_num");
+    let count = role(class, context, b"events_discarded");
+    let until = clock_until(line.as_ref(), clock, end);
+    Ok(OpenPacket {
+        stream,
+        line: timeline_of(stream, shift),
+        start,
+        end: start + sizes.packet / 8,
+        first,
+        content: sizes.content,
+        before,
+        clock,
+        until,
+        lost: lost_since(number_before(reached), number),
+        dropped: discarded_since(discarded_before(reached), count),
+        discarded: number_in(role(class, context, b"events_discarded")),
+        number: number_in(role(class, context, b"packet_seq_num")),
+    })
+}

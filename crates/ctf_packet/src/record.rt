@@ -1,0 +1,243 @@
+//! Event records.
+
+ghost use Rattle.std.specs.Prelude.{◌≡◌, ◌<◌, ◌≤◌, ◌*◌, ◌^◌, map, length, option_map, option_copied, IfOk, OnOk};
+ghost use Rattle.std.specs.List.{last_or};
+ghost use Rattle.ctf_clock.specs.declared.moment.Shift.{Shift};
+ghost use Rattle.ctf_decode.specs.Views.{form, val};
+ghost use Rattle.ctf_packet.specs.Classes.{stream_form, event_form};
+ghost use Rattle.ctf_packet.specs.Records as records;
+ghost use Rattle.ctf_packet.specs.Views.{values_of, packet_values, opened_of, recorded_of, PutsHead, PutsBody};
+ghost use Rattle.ctf_packet.specs.Gives.{OrRefused};
+
+use crate::clock::clock_behind;
+use crate::fault::StreamFault;
+use crate::packet::OpenPacket;
+use crate::scope::record_scope;
+use ctf_class::{Class, EventClass, Scope, StreamClass};
+use ctf_clock::Moment;
+use ctf_decode::{Scopes, Value, last_id};
+use std::alloc::Global;
+
+/// The header of an event record.
+#[derive(Debug, Drop)]
+struct Head<'a> {
+    event: &'a EventClass,
+    /// The clock behind it.
+    clock: Option<Moment>,
+    /// Where it ends, in bits from the packet's first one.
+    end: u64,
+}
+
+/// An event record.
+#[derive(Debug, Drop)]
+pub struct EventRecord<'a> {
+    pub event: &'a EventClass,
+    /// The clock behind its header.
+    pub clock: Option<Moment>,
+    /// Where it ends, in bits from the packet's first one.
+    pub end: u64,
+}
+
+/// Values of another event record, whose memory may be used.
+#[derive(Debug, Drop)]
+struct SpareBody {
+    shared: Option<Value>,
+    own: Option<Value>,
+    fields: Option<Value>,
+}
+
+/// The number of the event class that a header names.
+fn id_of(class: Option<&Class>, header: Option<&Value>) -> Option<i128>
+    ensures { result ≡ last_or None (records.ids_in (option_map form (option_copied class.entry)) (option_map val (option_copied header.entry))) }
+{
+    match class {
+        None => None,
+        Some(class) => match header {
+            None => None,
+            Some(header) => last_id(class, header),
+        },
+    }
+}
+
+/// The event class of a number, or the only one.
+fn event_named(stream: &StreamClass, id: Option<i128>) -> Option<&EventClass>
+    ensures { option_map (event_form stream.now) (option_copied result) ≡ records.event_named (map (event_form stream.now) stream.now.events) id }
+{
+    match id {
+        None => stream.only(),
+        Some(id) => {
+            if id < 0 {
+                return None;
+            }
+            if id > i128::from(u64::MAX) {
+                return None;
+            }
+            stream.event(id as u64)
+        }
+    }
+}
+
+/// Puts the scopes of an event record behind its header. The place where the last one ends.
+#[tactic(auto, unfolding(crate::specs::Records::bodied))]
+fn put_body(
+    alloc: Global,
+    stream: &StreamClass,
+    event: &EventClass,
+    bytes: &[u8],
+    place: u64,
+    content: u64,
+    spare: SpareBody,
+    scopes: &mut Scopes,
+) -> Result<u64, StreamFault>
+    requires start { place ≤ content }
+    requires content { content ≤ 2 ^ 62 }
+    requires held { content ≤ 8 * length bytes.now }
+    ensures puts { PutsBody (records.bodied (option_map form stream.now.event_context) (option_map form event.now.context) (form event.now.fields) bytes.now content (values_of scopes.old) place scopes.old.spent) result scopes.new }
+    ensures within { IfOk result (λ end. end ≤ content) }
+    ensures forward { IfOk result (λ end. place ≤ end) }
+    ensures packet { OnOk result (packet_values (values_of scopes.new) ≡ packet_values (values_of scopes.old)) }
+{
+    let SpareBody {
+        shared: spare_shared,
+        own: spare_own,
+        fields: spare_fields,
+    } = spare;
+    let shared = stream.event_context();
+    let end = record_scope(
+        alloc,
+        shared,
+        bytes,
+        place,
+        content,
+        Scope::StreamEventContext,
+        spare_shared,
+        scopes,
+    )?;
+    let own = event.context();
+    let end = record_scope(
+        alloc,
+        own,
+        bytes,
+        end,
+        content,
+        Scope::EventContext,
+        spare_own,
+        scopes,
+    )?;
+    let fields = event.fields();
+    record_scope(
+        alloc,
+        Some(fields),
+        bytes,
+        end,
+        content,
+        Scope::EventFields,
+        spare_fields,
+        scopes,
+    )
+}
+
+/// Puts the header of an event record. Its class, and the clock behind it.
+#[tactic(auto, unfolding(crate::specs::Records::headed))]
+fn put_head<'a>(
+    alloc: Global,
+    packet: &OpenPacket<'a>,
+    bytes: &[u8],
+    clock: Option<Moment>,
+    place: u64,
+    spare: Option<Value>,
+    scopes: &mut Scopes,
+) -> Result<Head<'a>, StreamFault>
+    requires spent { scopes.old.spent ≡ 0 }
+    requires start { place ≤ packet.now.content }
+    requires content { packet.now.content ≤ 2 ^ 62 }
+    requires held { packet.now.content ≤ 8 * length bytes.now }
+    ensures puts { (shift : Shift) → packet.now.line ≡ (stream_form shift packet.now.stream.now).line → PutsHead packet.now.stream.now (values_of scopes.old) (records.headed (stream_form shift packet.now.stream.now) bytes.now packet.now.content (values_of scopes.old) clock place) result scopes.new }
+    ensures within { IfOk result (λ head. head.end ≤ packet.now.content) }
+    ensures forward { IfOk result (λ head. place ≤ head.end) }
+    ensures packet { OnOk result (packet_values (values_of scopes.new) ≡ packet_values (values_of scopes.old)) }
+{
+    let stream = packet.stream;
+    let class = stream.event_header();
+    let end = record_scope(
+        alloc,
+        class,
+        bytes,
+        place,
+        packet.content,
+        Scope::EventHeader,
+        spare,
+        scopes,
+    )?;
+    let header = scopes.get(Scope::EventHeader);
+    let clock = clock_behind(packet.line.as_ref(), clock, class, header)?;
+    match event_named(stream, id_of(class, header)) {
+        Some(event) => Ok(Head { event, clock, end }),
+        None => Err(StreamFault::UnknownEvent),
+    }
+}
+
+/// Values of another event record, whose memory may be used.
+#[derive(Debug, Drop)]
+struct Spare {
+    header: Option<Value>,
+    body: SpareBody,
+}
+
+/// Leaves the packet's values alone.
+fn take_record(scopes: &mut Scopes) -> Spare
+    ensures values { values_of scopes.new ≡ packet_values (values_of scopes.old) }
+    ensures spent { scopes.new.spent ≡ 0 }
+{
+    let header = scopes.take(Scope::EventHeader);
+    let shared = scopes.take(Scope::StreamEventContext);
+    let own = scopes.take(Scope::EventContext);
+    let fields = scopes.take(Scope::EventFields);
+    scopes.set_spent(0);
+    Spare {
+        header,
+        body: SpareBody {
+            shared,
+            own,
+            fields,
+        },
+    }
+}
+
+/// The event record at a place of a packet, in bits from its first one, where `bytes` are the packet's
+/// and its clock came so far. The values of the packet's header and context are in `scopes`, and so are
+/// those of the record then.
+///
+/// An error is the first fault of the record: F6 to F11, or `NoMemory`.
+#[tactic(auto, unfolding(crate::specs::Records::record_at))]
+pub fn next_record<'a>(
+    alloc: Global,
+    packet: &OpenPacket<'a>,
+    bytes: &[u8],
+    clock: Option<Moment>,
+    place: u64,
+    scopes: &mut Scopes,
+) -> Result<EventRecord<'a>, StreamFault>
+    requires start { place ≤ packet.now.content }
+    requires content { packet.now.content ≤ 2 ^ 62 }
+    requires held { packet.now.content ≤ 8 * length bytes.now }
+    ensures records { (shift : Shift) → packet.now.line ≡ (stream_form shift packet.now.stream.now).line → OrRefused (recorded_of packet.now.stream.now (values_of scopes.new)) result (records.record_at (opened_of shift (packet_values (values_of scopes.old)) packet.now) bytes.now clock place) }
+    ensures within { IfOk result (λ r. r.end ≤ packet.now.content) }
+    ensures forward { IfOk result (λ r. place < r.end) }
+    ensures packet { OnOk result (packet_values (values_of scopes.new) ≡ packet_values (values_of scopes.old)) }
+{
+    let Spare { header, body } = take_record(scopes);
+    let head = put_head(alloc, packet, bytes, clock, place, header, scopes)?;
+    let stream = packet.stream;
+    let content = packet.content;
+    let event = head.event;
+    let end = put_body(alloc, stream, event, bytes, head.end, content, body, scopes)?;
+    if end == place {
+        return Err(StreamFault::EmptyEvent);
+    }
+    Ok(EventRecord {
+        event,
+        clock: head.clock,
+        end,
+    })
+}

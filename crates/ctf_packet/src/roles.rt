@@ -1,0 +1,133 @@
+//! The fields of a packet's header and context that say something of the packet.
+
+ghost use Rattle.std.specs.Prelude.{◌≡◌, ℕ, map, option_map, option_copied};
+ghost use Rattle.ctf_decode.specs.Values.{vals_of};
+ghost use Rattle.ctf_decode.specs.Forms as forms;
+ghost use Rattle.ctf_decode.specs.Forms.{parts_of};
+ghost use Rattle.ctf_decode.specs.Views.{form, member_part, val};
+ghost use Rattle.ctf_packet.specs.Roles as roles;
+
+use crate::field::Field;
+use ctf_class::{Class, Integer, Kind, Length, Member};
+use ctf_decode::{Value, elements_in, members_in};
+
+/// The unsigned integer of a name at the top of a scope; `None` where there is no field of this name, or
+/// one of another class.
+#[tactic(auto, unfolding(crate::specs::Roles::role))]
+pub fn role(class: Option<&Class>, value: Option<&Value>, name: &[u8]) -> Option<Field>
+    ensures { result ≡ roles.role name.now (option_map form (option_copied class.entry)) (option_map val (option_copied value.entry)) }
+{
+    match field_at_top(class, value, name) {
+        None => None,
+        Some((class, value)) => unsigned_field(class, value),
+    }
+}
+
+/// The number of a field.
+pub fn number_in(field: Option<Field>) -> Option<u64>
+    ensures { result ≡ roles.number_in field }
+{
+    match field {
+        None => None,
+        Some(field) => Some(field.number),
+    }
+}
+
+/// The field of a name at the top of a scope.
+pub fn field_at_top<'a>(
+    class: Option<&'a Class>,
+    value: Option<&'a Value>,
+    name: &[u8],
+) -> Option<(&'a Class, &'a Value)>
+    ensures { option_map (λ f. (form f.0.now, val f.1.now)) result ≡ roles.field_at_top name.now (option_map form (option_copied class.entry)) (option_map val (option_copied value.entry)) }
+{
+    match class {
+        None => None,
+        Some(class) => match value {
+            None => None,
+            Some(value) => member_of(class, value, name),
+        },
+    }
+}
+
+/// The member of a name of a structure.
+fn member_of<'a>(class: &'a Class, value: &'a Value, name: &[u8]) -> Option<(&'a Class, &'a Value)>
+    ensures { option_map (λ f. (form f.0.now, val f.1.now)) result ≡ roles.member_of name.now (form class.now) (val value.now) }
+{
+    match &class.kind {
+        Kind::Structure { members } => member_named(members.as_slice(), members_in(value), name),
+        Kind::Integer(_) => None,
+        Kind::Enumeration { container, labels } => None,
+        Kind::String => None,
+        Kind::Variant {
+            tag,
+            choices,
+            options,
+        } => None,
+        Kind::Array { length, element } => None,
+        Kind::Text { length } => None,
+    }
+}
+
+/// The first member of a name.
+fn member_named<'a>(
+    members: &'a [Member],
+    values: &'a [Value],
+    name: &[u8],
+) -> Option<(&'a Class, &'a Value)>
+    ensures { option_map (λ f. (form f.0.now, val f.1.now)) result ≡ roles.member_named name.now (parts_of (map member_part members.now)) (vals_of (map val values.now)) }
+{
+    for (i, member) in members.iter().enumerate() {
+        if i >= values.len() {
+            return None;
+        }
+        let value = &values[i];
+        if member.name.as_slice() == name {
+            return Some((&member.class, value));
+        }
+    }
+    None
+}
+
+/// The number of an unsigned integer.
+fn unsigned_field(class: &Class, value: &Value) -> Option<Field>
+    ensures { result ≡ roles.unsigned_field (form class.now) (val value.now) }
+{
+    match &class.kind {
+        Kind::Integer(integer) => unsigned_integer(integer, value),
+        Kind::Structure { members } => None,
+        Kind::Enumeration { container, labels } => None,
+        Kind::String => None,
+        Kind::Variant {
+            tag,
+            choices,
+            options,
+        } => None,
+        Kind::Array { length, element } => None,
+        Kind::Text { length } => None,
+    }
+}
+
+/// The number of an integer that is unsigned.
+fn unsigned_integer(integer: &Integer, value: &Value) -> Option<Field>
+    ensures { (align : ℕ) → result ≡ roles.unsigned_field (forms.integer align integer.now) (val value.now) }
+{
+    match value {
+        Value::Unsigned(number) => {
+            if integer.is_signed {
+                None
+            } else {
+                Some(Field {
+                    width: integer.size,
+                    number: *number,
+                })
+            }
+        }
+        Value::Signed(_) => None,
+        Value::Label(_) => None,
+        Value::Text(_) => None,
+        Value::Group(_) => None,
+        Value::List(_) => None,
+        Value::Choice(_, _) => None,
+    }
+}

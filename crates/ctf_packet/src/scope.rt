@@ -1,0 +1,165 @@
+//! The values of scopes.
+
+ghost use Rattle.std.specs.Prelude.{◌≡◌, ◌+◌, ◌*◌, ◌^◌, ◌≤◌, min, [], None, length, option_map, option_copied, IfOk};
+ghost use Rattle.ctf_decode.specs.Views.{form};
+ghost use Rattle.ctf_decode.specs.Walk.{walk};
+ghost use Rattle.ctf_packet.specs.Scopes as values;
+ghost use Rattle.ctf_packet.specs.Packets as packets;
+ghost use Rattle.ctf_packet.specs.Views.{values_of, PutsValue, PutsScope, IsTold};
+
+use crate::fault::StreamFault;
+use crate::sizes::LONGEST_PACKET;
+use ctf_bits::Ending;
+use ctf_class::{Class, Scope};
+use ctf_decode::{DecodeFault, Scopes, Value, decode_into};
+use std::alloc::Global;
+
+/// Puts the value of a class that stands at a bit of some bytes, whose content ends at the bit `content`,
+/// in its scope. The place where it ends. The memory of `spare` is used for it.
+fn scope_into(
+    alloc: Global,
+    class: &Class,
+    bytes: &[u8],
+    place: u64,
+    content: u64,
+    scope: Scope,
+    spare: Value,
+    scopes: &mut Scopes,
+) -> Result<u64, DecodeFault>
+    requires start { place ≤ content }
+    requires content { content ≤ 2 ^ 62 }
+    requires held { content ≤ 8 * length bytes.now }
+    ensures puts { let before = values_of scopes.old in
+        PutsValue scope before (walk (form class.now) (values.input_of bytes.now content before) [] place scopes.old.spent) result scopes.new }
+    ensures within { IfOk result (λ end. end ≤ content) }
+    ensures forward { IfOk result (λ end. place ≤ end) }
+{
+    let mut value = spare;
+    match decode_into(alloc, class, bytes, place, content, scopes, &mut value) {
+        Ok(reached) => {
+            scopes.put(scope, value);
+            scopes.set_spent(reached.spent);
+            Ok(reached.end)
+        }
+        Err(fault) => Err(fault),
+    }
+}
+
+/// The content of the front of a stream, as far as a packet may reach, in bits.
+pub fn front_content(left: &[u8]) -> u64
+    ensures value { result ≡ min (8 * length left.now) values.longest }
+    ensures held { result ≤ 8 * length left.now }
+    ensures bounded { result ≤ LONGEST_PACKET }
+{
+    let bytes = left.len() as u64;
+    if bytes >= LONGEST_PACKET / 8 {
+        return LONGEST_PACKET;
+    }
+    8 * bytes
+}
+
+/// What is wrong with a packet whose header or context has a fault.
+fn fault_in_front(ending: Ending, fault: DecodeFault) -> StreamFault
+    ensures { IsTold (values.fault_in_front ending) fault result }
+{
+    match fault {
+        DecodeFault::ContentEnds(bits) => {
+            if bits > u128::from(LONGEST_PACKET) {
+                StreamFault::ImpossibleSizes
+            } else {
+                cut_short(ending)
+            }
+        }
+        DecodeFault::NoOption => StreamFault::NoOption,
+        DecodeFault::TooManyValues => StreamFault::TooManyValues,
+        DecodeFault::NoMemory => StreamFault::NoMemory,
+    }
+}
+
+/// What is wrong with a stream that ends inside a packet.
+pub fn cut_short(ending: Ending) -> StreamFault
+    ensures { result ≡ values.cut_short ending }
+{
+    match ending {
+        Ending::Clean => StreamFault::CutShort,
+        Ending::Failed => StreamFault::ReadFailed,
+    }
+}
+
+/// What is wrong with an event record whose scope has a fault.
+fn fault_in_record(fault: DecodeFault) -> StreamFault
+    ensures { IsTold values.fault_in_record fault result }
+{
+    match fault {
+        DecodeFault::ContentEnds(_) => StreamFault::ContentEnds,
+        DecodeFault::NoOption => StreamFault::NoOption,
+        DecodeFault::TooManyValues => StreamFault::TooManyValues,
+        DecodeFault::NoMemory => StreamFault::NoMemory,
+    }
+}
+
+/// Puts the value of a packet's header or context in its scope. The place where it ends.
+pub fn front_scope(
+    alloc: Global,
+    class: Option<&Class>,
+    left: &[u8],
+    place: u64,
+    ending: Ending,
+    scope: Scope,
+    scopes: &mut Scopes,
+) -> Result<u64, StreamFault>
+    requires { place ≤ min (8 * length left.now) values.longest }
+    ensures puts { let before = values_of scopes.old in
+        PutsScope scope before (values.scope_at (values.fault_in_front ending) (option_map form (option_copied class.entry)) (packets.front left.now before) place scopes.old.spent) result scopes.new }
+    ensures within { IfOk result (λ end. end ≤ min (8 * length left.now) values.longest) }
+{
+    match class {
+        None => {
+            scopes.take(scope);
+            Ok(place)
+        }
+        Some(class) => {
+            let content = front_content(left);
+            let spare = Value::Unsigned(0);
+            match scope_into(alloc, class, left, place, content, scope, spare, scopes) {
+                Ok(end) => Ok(end),
+                Err(fault) => Err(fault_in_front(ending, fault)),
+            }
+        }
+    }
+}
+
+/// Puts the value of a scope of an event record in it. The place where it ends. The memory of `spare` is
+/// used for it.
+pub fn record_scope(
+    alloc: Global,
+    class: Option<&Class>,
+    bytes: &[u8],
+    place: u64,
+    content: u64,
+    scope: Scope,
+    spare: Option<Value>,
+    scopes: &mut Scopes,
+) -> Result<u64, StreamFault>
+    requires start { place ≤ content }
+    requires content { content ≤ 2 ^ 62 }
+    requires held { content ≤ 8 * length bytes.now }
+    ensures puts { let before = values_of scopes.old in
+        PutsScope scope before (values.scope_at values.fault_in_record (option_map form (option_copied class.entry)) (values.input_of bytes.now content before) place scopes.old.spent) result scopes.new }
+    ensures within { IfOk result (λ end. end ≤ content) }
+    ensures forward { IfOk result (λ end. place ≤ end) }
+{
+    match class {
+        None => {
+            scopes.take(scope);
+            Ok(place)
+        }
+        Some(class) => {
+            let spare = spare.unwrap_or(Value::Unsigned(0));
+            match scope_into(alloc, class, bytes, place, content, scope, spare, scopes) {
+                Ok(end) => Ok(end),
+                Err(fault) => Err(fault_in_record(fault)),
+            }
+        }
+    }
+}

@@ -1,0 +1,6 @@
+pub mod Building
+pub mod Clocks
+pub mod Gaps
+pub mod Sizes
+pub mod Ends
+pub mod Headers
