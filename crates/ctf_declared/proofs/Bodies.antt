@@ -1,22 +1,27 @@
 -- Members of a body, one item behind another.
-use Rattle.std.proofs.Common.{◌≡◌, ℕ, ◌+◌, ◌<◌, List, [], ◌∷◌, ◌++◌, map, drop, take, length, get_or, Result, Ok, Err, Some, refl, ap, sym, ◌∙◌}
+use Rattle.std.proofs.Common.{◌≡◌, ℕ, ◌+◌, ◌<◌, true, false, nat_lt, ◌||◌, List, [], ◌∷◌, ◌++◌, map, drop, take, length, get_or, Result, Ok, Err, Some, refl, ap, sym, ◌∙◌}
 use Rattle.std.proofs.Common.{append_assoc}
+use Rattle.std.specs.List.{list_any}
 use Rattle.std.proofs.lemmas.List.{map-append}
 use Rattle.std.proofs.lemmas.Grind.{take_at_read}
 use Rattle.tsdl_tree.specs.declared.tree.Item.{Item}
 use Rattle.tsdl_tree.specs.declared.tree.TypeDeclaration.{TypeDeclaration}
 use Rattle.tsdl_tree.specs.declared.tree.Declarator.{Declarator}
 use Rattle.ctf_meaning.specs.declared.fault.ResolveFault.{ResolveFault}
+use Rattle.ctf_meaning.specs.declared.fault.ResolveFault.TheVariants.{TooDeep}
+use Rattle.ctf_meaning.specs.Parts.{Given, own_name}
 use Rattle.ctf_meaning.specs.Reading.{item_of}
-use Rattle.ctf_meaning.specs.Shapes.{Shape, Field, arrays, declared}
-use Rattle.ctf_meaning.specs.Written.{items_from}
-use Rattle.ctf_walk.specs.Told.{Told, ◌>>=◌, Follows}
-use Rattle.ctf_walk.specs.Seen.{Seen}
-use Rattle.ctf_walk.specs.Classes.{fields_told}
-use Rattle.ctf_walk.specs.Items.{Made, item_told, body_told}
+use Rattle.ctf_meaning.specs.Settings.{when}
+use Rattle.ctf_meaning.specs.Shapes.{Shape, Field, arrays, declared, depth_of}
+use Rattle.ctf_meaning.specs.Own.{most_deep}
+use Rattle.ctf_meaning.specs.Written.{Form, Fields, items_from}
+use Rattle.ctf_walk.specs.Told.{Told, ◌>>=◌, unless, Follows}
+use Rattle.ctf_walk.specs.Seen.{Seen, within, declare}
+use Rattle.ctf_walk.specs.Classes.{fields_told, has_deep, field_faults}
+use Rattle.ctf_walk.specs.Items.{Made, shape_told, item_told, body_told}
 use Rattle.ctf_declared.specs.Given.{item_form}
 use Rattle.ctf_declared.specs.Members.{member_told, names_told}
-use Rattle.ctf_declared.proofs.Steps.{Tell, tell_same, bind_fault, bind_map, follows_same, follows_map, drop_next}
+use Rattle.ctf_declared.proofs.Steps.{Tell, tell_same, bind_fault, unless_bind, follows_same, follows_map, drop_next}
 use Rattle.ctf_declared.proofs.Forms.{no_fields}
 
 pub append_none : {X : Type 0} (xs : List X) → xs ++ [] ≡ xs
@@ -26,12 +31,18 @@ append_none (x ∷ xs) = ap (λ l. x ∷ l) (append_none xs)
 abbrev pair : Seen → List Field → Seen × List Field
 pair own fields = (own, fields)
 
+-- what follows a value that is made where no fault stands
+bind_unless : {A B C : Type 0} (t : Told A) (faults : A → List ResolveFault) (f : A → B) (g : B → Told C) →
+    (t >>= λ a. unless (faults a) (g (f a))) ≡ ((t >>= λ a. unless (faults a) (Ok (f a))) >>= g)
+bind_unless (Ok a) faults f g = unless_bind (faults a) (Ok (f a)) g
+bind_unless (Err e) faults f g = refl
+
 -- a declaration of names has no member
 types_made : (t : Told Made) (fields : List Field) (g : Shape → List Field) → ((s : Shape) → g s ≡ []) →
-    ((t >>= λ made. Ok made.own) >>= λ own. Ok (pair own fields)) ≡ (t >>= λ made. Ok (pair made.own (fields ++ g made.shape)))
+    ((t >>= λ made. Ok made.own) >>= λ own. Ok (pair own fields)) ≡ (t >>= λ made. unless (field_faults (g made.shape)) (Ok (pair made.own (fields ++ g made.shape))))
 types_made (Ok made) fields g none =
-    let same : fields ≡ fields ++ g made.shape = sym (append_none fields) ∙ ap (λ l. fields ++ l) (sym (none made.shape)) in
-    ap (λ (l : List Field). Ok (pair made.own l)) same
+    ap (λ (l : List Field). Ok (pair made.own l)) (sym (append_none fields))
+    ∙ ap (λ (l : List Field). unless (field_faults l) (Ok (pair made.own (fields ++ l)))) (sym (none made.shape))
 types_made (Err f) fields g none = refl
 
 pub member_types : {V : Type 0} (outer own : Seen) (fields : List Field) (d : TypeDeclaration) (view : V → Seen) (r : Result V ResolveFault) →
@@ -45,7 +56,7 @@ module _ (outer own : Seen) (fields : List Field) (xs : List Item) (i : ℕ) (x 
   split : body_told outer own fields (items_from (map item_form (drop i xs))) ≡ (member_told outer (own, fields) (item_form x) >>= λ n. body_told outer n.0 n.1 (items_from (map item_form (drop (i + 1) xs))))
   split =
       ap (λ l. body_told outer own fields (items_from (map item_form l))) (drop_next xs i x is h)
-      ∙ bind_map (item_told outer own (item_form x)) (λ made. pair made.own (fields ++ fields_told (item_form x) made.shape)) (λ n. body_told outer n.0 n.1 (items_from (map item_form (drop (i + 1) xs))))
+      ∙ bind_unless (item_told outer own (item_form x)) (λ made. field_faults (fields_told (item_form x) made.shape)) (λ made. pair made.own (fields ++ fields_told (item_form x) made.shape)) (λ n. body_told outer n.0 n.1 (items_from (map item_form (drop (i + 1) xs))))
 
   pub body_next : (after : Seen × List Field) → member_told outer (own, fields) (item_form x) ≡ Ok after →
       body_told outer after.0 after.1 (items_from (map item_form (drop (i + 1) xs))) ≡ body_told outer own fields (items_from (map item_form (drop i xs)))
@@ -60,6 +71,31 @@ module _ (outer own : Seen) (fields : List Field) (xs : List Item) (i : ℕ) (x 
 pub declared_more : (shape : Shape) (ds : List Declarator) (d : Declarator) → declared (Some shape) (ds ++ d ∷ []) ≡ declared (Some shape) ds ++ record { name = d.name; shape = arrays d.lengths shape } ∷ []
 declared_more shape [] d = refl
 declared_more shape (x ∷ ds) d = ap (λ l. record { name = x.name; shape = arrays x.lengths shape } ∷ l) (declared_more shape ds d)
+
+-- whether some declarator's member is too deep
+pub deep_declared : (shape : Shape) (ds : List Declarator) → list_any (λ d. nat_lt most_deep (depth_of (arrays d.lengths shape))) ds ≡ has_deep (declared (Some shape) ds)
+deep_declared shape [] = refl
+deep_declared shape (d ∷ ds) = ap (λ b. nat_lt most_deep (depth_of (arrays d.lengths shape)) || b) (deep_declared shape ds)
+
+-- The members of a class that is written, behind its own name.
+module _ (outer own : Seen) (fields : List Field) (i : Item) (form : Form) (ds : List Declarator) (shape : Shape) (after : Seen) (gs : List Given)
+    (is : item_form i ≡ Fields form ds) (told : shape_told (within own outer) form ≡ Ok shape) (named : own_name form ≡ gs) (given : declare own shape gs ≡ Ok after) where
+  abbrev members_after : Made → Told (Seen × List Field)
+  members_after made = unless (field_faults (declared (Some made.shape) ds)) (Ok (pair made.own (fields ++ declared (Some made.shape) ds)))
+
+  member_fields : member_told outer (own, fields) (item_form i) ≡ unless (field_faults (declared (Some shape) ds)) (Ok (pair after (fields ++ declared (Some shape) ds)))
+  member_fields =
+      ap (member_told outer (own, fields)) is
+      ∙ ap (λ t. (t >>= λ s. declare own s (own_name form) >>= λ a. Ok (record { shape = s; own = a })) >>= members_after) told
+      ∙ ap (λ t. (t >>= λ a. Ok (record { shape = shape; own = a })) >>= members_after) (ap (declare own shape) named ∙ given)
+
+  pub member_deep : list_any (λ d. nat_lt most_deep (depth_of (arrays d.lengths shape))) ds ≡ true → member_told outer (own, fields) (item_form i) ≡ Err TooDeep
+  member_deep h = member_fields ∙ ap (λ b. unless (when b TooDeep) (Ok (pair after (fields ++ declared (Some shape) ds)))) (sym (deep_declared shape ds) ∙ h)
+
+  pub member_fits : list_any (λ d. nat_lt most_deep (depth_of (arrays d.lengths shape))) ds ≡ false → (all : List Field) → all ≡ fields ++ declared (Some shape) ds →
+      member_told outer (own, fields) (item_form i) ≡ Ok (after, all)
+  member_fits h all e =
+      member_fields ∙ ap (λ b. unless (when b TooDeep) (Ok (pair after (fields ++ declared (Some shape) ds)))) (sym (deep_declared shape ds) ∙ h) ∙ ap (λ (l : List Field). Ok (pair after l)) (sym e)
 
 -- the members of one declarator more
 module _ (shape : Shape) (ds : List Declarator) (i : ℕ) (d : Declarator) (is : d ≡ get_or ds i d) (h : i < length ds) where

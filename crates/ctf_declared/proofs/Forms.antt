@@ -1,7 +1,8 @@
 -- The code's types, level by level.
-use Rattle.std.proofs.Common.{◌≡◌, [], Option, Some, None, Bor, refl, rules, ap, ◌∙◌}
+use Rattle.std.proofs.Common.{◌≡◌, List, [], Option, Some, None, Bor, refl, rules, ap, ◌∙◌}
 use Rattle.std.specs.Option.{option_or}
 use Rattle.tsdl_tree.specs.declared.tree.Compound.{Compound}
+use Rattle.tsdl_tree.specs.declared.tree.Declarator.{Declarator}
 use Rattle.tsdl_tree.specs.declared.tree.Item as item
 use Rattle.tsdl_tree.specs.declared.tree.Item.{Item}
 use Rattle.tsdl_tree.specs.declared.tree.Specifier as specifier
@@ -25,6 +26,9 @@ form-Compound word c = search (rules, specifier.the_lemmas)
 
 pub item-Types : (d : TypeDeclaration) → item_form (item.Types d) ≡ item_of d
 item-Types d = search (rules, item.the_lemmas)
+
+pub item-Fields : (s : Specifier) (ds : List Declarator) → item_form (item.Fields s ds) ≡ written.Fields (form_of s) ds
+item-Fields s ds = search (rules, item.the_lemmas)
 
 inside_at : (names : Bor BlockNames) (outer : Bor Visible) (name : Name) → visible (code.Inside names outer) name ≡ option_or (names_in names.now name) (visible outer.now name)
 inside_at names outer name = search (rules, code.the_lemmas)

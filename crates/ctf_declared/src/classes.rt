@@ -16,7 +16,7 @@ ghost use Rattle.ctf_declared.specs.Given.{body_form, item_form};
 ghost use Rattle.ctf_declared.specs.Members.{member_told, names_told};
 
 use crate::declaring::{
-    compound_name, declare_alias, declare_definition, declare_name, own_name, push_fields,
+    compound_name, declare_alias, declare_definition, declare_name, has_deep, own_name, push_fields,
 };
 use crate::leaves::{float_class, integer_class, string_class};
 use crate::looking::{enumeration, referred};
@@ -120,6 +120,9 @@ fn member(
         Item::Fields { class, declarators } => {
             let known = class_within(alloc, outer, own, class)?;
             declare_name(alloc, own, own_name(class), &known)?;
+            if has_deep(&known, declarators.as_slice()) {
+                return Err(ResolveFault::TooDeep);
+            }
             push_fields(alloc, &known, declarators.as_slice(), fields)?;
             Ok(())
         }

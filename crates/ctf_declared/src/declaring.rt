@@ -1,11 +1,14 @@
 //! Names that are given to classes.
 
-ghost use Rattle.std.specs.Prelude.{◌≡◌, ◌++◌, [], ◌∷◌, Some, map, option_map, IfOk, OnOk, ℕ};
+ghost use Rattle.std.specs.Prelude.{◌≡◌, nat_lt, ◌++◌, [], ◌∷◌, Some, map, option_map, IfOk, OnOk, ℕ};
 ghost use Rattle.tsdl_tree.specs.declared.tree.Declarator.{Declarator};
 ghost use Rattle.ctf_meaning.specs.Name as meant;
 ghost use Rattle.ctf_meaning.specs.Parts as parts;
 ghost use Rattle.ctf_meaning.specs.Reading.{form_of};
+ghost use Rattle.std.specs.List.{list_any};
+ghost use Rattle.ctf_meaning.specs.Own.{most_deep};
 ghost use Rattle.ctf_meaning.specs.Shapes as plain;
+ghost use Rattle.ctf_meaning.specs.Shapes.{depth_of};
 ghost use Rattle.ctf_walk.specs.Told.{Follows};
 ghost use Rattle.ctf_walk.specs.Seen.{declare, declare_each};
 ghost use Rattle.ctf_shape.specs.Knowns.{known, field};
@@ -145,6 +148,13 @@ fn declare_declarator(
         class,
         declarator.lengths.as_slice(),
     )
+}
+
+/// Whether the class with the arrays of some declarator is deeper than classes may be. Nothing is made.
+pub fn has_deep(class: &Known, declarators: &[Declarator]) -> bool
+    ensures { result ≡ list_any (λ d. nat_lt most_deep (depth_of (plain.arrays d.lengths (known class.now)))) declarators.now }
+{
+    declarators.iter().any(|declarator| class.is_too_deep_with(declarator.lengths.as_slice()))
 }
 
 /// Puts a member of the class for each declarator behind the fields.

@@ -18,14 +18,10 @@ use ctf_class::{Align, Label};
 use ctf_list::{List, NoMemory, Shared};
 use ctf_meaning::{DeclaredInteger, ResolveFault};
 use std::alloc::Global;
-use std::mem;
 use tsdl_tree::{Length, Path};
 
 /// The greatest depth of a class.
 const MOST_DEEP: u32 = 64;
-
-/// So many levels of a class that is too deep are let go in one another.
-const LEVELS_LET_GO: u32 = 1024;
 
 /// A class by its declaration, with what would take a walk over its parts.
 #[derive(Debug, Drop)]
@@ -90,7 +86,7 @@ impl Known {
         ensures { IfOk result (λ k. known k ≡ plain.array count (known element)) }
     {
         let facts = element.facts.around();
-        let element = element.into_element()?;
+        let element = element.into_shared();
         Known::keeping(alloc, Shape::Array { count, element }, facts)
     }
 
@@ -99,7 +95,7 @@ impl Known {
         ensures { IfOk result (λ k. known k ≡ plain.sequence path (known element)) }
     {
         let facts = element.facts.around();
-        let element = element.into_element()?;
+        let element = element.into_shared();
         Known::keeping(alloc, Shape::Sequence { path, element }, facts)
     }
 
@@ -133,7 +129,9 @@ impl Known {
         Ok(Known::keeping(alloc, Shape::Variant { tag, options }, facts)?)
     }
 
-    /// The class with the lengths behind a name: `a[2][3]` is two arrays of three.
+    /// The class with the lengths behind a name: `a[2][3]` is two arrays of three. A text may write far more
+    /// lengths than a class may have, and letting go of a class takes a call for each level in it, so
+    /// `is_too_deep_with` is asked first.
     pub fn arrays(&self, alloc: Global, lengths: &[Length]) -> Result<Known, NoMemory>
         ensures { IfOk result (λ k. known k ≡ plain.arrays lengths.now (known self.now)) }
     {
@@ -241,20 +239,6 @@ impl Known {
         ensures { result ≡ self.shape }
     {
         self.shape
-    }
-
-    /// The class as the element of another. A text may write far more arrays in one another than there
-    /// may be. Letting go of such a class takes a call for each level in it, so every so often a level
-    /// stays in memory; it is in no class that is not too deep.
-    fn into_element(self) -> Result<Shared<Shape>, NoMemory>
-        ensures { IfOk result (λ element. element ≡ self.shape) }
-    {
-        let depth = self.facts.depth;
-        let shape = self.shape;
-        if depth % LEVELS_LET_GO == 0 {
-            mem::forget(shape.clone()?);
-        }
-        Ok(shape)
     }
 
     /// A class with what is kept of it.

@@ -1,12 +1,13 @@
 -- Classes with their bodies: what is told of them is what is wrong with the parts in them and with themselves, or their
 -- shape.
-use Rattle.std.proofs.Common.{◌≡◌, ℕ, ◌+◌, inl, inr, List, [], ◌∷◌, ◌++◌, map, Option, Some, None, Ok, is_none, refl, ap, sym, ◌∙◌, subst, append-nil, append_assoc, flat_map, option_map, Contains}
+use Rattle.std.proofs.Common.{◌≡◌, ℕ, ◌+◌, max, nat_lt, Bool, true, false, ◌||◌, inl, inr, List, [], ◌∷◌, ◌++◌, map, Option, Some, None, Ok, is_none, refl, ap, ap₂, sym, ◌∙◌, subst, append-nil, append_assoc, flat_map, option_map, Contains, arith}
+use Rattle.std.proofs.lemmas.List.Folds.{list_any-append}
 use Rattle.std.proofs.lemmas.List.Elements.{Contains-append_left, Contains-append_right, Contains-append_cases}
 use Rattle.tsdl_tree.specs.declared.tree.Container.TheVariants as container
 use Rattle.tsdl_tree.specs.declared.tree.Declarator.{Declarator}
 use Rattle.tsdl_tree.specs.declared.tree.Label.{Label}
 use Rattle.ctf_meaning.specs.declared.fault.ResolveFault.{ResolveFault}
-use Rattle.ctf_meaning.specs.declared.fault.ResolveFault.TheVariants.{UnknownType, DeclaredTwice}
+use Rattle.ctf_meaning.specs.declared.fault.ResolveFault.TheVariants.{UnknownType, DeclaredTwice, TooDeep}
 use Rattle.ctf_meaning.specs.declared.integer.DeclaredInteger.{DeclaredInteger}
 use Rattle.ctf_meaning.specs.Name.{Word, Name, same_word}
 use Rattle.ctf_meaning.specs.Written.{Form, Item, Items, Integer, Float, String, Struct, Variant, Enum, Named, Fields, Alias, Definition, Compound, no_item, some_items, items_in, form_in}
@@ -15,12 +16,12 @@ use Rattle.ctf_meaning.specs.Settings.{when, minus_faults, string_faults}
 use Rattle.ctf_meaning.specs.Integers.{integer_faults, good_integer}
 use Rattle.ctf_meaning.specs.Labels.{labels_of}
 use Rattle.ctf_meaning.specs.Labels as labels
-use Rattle.ctf_meaning.specs.Shapes.{Shape, Field, integer, float, string, enum, variant, structure, members_from, with_tag, container_at, declared, fields_by, fields_by_item}
+use Rattle.ctf_meaning.specs.Shapes.{Shape, Field, depth_of, depth_of_members, integer, float, string, enum, variant, structure, members_from, with_tag, container_at, declared, fields_by, fields_by_item}
 use Rattle.ctf_meaning.specs.Names.{Entry, meaning, shape_named, shape_of, entries_behind}
-use Rattle.ctf_meaning.specs.Own.{has_twins, field_names, unknown_faults, no_integer_faults, class_faults, align_faults}
+use Rattle.ctf_meaning.specs.Own.{most_deep, has_twins, field_names, unknown_faults, no_integer_faults, class_faults, align_faults}
 use Rattle.ctf_walk.specs.Told.{Told, ◌>>=◌, unless}
 use Rattle.ctf_walk.specs.Seen.{Seen, nothing_seen, within}
-use Rattle.ctf_walk.specs.Classes.{named_told, container_told, compound_told, fields_told}
+use Rattle.ctf_walk.specs.Classes.{named_told, container_told, compound_told, fields_told, has_deep, field_faults}
 use Rattle.ctf_walk.specs.Items.{Made, shape_told, item_told, body_told}
 use Rattle.ctf_meaning.proofs.Lists.{Each, each_map, append_left, append_right}
 use Rattle.ctf_meaning.proofs.Members.{map-append}
@@ -28,10 +29,10 @@ use Rattle.ctf_meaning.proofs.Sees.{Under, here}
 use Rattle.ctf_meaning.proofs.Seen.{entries_behind-append, meaning-entries_behind, ordered_behind}
 use Rattle.ctf_meaning.proofs.Order.{Unseen, NoneSees, Ordered, Below, Within, order_form, order_item, order_items}
 use Rattle.ctf_meaning.proofs.Earlier.{SameAt, SameIn, shape_same}
-use Rattle.ctf_walk.proofs.Telling.{Tells, tells_then, tells_made, tells_unless, tells_same, tells_as, tells_by, append_none}
+use Rattle.ctf_walk.proofs.Telling.{Tells, TellsDeep, deep_as, deep_by, deep_behind, deep_then, tells_then, tells_made, tells_unless, tells_same, tells_by, append_none}
 use Rattle.ctf_walk.proofs.Seeing.{Holds, Sees, Clear, sees_within, sees_behind, holds_nothing, holds_behind, unseen_below, unseen_inside, clear_inside, clear_next, holds_next, Inside, unseen_deep}
 use Rattle.ctf_walk.proofs.Leaves.{tells_two, integer_tells, named_tells, named_integer}
-use Rattle.ctf_walk.proofs.Parts.{faults_behind, faults_behind-append, part_tells}
+use Rattle.ctf_walk.proofs.Parts.{faults_behind, faults_behind-append, is_deep_in, part_tells}
 
 three_nil : (xs : List ResolveFault) → ((xs ++ []) ++ []) ++ [] ≡ xs
 three_nil xs = append-nil ((xs ++ []) ++ []) ∙ append-nil (xs ++ []) ∙ append-nil xs
@@ -196,46 +197,117 @@ body_more es block number fields i is made all good rest =
           ∙ append_assoc (map (λ f. f.name) fields) (field_names i) (flat_map field_names (items_in is));
     }
 
+-- A compound is deeper than each of its members.
+deep_first : (d m : ℕ) → nat_lt most_deep d ≡ true → nat_lt most_deep (max d m) ≡ true
+deep_first d m h = grind (arith, h)
+
+deep_other : (d m : ℕ) → nat_lt most_deep m ≡ true → nat_lt most_deep (max d m) ≡ true
+deep_other d m h = grind (arith, h)
+
+deep_around : (m : ℕ) → nat_lt most_deep m ≡ true → nat_lt most_deep (1 + m) ≡ true
+deep_around m h = grind (arith, h)
+
+deep_members : (fields : List Field) → has_deep fields ≡ true → nat_lt most_deep (depth_of_members (members_from fields)) ≡ true
+deep_members [] h = absurd (grind (arith, h))
+deep_members (f ∷ fs) h = by_case (nat_lt most_deep (depth_of f.shape)) refl (deep_members fs)
+  where
+    by_case : (b : Bool) → nat_lt most_deep (depth_of f.shape) ≡ b → (has_deep fs ≡ true → nat_lt most_deep (depth_of_members (members_from fs)) ≡ true) →
+        nat_lt most_deep (depth_of_members (members_from (f ∷ fs))) ≡ true
+    by_case true e more = deep_first (depth_of f.shape) (depth_of_members (members_from fs)) e
+    by_case false e more = deep_other (depth_of f.shape) (depth_of_members (members_from fs)) (more (ap (λ b. b || has_deep fs) (sym e) ∙ h))
+
+deep_compound : (fields : List Field) → has_deep fields ≡ true → nat_lt most_deep (1 + depth_of_members (members_from fields)) ≡ true
+deep_compound fields h = deep_around (depth_of_members (members_from fields)) (deep_members fields h)
+
+-- whether one of the members of a body is too deep, by the entries behind it
+abbrev deep_in_body : List Entry → Place → ℕ → Items → Bool
+deep_in_body es block number is = has_deep (fields_by (shape_named (entries_behind es (located_items block number is))) block number is)
+
+or_left : (a b : Bool) → a ≡ true → (a || b) ≡ true
+or_left a b h = ap (λ x. x || b) h
+
+or_right : (a b : Bool) → b ≡ true → (a || b) ≡ true
+or_right true b h = refl
+or_right false b h = h
+
+-- the members of an item, and those behind it, are members of the body
+module _ (es : List Entry) (block : Place) (number : ℕ) (i : Item) (is : Items) (made : Made) (good : MadeBy es block number (of_body i) i made) where
+  abbrev next_entries : List Entry
+  next_entries = entries_behind es (located_item (number ∷ block) (of_body i) i)
+
+  parted : deep_in_body es block number (some_items i is) ≡ (has_deep (fields_told i made.shape) || deep_in_body next_entries block (number + 1) is)
+  parted =
+      let ps : List Located = located_item (number ∷ block) (of_body i) i in
+      let qs : List Located = located_items block (number + 1) is in
+      let all : List Entry = entries_behind es (ps ++ qs) in
+      list_any-append (λ f. nat_lt most_deep (depth_of f.shape)) (fields_by_item (shape_named all) (number ∷ block) i) (fields_by (shape_named all) block (number + 1) is)
+      ∙ ap₂ (λ a b. has_deep a || has_deep b)
+      (told_fields all (number ∷ block) i made.shape (shape_later es block number i is ∙ good.shape))
+      (ap (λ fs. fields_by (shape_named fs) block (number + 1) is) (entries_behind-append es ps qs))
+
+  deep_here : has_deep (fields_told i made.shape) ≡ true → deep_in_body es block number (some_items i is) ≡ true
+  deep_here h = parted ∙ or_left (has_deep (fields_told i made.shape)) (deep_in_body next_entries block (number + 1) is) h
+
+  deep_behind_item : deep_in_body next_entries block (number + 1) is ≡ true → deep_in_body es block number (some_items i is) ≡ true
+  deep_behind_item h = parted ∙ or_right (has_deep (fields_told i made.shape)) (deep_in_body next_entries block (number + 1) is) h
+
+-- a value behind members of which none is too deep
+unless_deep : {A : Type 0} (t : Told A) (b c : Bool) (F : List ResolveFault) (Q : A → Type 0) → (b ≡ true → c ≡ true) → TellsDeep t F c Q → TellsDeep (unless (when b TooDeep) t) F c Q
+unless_deep t true c F Q k h = inr (refl, k refl)
+unless_deep t false c F Q k h = h
+
 mutual
   pub shape_tells : (es : List Entry) (at : Place) (seen : Seen) (form : Form) → Clear es at 0 → Sees es at seen →
-      Tells (Unit {0}) (shape_told seen form) (faults_behind es (located_form at form) ++ form_faults (entries_behind es (located_form at form)) at form)
+      TellsDeep (shape_told seen form) (faults_behind es (located_form at form) ++ form_faults (entries_behind es (located_form at form)) at form)
+      (is_deep_in (shape_of (entries_behind es (located_form at form)) at form))
       (λ shape. shape_of (entries_behind es (located_form at form)) at form ≡ Some shape)
   shape_tells es at seen (Integer settings) clear sees =
-      tells_same (Unit {0}) (shape_told seen (Integer settings)) (integer_faults settings ++ minus_faults settings) (form_faults es at (Integer settings)) _
+      deep_as (shape_told seen (Integer settings)) _ (is_deep_in (shape_of es at (Integer settings))) _
+      (tells_same (Unit {0}) (shape_told seen (Integer settings)) (integer_faults settings ++ minus_faults settings) (form_faults es at (Integer settings)) _
       (ap (λ xs. xs ++ minus_faults settings) (sym (three_nil (integer_faults settings))))
-      (tells_made (Unit {0}) _ integer (integer_faults settings ++ minus_faults settings) (λ i. good_integer settings ≡ Some i) _ (integer_tells settings) (λ i e known. ap (option_map integer) known))
+      (tells_made (Unit {0}) _ integer (integer_faults settings ++ minus_faults settings) (λ i. good_integer settings ≡ Some i) _ (integer_tells settings) (λ i e known. ap (option_map integer) known)))
   shape_tells es at seen (Float settings) clear sees =
-      tells_same (Unit {0}) (shape_told seen (Float settings)) (minus_faults settings ++ []) (form_faults es at (Float settings)) _ (append-nil (minus_faults settings))
-      (tells_unless (Unit {0}) (minus_faults settings) (Ok float) [] _ (λ e. (refl, refl)))
+      deep_as (shape_told seen (Float settings)) _ (is_deep_in (shape_of es at (Float settings))) _
+      (tells_same (Unit {0}) (shape_told seen (Float settings)) (minus_faults settings ++ []) (form_faults es at (Float settings)) _ (append-nil (minus_faults settings))
+      (tells_unless (Unit {0}) (minus_faults settings) (Ok float) [] _ (λ e. (refl, refl))))
   shape_tells es at seen (String settings) clear sees =
-      tells_same (Unit {0}) (shape_told seen (String settings)) (string_faults settings ++ minus_faults settings) (form_faults es at (String settings)) _
+      deep_as (shape_told seen (String settings)) _ (is_deep_in (shape_of es at (String settings))) _
+      (tells_same (Unit {0}) (shape_told seen (String settings)) (string_faults settings ++ minus_faults settings) (form_faults es at (String settings)) _
       (ap (λ xs. xs ++ minus_faults settings) (sym (three_nil (string_faults settings))))
-      (tells_two (minus_faults settings) (string_faults settings) string _ (λ e. refl))
+      (tells_two (minus_faults settings) (string_faults settings) string _ (λ e. refl)))
   shape_tells es at seen (Struct name is align) clear sees =
-      tells_then (Unit {0}) (body_told seen nothing_seen [] is) _ (faults_behind es (located_items at 0 is)) (form_faults (entries_behind es (located_items at 0 is)) at (Struct name is align))
-      (Body es at 0 [] is) _ (body_tells es at 0 nothing_seen seen [] is clear (holds_nothing es at) sees)
+      deep_then (body_told seen nothing_seen [] is) _ (faults_behind es (located_items at 0 is)) (form_faults (entries_behind es (located_items at 0 is)) at (Struct name is align))
+      (deep_in_body es at 0 is) (is_deep_in (shape_of (entries_behind es (located_items at 0 is)) at (Struct name is align)))
+      (Body es at 0 [] is) _ (deep_compound (fields_by (shape_named (entries_behind es (located_items at 0 is))) at 0 is))
+      (body_tells es at 0 nothing_seen seen [] is clear (holds_nothing es at) sees)
       (λ fields e body. structure_tells es at name is align fields body)
   shape_tells es at seen (Variant name tag is) clear sees =
-      tells_then (Unit {0}) (body_told seen nothing_seen [] is) _ (faults_behind es (located_items at 0 is)) (form_faults (entries_behind es (located_items at 0 is)) at (Variant name tag is))
-      (Body es at 0 [] is) _ (body_tells es at 0 nothing_seen seen [] is clear (holds_nothing es at) sees)
+      deep_then (body_told seen nothing_seen [] is) _ (faults_behind es (located_items at 0 is)) (form_faults (entries_behind es (located_items at 0 is)) at (Variant name tag is))
+      (deep_in_body es at 0 is) (is_deep_in (shape_of (entries_behind es (located_items at 0 is)) at (Variant name tag is)))
+      (Body es at 0 [] is) _ (deep_compound (fields_by (shape_named (entries_behind es (located_items at 0 is))) at 0 is))
+      (body_tells es at 0 nothing_seen seen [] is clear (holds_nothing es at) sees)
       (λ fields e body. variant_tells es at name tag is fields body)
   shape_tells es at seen (Enum name None ls) clear sees =
-      tells_same (Unit {0}) (shape_told seen (Enum name None ls)) _ (form_faults es at (Enum name None ls)) _
+      deep_as (shape_told seen (Enum name None ls)) _ (is_deep_in (shape_of es at (Enum name None ls))) _
+      (tells_same (Unit {0}) (shape_told seen (Enum name None ls)) _ (form_faults es at (Enum name None ls)) _
       (named_listed (unknown_faults es at (Enum name None ls)) (no_integer_faults es at (Enum name None ls)) (labels.label_faults ls))
-      (enum_tells (container_told seen None) _ (container_at (shape_named es) at None) ls (named_integer es at seen sees _))
+      (enum_tells (container_told seen None) _ (container_at (shape_named es) at None) ls (named_integer es at seen sees _)))
   shape_tells es at seen (Enum name (Some (container.Named typename)) ls) clear sees =
-      tells_same (Unit {0}) (shape_told seen (Enum name (Some (container.Named typename)) ls)) _ (form_faults es at (Enum name (Some (container.Named typename)) ls)) _
+      deep_as (shape_told seen (Enum name (Some (container.Named typename)) ls)) _ (is_deep_in (shape_of es at (Enum name (Some (container.Named typename)) ls))) _
+      (tells_same (Unit {0}) (shape_told seen (Enum name (Some (container.Named typename)) ls)) _ (form_faults es at (Enum name (Some (container.Named typename)) ls)) _
       (named_listed (unknown_faults es at (Enum name (Some (container.Named typename)) ls)) (no_integer_faults es at (Enum name (Some (container.Named typename)) ls)) (labels.label_faults ls))
-      (enum_tells (container_told seen (Some (container.Named typename))) _ (container_at (shape_named es) at (Some (container.Named typename))) ls (named_integer es at seen sees (Name.Plain typename.words)))
+      (enum_tells (container_told seen (Some (container.Named typename))) _ (container_at (shape_named es) at (Some (container.Named typename))) ls (named_integer es at seen sees (Name.Plain typename.words))))
   shape_tells es at seen (Enum name (Some (container.Integer settings)) ls) clear sees =
-      tells_by (Unit {0}) (shape_told seen (Enum name (Some (container.Integer settings)) ls)) ((integer_faults settings ++ minus_faults settings) ++ labels.label_faults ls) (form_faults es at (Enum name (Some (container.Integer settings)) ls)) _
+      deep_as (shape_told seen (Enum name (Some (container.Integer settings)) ls)) _ (is_deep_in (shape_of es at (Enum name (Some (container.Integer settings)) ls))) _
+      (tells_by (Unit {0}) (shape_told seen (Enum name (Some (container.Integer settings)) ls)) ((integer_faults settings ++ minus_faults settings) ++ labels.label_faults ls) (form_faults es at (Enum name (Some (container.Integer settings)) ls)) _
       (written_none (integer_faults settings) (minus_faults settings) (labels.label_faults ls)) (written_some (integer_faults settings) (minus_faults settings) (labels.label_faults ls))
-      (enum_tells (container_told seen (Some (container.Integer settings))) _ (container_at (shape_named es) at (Some (container.Integer settings))) ls (integer_tells settings))
+      (enum_tells (container_told seen (Some (container.Integer settings))) _ (container_at (shape_named es) at (Some (container.Integer settings))) ls (integer_tells settings)))
   shape_tells es at seen (Named name tag) clear sees =
-      tells_same (Unit {0}) (shape_told seen (Named name tag)) (when (is_none (meaning es at name)) UnknownType) (form_faults es at (Named name tag)) _
+      deep_as (shape_told seen (Named name tag)) _ (is_deep_in (shape_of es at (Named name tag))) _
+      (tells_same (Unit {0}) (shape_told seen (Named name tag)) (when (is_none (meaning es at name)) UnknownType) (form_faults es at (Named name tag)) _
       (sym (append-nil _ ∙ five_nil (when (is_none (meaning es at name)) UnknownType)))
       (tells_made (Unit {0}) (named_told seen name) (with_tag tag) (when (is_none (meaning es at name)) UnknownType) (λ shape. shape_named es at name ≡ Some shape) _ (named_tells es at seen sees name)
-      (λ shape e known. ap (option_map (with_tag tag)) known))
+      (λ shape e known. ap (option_map (with_tag tag)) known)))
 
   pub item_tells : (es : List Entry) (block : Place) (number : ℕ) (own outer : Seen) (part : Part) (i : Item) →
       class_of part ≡ Some (form_in i) → settings_in part ≡ settings_in_form (form_in i) → given_of part ≡ given_in i →
@@ -259,7 +331,7 @@ mutual
       (holds_within es block number own form holds) (holds_behind_form es block number own form clear holds) (λ shape after known h. record { shape = known; holds = h })
 
   pub body_tells : (es : List Entry) (block : Place) (number : ℕ) (own outer : Seen) (fields : List Field) (is : Items) → Clear es block number → Holds es block number own → Sees es block outer →
-      Tells (Unit {0}) (body_told outer own fields is) (faults_behind es (located_items block number is)) (Body es block number fields is)
+      TellsDeep (body_told outer own fields is) (faults_behind es (located_items block number is)) (deep_in_body es block number is) (Body es block number fields is)
   body_tells es block number own outer fields no_item clear holds sees = (refl, record { fields = sym (append-nil fields); names = sym (append-nil (map (λ f. f.name) fields)) })
   body_tells es block number own outer fields (some_items i is) clear holds sees =
       let at : Place = number ∷ block in
@@ -267,10 +339,16 @@ mutual
       let qs : List Located = located_items block (number + 1) is in
       let next : List Entry = entries_behind es ps in
       let below : Each (Below at) ps = (order_item at (of_body i) i).below in
-      tells_same (Unit {0}) (body_told outer own fields (some_items i is)) (faults_behind es ps ++ faults_behind next qs) (faults_behind es (ps ++ qs)) (Body es block number fields (some_items i is)) (sym (faults_behind-append es ps qs))
-      (tells_then (Unit {0}) (item_told outer own i) (λ made. body_told outer made.own (fields ++ fields_told i made.shape) is) (faults_behind es ps) (faults_behind next qs)
+      let deep : Bool = deep_in_body es block number (some_items i is) in
+      deep_by (body_told outer own fields (some_items i is)) (faults_behind es ps ++ faults_behind next qs) (faults_behind es (ps ++ qs)) deep deep
+      (Body es block number fields (some_items i is)) (Body es block number fields (some_items i is)) (sym (faults_behind-append es ps qs)) (λ h. h) (λ all h. h)
+      (deep_behind (item_told outer own i)
+      (λ made. unless (field_faults (fields_told i made.shape)) (body_told outer made.own (fields ++ fields_told i made.shape) is)) (faults_behind es ps) (faults_behind next qs) deep
       (MadeBy es block number (of_body i) i) (Body es block number fields (some_items i is))
       (item_tells es block number own outer (of_body i) i refl refl refl clear holds sees)
-      (λ made e good. tells_as (Unit {0}) (body_told outer made.own (fields ++ fields_told i made.shape) is) (faults_behind next qs) (Body next block (number + 1) (fields ++ fields_told i made.shape) is) (Body es block number fields (some_items i is))
+      (λ made e good. unless_deep (body_told outer made.own (fields ++ fields_told i made.shape) is) (has_deep (fields_told i made.shape)) deep (faults_behind next qs) (Body es block number fields (some_items i is))
+      (deep_here es block number i is made good)
+      (deep_by (body_told outer made.own (fields ++ fields_told i made.shape) is) (faults_behind next qs) (faults_behind next qs) (deep_in_body next block (number + 1) is) deep
+      (Body next block (number + 1) (fields ++ fields_told i made.shape) is) (Body es block number fields (some_items i is)) refl (deep_behind_item es block number i is made good)
       (λ all rest. body_more es block number fields i is made all good rest)
-      (body_tells next block (number + 1) made.own outer (fields ++ fields_told i made.shape) is (clear_next es block number ps clear below) good.holds (sees_behind es block outer ps (unseen_inside number block ps below) sees))))
+      (body_tells next block (number + 1) made.own outer (fields ++ fields_told i made.shape) is (clear_next es block number ps clear below) good.holds (sees_behind es block outer ps (unseen_inside number block ps below) sees)))))

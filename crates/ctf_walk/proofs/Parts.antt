@@ -1,5 +1,5 @@
 -- A part that has a class: what is told of the class, and of the names that it is given, is what is wrong with the part.
-use Rattle.std.proofs.Common.{◌≡◌, ℕ, ◌+◌, nat_lt, Bool, ◌||◌, inl, inr, List, [], ◌∷◌, ◌++◌, map, Some, Ok, is_some, refl, ap, ap₂, sym, ◌∙◌, subst, append_assoc, option_map, option_and_then, Contains}
+use Rattle.std.proofs.Common.{◌≡◌, ℕ, ◌+◌, nat_lt, Bool, true, false, ◌||◌, inl, inr, List, [], ◌∷◌, ◌++◌, map, Option, Some, None, Ok, is_some, refl, ap, ap₂, sym, ◌∙◌, subst, append_assoc, option_map, option_and_then, Contains, arith}
 use Rattle.std.specs.List.{list_any}
 use Rattle.std.specs.Option.{option_map_or}
 use Rattle.std.proofs.lemmas.List.Elements.{Contains-append_left, Contains-append_right, Contains-append_cases}
@@ -16,7 +16,7 @@ use Rattle.ctf_walk.specs.Told.{Told, ◌>>=◌}
 use Rattle.ctf_walk.specs.Seen.{Seen, declare}
 use Rattle.ctf_meaning.proofs.Lists.{append_left, append_right}
 use Rattle.ctf_meaning.proofs.Seen.{entries_behind-append}
-use Rattle.ctf_walk.proofs.Telling.{Tells, tells_then, tells_made, tells_same, tells_by, append_none}
+use Rattle.ctf_walk.proofs.Telling.{Tells, TellsDeep, then_deep, tells_made, tells_same, tells_by, append_none, contains_when}
 use Rattle.ctf_walk.proofs.Seeing.{Holds, some_both}
 use Rattle.ctf_walk.proofs.Given.{entry_by, is_too_deep, is_taken, declare_tells}
 
@@ -80,6 +80,10 @@ module _ (i c m d n : List ResolveFault) where
         ]
       ]
 
+-- whether a class is deeper than the limit, where it has a shape
+abbrev pub is_deep_in : Option Shape → Bool
+is_deep_in o = option_map_or (λ shape. nat_lt most_deep (depth_of shape)) o false
+
 -- A part with its class, by the entries before it.
 module _ (es : List Entry) (block : Place) (number : ℕ) (part : Part) (form : Form) (here : class_of part ≡ Some form) where
   shape_here : (shape : Shape) → shape_of es (number ∷ block) form ≡ Some shape → option_and_then (shape_of es (number ∷ block)) (class_of part) ≡ Some shape
@@ -90,6 +94,12 @@ module _ (es : List Entry) (block : Place) (number : ℕ) (part : Part) (form : 
   depth_here shape known =
       ap (λ b. when (nat_lt most_deep (depth_of shape) || b) TooDeep) (sym (any_mapped (is_deep es shape) (λ g. g.lengths) (given_of part)))
       ∙ ap (λ o. option_map_or (λ s. when (list_any (is_deep es s) ([] ∷ map (λ g. g.lengths) (given_of part))) TooDeep) o []) (sym (shape_here shape known))
+
+  deep_here : (o : Option Shape) → shape_of es (number ∷ block) form ≡ o → is_deep_in o ≡ true → Contains (depth_faults es (number ∷ block, part)) TooDeep
+  deep_here (Some shape) known h =
+      subst (λ fs. Contains fs TooDeep) (depth_here shape known)
+      (contains_when (nat_lt most_deep (depth_of shape) || list_any (is_too_deep shape) (given_of part)) TooDeep (ap (λ b. b || list_any (is_too_deep shape) (given_of part)) h))
+  deep_here None known h = absurd (grind (arith, h))
 
   names_here : (own : Seen) → Holds es block number own → when (is_taken own (given_of part)) DeclaredTwice ≡ name_faults es (number ∷ block, part)
   names_here own holds =
@@ -116,7 +126,8 @@ module _ (es : List Entry) (block : Place) (number : ℕ) (part : Part) (form : 
 pub part_tells : {B : Type 0} (es : List Entry) (block : Place) (number : ℕ) (inner : List Located) (part : Part) (form : Form) (t : Told Shape) (own : Seen) (gs : List Given) (make : Shape → Seen → B)
     (R : B → Type 0) →
     class_of part ≡ Some form → settings_in part ≡ settings_in_form form → given_of part ≡ gs →
-    Tells (Unit {0}) t (faults_behind es inner ++ (class_faults (entries_behind es inner) (number ∷ block) form ++ minus_faults (settings_in_form form)))
+    TellsDeep t (faults_behind es inner ++ (class_faults (entries_behind es inner) (number ∷ block) form ++ minus_faults (settings_in_form form)))
+    (is_deep_in (shape_of (entries_behind es inner) (number ∷ block) form))
     (λ shape. shape_of (entries_behind es inner) (number ∷ block) form ≡ Some shape) →
     Holds (entries_behind es inner) block number own → Holds (entries_behind es inner) block (number + 1) own →
     ((shape : Shape) (after : Seen) → shape_of (entries_behind es inner) (number ∷ block) form ≡ Some shape → Holds (entries_behind es (inner ++ (number ∷ block, part) ∷ [])) block (number + 1) after → R (make shape after)) →
@@ -138,8 +149,9 @@ part_tells es block number inner part form t own gs make R here settled given to
     (tells_same (Unit {0}) (t >>= λ shape. declare own shape (given_of part) >>= λ after. Ok (make shape after)) (first ++ ((((classes ++ depths) ++ names) ++ minus) ++ [])) (faults_behind es (inner ++ (at, part) ∷ [])) R all
     (tells_by (Unit {0}) (t >>= λ shape. declare own shape (given_of part) >>= λ after. Ok (make shape after)) ((first ++ (classes ++ minus)) ++ (depths ++ names)) (first ++ ((((classes ++ depths) ++ names) ++ minus) ++ [])) R
     (listed_none first classes minus depths names) (listed_some first classes minus depths names)
-    (tells_then (Unit {0}) t (λ shape. declare own shape (given_of part) >>= λ after. Ok (make shape after)) (first ++ (classes ++ minus)) (depths ++ names)
-    (λ shape. shape_of before at form ≡ Some shape) R told
+    (then_deep t (λ shape. declare own shape (given_of part) >>= λ after. Ok (make shape after)) (first ++ (classes ++ minus)) (depths ++ names)
+    (is_deep_in (shape_of before at form)) (λ shape. shape_of before at form ≡ Some shape) R
+    (λ h. Contains-append_left depths names TooDeep (deep_here before block number part form here (shape_of before at form) refl h)) told
     (λ shape e known. tells_made (Unit {0}) (declare own shape (given_of part)) (make shape) (depths ++ names) (λ after. Holds (before ++ entries_of before (at, part)) block (number + 1) after) R
     (given_tells before block number part form here own shape known holds next)
     (λ after f h. made shape after known (subst (λ fs. Holds fs block (number + 1) after) (sym entries) h))))))

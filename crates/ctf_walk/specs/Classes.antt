@@ -1,11 +1,13 @@
 -- What a class that is written is, by the names that it sees; with its members, where it is a compound.
-use Rattle.std.specs.Prelude.{List, [], map, Option, Some, None, Ok, Err}
+use Rattle.std.specs.Prelude.{nat_lt, Bool, List, [], map, Option, Some, None, Ok, Err}
+use Rattle.std.specs.List.{list_any}
 use Rattle.std.specs.Option.{option_map_or}
 use Rattle.tsdl_tree.specs.declared.tree.Container.{Container}
 use Rattle.tsdl_tree.specs.declared.tree.Container.TheVariants as container
 use Rattle.tsdl_tree.specs.declared.tree.Label.{Label}
 use Rattle.tsdl_tree.specs.declared.tree.Setting.{Setting}
-use Rattle.ctf_meaning.specs.declared.fault.ResolveFault.TheVariants.{UnknownType, DeclaredTwice, Attribute}
+use Rattle.ctf_meaning.specs.declared.fault.ResolveFault.{ResolveFault}
+use Rattle.ctf_meaning.specs.declared.fault.ResolveFault.TheVariants.{UnknownType, DeclaredTwice, Attribute, TooDeep}
 use Rattle.ctf_meaning.specs.declared.integer.DeclaredInteger.{DeclaredInteger}
 use Rattle.ctf_meaning.specs.Name.{Name, same_word}
 use Rattle.ctf_meaning.specs.Written.{Item, Fields}
@@ -13,8 +15,8 @@ use Rattle.ctf_meaning.specs.Settings.{when, minus_faults, string_faults}
 use Rattle.ctf_meaning.specs.Integers.{integer_faults, integer_of}
 use Rattle.ctf_meaning.specs.Labels.{labels_of}
 use Rattle.ctf_meaning.specs.Labels as labels
-use Rattle.ctf_meaning.specs.Shapes.{Shape, Field, string, enum, integer_in, container_name, declared}
-use Rattle.ctf_meaning.specs.Own.{has_twins}
+use Rattle.ctf_meaning.specs.Shapes.{Shape, Field, string, enum, integer_in, container_name, declared, depth_of}
+use Rattle.ctf_meaning.specs.Own.{most_deep, has_twins}
 use Rattle.ctf_walk.specs.Told.{Told, ◌>>=◌, unless, there_or}
 use Rattle.ctf_walk.specs.Seen.{Seen}
 
@@ -47,3 +49,10 @@ compound_told fields shape = unless (when (has_twins same_word (map (λ f. f.nam
 abbrev pub fields_told : Item → Shape → List Field
 fields_told (Fields form declarators) shape = declared (Some shape) declarators
 fields_told _ shape = []
+
+-- some member is deeper than classes may be, and so is the compound around it
+abbrev pub has_deep : List Field → Bool
+has_deep fields = list_any (λ f. nat_lt most_deep (depth_of f.shape)) fields
+
+abbrev pub field_faults : List Field → List ResolveFault
+field_faults fields = when (has_deep fields) TooDeep

@@ -8,7 +8,7 @@ use Rattle.ctf_meaning.specs.Settings.{minus_faults}
 use Rattle.ctf_meaning.specs.Own.{align_faults}
 use Rattle.ctf_walk.specs.Told.{Told, ◌>>=◌, unless}
 use Rattle.ctf_walk.specs.Seen.{Seen, nothing_seen, within, declare}
-use Rattle.ctf_walk.specs.Classes.{integer_told, string_told, enum_told, named_told, compound_told, fields_told}
+use Rattle.ctf_walk.specs.Classes.{integer_told, string_told, enum_told, named_told, compound_told, fields_told, field_faults}
 
 -- the names of a block behind an item, and the class that is written in the item
 pub record Made : Type 0 where
@@ -38,8 +38,10 @@ abbrev mutual
   item_told outer own (Definition form declarators) = shape_told (within own outer) form >>= made_by own (Definition form declarators)
   item_told outer own (Compound form) = shape_told (within own outer) form >>= made_by own (Compound form)
 
-  -- the members of a body, behind some that stand before
+  -- The members of a body, behind some that stand before. None is deeper than classes may be: the compound around it is
+  -- deeper still.
   pub body_told : Seen → Seen → List Field → Items → Told (List Field)
   body_told outer own fields no_item = Ok fields
   body_told outer own fields (some_items i is) =
-      item_told outer own i >>= λ made. body_told outer made.own (fields ++ fields_told i made.shape) is
+      item_told outer own i >>= λ made.
+      unless (field_faults (fields_told i made.shape)) (body_told outer made.own (fields ++ fields_told i made.shape) is)

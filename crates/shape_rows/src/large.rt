@@ -106,7 +106,8 @@ fn many_lengths(rt: HostRuntime) -> Result<(), Fail> {
     let known = Known::string(alloc)?;
     assert!(rt; !known.is_too_deep_with(lengths(alloc, 63)?.as_slice()));
     assert!(rt; known.is_too_deep_with(lengths(alloc, 64)?.as_slice()));
-    let deep = known.arrays(alloc, lengths(alloc, MANY)?.as_slice())?;
-    assert_eq!(rt; deep.nodes(), 100_001);
+    assert!(rt; known.is_too_deep_with(lengths(alloc, MANY)?.as_slice()));
+    let deepest = known.arrays(alloc, lengths(alloc, 63)?.as_slice())?;
+    assert_eq!(rt; deepest.nodes(), 64);
     Ok(())
 }

@@ -1,15 +1,17 @@
-use Rattle.std.proofs.Common.{ap, sym, ◌∙◌, map}
+use Rattle.std.proofs.Common.{ap, sym, ◌∙◌, ◌++◌, inr, Some, map}
 use Rattle.std.proofs.lemmas.Result.{err_from_is_err_and}
 use Rattle.ctf_meaning.specs.Reading.{form_of}
 use Rattle.ctf_meaning.specs.Written.{items_from}
+use Rattle.ctf_meaning.specs.Written as written
+use Rattle.ctf_meaning.specs.Shapes.{declared}
 use Rattle.ctf_walk.specs.Seen.{Seen, nothing_seen}
 use Rattle.ctf_walk.specs.Items.{shape_told, body_told}
 use Rattle.ctf_shape.specs.Knowns.{known, field}
 use Rattle.ctf_declared.specs.Given.{body_form, item_form}
 use Rattle.ctf_declared.specs.Views.{names_in, visible}
 use Rattle.ctf_declared.proofs.Steps.{tell_same, follows_same}
-use Rattle.ctf_declared.proofs.Forms.{form-Compound, item-Types, inside_is}
-use Rattle.ctf_declared.proofs.Bodies.{body_next, body_fault, member_types}
+use Rattle.ctf_declared.proofs.Forms.{form-Compound, item-Fields, item-Types, inside_is}
+use Rattle.ctf_declared.proofs.Bodies.{body_next, body_fault, member_types, member_deep, member_fits}
 use Rattle.ctf_declared.proofs.classes.+classes.Goals as goal
 
 pub class_of-returns-in-Compound : goal.class_of-returns-in-Compound
@@ -48,3 +50,16 @@ pub member-returns-in-Types : goal.member-returns-in-Types
 member-returns-in-Types t c =
     rw (ap item_form c.in-Types.is ∙ item-Types c.in-Types.declaration)
     (member_types (visible c.args.outer.now) (names_in c.args.own.now) (map field c.args.fields.now.items) c.in-Types.declaration (λ _. names_in c.types.new.own) c.types.result c.types.ensures)
+
+pub member-returns-then-has_deep : goal.member-returns-then-has_deep
+member-returns-then-has_deep t c =
+    inr (member_deep (visible c.args.outer.now) (names_in c.args.own.now) (map field c.args.fields.now.items) c.args.item.now (form_of c.in-Fields.class) c.as_slice.result.now (known c.in_ok-known-in-Fields.known)
+    (names_in c.declare_name.new.own) _ (ap item_form c.in-Fields.is ∙ item-Fields c.in-Fields.class c.in-Fields.declarators ∙ ap (written.Fields (form_of c.in-Fields.class)) (sym c.as_slice.ensures))
+    c.in_ok-known-in-Fields.ensures c.own_name.ensures c.in_ok-declare_name-in-Fields.ensures (sym c.has_deep.ensures ∙ c.if-has_deep.true))
+
+pub member-returns-in_ok-push_fields-in-Fields : goal.member-returns-in_ok-push_fields-in-Fields
+member-returns-in_ok-push_fields-in-Fields t c =
+    member_fits (visible c.args.outer.now) (names_in c.args.own.now) (map field c.args.fields.now.items) c.args.item.now (form_of c.in-Fields.class) c.as_slice.result.now (known c.in_ok-known-in-Fields.known)
+    (names_in c.declare_name.new.own) _ (ap item_form c.in-Fields.is ∙ item-Fields c.in-Fields.class c.in-Fields.declarators ∙ ap (written.Fields (form_of c.in-Fields.class)) (sym c.as_slice.ensures))
+    c.in_ok-known-in-Fields.ensures c.own_name.ensures c.in_ok-declare_name-in-Fields.ensures (sym c.has_deep.ensures ∙ c.if-has_deep.false)
+    (map field c.push_fields.new.fields.items) (c.in_ok-push_fields-in-Fields.ensures ∙ ap (λ ds. map field c.args.fields.now.items ++ declared (Some (known c.in_ok-known-in-Fields.known)) ds) (c.as_slice-in-Fields.ensures ∙ sym c.as_slice.ensures))
