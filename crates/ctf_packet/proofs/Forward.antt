@@ -7,7 +7,7 @@ use Rattle.ctf_decode.specs.Input.{Input, Env}
 use Rattle.ctf_decode.specs.Routes.{length_of}
 use Rattle.ctf_decode.specs.Stands.{StandsRow, Stands, StandsMembers, StandsOption}
 
-row : (R : ℕ → Val → ℕ → Type 0) → ((p : ℕ) (v : Val) (q : ℕ) → R p v q → p ≤ q) → (n : ℕ) (done : List Val) (p : ℕ) (vs : List Val) (q : ℕ) → StandsRow R n done p vs q → p ≤ q
+pub row : (R : ℕ → Val → ℕ → Type 0) → ((p : ℕ) (v : Val) (q : ℕ) → R p v q → p ≤ q) → (n : ℕ) (done : List Val) (p : ℕ) (vs : List Val) (q : ℕ) → StandsRow R n done p vs q → p ≤ q
 row R f zero done p vs q h = let e : q ≡ p = h.1 in omega arith
 row R f (suc n) done p vs q h =
     let l : p ≤ h.1 = f p h.0 h.1 h.2 in
@@ -25,7 +25,7 @@ mutual
       let l = row (Stands k c env) (λ x w y g. forward k c env x w y g) (length_of many c.earlier env) [] (next_multiple_of p (align_of k)) h.1.0 q h.1.2 in omega arith
   forward (text a many) c env p v q h = let e = h.ends in omega arith
 
-  forward_members : (ps : Parts) (c : Input) (env : Env) (done : List Val) (p : ℕ) (vs : List Val) (q : ℕ) → StandsMembers ps c env done p vs q → p ≤ q
+  pub forward_members : (ps : Parts) (c : Input) (env : Env) (done : List Val) (p : ℕ) (vs : List Val) (q : ℕ) → StandsMembers ps c env done p vs q → p ≤ q
   forward_members no_parts c env done p vs q h = let e : q ≡ p = h.1 in omega arith
   forward_members (part n k ps) c env done p vs q h =
       let l : p ≤ h.1 = forward k c (done ∷ env) p h.0 h.1 h.2 in

@@ -25,6 +25,6 @@ pub use open::open_packet;
 pub use packet::{OpenPacket, placed};
 pub use reached::Reached;
 pub use record::{EventRecord, next_record};
-pub use roles::role;
-pub use scope::{cut_short, front_content, front_scope, record_scope};
+pub use roles::{number_in, role};
+pub use scope::{cut_short, front_content, front_scope, record_scope, scope_into};
 pub use sizes::{LONGEST_PACKET, Sizes, are_possible, sizes_checked, told_sizes};

@@ -29,7 +29,7 @@ struct Head<'a> {
 }
 
 /// An event record.
-#[derive(Debug, Drop)]
+#[derive(Clone, Copy, Debug)]
 pub struct EventRecord<'a> {
     pub event: &'a EventClass,
     /// The clock behind its header.

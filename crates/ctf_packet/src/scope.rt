@@ -16,7 +16,7 @@ use std::alloc::Global;
 
 /// Puts the value of a class that stands at a bit of some bytes, whose content ends at the bit `content`,
 /// in its scope. The place where it ends. The memory of `spare` is used for it.
-fn scope_into(
+pub fn scope_into(
     alloc: Global,
     class: &Class,
     bytes: &[u8],
