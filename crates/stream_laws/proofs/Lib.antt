@@ -1,0 +1,9 @@
+pub mod Later
+pub mod Line
+pub mod Named
+pub mod Reaching
+pub mod Rising
+pub mod Timed
+pub mod Splitting
+pub mod Again
+pub mod Passing

@@ -1,0 +1,3 @@
+pub mod Times
+pub mod Holding
+pub mod Laws
