@@ -1,0 +1,6 @@
+mod Bytes
+mod Steps
+mod Asking
+mod Sizing
+mod Fetched
+mod Courses

@@ -1,0 +1,19 @@
+use Rattle.std.proofs.Common.{◌-◌, refl}
+use Rattle.ctf_stream.specs.Reader.{item_ahead}
+use Rattle.ctf_stream.specs.Standing.{item_at}
+use Rattle.ctf_stream.proofs.course.Course.item.Goals as goal
+
+pub returns-in-Event : goal.returns-in-Event
+returns-in-Event c =
+    let p = c.in-Some.packet.opened in
+    ((p.end, (p.end - p.start, (λ i. item_ahead (item_at c.args.self.now (c.in-Some.is i) (c.in-Event.is i))))), refl)
+
+pub returns-in-Discarded : goal.returns-in-Discarded
+returns-in-Discarded c =
+    let p = c.in-Some.packet.opened in
+    ((p.end, (p.end - p.start, (λ i. item_ahead (item_at c.args.self.now (c.in-Some.is i) (c.in-Discarded.is i))))), refl)
+
+pub returns-in-Lost : goal.returns-in-Lost
+returns-in-Lost c =
+    let p = c.in-Some.packet.opened in
+    ((p.end, (p.end - p.start, (λ i. item_ahead (item_at c.args.self.now (c.in-Some.is i) (c.in-Lost.is i))))), refl)

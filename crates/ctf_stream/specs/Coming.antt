@@ -1,0 +1,58 @@
+-- What is to come of a stream, from any place on.
+use Rattle.std.specs.Prelude.{◌≡◌, ℕ, ◌+◌, ◌-◌, ◌*◌, ◌^◌, ◌≤◌, ◌<◌, ◌⊎◌, List, [], ◌∷◌, ◌++◌, length, Option, Some, None, Result, Ok, Err}
+use Rattle.ctf_clock.specs.declared.moment.Moment.{Moment}
+use Rattle.ctf_clock.specs.declared.moment.Shift.{Shift}
+use Rattle.ctf_decode.specs.Known.{Known}
+use Rattle.ctf_packet.specs.Classes.{Classes}
+use Rattle.ctf_packet.specs.Packets.{Opened}
+use Rattle.ctf_packet.specs.Items.{Run, Item, stops, before, from_place, lost, discarded, lost_before, discarded_before, gap_of, item_of}
+use Rattle.ctf_packet.specs.Views.{values_of, packet_values, opened_of, recorded_of}
+use Rattle.ctf_packet.specs.declared.packet.OpenPacket.{OpenPacket}
+use Rattle.ctf_packet.specs.declared.fault.StreamFault.{StreamFault}
+use Rattle.ctf_packet.specs.declared.fault.StreamFault.TheVariants as faults
+use Rattle.ctf_stream.specs.declared.packet.Packet.{Packet}
+use Rattle.ctf_stream.specs.declared.packet.Front.{Front}
+use Rattle.ctf_stream.specs.declared.packet.Front.TheVariants as fronts
+
+-- the packet at hand, with the values of its header and context
+abbrev pub opened_in : Shift → Known → OpenPacket → Opened Classes
+opened_in shift known packet = opened_of shift (packet_values (values_of known)) packet
+
+-- the items of the packet at hand that are left, and what follows from the clock at its end
+abbrev pub left_in : Shift → Known → List ℕ → (Option Moment → Run Classes) → Packet → Run Classes
+left_in shift known bytes follows p =
+    let packet = opened_in shift known p.opened in
+    before (lost_before packet p.lost ++ discarded_before packet p.dropped) (from_place packet bytes p.clock p.place follows)
+
+-- the item in front
+abbrev pub item_in : Shift → Known → Packet → Front → Item Classes
+item_in shift known p (fronts.Event r) = item_of (opened_in shift known p.opened) (recorded_of p.opened.stream.now (values_of known) r)
+item_in shift known p (fronts.Lost count) = let packet = opened_in shift known p.opened in lost (gap_of packet count packet.clock)
+item_in shift known p (fronts.Discarded count) = let packet = opened_in shift known p.opened in discarded (gap_of packet count packet.until)
+
+-- how many gaps are to be told
+abbrev pub one_if_some : Option ℕ → ℕ
+one_if_some None = 0
+one_if_some (Some count) = 1
+
+-- how many items of the packet at hand are left, at the most
+abbrev pub room_in : Packet → ℕ
+room_in p = one_if_some p.lost + one_if_some p.dropped + (p.opened.content - p.place)
+
+-- a packet whose bytes are at hand
+pub record Within (bytes : List ℕ) (p : Packet) : Type 0 where
+  pub place : p.place ≤ p.opened.content
+  pub content : p.opened.content ≤ 2 ^ 62
+  pub held : p.opened.content ≤ 8 * length bytes
+
+-- the next item of a packet, and what is left then; or its end; or its fault
+abbrev pub TakesItem : Shift → (Option Moment → Run Classes) → Run Classes → Packet → Known → List ℕ → Result (Option Front) StreamFault → Type 0
+TakesItem shift follows old p known bytes (Ok (Some front)) = old ≡ before (item_in shift known p front ∷ []) (left_in shift known bytes follows p)
+TakesItem shift follows old p known bytes (Ok None) = old ≡ follows p.clock
+TakesItem shift follows old p known bytes (Err fault) = (old ≡ stops (Some fault) p.opened.start) ⊎ (fault ≡ faults.NoMemory)
+
+-- an item that was found takes room
+abbrev pub TakesRoom : ℕ → ℕ → Result (Option Front) StreamFault → Type 0
+TakesRoom old new (Ok (Some front)) = new < old
+TakesRoom old new (Ok None) = new ≤ old
+TakesRoom old new (Err fault) = Unit {0}

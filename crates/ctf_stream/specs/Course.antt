@@ -1,0 +1,90 @@
+-- How far a stream was read.
+use Rattle.std.specs.Prelude.{◌≡◌, ℕ, ◌+◌, ◌-◌, ◌*◌, ◌^◌, ◌≤◌, ◌<◌, Bool, true, false, List, [], ◌∷◌, Option, IsSome, Some, None, Result, Ok, Err}
+use Rattle.ctf_bits.specs.declared.source.Ending.{Ending}
+use Rattle.ctf_decode.specs.Known.{Known}
+use Rattle.ctf_packet.specs.Classes.{Classes, TraceForm, trace_form}
+use Rattle.ctf_packet.specs.Items.{Run, stops, before, from_bytes}
+use Rattle.ctf_packet.specs.declared.fault.StreamFault.{StreamFault}
+use Rattle.ctf_stream.specs.Coming.{opened_in, left_in, item_in, room_in}
+use Rattle.ctf_stream.specs.Fetching.{OrNoMemory, behind_packet, FetchedAt}
+use Rattle.ctf_stream.specs.declared.cut.CutPoint.{CutPoint}
+use Rattle.ctf_stream.specs.declared.packet.Packet.{Packet}
+use Rattle.ctf_stream.specs.declared.packet.Front.{Front}
+use Rattle.ctf_stream.specs.declared.course.Course.{Course}
+
+abbrev pub trace_of : CutPoint → TraceForm Classes
+trace_of cut = trace_form cut.shift cut.trace.now
+
+-- what is to come at a cut point, or within the packet that begins there
+abbrev pub coming_at : CutPoint → Ending → List ℕ → Known → List ℕ → Option Packet → Run Classes
+coming_at cut ending left known bytes None = from_bytes (trace_of cut) ending cut.reached cut.at left
+coming_at cut ending left known bytes (Some p) =
+    left_in cut.shift known bytes (behind_packet (trace_of cut) ending (opened_in cut.shift known p.opened) left) p
+
+-- what is to come, where so much is left of the stream
+abbrev pub coming_of : Ending → List ℕ → Course → Run Classes
+coming_of ending left c = coming_at c.cut ending left c.scopes c.buffer c.packet
+
+-- how many bytes may be taken, at the most: a packet that begins at the longest stream's end, and one byte (own)
+abbrev pub most_taken : ℕ
+most_taken = 2 ^ 60 + 2 ^ 28 + 1
+
+-- between two packets nothing is held, and no byte was taken beyond
+pub record Between (cut : CutPoint) (bytes : List ℕ) (taken : ℕ) : Type 0 where
+  pub empty : bytes ≡ []
+  pub here : taken ≡ cut.at
+  pub near : cut.at ≤ 2 ^ 60 + 2 ^ 28
+
+-- within a packet it is held, and no byte was taken behind it
+pub record Inside (cut : CutPoint) (bytes : List ℕ) (taken : ℕ) (p : Packet) : Type 0 where
+  pub fetched : FetchedAt cut.at bytes cut.shift p.opened
+  pub here : taken ≡ p.opened.end
+  pub near : cut.at ≤ 2 ^ 60
+  pub place : p.place ≤ p.opened.content
+
+abbrev pub StandsAt : CutPoint → List ℕ → ℕ → Option Packet → Type 0
+StandsAt cut bytes taken None = Between cut bytes taken
+StandsAt cut bytes taken (Some p) = Inside cut bytes taken p
+
+abbrev pub Stands : Course → Type 0
+Stands c = StandsAt c.cut c.buffer c.taken c.packet
+
+abbrev pub room_within : Option Packet → ℕ
+room_within None = 0
+room_within (Some p) = room_in p
+
+-- How many items may still come, at the most: a byte has at most eight event records, and a packet has two items more.
+abbrev pub room_of : Course → ℕ
+room_of c = 11 * (most_taken - c.taken) + room_within c.packet
+
+-- the items of the packet at hand give the next one, and the rest is to come; or they are over, and what is to come
+-- stays; or a fault stands in the packet
+abbrev pub StepsWithin : Run Classes → Run Classes → CutPoint → Known → Option Packet → Result (Option Front) StreamFault → Type 0
+StepsWithin old new cut known (Some p) (Ok (Some front)) = old ≡ before (item_in cut.shift known p front ∷ []) new
+StepsWithin old new cut known None (Ok (Some front)) = ⊥
+StepsWithin old new cut known packet (Ok None) = (old ≡ new) × (packet ≡ None)
+StepsWithin old new cut known packet (Err fault) = OrNoMemory (λ f. old ≡ stops (Some f) cut.at) fault
+
+-- the next packet is at hand, and what is to come stays; or the stream ends; or a fault stands at the cut point
+abbrev pub Enters : Run Classes → Run Classes → CutPoint → List ℕ → Result Bool StreamFault → Type 0
+Enters old new cut left (Ok true) = old ≡ new
+Enters old new cut left (Ok false) = (old ≡ stops None cut.at) × (left ≡ [])
+Enters old new cut left (Err fault) = OrNoMemory (λ f. old ≡ stops (Some f) cut.at) fault
+
+-- a packet that was found takes room
+abbrev pub EntersRoom : ℕ → ℕ → Result Bool StreamFault → Type 0
+EntersRoom old new (Ok true) = new < old
+EntersRoom old new (Ok false) = new ≤ old
+EntersRoom old new (Err fault) = Unit {0}
+
+-- the next item, and the rest is to come; or the end; or a fault
+abbrev pub Advances : Run Classes → Run Classes → CutPoint → Known → Option Packet → List ℕ → Result (Option Front) StreamFault → Type 0
+Advances old new cut known (Some p) left (Ok (Some front)) = old ≡ before (item_in cut.shift known p front ∷ []) new
+Advances old new cut known None left (Ok (Some front)) = ⊥
+Advances old new cut known packet left (Ok None) = (old ≡ stops None cut.at) × (left ≡ [])
+Advances old new cut known packet left (Err fault) = OrNoMemory (λ f. old ≡ stops (Some f) cut.at) fault
+
+-- an item is one of the packet at hand, and no packet is at hand at the end
+abbrev pub IsOfPacket : Option Packet → Option Front → Type 0
+IsOfPacket packet (Some front) = IsSome packet
+IsOfPacket packet None = packet ≡ None

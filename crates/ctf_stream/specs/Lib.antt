@@ -1,0 +1,10 @@
+pub mod Filling
+pub mod Coming
+pub mod Fetching
+pub mod Course
+pub mod Reader
+pub mod Standing
+pub mod Ahead
+pub mod Codes
+pub mod Shown
+pub mod Owned

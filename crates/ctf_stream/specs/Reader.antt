@@ -1,0 +1,133 @@
+-- A reader as contracts see it.
+use Rattle.std.specs.Prelude.{◌≡◌, ℕ, ◌+◌, ◌≤◌, ◌<◌, ◌⊎◌, Bool, List, [], ◌∷◌, Option, Some, None, IsSome}
+use Rattle.ctf_class.specs.declared.trace.TraceClass.{TraceClass}
+use Rattle.ctf_packet.specs.Classes.{Classes}
+use Rattle.ctf_packet.specs.Items.{Run, Item, event, discarded, lost, stops, before}
+use Rattle.ctf_packet.specs.declared.fault.StreamFault.{StreamFault}
+use Rattle.ctf_packet.specs.declared.fault.StreamFault.TheVariants as faults
+use Rattle.ctf_stream.specs.Fetching.{longest_bytes}
+
+-- what stands in front
+pub data Ahead : Type 0 where
+  -- nothing was fetched yet, or the item that stood here was given away
+  start : Ahead
+  item : Item Classes → Ahead
+  ended : Ahead
+  fault : StreamFault → Ahead
+
+pub record Reader : Type 0 where
+  pub trace : TraceClass
+  -- the name of its stream
+  pub name : List ℕ
+  -- whether its source tells its bytes
+  pub tells : Bool
+  pub ahead : Ahead
+  -- what is to come behind that, where the source tells
+  pub behind : Run Classes
+  -- the bytes that the source has left
+  pub left : List ℕ
+  -- how many bytes were taken from it
+  pub taken : ℕ
+  -- the cut point at which the packet at hand begins, or the next one
+  pub cut : ℕ
+  -- the length of the packet that is held, in bytes
+  pub held : ℕ
+  -- how many items may still come, of any source
+  pub room : ℕ
+
+-- what is to come behind what stands in front: nothing behind an end or a fault
+abbrev pub behind_ahead : Ahead → ℕ → Run Classes → Run Classes
+behind_ahead start cut behind = behind
+behind_ahead (item x) cut behind = behind
+behind_ahead ended cut behind = stops None cut
+behind_ahead (fault f) cut behind = stops (Some f) cut
+
+-- what is to come: what stands in front, and what is behind it
+abbrev pub with_ahead : Ahead → Run Classes → Run Classes
+with_ahead start run = run
+with_ahead (item x) run = before (x ∷ []) run
+with_ahead ended run = run
+with_ahead (fault f) run = run
+
+abbrev pub rest_of : Reader → Run Classes
+rest_of r = behind_ahead r.ahead r.cut r.behind
+
+abbrev pub coming : Reader → Run Classes
+coming r = with_ahead r.ahead (rest_of r)
+
+-- a run that a refused growth ends
+abbrev pub IsRefused : {C : Type 0} → Run C → Type 0
+IsRefused run = (run.items ≡ []) × (run.fault ≡ Some faults.NoMemory)
+
+-- this run, or none of it where a growth was refused
+abbrev pub OrRefused : {C : Type 0} → Run C → Run C → Type 0
+OrRefused run actual = (actual ≡ run) ⊎ IsRefused actual
+
+-- the item in front
+abbrev pub item_ahead : Ahead → Option (Item Classes)
+item_ahead start = None
+item_ahead (item x) = Some x
+item_ahead ended = None
+item_ahead (fault f) = None
+
+-- the fault in front
+abbrev pub fault_ahead : Ahead → Option StreamFault
+fault_ahead start = None
+fault_ahead (item x) = None
+fault_ahead ended = None
+fault_ahead (fault f) = Some f
+
+abbrev pub HasItem : Ahead → Type 0
+HasItem ahead = IsSome (item_ahead ahead)
+
+-- the first item was fetched, or the end or a fault was met
+abbrev pub IsFetched : Ahead → Type 0
+IsFetched start = ⊥
+IsFetched (item x) = Unit {0}
+IsFetched ended = Unit {0}
+IsFetched (fault f) = Unit {0}
+
+-- nothing but this end or this fault comes from now on
+abbrev pub IsLast : Ahead → Type 0
+IsLast start = ⊥
+IsLast (item x) = ⊥
+IsLast ended = Unit {0}
+IsLast (fault f) = Unit {0}
+
+-- where the packet of an item ends, and how long it is, in bytes of the stream
+abbrev pub packet_end : Item Classes → ℕ
+packet_end (event e) = e.packet_end
+packet_end (discarded gap) = gap.packet_end
+packet_end (lost gap) = gap.packet_end
+
+abbrev pub packet_length : Item Classes → ℕ
+packet_length (event e) = e.packet_length
+packet_length (discarded gap) = gap.packet_length
+packet_length (lost gap) = gap.packet_length
+
+-- How many bytes were taken and how many are held, of any source: where nothing stands in front, those to the end of the
+-- packet that begins at the cut point, and that packet, or all before the cut point, and none; those to the end of the
+-- packet that holds the item in front, and that packet; at the end all before the cut point, and none; before a fault at
+-- most a packet and a byte behind the cut point, and none (own).
+abbrev pub OnLine : Ahead → ℕ → ℕ → ℕ → Type 0
+OnLine start taken cut held = (taken ≡ cut + held) × (held ≤ longest_bytes)
+OnLine (item x) taken cut held = (taken ≡ packet_end x) × (held ≡ packet_length x) × (held ≤ longest_bytes)
+OnLine ended taken cut held = (taken ≡ cut) × (held ≡ 0)
+OnLine (fault f) taken cut held = (cut ≤ taken) × (taken ≤ cut + longest_bytes + 1) × (held ≡ 0)
+
+abbrev pub IsOnLine : Reader → Type 0
+IsOnLine r = OnLine r.ahead r.taken r.cut r.held
+
+-- at the end all bytes were taken
+abbrev pub IsAllTaken : Ahead → List ℕ → Type 0
+IsAllTaken start left = Unit {0}
+IsAllTaken (item x) left = Unit {0}
+IsAllTaken ended left = left ≡ []
+IsAllTaken (fault f) left = Unit {0}
+
+-- one item less may come
+abbrev pub RoomTaken : Ahead → ℕ → ℕ → Type 0
+RoomTaken start old new = new ≤ old
+RoomTaken (item x) old new = new < old
+RoomTaken ended old new = new ≡ old
+RoomTaken (fault f) old new = new ≡ old

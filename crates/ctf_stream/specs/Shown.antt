@@ -1,0 +1,35 @@
+-- Items by reference, as those that they are.
+use Rattle.std.specs.Prelude.{◌≡◌, ℕ, List, Option, Some, None}
+use Rattle.ctf_class.specs.declared.trace.TraceClass.{TraceClass}
+use Rattle.ctf_packet.specs.Classes.{Classes}
+use Rattle.ctf_packet.specs.Views.{values_of}
+use Rattle.ctf_packet.specs.Items as items
+use Rattle.ctf_stream.specs.Reader.{Ahead, item_ahead}
+use Rattle.ctf_stream.specs.declared.item.Event.{Event}
+use Rattle.ctf_stream.specs.declared.item.Gap.{Gap}
+use Rattle.ctf_stream.specs.declared.item.Item.{Item}
+use Rattle.ctf_stream.specs.declared.item.Item.TheVariants as shown
+
+-- an event record, whose packet ends at a byte of the stream and has so many
+abbrev pub event_of : Event → ℕ → ℕ → items.Event Classes
+event_of e end length =
+    record { class = record { stream = e.stream.now; event = e.class.now }; clock = e.moment; values = values_of e.scopes.now; packet_end = end; packet_length = length }
+
+abbrev pub gap_of : Gap → ℕ → ℕ → items.Gap
+gap_of g end length = record { count = g.count; clock = g.moment; from = g.from; to = g.to; packet_end = end; packet_length = length }
+
+abbrev pub item_of : Item → ℕ → ℕ → items.Item Classes
+item_of (shown.Event e) end length = items.event (event_of e end length)
+item_of (shown.Discarded g) end length = items.discarded (gap_of g end length)
+item_of (shown.Lost g) end length = items.lost (gap_of g end length)
+
+-- it has this trace class, or this name of its stream
+abbrev pub IsOf : TraceClass → List ℕ → Item → Type 0
+IsOf trace name (shown.Event e) = e.trace.now ≡ trace
+IsOf trace name (shown.Discarded g) = g.name.now ≡ name
+IsOf trace name (shown.Lost g) = g.name.now ≡ name
+
+-- it is the item in front; or none stands there
+abbrev pub Shows : TraceClass → List ℕ → Ahead → Option Item → Type 0
+Shows trace name ahead (Some x) = ((end : ℕ) × ((length : ℕ) × (item_ahead ahead ≡ Some (item_of x end length)))) × IsOf trace name x
+Shows trace name ahead None = item_ahead ahead ≡ None

@@ -1,0 +1,36 @@
+-- A reader's parts, as contracts see the whole.
+use Rattle.std.specs.Prelude.{◌≡◌, ℕ, ◌+◌, ◌≤◌, [], Option, Some, None, IsSome}
+use Rattle.ctf_stream.specs.Coming.{item_in}
+use Rattle.ctf_stream.specs.Fetching.{longest_bytes}
+use Rattle.ctf_stream.specs.Course.{most_taken, Stands}
+use Rattle.ctf_stream.specs.Reader.{Ahead, start, item, ended, fault}
+use Rattle.ctf_stream.specs.declared.packet.Packet.{Packet}
+use Rattle.ctf_stream.specs.declared.packet.Front.{Front}
+use Rattle.ctf_stream.specs.declared.course.Course.{Course}
+use Rattle.ctf_stream.specs.declared.reader.Head.{Head}
+use Rattle.ctf_stream.specs.declared.reader.Head.TheVariants as heads
+
+-- the item in front is one of the packet at hand; without one there is none
+abbrev pub item_at : Course → Option Packet → Front → Ahead
+item_at c (Some p) front = item (item_in c.cut.shift c.scopes p front)
+item_at c None front = start
+
+abbrev pub ahead_of : Course → Head → Ahead
+ahead_of c heads.Start = start
+ahead_of c (heads.Item front) = item_at c c.packet front
+ahead_of c heads.Ended = ended
+ahead_of c (heads.Fault f) = fault f
+
+-- one item stands in front
+abbrev pub room_ahead : Head → ℕ
+room_ahead heads.Start = 0
+room_ahead (heads.Item front) = 1
+room_ahead heads.Ended = 0
+room_ahead (heads.Fault f) = 0
+
+-- the packet at hand holds the item in front, or held the one before; at the end and behind a fault nothing is held
+abbrev pub IsStanding : Course → Head → Type 0
+IsStanding c heads.Start = Stands c
+IsStanding c (heads.Item front) = Stands c × IsSome c.packet
+IsStanding c heads.Ended = Stands c × (c.packet ≡ None)
+IsStanding c (heads.Fault f) = (c.buffer ≡ []) × (c.cut.at ≤ c.taken) × (c.taken ≤ c.cut.at + longest_bytes + 1) × (c.taken ≤ most_taken)

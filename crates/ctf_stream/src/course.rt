@@ -1,0 +1,229 @@
+//! How far a stream was read.
+
+ghost use Rattle.std.specs.Prelude.{◌≡◌, ◌+◌, ◌<◌, ◌≤◌, List, [], false, Some, None, ℕ, length, IsTrue, IfOk, OnOk, OnErr};
+ghost use Rattle.ctf_bits.specs.declared.source.Ending.{Ending};
+ghost use Rattle.ctf_clock.specs.declared.moment.Shift.{Shift};
+ghost use Rattle.ctf_packet.specs.Packets as packets;
+ghost use Rattle.ctf_packet.specs.Scopes.{Values};
+ghost use Rattle.ctf_packet.specs.Views.{opened_of};
+ghost use Rattle.ctf_stream.specs.Coming.{TakesRoom};
+ghost use Rattle.ctf_stream.specs.Shown.{Shows};
+ghost use Rattle.ctf_stream.specs.Standing.{item_at};
+ghost use Rattle.ctf_stream.specs.Fetching.{longest_bytes};
+ghost use Rattle.ctf_stream.specs.Course.{coming_of, most_taken, Stands, room_of, StepsWithin, Enters, EntersRoom, Advances, IsOfPacket};
+
+use crate::buffer::Buffer;
+use crate::cut::CutPoint;
+use crate::item::{Event, Gap, Item};
+use crate::packet::{Front, Packet};
+use ctf_bits::Source;
+use ctf_decode::Scopes;
+use ctf_packet::{OpenPacket, Reached, StreamFault};
+use std::alloc::Global;
+
+/// How far a stream was read.
+#[derive(Debug, Drop)]
+pub(crate) struct Course<'a> {
+    /// Where the packet at hand begins, or the next one.
+    pub(crate) cut: CutPoint<'a>,
+    pub(crate) packet: Option<Packet<'a>>,
+    /// The bytes of the packet at hand.
+    pub(crate) buffer: Buffer,
+    /// The values of the packet at hand, and of the event record in front, if one stands there.
+    pub(crate) scopes: Scopes,
+    /// How many bytes were taken from the source.
+    pub(crate) taken: u64,
+}
+
+impl<'a> Course<'a> {
+    /// A stream of which nothing was read, from a cut point on.
+    pub(crate) fn new(alloc: Global, cut: CutPoint<'a>) -> Course<'a>
+        ensures cut { result.cut ≡ cut.entry }
+        ensures packet { result.packet ≡ None }
+        ensures buffer { result.buffer ≡ [] }
+        ensures taken { result.taken ≡ cut.entry.at }
+    {
+        Course {
+            cut,
+            packet: None,
+            buffer: Buffer::new(alloc),
+            scopes: Scopes::new(),
+            taken: cut.at,
+        }
+    }
+
+    /// Gives the memory back, and holds nothing.
+    pub(crate) fn release(&mut self, alloc: Global)
+        ensures cut { self.new.cut ≡ self.old.cut }
+        ensures packet { self.new.packet ≡ None }
+        ensures buffer { self.new.buffer ≡ [] }
+        ensures taken { self.new.taken ≡ self.old.taken }
+    {
+        self.packet = None;
+        self.buffer = Buffer::new(alloc);
+        self.scopes = Scopes::new();
+    }
+
+    /// The next item, out of a source. `None` where the stream ends.
+    ///
+    /// An error is the fault of the stream behind the items before, or `NoMemory`.
+    pub(crate) fn advance<S: Source>(
+        &mut self,
+        alloc: Global,
+        source: &mut S,
+    ) -> Result<Option<Front<'a>>, StreamFault>
+        requires { Stands self.old }
+        ensures tells { IsTrue (S.tells source.old) → IsTrue (S.tells source.new) }
+        ensures same_end { IsTrue (S.tells source.old) → S.ending source.new ≡ S.ending source.old }
+        ensures advances { let ending = S.ending source.old in
+            IsTrue (S.tells source.old) → Advances (coming_of ending (S.left source.old) self.old) (coming_of ending (S.left source.new) self.new) self.new.cut self.new.scopes self.new.packet (S.left source.new) result }
+        ensures counted { IsTrue (S.tells source.old) → self.new.taken + length (S.left source.new) ≡ self.old.taken + length (S.left source.old) }
+        ensures stands { OnOk result (Stands self.new) }
+        ensures found { IfOk result (IsOfPacket self.new.packet) }
+        ensures trace { self.new.cut.trace ≡ self.old.cut.trace }
+        ensures room { TakesRoom (room_of self.old) (room_of self.new) result }
+        ensures forward { self.old.taken ≤ self.new.taken }
+        ensures behind { OnErr result (self.new.cut.at ≤ self.new.taken) }
+        ensures near { OnErr result (self.new.taken ≤ self.new.cut.at + longest_bytes + 1) }
+        ensures most { OnErr result (self.new.taken ≤ most_taken) }
+    {
+        loop {
+            match self.step_within(alloc) {
+                Err(fault) => return Err(fault),
+                Ok(Some(front)) => return Ok(Some(front)),
+                Ok(None) => {}
+            }
+            match self.enter(alloc, source) {
+                Err(fault) => return Err(fault),
+                Ok(false) => return Ok(None),
+                Ok(true) => {}
+            }
+        }
+    }
+
+    /// Fetches the next packet. Whether there is one.
+    fn enter<S: Source>(&mut self, alloc: Global, source: &mut S) -> Result<bool, StreamFault>
+        requires between { self.old.packet ≡ None }
+        requires stands { Stands self.old }
+        ensures tells { IsTrue (S.tells source.old) → IsTrue (S.tells source.new) }
+        ensures same_end { IsTrue (S.tells source.old) → S.ending source.new ≡ S.ending source.old }
+        ensures enters { let ending = S.ending source.old in
+            IsTrue (S.tells source.old) → Enters (coming_of ending (S.left source.old) self.old) (coming_of ending (S.left source.new) self.new) self.new.cut (S.left source.new) result }
+        ensures counted { IsTrue (S.tells source.old) → self.new.taken + length (S.left source.new) ≡ self.old.taken + length (S.left source.old) }
+        ensures stands { OnOk result (Stands self.new) }
+        ensures none { IfOk result (λ found. found ≡ false → self.new.packet ≡ None) }
+        ensures room { EntersRoom (room_of self.old) (room_of self.new) result }
+        ensures cut { self.new.cut ≡ self.old.cut }
+        ensures behind { self.old.taken ≤ self.new.taken }
+        ensures near { self.new.taken ≤ self.old.taken + longest_bytes + 1 }
+        ensures most { OnErr result (self.new.taken ≤ most_taken) }
+    {
+        let fetched = self
+            .cut
+            .fetch(alloc, source, &mut self.buffer, &mut self.scopes);
+        self.taken += self.buffer.len() as u64;
+        match fetched {
+            Err(fault) => Err(fault),
+            Ok(None) => Ok(false),
+            Ok(Some(opened)) => {
+                self.packet = Some(Packet {
+                    lost: opened.lost,
+                    dropped: opened.dropped,
+                    clock: opened.clock,
+                    place: opened.first,
+                    opened,
+                });
+                Ok(true)
+            }
+        }
+    }
+
+    /// The next item of the packet at hand. `None` where there is none, and the packet is left then.
+    fn step_within(&mut self, alloc: Global) -> Result<Option<Front<'a>>, StreamFault>
+        requires { Stands self.old }
+        ensures steps { (ending : Ending) (left : List ℕ) → StepsWithin (coming_of ending left self.old) (coming_of ending left self.new) self.new.cut self.new.scopes self.new.packet result }
+        ensures stands { OnOk result (Stands self.new) }
+        ensures taken { self.new.taken ≡ self.old.taken }
+        ensures room { TakesRoom (room_of self.old) (room_of self.new) result }
+        ensures cut { OnErr result (self.new.cut ≡ self.old.cut) }
+        ensures found { IfOk result (IsOfPacket self.new.packet) }
+        ensures trace { self.new.cut.trace ≡ self.old.cut.trace }
+    {
+        let packet = match &mut self.packet {
+            None => return Ok(None),
+            Some(packet) => packet,
+        };
+        match packet.next(alloc, self.buffer.as_slice(), &mut self.scopes) {
+            Err(fault) => Err(fault),
+            Ok(Some(front)) => Ok(Some(front)),
+            Ok(None) => {
+                let reached = reached_behind(packet);
+                self.leave(reached);
+                Ok(None)
+            }
+        }
+    }
+
+    /// The item in front, of the packet at hand. `name` is the stream's.
+    pub(crate) fn item<'r>(&'r self, front: &'r Front<'a>, name: &'r str) -> Option<Item<'r>>
+        ensures { Shows self.now.cut.trace.now name.now (item_at self.now self.now.packet front.now) result }
+    {
+        let packet = match &self.packet {
+            None => return None,
+            Some(packet) => packet,
+        };
+        let opened = &packet.opened;
+        match front {
+            Front::Event(record) => Some(Item::Event(Event {
+                trace: self.cut.trace,
+                stream: opened.stream,
+                class: record.event,
+                moment: record.clock,
+                scopes: &self.scopes,
+            })),
+            Front::Discarded(count) => Some(Item::Discarded(Gap {
+                count: *count,
+                moment: opened.clock,
+                from: opened.before,
+                to: opened.until,
+                name,
+            })),
+            Front::Lost(count) => Some(Item::Lost(Gap {
+                count: *count,
+                moment: opened.clock,
+                from: opened.before,
+                to: opened.clock,
+                name,
+            })),
+        }
+    }
+
+    /// Leaves the packet at hand behind.
+    fn leave(&mut self, reached: Reached)
+        ensures packet { self.new.packet ≡ None }
+        ensures trace { self.new.cut.trace ≡ self.old.cut.trace }
+        ensures shift { self.new.cut.shift ≡ self.old.cut.shift }
+        ensures reached { self.new.cut.reached ≡ Some reached }
+        ensures at { self.new.cut.at ≡ self.old.taken }
+        ensures empty { self.new.buffer ≡ [] }
+        ensures scopes { self.new.scopes ≡ self.old.scopes }
+        ensures taken { self.new.taken ≡ self.old.taken }
+    {
+        self.packet = None;
+        self.cut.reached = Some(reached);
+        self.cut.at = self.taken;
+        self.buffer.clear();
+    }
+}
+
+/// What a stream has come to behind a packet.
+fn reached_behind(packet: &Packet<'_>) -> Reached
+    ensures { (shift : Shift) (values : Values) → result ≡ packets.reached_behind (opened_of shift values packet.now.opened) packet.now.clock }
+{
+    Reached {
+        stream: packet.opened.stream.id,
+        clock: packet.clock,
+        discarded: packet.opened.discarded,
+        number: packet.opened.number,
+    }
+}

@@ -1,0 +1,252 @@
+//! Packets out of a source.
+
+ghost use Rattle.std.specs.Prelude.{◌≡◌, ◌+◌, ◌*◌, ◌/◌, ◌^◌, ◌≤◌, ◌<◌, [], ◌++◌, min, length, take, None, true, IsTrue, ◌⊎◌, Err, IfOk, IfErr, IfSome, OnOk};
+ghost use Rattle.ctf_packet.specs.Classes.{trace_form};
+ghost use Rattle.ctf_packet.specs.Scopes.{longest};
+ghost use Rattle.ctf_packet.specs.Packets.{open_at, are_possible};
+ghost use Rattle.ctf_packet.specs.Items.{from_bytes};
+ghost use Rattle.ctf_packet.specs.Gives.{Fitting};
+ghost use Rattle.ctf_packet.specs.Views.{values_of, packet_values};
+ghost use Rattle.ctf_front.specs.Wants as wants;
+ghost use Rattle.ctf_stream.specs.Fetching.{longest_bytes, OrNoMemory, TakesMore, want_of, FitsOpening, TakesWhole, TakesRest, TakesSized, Opens, Fetches, FetchedAt, FetchesAt};
+
+use crate::buffer::{Buffer, Filled};
+use ctf_bits::{Ending, Source};
+use ctf_class::{Scope, TraceClass};
+use ctf_clock::Shift;
+use ctf_decode::Scopes;
+use ctf_front::{Begun, Want, wanted};
+use ctf_packet::{
+    LONGEST_PACKET, OpenPacket, Reached, Sizes, StreamFault, cut_short, placed, sizes_checked,
+};
+use std::alloc::Global;
+
+/// The longest packet, in bytes.
+const LONGEST_BYTES: usize = 268_435_456;
+
+/// The longest stream, in bytes.
+const LONGEST_STREAM: u64 = 1 << 60;
+
+/// A place between two packets of a stream.
+#[derive(Clone, Copy, Debug)]
+pub(crate) struct CutPoint<'a> {
+    pub(crate) trace: &'a TraceClass,
+    pub(crate) shift: Shift,
+    /// What the stream has come to, behind its first packet.
+    pub(crate) reached: Option<Reached>,
+    /// In bytes of the stream.
+    pub(crate) at: u64,
+}
+
+/// A packet whose header and context were decoded.
+#[derive(Clone, Copy, Debug)]
+pub(crate) struct Opening<'a> {
+    begun: Begun<'a>,
+    /// In bits. `None` where it tells none, and is the rest of its stream.
+    sizes: Option<Sizes>,
+}
+
+/// Takes the bytes of a packet up to a bit that its header or context reaches.
+fn fill_front<S: Source>(source: &mut S, buffer: &mut Buffer, bits: u128) -> Result<(), StreamFault>
+    requires beyond { min (8 * length buffer.old) longest < bits }
+    ensures tells { IsTrue (S.tells source.old) → IsTrue (S.tells source.new) }
+    ensures same_end { IsTrue (S.tells source.old) → S.ending source.new ≡ S.ending source.old }
+    ensures kept { IsTrue (S.tells source.old) → buffer.new ++ S.left source.new ≡ buffer.old ++ S.left source.old }
+    ensures takes { IsTrue (S.tells source.old) → TakesMore (S.ending source.old) bits buffer.new (S.left source.new) result }
+    ensures bits { OnOk result (length buffer.new ≡ (bits + 7) / 8) }
+    ensures bounded { OnOk result (bits ≤ longest) }
+    ensures first { take (length buffer.old) buffer.new ≡ buffer.old }
+    ensures grown { length buffer.old ≤ length buffer.new }
+    ensures few { length buffer.old ≤ longest_bytes → length buffer.new ≤ longest_bytes }
+{
+    if bits > u128::from(LONGEST_PACKET) {
+        return Err(StreamFault::ImpossibleSizes);
+    }
+    let bytes = (bits as usize).div_ceil(8);
+    match buffer.fill(source, bytes)? {
+        Filled::Whole => Ok(()),
+        Filled::Ended(ending) => Err(cut_short(ending)),
+    }
+}
+
+/// Takes the bytes of a packet of a size, in bytes.
+fn fill_whole<S: Source>(
+    source: &mut S,
+    buffer: &mut Buffer,
+    count: usize,
+) -> Result<(), StreamFault>
+    requires { length buffer.old ≤ count }
+    ensures tells { IsTrue (S.tells source.old) → IsTrue (S.tells source.new) }
+    ensures same_end { IsTrue (S.tells source.old) → S.ending source.new ≡ S.ending source.old }
+    ensures kept { IsTrue (S.tells source.old) → buffer.new ++ S.left source.new ≡ buffer.old ++ S.left source.old }
+    ensures takes { IsTrue (S.tells source.old) → TakesWhole (S.ending source.old) count buffer.new (S.left source.new) result }
+    ensures whole { OnOk result (length buffer.new ≡ count) }
+    ensures few { length buffer.new ≤ count }
+{
+    match buffer.fill(source, count)? {
+        Filled::Whole => Ok(()),
+        Filled::Ended(ending) => Err(cut_short(ending)),
+    }
+}
+
+/// Takes all bytes that are left, if a packet can have as many. How the stream ends.
+fn fill_rest<S: Source>(source: &mut S, buffer: &mut Buffer) -> Result<Ending, StreamFault>
+    requires { length buffer.old ≤ longest_bytes }
+    ensures tells { IsTrue (S.tells source.old) → IsTrue (S.tells source.new) }
+    ensures same_end { IsTrue (S.tells source.old) → S.ending source.new ≡ S.ending source.old }
+    ensures kept { IsTrue (S.tells source.old) → buffer.new ++ S.left source.new ≡ buffer.old ++ S.left source.old }
+    ensures takes { IsTrue (S.tells source.old) → TakesRest (S.ending source.old) buffer.new (S.left source.new) result }
+    ensures whole { OnOk result (length buffer.new ≤ longest_bytes) }
+    ensures few { length buffer.new ≤ longest_bytes + 1 }
+    ensures grown { length buffer.old ≤ length buffer.new }
+{
+    match buffer.fill(source, LONGEST_BYTES + 1)? {
+        Filled::Whole => Err(StreamFault::ImpossibleSizes),
+        Filled::Ended(ending) => Ok(ending),
+    }
+}
+
+impl<'a> CutPoint<'a> {
+    /// The packet that begins here, out of a source; its bytes are in `buffer` then, and the values of its
+    /// header and context in `scopes`. `None` where the stream ends here.
+    ///
+    /// It takes one byte, then those that the header and the context ask for, then the rest of the packet. An
+    /// error is the first fault of the packet before its event records: F1 to F5, F8, F9, F11, F13 or F14; or
+    /// `NoMemory`.
+    pub(crate) fn fetch<S: Source>(
+        &self,
+        alloc: Global,
+        source: &mut S,
+        buffer: &mut Buffer,
+        scopes: &mut Scopes,
+    ) -> Result<Option<OpenPacket<'a>>, StreamFault>
+        requires at { self.now.at ≤ 2 ^ 61 }
+        requires empty { buffer.old ≡ [] }
+        ensures tells { IsTrue (S.tells source.old) → IsTrue (S.tells source.new) }
+        ensures same_end { IsTrue (S.tells source.old) → S.ending source.new ≡ S.ending source.old }
+        ensures kept { IsTrue (S.tells source.old) → buffer.new ++ S.left source.new ≡ S.left source.old }
+        ensures fetches { let cut = self.now in
+            let trace = trace_form cut.shift cut.trace.now in
+            let ending = S.ending source.old in
+            IsTrue (S.tells source.old) → Fetches cut.shift scopes.new trace ending cut.at (from_bytes trace ending cut.reached cut.at (S.left source.old)) buffer.new (S.left source.new) result }
+        ensures at { FetchesAt self.now.at buffer.new self.now.shift result }
+        ensures begins { IfOk result (λ packet. self.now.at ≤ 2 ^ 60 ⊎ (packet ≡ None)) }
+        ensures few { length buffer.new ≤ longest_bytes + 1 }
+        ensures last { 2 ^ 60 < self.now.at → length buffer.new ≤ 1 }
+    {
+        match buffer.fill(source, 1)? {
+            Filled::Ended(Ending::Clean) => return Ok(None),
+            Filled::Ended(Ending::Failed) => return Err(StreamFault::ReadFailed),
+            Filled::Whole => {}
+        }
+        if self.at > LONGEST_STREAM {
+            return Err(StreamFault::StreamTooLong);
+        }
+        match self.open(alloc, source, buffer, scopes) {
+            Ok(packet) => Ok(Some(packet)),
+            Err(fault) => Err(fault),
+        }
+    }
+
+    /// The packet whose first byte is there.
+    fn open<S: Source>(
+        &self,
+        alloc: Global,
+        source: &mut S,
+        buffer: &mut Buffer,
+        scopes: &mut Scopes,
+    ) -> Result<OpenPacket<'a>, StreamFault>
+        requires at { self.now.at ≤ 2 ^ 60 }
+        requires one { length buffer.old ≡ 1 }
+        ensures tells { IsTrue (S.tells source.old) → IsTrue (S.tells source.new) }
+        ensures same_end { IsTrue (S.tells source.old) → S.ending source.new ≡ S.ending source.old }
+        ensures kept { IsTrue (S.tells source.old) → buffer.new ++ S.left source.new ≡ buffer.old ++ S.left source.old }
+        ensures opens { let cut = self.now in
+            IsTrue (S.tells source.old) → Opens cut.shift scopes.new (open_at (trace_form cut.shift cut.trace.now) (S.ending source.old) cut.reached cut.at (buffer.old ++ S.left source.old)) result }
+        ensures at { IfOk result (FetchedAt self.now.at buffer.new self.now.shift) }
+        ensures alone { OnOk result (packet_values (values_of scopes.new) ≡ values_of scopes.new) }
+        ensures few { length buffer.new ≤ longest_bytes + 1 }
+    {
+        let opening = self.begin(alloc, source, buffer, scopes)?;
+        match fill_sizes(source, buffer, opening) {
+            Err(fault) => Err(fault),
+            Ok(sizes) => {
+                let Begun { stream, first } = opening.begun;
+                let reached = self.reached.as_ref();
+                let context = scopes.get(Scope::PacketContext);
+                placed(stream, self.shift, reached, self.at, context, first, sizes)
+            }
+        }
+    }
+
+    /// Takes bytes until the header and context of a packet are there.
+    fn begin<S: Source>(
+        &self,
+        alloc: Global,
+        source: &mut S,
+        buffer: &mut Buffer,
+        scopes: &mut Scopes,
+    ) -> Result<Opening<'a>, StreamFault>
+        requires one { length buffer.old ≡ 1 }
+        ensures tells { IsTrue (S.tells source.old) → IsTrue (S.tells source.new) }
+        ensures same_end { IsTrue (S.tells source.old) → S.ending source.new ≡ S.ending source.old }
+        ensures kept { IsTrue (S.tells source.old) → buffer.new ++ S.left source.new ≡ buffer.old ++ S.left source.old }
+        ensures asks { let cut = self.now in IfOk result (λ opening. wants.wanted (trace_form cut.shift cut.trace.now) cut.reached buffer.new ≡ want_of cut.shift scopes.new opening opening.sizes) }
+        ensures faulty { let cut = self.now in
+            IsTrue (S.tells source.old) → IfErr result (OrNoMemory (λ fault. open_at (trace_form cut.shift cut.trace.now) (S.ending source.old) cut.reached cut.at (buffer.new ++ S.left source.new) ≡ Err fault)) }
+        ensures fits { IfOk result (λ opening. FitsOpening (length buffer.new) opening.sizes) }
+        ensures first { IfOk result (λ opening. opening.begun.first ≤ 8 * length buffer.new) }
+        ensures some { 0 < length buffer.new }
+        ensures few { length buffer.new ≤ longest_bytes }
+    {
+        loop {
+            let reached = self.reached.as_ref();
+            match wanted(alloc, self.trace, reached, buffer.as_slice(), scopes) {
+                Err(fault) => return Err(fault),
+                Ok(Want::Rest(begun)) => return Ok(Opening { begun, sizes: None }),
+                Ok(Want::Whole(begun, sizes)) => {
+                    let sizes = Some(sizes);
+                    return Ok(Opening { begun, sizes });
+                }
+                Ok(Want::More(bits)) => match fill_front(source, buffer, bits) {
+                    Err(fault) => return Err(fault),
+                    Ok(()) => {}
+                },
+            }
+        }
+    }
+}
+
+/// Takes the bytes of a packet with this opening. Its sizes.
+fn fill_sizes<S: Source>(
+    source: &mut S,
+    buffer: &mut Buffer,
+    opening: Opening<'_>,
+) -> Result<Sizes, StreamFault>
+    requires fits { FitsOpening (length buffer.old) opening.sizes }
+    requires few { length buffer.old ≤ longest_bytes }
+    requires possible { IfSome opening.sizes (λ sizes. are_possible sizes opening.begun.first ≡ true) }
+    ensures tells { IsTrue (S.tells source.old) → IsTrue (S.tells source.new) }
+    ensures same_end { IsTrue (S.tells source.old) → S.ending source.new ≡ S.ending source.old }
+    ensures kept { IsTrue (S.tells source.old) → buffer.new ++ S.left source.new ≡ buffer.old ++ S.left source.old }
+    ensures few { length buffer.new ≤ longest_bytes + 1 }
+    ensures takes { IsTrue (S.tells source.old) → TakesSized (S.ending source.old) opening.entry.begun.first buffer.new (S.left source.new) opening.entry.sizes result }
+    ensures fitting { IfOk result (Fitting opening.entry.begun.first (length buffer.new)) }
+    ensures packet { IfOk result (λ sizes. sizes.packet ≡ 8 * length buffer.new) }
+{
+    match opening.sizes {
+        Some(sizes) => {
+            match fill_whole(source, buffer, (sizes.packet / 8) as usize) {
+                Err(fault) => Err(fault),
+                Ok(()) => Ok(sizes),
+            }
+        }
+        None => {
+            let first = opening.begun.first;
+            match fill_rest(source, buffer) {
+                Err(fault) => Err(fault),
+                Ok(ending) => sizes_checked(None, None, ending, buffer.as_slice(), first),
+            }
+        }
+    }
+}

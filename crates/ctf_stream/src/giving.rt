@@ -1,0 +1,115 @@
+//! Items that are given away.
+
+ghost use Rattle.std.specs.Prelude.{◌≡◌, None, IsSome, length, IfOk, OnOk};
+ghost use Rattle.ctf_decode.specs.Known.{value_at, without_value};
+ghost use Rattle.ctf_packet.specs.Views.{values_of, packet_values};
+ghost use Rattle.ctf_stream.specs.Course.{Stands};
+ghost use Rattle.ctf_stream.specs.Owned.{item_of, IsOf, with_scope};
+ghost use Rattle.ctf_stream.specs.Reader.{item};
+ghost use Rattle.ctf_stream.specs.Standing.{item_at};
+
+use crate::copy::copy;
+use crate::course::Course;
+use crate::owned::{OwnedEvent, OwnedGap, OwnedItem};
+use crate::packet::Front;
+use ctf_class::Scope;
+use ctf_decode::Scopes;
+use ctf_list::{NoMemory, Text};
+use std::alloc::Global;
+
+impl<'a> Course<'a> {
+    /// The item in front by value, of the packet at hand, which stays. `name` is the stream's.
+    pub(crate) fn give(
+        &mut self,
+        alloc: Global,
+        front: &Front<'a>,
+        name: &Text,
+    ) -> Result<OwnedItem<'a>, NoMemory>
+        requires stands { Stands self.old }
+        requires within { IsSome self.old.packet }
+        ensures given { IfOk result (λ x. item_at self.old self.old.packet front.now ≡ item (item_of x self.old.taken (length self.old.buffer))) }
+        ensures of { IfOk result (IsOf self.old.cut.trace.now name.now) }
+        ensures cut { self.new.cut ≡ self.old.cut }
+        ensures packet { self.new.packet ≡ self.old.packet }
+        ensures buffer { self.new.buffer ≡ self.old.buffer }
+        ensures taken { self.new.taken ≡ self.old.taken }
+        ensures values { packet_values (values_of self.new.scopes) ≡ packet_values (values_of self.old.scopes) }
+    {
+        let packet = match &self.packet {
+            None => unreachable!(),
+            Some(packet) => packet,
+        };
+        let opened = &packet.opened;
+        match front {
+            Front::Event(record) => Ok(OwnedItem::Event(OwnedEvent {
+                trace: self.cut.trace,
+                stream: opened.stream,
+                class: record.event,
+                moment: record.clock,
+                scopes: take_values(alloc, &mut self.scopes)?,
+            })),
+            Front::Discarded(count) => Ok(OwnedItem::Discarded(OwnedGap {
+                count: *count,
+                moment: opened.clock,
+                from: opened.before,
+                to: opened.until,
+                name: name.clone()?,
+            })),
+            Front::Lost(count) => Ok(OwnedItem::Lost(OwnedGap {
+                count: *count,
+                moment: opened.clock,
+                from: opened.before,
+                to: opened.clock,
+                name: name.clone()?,
+            })),
+        }
+    }
+}
+
+/// The values of an event record and of its packet. Those of the packet are copied, since its other event
+/// records need them.
+fn take_values(alloc: Global, scopes: &mut Scopes) -> Result<Scopes, NoMemory>
+    ensures taken { IfOk result (λ taken. values_of taken ≡ values_of scopes.old) }
+    ensures packet { packet_values (values_of scopes.new) ≡ packet_values (values_of scopes.old) }
+{
+    let mut taken = Scopes::new();
+    copy_scope(alloc, scopes, Scope::PacketHeader, &mut taken)?;
+    copy_scope(alloc, scopes, Scope::PacketContext, &mut taken)?;
+    move_scope(scopes, Scope::EventHeader, &mut taken);
+    move_scope(scopes, Scope::StreamEventContext, &mut taken);
+    move_scope(scopes, Scope::EventContext, &mut taken);
+    move_scope(scopes, Scope::EventFields, &mut taken);
+    Ok(taken)
+}
+
+/// Puts a copy of the value of a scope, if there is one.
+fn copy_scope(
+    alloc: Global,
+    scopes: &Scopes,
+    scope: Scope,
+    copied: &mut Scopes,
+) -> Result<(), NoMemory>
+    requires { value_at copied.old scope ≡ None }
+    ensures { OnOk result (copied.new ≡ with_scope copied.old scope (value_at scopes.now scope)) }
+{
+    match scopes.get(scope) {
+        None => Ok(()),
+        Some(value) => {
+            let value = copy(alloc, value)?;
+            copied.put(scope, value);
+            Ok(())
+        }
+    }
+}
+
+/// Moves the value of a scope, if there is one.
+fn move_scope(scopes: &mut Scopes, scope: Scope, moved: &mut Scopes)
+    requires { value_at moved.old scope ≡ None }
+    ensures value { moved.new ≡ with_scope moved.old scope (value_at scopes.old scope) }
+    ensures rest { scopes.new ≡ without_value scopes.old scope }
+{
+    match scopes.take(scope) {
+        None => {}
+        Some(value) => moved.put(scope, value),
+    }
+}

@@ -1,0 +1,74 @@
+//! Items of a stream.
+
+ghost use Rattle.std.specs.Prelude.{◌≡◌, option_copied, option_map};
+ghost use Rattle.ctf_decode.specs.Known.{value_at};
+
+use ctf_class::{EventClass, Scope, StreamClass, TraceClass};
+use ctf_clock::Moment;
+use ctf_decode::{Scopes, Value};
+
+/// An item of a stream.
+#[derive(Clone, Copy, Debug)]
+pub enum Item<'r> {
+    Event(Event<'r>),
+    /// Event records that the tracer discarded before a packet.
+    Discarded(Gap<'r>),
+    /// Packets that the tracer lost before a packet.
+    Lost(Gap<'r>),
+}
+
+/// An event record (CTF 1.8.3, section 6), with its classes.
+#[derive(Clone, Copy, Debug)]
+pub struct Event<'r> {
+    pub trace: &'r TraceClass,
+    pub stream: &'r StreamClass,
+    pub class: &'r EventClass,
+    /// The clock behind its header, where the stream has one.
+    pub moment: Option<Moment>,
+    /// The values of its scopes.
+    pub scopes: &'r Scopes,
+}
+
+/// What a tracer did not write before a packet.
+#[derive(Clone, Copy, Debug)]
+pub struct Gap<'r> {
+    /// How many event records or packets, at least one.
+    pub count: u64,
+    /// The clock behind the packet's context, where the stream has one.
+    pub moment: Option<Moment>,
+    /// Since when: the clock before the packet.
+    pub from: Option<Moment>,
+    /// Until when.
+    pub to: Option<Moment>,
+    /// The name of the stream.
+    pub name: &'r str,
+}
+
+impl<'r> Event<'r> {
+    /// Its time, in nanoseconds since the epoch.
+    pub fn time(&self) -> Option<i64>
+        ensures { result ≡ option_map (λ m. m.time) self.now.moment }
+    {
+        match self.moment {
+            None => None,
+            Some(moment) => Some(moment.time),
+        }
+    }
+
+    /// The value of the clock, in cycles.
+    pub fn cycles(&self) -> Option<u64>
+        ensures { result ≡ option_map (λ m. m.cycles) self.now.moment }
+    {
+        match self.moment {
+            None => None,
+            Some(moment) => Some(moment.cycles),
+        }
+    }
+
+    /// The value of a scope, if it has a class.
+    pub fn value(&self, scope: Scope) -> Option<&'r Value>
+        ensures { option_copied result ≡ value_at self.now.scopes.now scope }
+    {
+        self.scopes.get(scope)
+    }
+}

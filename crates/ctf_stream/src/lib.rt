@@ -1,0 +1,18 @@
+//! Readers of streams: a packet at a time, an item at a time.
+#![tactic(auto)]
+
+mod ahead;
+mod buffer;
+mod copy;
+mod course;
+mod cut;
+mod giving;
+mod item;
+mod owned;
+mod packet;
+mod reader;
+
+pub use ahead::Ahead;
+pub use item::{Event, Gap, Item};
+pub use owned::{OwnedEvent, OwnedGap, OwnedItem};
+pub use reader::StreamReader;

@@ -1,0 +1,278 @@
+//! A reader of one stream, a packet at a time.
+
+ghost use Rattle.std.specs.Prelude.{◌≡◌, ◌+◌, ◌<◌, ◌≤◌, ◌⊎◌, IsTrue, length};
+ghost use Rattle.ctf_packet.specs.Classes.{trace_form};
+ghost use Rattle.ctf_packet.specs.Items.{run_of};
+ghost use Rattle.ctf_stream.specs.Shown.{Shows};
+ghost use Rattle.ctf_stream.specs.Reader.{start, fault_ahead, coming, rest_of, OrRefused, IsFetched, IsLast, IsOnLine, IsAllTaken, RoomTaken};
+ghost use Rattle.ctf_stream.specs.Owned.{Gives, GivesAhead, GivesOf, GivesRoom, KeepsBehind, ahead_behind};
+
+use crate::buffer::Buffer;
+use crate::course::Course;
+use crate::cut::CutPoint;
+use crate::item::Item;
+use crate::owned::OwnedItem;
+use crate::packet::Front;
+use ctf_bits::Source;
+use ctf_class::TraceClass;
+use ctf_clock::Shift;
+use ctf_decode::Scopes;
+use ctf_list::Text;
+use ctf_packet::StreamFault;
+use std::alloc::Global;
+use std::marker::Model;
+
+/// What stands in front.
+#[derive(Debug, Drop)]
+pub(crate) enum Head<'a> {
+    /// Nothing was fetched yet, or the item was given away.
+    Start,
+    Item(Front<'a>),
+    Ended,
+    Fault(StreamFault),
+}
+
+/// Reads a stream of packets, one packet at a time (CTF 1.8.3, section 5). It is seen as what is still to
+/// come of the stream.
+#[derive(Drop)]
+pub struct StreamReader<'a, S: Source + Drop> {
+    alloc: Global,
+    name: Text,
+    source: S,
+    pub(crate) course: Course<'a>,
+    pub(crate) head: Head<'a>,
+}
+
+impl<'a, S: Source + Drop> Model for StreamReader<'a, S> {
+    ghost use Rattle.std.specs.Prelude.{◌+◌, length};
+    ghost use Rattle.ctf_stream.specs.Course.{coming_of, room_of};
+    ghost use Rattle.ctf_stream.specs.Reader.{Reader};
+    ghost use Rattle.ctf_stream.specs.Standing.{ahead_of, room_ahead, IsStanding};
+
+    ghost Value = { Reader };
+
+    ghost use Rattle.ctf_class.specs.contracts.class.Kind as kinds;
+    ghost use Rattle.ctf_stream.specs.Codes.{coded_val};
+    ghost use Rattle.std.specs.Coded.{codes};
+
+    ghost coded = { Prim.hlevel (codes, kinds.the_row.coded, coded_val) };
+
+    ghost view = { λ r. record {
+      trace = r.course.cut.trace.now;
+      name = r.name;
+      tells = S.tells r.source;
+      ahead = ahead_of r.course r.head;
+      behind = coming_of (S.ending r.source) (S.left r.source) r.course;
+      left = S.left r.source;
+      taken = r.course.taken;
+      cut = r.course.cut.at;
+      held = length r.course.buffer;
+      room = room_ahead r.head + room_of r.course;
+    } };
+
+    ghost invariant = { λ r. IsStanding r.course r.head };
+}
+
+impl<'a, S: Source + Drop> StreamReader<'a, S> {
+    /// A reader that has fetched nothing. What is to come is what the bytes of the source mean, each time
+    /// shifted. `name` is the stream's.
+    pub fn new(
+        alloc: Global,
+        trace: &'a TraceClass,
+        name: Text,
+        source: S,
+        shift: Shift,
+    ) -> StreamReader<'a, S>
+        ensures told { IsTrue (S.tells source) → coming result ≡ run_of (trace_form shift trace.now) (S.ending source) (S.left source) }
+        ensures trace { result.trace ≡ trace.now }
+        ensures name { result.name ≡ name }
+        ensures tells { result.tells ≡ S.tells source }
+        ensures left { result.left ≡ S.left source }
+        ensures start { result.ahead ≡ start }
+        ensures taken { result.taken ≡ 0 }
+        ensures held { result.held ≡ 0 }
+        ensures on_line { IsOnLine result }
+    {
+        let cut = CutPoint {
+            trace,
+            shift,
+            reached: None,
+            at: 0,
+        };
+        let course = Course::new(alloc, cut);
+        StreamReader {
+            alloc,
+            name,
+            source,
+            course,
+            head: Head::Start,
+        }
+    }
+
+    /// Leaves the item in front behind and fetches the next. An end and a fault stay.
+    pub fn go_on(&mut self)
+        // What was behind comes now, unless a growth was refused.
+        ensures goes_on { IsTrue self.old.tells → OrRefused (rest_of self.old) (coming self.new) }
+        ensures fetched { IsFetched self.new.ahead }
+
+        // Of any source: an end and a fault stay as they are, and an item that is left took room.
+        ensures stays { IsLast self.old.ahead → self.new ≡ self.old }
+        ensures room { RoomTaken self.old.ahead self.old.room self.new.room }
+        ensures trace { self.new.trace ≡ self.old.trace }
+        ensures name { self.new.name ≡ self.old.name }
+
+        // The bytes taken are those that the source gave, and no more than the next item needs.
+        ensures tells { IsTrue self.old.tells → IsTrue self.new.tells }
+        ensures counted { IsTrue self.old.tells → self.new.taken + length self.new.left ≡ self.old.taken + length self.old.left }
+        ensures on_line { IsOnLine self.new }
+        ensures all_taken { IsTrue self.old.tells → IsLast self.old.ahead ⊎ IsAllTaken self.new.ahead self.new.left }
+    {
+        match &self.head {
+            Head::Ended => return,
+            Head::Fault(_) => return,
+            Head::Item(_) => {}
+            Head::Start => {}
+        }
+        match self.course.advance(self.alloc, &mut self.source) {
+            Ok(Some(front)) => self.head = Head::Item(front),
+            Ok(None) => {
+                self.course.release(self.alloc);
+                self.head = Head::Ended;
+            }
+            Err(fault) => {
+                self.course.release(self.alloc);
+                self.head = Head::Fault(fault);
+            }
+        }
+    }
+
+    /// The next item, by value; `None` at the end. After a fault the same fault again, after the end the end again.
+    ///
+    /// An error is the fault of the stream behind the items before, F1 to F11, F13 or F14, or `NoMemory`.
+    pub fn next(&mut self) -> Result<Option<OwnedItem<'a>>, StreamFault>
+        // The first item that was to come is given, out of a packet that ends where the bytes taken do and is held, and the
+        // rest is to come.
+        ensures gives { IsTrue self.old.tells → Gives (coming self.old) self.new result }
+        ensures of { GivesOf self.old.trace self.old.name result }
+
+        // Of any source: what stood in front is told, an end and a fault stay as they are, and an item that is given took
+        // room and leaves nothing in front.
+        ensures told { GivesAhead self.old.ahead self.new result }
+        ensures ahead { self.new.ahead ≡ ahead_behind result }
+        ensures stays { IsLast self.old.ahead → self.new ≡ self.old }
+        ensures room { GivesRoom self.old.room self.new.room result }
+        ensures trace { self.new.trace ≡ self.old.trace }
+        ensures name { self.new.name ≡ self.old.name }
+
+        // The bytes taken are those that the source gave, and no more than the item needs.
+        ensures tells { IsTrue self.old.tells → IsTrue self.new.tells }
+        ensures counted { IsTrue self.old.tells → self.new.taken + length self.new.left ≡ self.old.taken + length self.old.left }
+        ensures on_line { IsOnLine self.new }
+        ensures all_taken { IsTrue self.old.tells → IsLast self.old.ahead ⊎ IsAllTaken self.new.ahead self.new.left }
+    {
+        self.fetch();
+        self.give()
+    }
+
+    /// Fetches the next item, if nothing stands in front.
+    fn fetch(&mut self)
+        ensures comes { IsTrue self.old.tells → OrRefused (coming self.old) (coming self.new) }
+        ensures fetched { IsFetched self.new.ahead }
+        ensures stays { IsFetched self.old.ahead → self.new ≡ self.old }
+        ensures room { self.new.room ≤ self.old.room }
+        ensures trace { self.new.trace ≡ self.old.trace }
+        ensures name { self.new.name ≡ self.old.name }
+        ensures tells { IsTrue self.old.tells → IsTrue self.new.tells }
+        ensures counted { IsTrue self.old.tells → self.new.taken + length self.new.left ≡ self.old.taken + length self.old.left }
+        ensures all_taken { IsTrue self.old.tells → IsFetched self.old.ahead ⊎ IsAllTaken self.new.ahead self.new.left }
+    {
+        match &self.head {
+            Head::Start => self.go_on(),
+            Head::Item(_) => {}
+            Head::Ended => {}
+            Head::Fault(_) => {}
+        }
+    }
+
+    /// Gives the item in front away, or tells the end or the fault.
+    fn give(&mut self) -> Result<Option<OwnedItem<'a>>, StreamFault>
+        requires { IsFetched self.old.ahead }
+        ensures told { GivesAhead self.old.ahead self.new result }
+        ensures of { GivesOf self.old.trace self.old.name result }
+        ensures ahead { self.new.ahead ≡ ahead_behind result }
+        ensures stays { IsLast self.old.ahead → self.new ≡ self.old }
+        ensures behind { KeepsBehind self.old.behind self.new.behind result }
+        ensures room { GivesRoom self.old.room self.new.room result }
+        ensures trace { self.new.trace ≡ self.old.trace }
+        ensures name { self.new.name ≡ self.old.name }
+        ensures tells { self.new.tells ≡ self.old.tells }
+        ensures left { self.new.left ≡ self.old.left }
+        ensures taken { self.new.taken ≡ self.old.taken }
+        ensures cut { self.new.cut ≡ self.old.cut }
+        ensures on_line { IsOnLine self.new }
+    {
+        let front = match &self.head {
+            Head::Start => unreachable!(),
+            Head::Ended => return Ok(None),
+            Head::Fault(fault) => return Err(*fault),
+            Head::Item(front) => front,
+        };
+        match self.course.give(self.alloc, front, &self.name) {
+            Ok(item) => {
+                self.head = Head::Start;
+                Ok(Some(item))
+            }
+            Err(_) => {
+                self.course.release(self.alloc);
+                self.head = Head::Fault(StreamFault::NoMemory);
+                Err(StreamFault::NoMemory)
+            }
+        }
+    }
+
+    /// The item in front, if one stands there. No memory is taken.
+    pub fn head(&self) -> Option<Item<'_>>
+        ensures { Shows self.now.trace self.now.name self.now.ahead result }
+    {
+        match &self.head {
+            Head::Item(front) => self.course.item(front, self.name.as_str()),
+            Head::Start => None,
+            Head::Ended => None,
+            Head::Fault(_) => None,
+        }
+    }
+
+    /// The fault in front, if one stands there.
+    pub fn fault(&self) -> Option<StreamFault>
+        ensures { result ≡ fault_ahead self.now.ahead }
+    {
+        match &self.head {
+            Head::Fault(fault) => Some(*fault),
+            Head::Ended => None,
+            Head::Item(_) => None,
+            Head::Start => None,
+        }
+    }
+
+    /// The length of the packet that is held, in bytes: 0 where none is.
+    pub fn held(&self) -> usize
+        ensures { result ≡ self.now.held }
+    {
+        self.course.buffer.len()
+    }
+
+    /// The source.
+    pub fn source(&self) -> &S
+        ensures tells { self.now.tells ≡ S.tells result.now }
+        ensures left { self.now.left ≡ S.left result.now }
+    {
+        &self.source
+    }
+
+    /// The name of the stream.
+    pub fn name(&self) -> &str
+        ensures { result.now ≡ self.now.name }
+    {
+        self.name.as_str()
+    }
+}
