@@ -1,0 +1,9 @@
+pub mod TextLemmas
+pub mod LinesLemmas
+pub mod PartsLemmas
+pub mod Chains
+pub mod NamesLemmas
+pub mod BinaryLemmas
+pub mod DecimalLemmas
+pub mod DigitsLemmas
+pub mod PatternLemmas

@@ -1,0 +1,75 @@
+//! Numbers in decimal.
+
+ghost use Rattle.std.specs.Prelude.{◌≡◌, ◌+◌, ◌++◌, ◌≤◌, length, take};
+ghost use Rattle.std.specs.Fmt.{decimal, signed_decimal};
+
+use itoa::{Buffer, write_digits};
+
+/// How many digits a number has in decimal.
+#[tactic(auto, using(crate::proofs::DecimalLemmas::length_more, crate::proofs::DecimalLemmas::length_four, crate::proofs::DecimalLemmas::length_one, crate::proofs::DecimalLemmas::length_bounded))]
+fn count_digits(number: u64) -> usize
+    ensures value { result ≡ length (decimal number) }
+    ensures bounded { result ≤ 20 }
+{
+    let mut left = number;
+    let mut count = 1;
+    while left >= 10_000 {
+        left /= 10_000;
+        count += 4;
+    }
+    if left >= 1000 {
+        count + 3
+    } else if left >= 100 {
+        count + 2
+    } else if left >= 10 {
+        count + 1
+    } else {
+        count
+    }
+}
+
+/// Writes a number in decimal at an index of a line that has room for 20 bytes there, and gives the index
+/// behind it.
+#[tactic(auto, using(crate::proofs::DecimalLemmas::written_at))]
+pub fn put_unsigned(number: u64, line: &mut [u8], at: usize) -> usize
+    requires room { at + 20 ≤ length line.old }
+    ensures text { take result line.new ≡ take at line.old ++ decimal number }
+    ensures end { result ≡ at + length (decimal number) }
+    ensures near { result ≤ at + 20 }
+{
+    let end = at + count_digits(number);
+    write_digits(number, line, end);
+    end
+}
+
+/// The same of a number that may be negative, with room for 40 bytes.
+pub fn put_signed(number: i128, line: &mut [u8], at: usize) -> usize
+    requires room { at + 40 ≤ length line.old }
+    ensures text { take result line.new ≡ take at line.old ++ signed_decimal number }
+    ensures near { result ≤ at + 40 }
+{
+    let far = number.unsigned_abs();
+    if far > u128::from(u64::MAX) {
+        return put_wide(number, line, at);
+    }
+    if number >= 0 {
+        return put_unsigned(far as u64, line, at);
+    }
+    line[at] = b'-';
+    put_unsigned(far as u64, line, at + 1)
+}
+
+/// The same of a number of more than 64 bits.
+#[cold]
+#[inline(never)]
+fn put_wide(number: i128, line: &mut [u8], at: usize) -> usize
+    requires room { at + 40 ≤ length line.old }
+    ensures text { take result line.new ≡ take at line.old ++ signed_decimal number }
+    ensures near { result ≤ at + 40 }
+{
+    let mut buffer = Buffer::new();
+    let digits = buffer.format(number).as_bytes();
+    let end = at + digits.len();
+    line[at..end].copy_from_slice(digits);
+    end
+}

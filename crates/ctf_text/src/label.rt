@@ -1,0 +1,150 @@
+//! Numbers of enumerations.
+
+ghost use Rattle.std.specs.Prelude.{◌≡◌, ◌+◌, ◌++◌, ◌≤◌, length, take, map, vec_len, codes, IfOk};
+ghost use Rattle.ctf_class.specs.Names.{label_text};
+ghost use Rattle.ctf_decode.specs.Routes as routes;
+ghost use Rattle.ctf_text.specs.Numbers.{number_text};
+ghost use Rattle.ctf_text.specs.Labels as texts;
+ghost use Rattle.ctf_text.specs.Labels.{names_of, names_text, labelled_text};
+ghost use Rattle.ctf_text.specs.Rows.{row};
+
+use crate::mark::{put_bytes, put_end, put_lead, put_ready};
+use crate::number::{LONGEST_NUMBER, put_number};
+use crate::room::with_room;
+use ctf_class::{Integer, Label, Span};
+use ctf_list::NoMemory;
+
+/// Writes an enumeration's number, with the names of the labels that cover it, at an index of a buffer, and
+/// gives the index behind it. What stands before the index is kept. At an error the buffer is any buffer.
+pub fn put_labelled(
+    container: &Integer,
+    labels: &[Label],
+    number: i128,
+    buffer: &mut Vec<u8>,
+    at: usize,
+) -> Result<usize, NoMemory>
+    requires { at ≤ vec_len buffer.old }
+    ensures text { IfOk result (λ end. take end buffer.new.items ≡ take at buffer.old.items ++ labelled_text container.now labels.now number) }
+    ensures held { IfOk result (λ end. end ≤ vec_len buffer.new) }
+{
+    let end = put_names(labels, number, buffer, at)?;
+    with_room(LONGEST_NUMBER + 20, buffer, end)?;
+    Ok(put_container(container, number, buffer.as_mut_slice(), end))
+}
+
+/// Writes what stands behind the names.
+fn put_container(container: &Integer, number: i128, line: &mut [u8], at: usize) -> usize
+    requires { at + (LONGEST_NUMBER + 20) ≤ length line.old }
+    ensures text { take result line.new ≡ take at line.old ++ (codes " : container = " ++ (number_text container.now number ++ codes " )")) }
+    ensures near { result ≤ at + (LONGEST_NUMBER + 20) }
+{
+    let begin = put_bytes(b" : container = ", line, at);
+    let end = put_number(container, number, line, begin);
+    put_bytes(b" )", line, end)
+}
+
+/// Writes `( ` and the names of the labels that cover a number.
+fn put_names(
+    labels: &[Label],
+    number: i128,
+    buffer: &mut Vec<u8>,
+    at: usize,
+) -> Result<usize, NoMemory>
+    requires { at ≤ vec_len buffer.old }
+    ensures text { IfOk result (λ end. take end buffer.new.items ≡ take at buffer.old.items ++ (codes "( " ++ names_text (names_of labels.now number))) }
+    ensures held { IfOk result (λ end. end ≤ vec_len buffer.new) }
+{
+    match count_names(labels, number) {
+        0 => put_unknown(buffer, at),
+        1 => put_each_name(b'(', labels, number, buffer, at),
+        _ => put_several(labels, number, buffer, at),
+    }
+}
+
+fn put_unknown(buffer: &mut Vec<u8>, at: usize) -> Result<usize, NoMemory>
+    requires { at ≤ vec_len buffer.old }
+    ensures text { IfOk result (λ end. take end buffer.new.items ≡ take at buffer.old.items ++ codes "( <unknown>") }
+    ensures held { IfOk result (λ end. end ≤ vec_len buffer.new) }
+{
+    with_room(11, buffer, at)?;
+    Ok(put_bytes(b"( <unknown>", buffer.as_mut_slice(), at))
+}
+
+fn put_several(
+    labels: &[Label],
+    number: i128,
+    buffer: &mut Vec<u8>,
+    at: usize,
+) -> Result<usize, NoMemory>
+    requires { at ≤ vec_len buffer.old }
+    ensures text { IfOk result (λ end. take end buffer.new.items ≡ take at buffer.old.items ++ (codes "( " ++ (row 123 (map label_text (names_of labels.now number)) ++ codes " }"))) }
+    ensures held { IfOk result (λ end. end ≤ vec_len buffer.new) }
+{
+    with_room(2, buffer, at)?;
+    let begin = put_lead(b'(', buffer.as_mut_slice(), at);
+    let end = put_each_name(b'{', labels, number, buffer, begin)?;
+    put_end(b'}', buffer, end)
+}
+
+/// Writes the names of the labels that cover a number, each once, the first behind a mark.
+#[tactic(auto, using(crate::proofs::NamesLemmas::row_more, crate::proofs::NamesLemmas::row_same))]
+fn put_each_name(
+    mark: u8,
+    labels: &[Label],
+    number: i128,
+    buffer: &mut Vec<u8>,
+    at: usize,
+) -> Result<usize, NoMemory>
+    requires { at ≤ vec_len buffer.old }
+    ensures text { IfOk result (λ end. take end buffer.new.items ≡ take at buffer.old.items ++ row mark (map label_text (names_of labels.now number))) }
+    ensures held { IfOk result (λ end. end ≤ vec_len buffer.new) }
+{
+    let mut end = at;
+    let mut lead = mark;
+    for (i, label) in labels.iter().enumerate() {
+        if !shows(&labels[..i], label, number) {
+            continue;
+        }
+        end = put_ready(lead, label.name.ready(), 0, buffer, end)?;
+        lead = b',';
+    }
+    Ok(end)
+}
+
+/// How many names the labels that cover a number have.
+fn count_names(labels: &[Label], number: i128) -> usize
+    ensures { result ≡ length (names_of labels.now number) }
+{
+    let mut count = 0;
+    for (i, label) in labels.iter().enumerate() {
+        if shows(&labels[..i], label, number) {
+            count += 1;
+        }
+    }
+    count
+}
+
+/// Whether a label shows a number behind these labels.
+fn shows(before: &[Label], label: &Label, number: i128) -> bool
+    ensures { result ≡ texts.shows before.now label.now number }
+{
+    covers(label.span, number) && !is_named(before, number, label.name.as_slice())
+}
+
+/// Whether one of the labels covers a number and has a name.
+fn is_named(labels: &[Label], number: i128, name: &[u8]) -> bool
+    ensures { result ≡ texts.is_named labels.now number name.now }
+{
+    for label in labels {
+        if covers(label.span, number) && label.name.as_slice() == name {
+            return true;
+        }
+    }
+    false
+}
+
+fn covers(span: Span, number: i128) -> bool
+    ensures { result ≡ routes.covers span number }
+{
+    span.first <= number && number <= span.last
+}

@@ -1,0 +1,24 @@
+//! The text of values, and of the part of an event record's line behind its stamp.
+#![tactic(auto)]
+
+mod binary;
+mod decimal;
+mod digits;
+mod element;
+mod label;
+mod mark;
+mod number;
+mod packet;
+mod pattern;
+mod record;
+mod room;
+mod text;
+mod value;
+mod whole;
+
+pub use ctf_class::escaped;
+pub use packet::put_packet_part;
+pub use record::put_record;
+pub use room::with_room;
+pub use value::put_value;
+pub use whole::{packet_part, record_text, value_text};

@@ -1,0 +1,79 @@
+//! What stands around texts.
+
+ghost use Rattle.std.specs.Prelude.{◌≡◌, ◌+◌, ◌++◌, ◌∷◌, [], ◌≤◌, length, take, vec_len, IfOk};
+
+use crate::room::with_room;
+use ctf_class::Ready;
+use ctf_list::NoMemory;
+
+/// Writes bytes at an index of a line that has room for them, and gives the index behind them.
+#[inline(always)]
+pub fn put_bytes(bytes: &[u8], line: &mut [u8], at: usize) -> usize
+    requires { at + length bytes.now ≤ length line.old }
+    ensures text { take result line.new ≡ take at line.old ++ bytes.now }
+    ensures end { result ≡ at + length bytes.now }
+{
+    let end = at + bytes.len();
+    line[at..end].copy_from_slice(bytes);
+    end
+}
+
+/// Writes a mark and a space at an index of a line, and gives the index behind them.
+#[inline(always)]
+pub fn put_lead(mark: u8, line: &mut [u8], at: usize) -> usize
+    requires { at + 2 ≤ length line.old }
+    ensures text { take result line.new ≡ take at line.old ++ (mark ∷ 32 ∷ []) }
+    ensures end { result ≡ at + 2 }
+{
+    line[at] = mark;
+    line[at + 1] = b' ';
+    at + 2
+}
+
+/// Writes a mark, a space and a ready text at an index of a buffer, and gives the index behind them. There is
+/// room for so many bytes more. What stands before the index is kept. At an error the buffer is any buffer.
+#[inline(always)]
+pub fn put_ready(
+    mark: u8,
+    ready: &Ready,
+    more: usize,
+    buffer: &mut Vec<u8>,
+    at: usize,
+) -> Result<usize, NoMemory>
+    requires index { at ≤ vec_len buffer.old }
+    requires few { more ≤ 100 }
+    ensures text { IfOk result (λ end. take end buffer.new.items ≡ take at buffer.old.items ++ (mark ∷ 32 ∷ ready.now)) }
+    ensures room { IfOk result (λ end. end + more ≤ vec_len buffer.new) }
+{
+    with_room(ready.len().saturating_add(more + 9), buffer, at)?;
+    let line = buffer.as_mut_slice();
+    let begin = put_lead(mark, line, at);
+    Ok(ready.put(line, begin))
+}
+
+/// Writes a space and a mark behind texts.
+pub fn put_end(mark: u8, buffer: &mut Vec<u8>, at: usize) -> Result<usize, NoMemory>
+    requires { at ≤ vec_len buffer.old }
+    ensures text { IfOk result (λ end. take end buffer.new.items ≡ take at buffer.old.items ++ (32 ∷ mark ∷ [])) }
+    ensures held { IfOk result (λ end. end ≤ vec_len buffer.new) }
+{
+    with_room(2, buffer, at)?;
+    let line = buffer.as_mut_slice();
+    line[at] = b' ';
+    line[at + 1] = mark;
+    Ok(at + 2)
+}
+
+/// Writes two marks that have nothing between them.
+pub fn put_nothing(left: u8, right: u8, buffer: &mut Vec<u8>, at: usize) -> Result<usize, NoMemory>
+    requires { at ≤ vec_len buffer.old }
+    ensures text { IfOk result (λ end. take end buffer.new.items ≡ take at buffer.old.items ++ (left ∷ 32 ∷ right ∷ [])) }
+    ensures held { IfOk result (λ end. end ≤ vec_len buffer.new) }
+{
+    with_room(3, buffer, at)?;
+    let line = buffer.as_mut_slice();
+    line[at] = left;
+    line[at + 1] = b' ';
+    line[at + 2] = right;
+    Ok(at + 3)
+}

@@ -1,0 +1,41 @@
+//! Numbers of integer classes.
+
+ghost use Rattle.std.specs.Prelude.{◌≡◌, ◌+◌, ◌++◌, ◌≤◌, length, take};
+ghost use Rattle.ctf_text.specs.Numbers.{number_text};
+
+use crate::binary::put_bits;
+use crate::decimal::put_signed;
+use crate::digits::put_digits;
+use crate::pattern::pattern;
+use ctf_class::{Base, Integer};
+
+/// How many bytes a number takes at the most.
+pub const LONGEST_NUMBER: usize = 66;
+
+/// Writes a number of an integer class at an index of a line that has room for it, and gives the index
+/// behind it.
+#[tactic(auto, using(crate::proofs::DigitsLemmas::length_hexadecimal, crate::proofs::DigitsLemmas::length_octal))]
+pub fn put_number(integer: &Integer, number: i128, line: &mut [u8], at: usize) -> usize
+    requires room { at + LONGEST_NUMBER ≤ length line.old }
+    ensures text { take result line.new ≡ take at line.old ++ number_text integer.now number }
+    ensures near { result ≤ at + LONGEST_NUMBER }
+{
+    match integer.base {
+        Base::Decimal => put_signed(number, line, at),
+        Base::Hexadecimal => {
+            line[at] = b'0';
+            line[at + 1] = b'x';
+            put_digits(pattern(integer.size, number), 4, line, at + 2)
+        }
+        Base::Octal => {
+            line[at] = b'0';
+            put_digits(pattern(integer.size, number), 3, line, at + 1)
+        }
+        Base::Binary => {
+            line[at] = b'0';
+            line[at + 1] = b'b';
+            let bits = pattern(integer.size, number);
+            put_bits(bits, integer.size.bits(), line, at + 2)
+        }
+    }
+}

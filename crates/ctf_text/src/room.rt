@@ -1,0 +1,52 @@
+//! Room in a line's buffer.
+
+ghost use Rattle.std.specs.Prelude.{◌≡◌, ◌+◌, ◌*◌, ◌^◌, ◌≤◌, take, vec_len, IfOk};
+
+use ctf_list::NoMemory;
+
+/// Makes room for so many bytes at an index of a buffer. What stands before the index is kept; what stands
+/// behind it may be any bytes. It fails where memory is refused, and the buffer is then any buffer.
+#[inline(always)]
+pub fn with_room(need: usize, buffer: &mut Vec<u8>, at: usize) -> Result<(), NoMemory>
+    requires { at ≤ vec_len buffer.old }
+    ensures kept { IfOk result (λ _. take at buffer.new.items ≡ take at buffer.old.items) }
+    ensures room { IfOk result (λ _. at + need ≤ vec_len buffer.new) }
+{
+    if need <= buffer.len() - at {
+        return Ok(());
+    }
+    grow(need, buffer, at)
+}
+
+/// Makes room for the text of so many bytes, escaped, and for 8 bytes more.
+#[inline(always)]
+pub fn with_room_for_text(count: usize, buffer: &mut Vec<u8>, at: usize) -> Result<(), NoMemory>
+    requires index { at ≤ vec_len buffer.old }
+    requires short { count ≤ 2 ^ 63 }
+    ensures kept { IfOk result (λ _. take at buffer.new.items ≡ take at buffer.old.items) }
+    ensures room { IfOk result (λ _. at + 4 * count + 8 ≤ vec_len buffer.new) }
+{
+    if count + 1 < (buffer.len() - at) / 4 {
+        return Ok(());
+    }
+    let Some(need) = (count + 2).checked_mul(4) else {
+        return Err(NoMemory);
+    };
+    grow(need, buffer, at)
+}
+
+/// The same where the buffer is too short. It gets at least twice as long.
+#[cold]
+#[inline(never)]
+fn grow(need: usize, buffer: &mut Vec<u8>, at: usize) -> Result<(), NoMemory>
+    requires { at ≤ vec_len buffer.old }
+    ensures kept { IfOk result (λ _. take at buffer.new.items ≡ take at buffer.old.items) }
+    ensures room { IfOk result (λ _. at + need ≤ vec_len buffer.new) }
+{
+    let Some(end) = at.checked_add(need) else {
+        return Err(NoMemory);
+    };
+    let length = end.max(buffer.len().saturating_mul(2));
+    buffer.resize(length, 0)?;
+    Ok(())
+}

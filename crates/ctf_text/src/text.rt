@@ -1,0 +1,173 @@
+//! Texts of strings.
+
+ghost use Rattle.std.specs.Prelude.{◌≡◌, ◌+◌, ◌*◌, ◌++◌, ◌∷◌, [], ◌≤◌, ◌<◌, ◌/◌, ◌%◌, length, take, vec_len, IfOk, IsTrue};
+ghost use Rattle.ctf_class.specs.Escapes.{escaped, shown_byte, hex_digit};
+ghost use Rattle.ctf_class.specs.Names.{label_text};
+
+use crate::room::with_room_for_text;
+use ctf_list::NoMemory;
+
+/// Writes a text, escaped and in quotes, at an index of a buffer, and gives the index behind it. What stands
+/// before the index is kept. At an error the buffer is any buffer.
+pub fn put_quoted(bytes: &[u8], buffer: &mut Vec<u8>, at: usize) -> Result<usize, NoMemory>
+    requires { at ≤ vec_len buffer.old }
+    ensures text { IfOk result (λ end. take end buffer.new.items ≡ take at buffer.old.items ++ label_text bytes.now) }
+    ensures held { IfOk result (λ end. end ≤ vec_len buffer.new) }
+{
+    with_room_for_text(bytes.len(), buffer, at)?;
+    Ok(put_in_quotes(bytes, buffer.as_mut_slice(), at))
+}
+
+/// The same in a line that has room for it.
+fn put_in_quotes(bytes: &[u8], line: &mut [u8], at: usize) -> usize
+    requires { at + 4 * length bytes.now + 8 ≤ length line.old }
+    ensures text { take result line.new ≡ take at line.old ++ label_text bytes.now }
+    ensures near { result ≤ at + 4 * length bytes.now + 2 }
+{
+    line[at] = b'"';
+    let end = put_escaped(bytes, line, at + 1);
+    line[end] = b'"';
+    end + 1
+}
+
+/// Writes a text, escaped, at an index of a line that has room for it, and gives the index behind it. It
+/// goes by eight bytes: mostly none of them is escaped.
+fn put_escaped(bytes: &[u8], line: &mut [u8], at: usize) -> usize
+    requires { at + 4 * length bytes.now ≤ length line.old }
+    ensures text { take result line.new ≡ take at line.old ++ escaped bytes.now }
+    ensures near { result ≤ at + 4 * length bytes.now }
+{
+    let mut to = at;
+    for i in 0..bytes.len() / 8 {
+        to = put_eight(&bytes[8 * i..8 * i + 8], line, to);
+    }
+    put_each(&bytes[bytes.len() / 8 * 8..], line, to)
+}
+
+/// The same of eight bytes.
+#[inline(always)]
+fn put_eight(bytes: &[u8], line: &mut [u8], at: usize) -> usize
+    requires eight { length bytes.now ≡ 8 }
+    requires room { at + 32 ≤ length line.old }
+    ensures text { take result line.new ≡ take at line.old ++ escaped bytes.now }
+    ensures near { result ≤ at + 32 }
+{
+    if !are_plain(bytes) {
+        return put_each(bytes, line, at);
+    }
+    line[at] = bytes[0];
+    line[at + 1] = bytes[1];
+    line[at + 2] = bytes[2];
+    line[at + 3] = bytes[3];
+    line[at + 4] = bytes[4];
+    line[at + 5] = bytes[5];
+    line[at + 6] = bytes[6];
+    line[at + 7] = bytes[7];
+    at + 8
+}
+
+/// Whether all of some bytes are shown as they are. It looks at each of them, so that several are looked at
+/// in one step.
+#[inline(always)]
+fn are_plain(bytes: &[u8]) -> bool
+    ensures { IsTrue result → escaped bytes.now ≡ bytes.now }
+{
+    let mut plain = true;
+    for byte in bytes {
+        plain &= is_plain(*byte);
+    }
+    plain
+}
+
+/// The same byte by byte.
+fn put_each(bytes: &[u8], line: &mut [u8], at: usize) -> usize
+    requires { at + 4 * length bytes.now ≤ length line.old }
+    ensures text { take result line.new ≡ take at line.old ++ escaped bytes.now }
+    ensures near { result ≤ at + 4 * length bytes.now }
+{
+    let mut to = at;
+    for byte in bytes {
+        to = put_byte(*byte, line, to);
+    }
+    to
+}
+
+/// The same of one byte.
+#[inline(always)]
+fn put_byte(byte: u8, line: &mut [u8], at: usize) -> usize
+    requires { at + 4 ≤ length line.old }
+    ensures text { take result line.new ≡ take at line.old ++ shown_byte byte }
+    ensures near { result ≤ at + 4 }
+{
+    if is_plain(byte) {
+        line[at] = byte;
+        return at + 1;
+    }
+    put_escape(byte, line, at)
+}
+
+/// Whether a byte is shown as it is.
+#[inline(always)]
+#[tactic(auto, unfolding(ctf_class::specs::Escapes::shown_byte))]
+fn is_plain(byte: u8) -> bool
+    ensures { IsTrue result → shown_byte byte ≡ byte ∷ [] }
+{
+    (byte >= 0x20) & (byte != b'"') & (byte != b'\\') & (byte != 0x7F)
+}
+
+/// The same of a byte that may be escaped.
+#[tactic(auto, unfolding(ctf_class::specs::Escapes::shown_byte))]
+fn put_escape(byte: u8, line: &mut [u8], at: usize) -> usize
+    requires { at + 4 ≤ length line.old }
+    ensures text { take result line.new ≡ take at line.old ++ shown_byte byte }
+    ensures near { result ≤ at + 4 }
+{
+    match byte {
+        b'"' => put_pair(b'"', line, at),
+        b'\\' => put_pair(b'\\', line, at),
+        b'\n' => put_pair(b'n', line, at),
+        b'\t' => put_pair(b't', line, at),
+        b'\r' => put_pair(b'r', line, at),
+        0..=0x1F | 0x7F => put_number(byte, line, at),
+        _ => {
+            line[at] = byte;
+            at + 1
+        }
+    }
+}
+
+/// Writes `\` and a letter.
+fn put_pair(letter: u8, line: &mut [u8], at: usize) -> usize
+    requires { at + 4 ≤ length line.old }
+    ensures text { take result line.new ≡ take at line.old ++ (92 ∷ letter ∷ []) }
+    ensures near { result ≤ at + 4 }
+{
+    line[at] = b'\\';
+    line[at + 1] = letter;
+    at + 2
+}
+
+/// Writes `\x` and the two digits of a byte.
+fn put_number(byte: u8, line: &mut [u8], at: usize) -> usize
+    requires { at + 4 ≤ length line.old }
+    ensures text { take result line.new ≡ take at line.old ++ (92 ∷ 120 ∷ hex_digit (byte / 16) ∷ hex_digit (byte % 16) ∷ []) }
+    ensures near { result ≤ at + 4 }
+{
+    line[at] = b'\\';
+    line[at + 1] = b'x';
+    line[at + 2] = hex_digit(byte / 16);
+    line[at + 3] = hex_digit(byte % 16);
+    at + 4
+}
+
+/// The digit of a number from 0 to 15, in lower case.
+fn hex_digit(digit: u8) -> u8
+    requires { digit < 16 }
+    ensures { result ≡ hex_digit digit }
+{
+    if digit < 10 {
+        b'0' + digit
+    } else {
+        b'a' - 10 + digit
+    }
+}

@@ -1,0 +1,252 @@
+//! What stands in a line behind the stamp.
+
+use crate::classes::{
+    array, decimal, enumeration, integer, member, numbers, string, structure, text, variant,
+};
+use crate::values;
+use crate::values::{choice, group, integers};
+use ctf_class::Base::{Binary, Decimal, Hexadecimal};
+use ctf_class::{Base, Class, EventClass, Heading, Indexed, StreamClass};
+use ctf_decode::Value;
+use ctf_list::List;
+use ctf_text::{packet_part, put_record, record_text};
+use std::alloc::Global;
+use std::test::Fail;
+
+/// A member's class and value.
+#[derive(Clone, Copy, Drop)]
+enum Cell {
+    /// A number of a size in a base.
+    Number(u32, Base, i64),
+    Text(&'static [u8]),
+    /// An array of numbers.
+    Numbers(&'static [i64]),
+}
+
+use Cell::{Number, Numbers, Text};
+
+impl Cell {
+    fn class(self, alloc: Global) -> Result<Class, Fail> {
+        match self {
+            Number(size, base, _) => integer(size, true, base),
+            Text(_) => text(),
+            Numbers(_) => array(alloc, decimal()?),
+        }
+    }
+
+    fn value(self, alloc: Global) -> Result<Value, Fail> {
+        match self {
+            Number(_, _, number) => Ok(Value::Signed(number)),
+            Text(bytes) => values::text(alloc, bytes),
+            Numbers(numbers) => Ok(values::list(integers(alloc, numbers)?)),
+        }
+    }
+}
+
+/// A structure of such members.
+fn class_of(alloc: Global, cells: &[(&[u8], Cell)]) -> Result<Class, Fail> {
+    let mut members = Vec::new(alloc);
+    for (name, cell) in cells {
+        members.push(member(alloc, name, cell.class(alloc)?)?)?;
+    }
+    structure(members)
+}
+
+fn value_of(alloc: Global, cells: &[(&[u8], Cell)]) -> Result<Value, Fail> {
+    let mut parts = Vec::new(alloc);
+    for (_, cell) in cells {
+        parts.push(cell.value(alloc)?)?;
+    }
+    Ok(group(parts))
+}
+
+fn event(
+    alloc: Global,
+    host: Option<List<u8>>,
+    name: &[u8],
+    context: Option<Class>,
+    fields: Class,
+) -> Result<EventClass, Fail> {
+    Ok(EventClass {
+        id: 0,
+        heading: Heading::new(alloc, host, List::from_slice(alloc, name)?)?,
+        context,
+        fields,
+    })
+}
+
+/// A stream class, of which a packet context and a stream event context are known.
+fn stream(
+    alloc: Global,
+    packet_context: Option<Class>,
+    event_context: Option<Class>,
+) -> Result<StreamClass, Fail> {
+    Ok(StreamClass {
+        id: 0,
+        packet_context,
+        event_header: None,
+        event_context,
+        clock: None,
+        events: Indexed::new(alloc, List::new(alloc))?,
+    })
+}
+
+/// An event of which only fields are shown.
+fn shows_fields(
+    alloc: Global,
+    packet: &[u8],
+    event: &EventClass,
+    value: &Value,
+    want: &[u8],
+) -> Result<(), Fail> {
+    let stream = stream(alloc, None, None)?;
+    let text = record_text(alloc, packet, &stream, event, None, None, value)?;
+    if text.as_slice() == want {
+        return Ok(());
+    }
+    Err(Fail::from("another line"))
+}
+
+#[test]
+fn fields(rt: HostRuntime) -> Result<(), Fail> {
+    let alloc = rt.alloc();
+    let numbers: [(&[u8], Cell); 2] = [
+        (b"a", Number(8, Decimal, 1)),
+        (b"b", Number(16, Decimal, 770)),
+    ];
+    let bits: [(&[u8], Cell); 3] = [
+        (b"a", Number(3, Decimal, -1)),
+        (b"b", Number(3, Hexadecimal, -1)),
+        (b"c", Number(2, Decimal, 0)),
+    ];
+    let sequence: [(&[u8], Cell); 3] = [
+        (b"n", Number(8, Decimal, 0)),
+        (b"s", Numbers(&[])),
+        (b"z", Number(8, Decimal, 9)),
+    ];
+    let rows: [(&[u8], &[(&[u8], Cell)], &[u8]); 4] = [
+        (b"tick", &numbers, b"tick: { a = 1, b = 770 }"),
+        (b"w", &bits, b"w: { a = -1, b = 0x7, c = 0 }"),
+        (b"q", &sequence, b"q: { n = 0, s = [ ], z = 9 }"),
+        (b"a\n", &[], b"a\\n: { }"),
+    ];
+    for (name, cells, want) in rows {
+        let event = event(alloc, None, name, None, class_of(alloc, cells)?)?;
+        shows_fields(alloc, b"", &event, &value_of(alloc, cells)?, want)?;
+    }
+    Ok(())
+}
+
+/// An enumeration, and a variant that it is the tag of.
+fn tagged(alloc: Global) -> Result<Class, Fail> {
+    let labels: [(&[u8], i128, i128); 3] = [(b"A", 1, 1), (b"B", 2, 2), (b"LOW", 0, 2)];
+    let mut options = Vec::new(alloc);
+    options.push(member(alloc, b"A", string()?)?)?;
+    options.push(member(alloc, b"B", integer(8, false, Binary)?)?)?;
+    let mut members = Vec::new(alloc);
+    members.push(member(alloc, b"t", enumeration(alloc, Decimal, &labels)?)?)?;
+    members.push(member(alloc, b"u", variant(alloc, options)?)?)?;
+    structure(members)
+}
+
+#[test]
+fn labels_and_options(rt: HostRuntime) -> Result<(), Fail> {
+    let alloc = rt.alloc();
+    let event = event(alloc, None, b"v", None, tagged(alloc)?)?;
+    let rows: [(i128, usize, Cell, &[u8]); 2] = [
+        (
+            1,
+            0,
+            Text(b"hi"),
+            b"v: { t = ( { \"A\", \"LOW\" } : container = 1 ), u = { A = \"hi\" } }",
+        ),
+        (
+            2,
+            1,
+            Number(8, Binary, 5),
+            b"v: { t = ( { \"B\", \"LOW\" } : container = 2 ), u = { B = 0b00000101 } }",
+        ),
+    ];
+    for (label, option, cell, want) in rows {
+        let mut parts = Vec::new(alloc);
+        parts.push(Value::Label(label))?;
+        parts.push(choice(alloc, option, cell.value(alloc)?)?)?;
+        shows_fields(alloc, b"", &event, &group(parts), want)?;
+    }
+    Ok(())
+}
+
+#[test]
+fn host_and_processor(rt: HostRuntime) -> Result<(), Fail> {
+    let alloc = rt.alloc();
+    let cells: [(&[u8], Cell); 7] = [
+        (b"_prev_comm", Text(b"swapper/1")),
+        (b"_prev_tid", Number(32, Decimal, 0)),
+        (b"_prev_prio", Number(32, Decimal, 20)),
+        (b"_prev_state", Number(64, Decimal, 0)),
+        (b"_next_comm", Text(b"bash")),
+        (b"_next_tid", Number(32, Decimal, 4242)),
+        (b"_next_prio", Number(32, Decimal, 20)),
+    ];
+    let context: [&[u8]; 7] = [
+        b"timestamp_begin",
+        b"timestamp_end",
+        b"content_size",
+        b"packet_size",
+        b"packet_seq_num",
+        b"events_discarded",
+        b"cpu_id",
+    ];
+    let class = numbers(alloc, &context)?;
+    let packet = group(integers(alloc, &[1, 2, 3, 4, 5, 6, 1])?);
+    let part = packet_part(alloc, Some(&class), Some(&packet))?;
+    let host = Some(List::from_slice(alloc, b"host1")?);
+    let event = event(alloc, host, b"sched_switch", None, class_of(alloc, &cells)?)?;
+    let want =
+        b"host1 sched_switch: { cpu_id = 1 }, { prev_comm = \"swapper/1\", prev_tid = 0, prev_prio = 20, prev_state = 0, next_comm = \"bash\", next_tid = 4242, next_prio = 20 }".as_slice();
+    shows_fields(alloc, &part, &event, &value_of(alloc, &cells)?, want)
+}
+
+/// Packet contexts of which nothing is shown.
+#[test]
+fn no_packet_part(rt: HostRuntime) -> Result<(), Fail> {
+    let alloc = rt.alloc();
+    let names: [&[u8]; 1] = [b"packet_size"];
+    let value = group(integers(alloc, &[1])?);
+    let class = numbers(alloc, &names)?;
+    assert_eq!(rt; packet_part(alloc, Some(&class), Some(&value))?.len(), 0);
+    assert_eq!(rt; packet_part(alloc, Some(&class), None)?.len(), 0);
+    assert_eq!(rt; packet_part(alloc, None, Some(&value))?.len(), 0);
+    let none = structure(Vec::new(alloc))?;
+    assert_eq!(rt; packet_part(alloc, Some(&none), Some(&value))?.len(), 0);
+    Ok(())
+}
+
+/// Each context is shown where it has a class, also an empty one; names below the top are all shown.
+#[test]
+fn contexts(rt: HostRuntime) -> Result<(), Fail> {
+    let alloc = rt.alloc();
+    let names: [&[u8]; 1] = [b"packet_size"];
+    let own = numbers(alloc, &names)?;
+    let empty = structure(Vec::new(alloc))?;
+    let event = event(alloc, None, b"e", Some(own), structure(Vec::new(alloc))?)?;
+    let stream = stream(alloc, None, Some(empty))?;
+    let none = group(Vec::new(alloc));
+    let one = group(integers(alloc, &[3])?);
+    let text = record_text(
+        alloc,
+        b"{ x = 1 }",
+        &stream,
+        &event,
+        Some(&none),
+        Some(&one),
+        &none,
+    )?;
+    let want = b"e: { x = 1 }, { }, { packet_size = 3 }, { }".as_slice();
+    assert_eq!(rt; text.as_slice(), want);
+    let mut line = Vec::from_slice(alloc, b"[12] and what was there")?;
+    let end = put_record(b"", &stream, &event, None, None, &none, &mut line, 5)?;
+    line.truncate(end);
+    assert_eq!(rt; line.as_slice(), b"[12] e: { }".as_slice());
+    Ok(())
+}

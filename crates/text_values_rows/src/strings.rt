@@ -1,0 +1,32 @@
+//! Strings and arrays of characters.
+
+use crate::classes::{string, text};
+use crate::values;
+use crate::values::shows;
+use std::test::Fail;
+
+#[test]
+fn escapes(rt: HostRuntime) -> Result<(), Fail> {
+    let alloc = rt.alloc();
+    let controls = [
+        0, 1, 2, 3, 4, 5, 6, 7, 8, 9, 10, 11, 12, 13, 14, 15, 16, 17, 18, 19, 20, 21, 22, 23, 24,
+        25, 26, 27, 28, 29, 30, 31, 127,
+    ];
+    let rows: [(&[u8], &[u8]); 6] = [
+        (b"", b"\"\""),
+        (b"swapper/1", b"\"swapper/1\""),
+        (b"_a\"b\\\\c", b"\"_a\\\"b\\\\\\\\c\""),
+        (&[0x20, 0x7E, 0x80, 0xC3, 0xFF], b"\" ~\x80\xC3\xFF\""),
+        (b"\n\t\r", b"\"\\n\\t\\r\""),
+        (
+            &controls,
+            b"\"\\x00\\x01\\x02\\x03\\x04\\x05\\x06\\x07\\x08\\t\\n\\x0b\\x0c\\r\\x0e\\x0f\\x10\\x11\\x12\\x13\\x14\\x15\\x16\\x17\\x18\\x19\\x1a\\x1b\\x1c\\x1d\\x1e\\x1f\\x7f\"",
+        ),
+    ];
+    for (bytes, want) in rows {
+        let value = values::text(alloc, bytes)?;
+        shows(alloc, &string()?, &value, want)?;
+        shows(alloc, &text()?, &value, want)?;
+    }
+    Ok(())
+}
