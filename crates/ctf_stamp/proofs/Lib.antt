@@ -1,0 +1,9 @@
+pub mod Groups
+pub mod Putting
+pub mod Shown
+pub mod Steady
+pub mod Signs
+pub mod Kept
+pub mod Parts
+pub mod Instants
+pub mod Folds

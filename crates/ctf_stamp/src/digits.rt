@@ -1,0 +1,114 @@
+//! Digits and bytes that are written into a slice at an index. Each call gives the index behind what it wrote.
+
+ghost use Rattle.std.specs.Prelude.{◌≡◌, ◌+◌, ◌<◌, ◌≤◌, [], ◌∷◌, length, decimal};
+ghost use Rattle.ctf_stamp.specs.Digits.{last_digits, seconds_text};
+ghost use Rattle.ctf_stamp.specs.Putting.{IsPut};
+
+use itoa::Buffer;
+
+/// Nanoseconds in a second.
+const SECOND: u64 = 1_000_000_000;
+
+/// One byte.
+#[inline(always)]
+pub(crate) fn put_byte(byte: u8, line: &mut [u8], at: usize) -> usize
+    requires { at + 1 ≤ length line.old }
+    ensures { IsPut line.old line.new at result (byte ∷ []) }
+{
+    line[at] = byte;
+    at + 1
+}
+
+/// Two digits.
+#[inline(always)]
+pub(crate) fn put_pair(pair: u32, line: &mut [u8], at: usize) -> usize
+    requires two { pair < 100 }
+    requires room { at + 2 ≤ length line.old }
+    ensures { IsPut line.old line.new at result (last_digits 2 pair) }
+{
+    let at = put_byte(b'0' + (pair / 10) as u8, line, at);
+    put_byte(b'0' + (pair % 10) as u8, line, at)
+}
+
+/// Four digits.
+#[tactic(auto, using(crate::proofs::Groups::digits_long))]
+#[inline(always)]
+pub(crate) fn put_four(number: u32, line: &mut [u8], at: usize) -> usize
+    requires four { number < 10000 }
+    requires room { at + 4 ≤ length line.old }
+    ensures { IsPut line.old line.new at result (last_digits 4 number) }
+{
+    let at = put_pair(number / 100, line, at);
+    put_pair(number % 100, line, at)
+}
+
+/// Eight digits.
+#[tactic(auto, using(crate::proofs::Groups::digits_long))]
+#[inline(always)]
+fn put_eight(number: u32, line: &mut [u8], at: usize) -> usize
+    requires eight { number < 100000000 }
+    requires room { at + 8 ≤ length line.old }
+    ensures { IsPut line.old line.new at result (last_digits 8 number) }
+{
+    let at = put_four(number / 10_000, line, at);
+    put_four(number % 10_000, line, at)
+}
+
+/// Nine digits.
+#[inline(always)]
+pub(crate) fn put_nine(number: u32, line: &mut [u8], at: usize) -> usize
+    requires nine { number < 1000000000 }
+    requires room { at + 9 ≤ length line.old }
+    ensures { IsPut line.old line.new at result (last_digits 9 number) }
+{
+    let at = put_byte(b'0' + (number / 100_000_000) as u8, line, at);
+    put_eight(number % 100_000_000, line, at)
+}
+
+/// Twenty digits.
+#[tactic(auto, using(crate::proofs::Groups::digits_long))]
+pub(crate) fn put_twenty(number: u64, line: &mut [u8], at: usize) -> usize
+    requires { at + 20 ≤ length line.old }
+    ensures put { IsPut line.old line.new at result (last_digits 20 number) }
+    ensures end { result ≡ at + 20 }
+{
+    let at = put_four((number / 10_000_000_000_000_000) as u32, line, at);
+    let at = put_eight((number / 100_000_000 % 100_000_000) as u32, line, at);
+    put_eight((number % 100_000_000) as u32, line, at)
+}
+
+/// Bytes as they are.
+#[inline(always)]
+pub(crate) fn put_bytes(bytes: &[u8], line: &mut [u8], at: usize) -> usize
+    requires { at + length bytes.now ≤ length line.old }
+    ensures { IsPut line.old line.new at result bytes.now }
+{
+    let end = at + bytes.len();
+    line[at..end].copy_from_slice(bytes);
+    end
+}
+
+/// A number in decimal, at most 20 bytes.
+fn put_decimal(number: u64, line: &mut [u8], at: usize) -> usize
+    requires { at + 20 ≤ length line.old }
+    ensures put { IsPut line.old line.new at result (decimal number) }
+    ensures short { result ≤ at + 20 }
+{
+    if number < 10 {
+        return put_byte(b'0' + number as u8, line, at);
+    }
+    let mut digits = Buffer::new();
+    put_bytes(digits.format(number).as_bytes(), line, at)
+}
+
+/// Nanoseconds in seconds, with nine digits behind the dot: at most 30 bytes.
+#[tactic(auto, using(crate::proofs::Groups::digits_long))]
+pub(crate) fn put_seconds(nanos: u64, line: &mut [u8], at: usize) -> usize
+    requires { at + 30 ≤ length line.old }
+    ensures put { IsPut line.old line.new at result (seconds_text nanos) }
+    ensures short { result ≤ at + 30 }
+{
+    let at = put_decimal(nanos / SECOND, line, at);
+    let at = put_byte(b'.', line, at);
+    put_nine((nanos % SECOND) as u32, line, at)
+}

@@ -1,0 +1,17 @@
+//! The times of a log's lines: stamps of moments in four styles, the time since the line before, and
+//! time zones.
+#![tactic(auto)]
+
+mod civil;
+mod digits;
+mod laws;
+mod stamper;
+mod style;
+mod text;
+mod zone;
+
+pub use laws::{civil_times_are_shown, folds_give_the_earlier};
+pub use stamper::{MOST_PART, MOST_STAMP, Stamper};
+pub use style::{ClockStyle, Style};
+pub use text::{append_part, append_stamp};
+pub use zone::{Zone, ZoneFault};

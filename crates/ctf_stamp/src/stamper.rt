@@ -1,0 +1,180 @@
+//! Stamps that are written into a slice.
+
+ghost use Rattle.std.specs.Prelude.{◌≡◌, ◌+◌, ◌<◌, ◌≤◌, ◌++◌, length, codes};
+ghost use Rattle.ctf_stamp.specs.Digits.{last_digits};
+ghost use Rattle.ctf_stamp.specs.Putting.{IsPut};
+ghost use Rattle.ctf_stamp.specs.Stamps.{stamp, stamp_part, stamp_by, delta_text, signed_seconds, fraction, head_at};
+ghost use Rattle.ctf_stamp.specs.Civil.{second_of, within_second};
+ghost use Rattle.ctf_stamp.specs.Zones.{civil_at};
+
+use crate::civil::{MOST_HEAD, put_head};
+use crate::digits::{put_byte, put_bytes, put_nine, put_seconds, put_twenty};
+use crate::style::{ClockStyle, Style};
+use ctf_clock::Moment;
+use std::marker::Model;
+
+/// The room that a stamp may need, in bytes.
+pub const MOST_STAMP: usize = 32;
+
+/// The room that the beginning of a line may need, in bytes.
+pub const MOST_PART: usize = 72;
+
+/// Nanoseconds in a second.
+const SECOND: i64 = 1_000_000_000;
+
+/// The last nanosecond of a second, at which a rule's offset can be another one.
+const LAST_NANO: u32 = 999_999_999;
+
+/// Writes stamps in one style. It keeps the text of the second it wrote last, so that stamps within one
+/// second need no calendar. Contracts see the style alone.
+#[derive(Drop)]
+pub struct Stamper {
+    style: Style,
+    // The second that is kept, since the epoch.
+    second: i64,
+    // What the style shows of it before the dot.
+    text: [u8; MOST_HEAD],
+    length: usize,
+    kept: bool,
+}
+
+impl Model for Stamper {
+    ghost use Rattle.std.specs.Prelude.{◌≤◌, IsTrue, take};
+    ghost use Rattle.ctf_stamp.specs.declared.style.Style.{Style as PlainStyle};
+    ghost use Rattle.ctf_stamp.specs.Stamps.{IsHeadOf};
+
+    ghost Value = { PlainStyle };
+
+    ghost view = { λ stamper. stamper.style };
+
+    ghost invariant = { λ stamper. (stamper.length ≤ 19)
+        × (IsTrue stamper.kept → IsHeadOf stamper.style stamper.second (take stamper.length stamper.text)) };
+}
+
+impl Stamper {
+    /// One that writes in this style.
+    pub fn new(style: Style) -> Stamper
+        ensures { result ≡ style }
+    {
+        Stamper {
+            style,
+            second: 0,
+            text: [0; MOST_HEAD],
+            length: 0,
+            kept: false,
+        }
+    }
+
+    /// Writes the stamp of a moment at an index, and gives the index behind it.
+    pub fn put_stamp(&mut self, moment: Moment, line: &mut [u8], at: usize) -> usize
+        requires { at + MOST_STAMP ≤ length line.old }
+        ensures put { IsPut line.old line.new at result (stamp self.old moment) }
+        ensures short { result ≤ at + MOST_STAMP }
+        ensures style { self.new ≡ self.old }
+    {
+        match self.style.clock {
+            ClockStyle::Time => self.put_civil(moment.time, line, at),
+            ClockStyle::Date => self.put_civil(moment.time, line, at),
+            ClockStyle::Seconds => put_signed(moment.time, line, at),
+            ClockStyle::Cycles => put_twenty(moment.cycles, line, at),
+        }
+    }
+
+    /// The stamp of a time in a civil style.
+    fn put_civil(&mut self, time: i64, line: &mut [u8], at: usize) -> usize
+        requires { at + MOST_STAMP ≤ length line.old }
+        ensures put { IsPut line.old line.new at result
+            (head_at self.old.clock (second_of (civil_at self.old.zone time)) ++ fraction (civil_at self.old.zone time)) }
+        ensures short { result ≤ at + MOST_STAMP }
+        ensures style { self.new ≡ self.old }
+    {
+        let (second, nanos) = split(time);
+        if self.kept && self.second == second && nanos != LAST_NANO {
+            return put_second(&self.text[..self.length], nanos, line, at);
+        }
+        self.length = put_head(&self.style, time, &mut self.text, 0);
+        self.second = second;
+        self.kept = nanos != LAST_NANO;
+        put_second(&self.text[..self.length], nanos, line, at)
+    }
+
+    /// Writes the beginning of a line at an index, and gives the index behind it: the stamp of the line's
+    /// moment in brackets and, where the style has it, the time since `last` in parentheses. Nothing for a
+    /// line without a moment.
+    pub fn put_part(
+        &mut self,
+        moment: Option<Moment>,
+        last: Option<i64>,
+        line: &mut [u8],
+        at: usize,
+    ) -> usize
+        requires { at + MOST_PART ≤ length line.old }
+        ensures put { IsPut line.old line.new at result (stamp_part self.old moment last) }
+        ensures short { result ≤ at + MOST_PART }
+        ensures style { self.new ≡ self.old }
+    {
+        let Some(moment) = moment else {
+            return at;
+        };
+        let at = put_byte(b'[', line, at);
+        let at = self.put_stamp(moment, line, at);
+        let at = put_bytes(b"] ", line, at);
+        if !self.style.delta {
+            return at;
+        }
+        let at = put_byte(b'(', line, at);
+        let at = put_delta(last, moment.time, line, at);
+        put_bytes(b") ", line, at)
+    }
+}
+
+/// What is kept of a second, and its nanoseconds.
+#[inline(always)]
+#[tactic(auto, using(crate::proofs::Groups::digits_long))]
+fn put_second(head: &[u8], nanos: u32, line: &mut [u8], at: usize) -> usize
+    requires short { length head.now ≤ MOST_HEAD }
+    requires nine { nanos < 1000000000 }
+    requires room { at + MOST_STAMP ≤ length line.old }
+    ensures put { IsPut line.old line.new at result
+        (head.now ++ (codes "." ++ last_digits 9 nanos)) }
+    ensures short { result ≤ at + MOST_STAMP }
+{
+    let at = put_bytes(head, line, at);
+    let at = put_byte(b'.', line, at);
+    put_nine(nanos, line, at)
+}
+
+/// The second in which a time lies, and the nanoseconds behind its start.
+fn split(time: i64) -> (i64, u32)
+    ensures second { result.0 ≡ second_of time }
+    ensures nanos { result.1 ≡ within_second time }
+    ensures below { result.1 < 1000000000 }
+{
+    (time.div_euclid(SECOND), time.rem_euclid(SECOND) as u32)
+}
+
+/// The seconds since the epoch.
+fn put_signed(time: i64, line: &mut [u8], at: usize) -> usize
+    requires { at + 31 ≤ length line.old }
+    ensures put { IsPut line.old line.new at result (signed_seconds time) }
+    ensures short { result ≤ at + 31 }
+{
+    if time < 0 {
+        let at = put_byte(b'-', line, at);
+        return put_seconds(time.unsigned_abs(), line, at);
+    }
+    put_seconds(time.unsigned_abs(), line, at)
+}
+
+/// The time since the one before.
+fn put_delta(last: Option<i64>, time: i64, line: &mut [u8], at: usize) -> usize
+    requires { at + 31 ≤ length line.old }
+    ensures put { IsPut line.old line.new at result (delta_text last time) }
+    ensures short { result ≤ at + 31 }
+{
+    let Some(before) = last else {
+        return put_bytes(b"+?.?????????", line, at);
+    };
+    let at = put_byte(b'+', line, at);
+    put_seconds(time.abs_diff(before), line, at)
+}

@@ -1,0 +1,5 @@
+//! Rows of stamps, beginnings of lines and instants.
+#![tactic(auto)]
+
+#[cfg(test)]
+mod rows;
