@@ -1,0 +1,137 @@
+-- A merge as contracts see it.
+use Rattle.std.specs.Prelude.{◌≡◌, ℕ, zero, suc, ◌+◌, ◌≤◌, ◌<◌, ◌⊎◌, Bool, cond, IsTrue, List, [], ◌∷◌, length, map, ℤ, Option, Some, None, slice_get}
+use Rattle.std.specs.List.{AllByRecursion, AllZip}
+use Rattle.ctf_class.specs.declared.trace.TraceClass.{TraceClass}
+use Rattle.ctf_packet.specs.Classes.{Classes}
+use Rattle.ctf_packet.specs.Items.{Item}
+use Rattle.ctf_packet.specs.declared.fault.StreamFault.TheVariants as faults
+use Rattle.ctf_stream.specs.Ahead.{time_of}
+use Rattle.ctf_stream.specs.Reader as reader
+use Rattle.ctf_stream.specs.Reader.{Reader, coming, IsFetched, IsOnLine, IsAllTaken, OrRefused}
+use Rattle.ctf_merge.specs.Times.{NotBefore}
+use Rattle.ctf_merge.specs.Merged.{Merged, Placed, First, item, broken, nothing, first_of, ends, then, merged}
+use Rattle.ctf_merge.specs.declared.fault.MergeFault.{MergeFault}
+use Rattle.ctf_merge.specs.declared.fault.MergeFault.TheVariants.{Stream, NoMemory}
+
+pub record Merge : Type 0 where
+  pub readers : List Reader
+  -- its fault was left behind
+  pub over : Bool
+
+-- what is to come: the merged list of what is to come of each reader; nothing behind the fault
+abbrev pub coming_of : Merge → Merged
+coming_of m = cond m.over (ends None) (merged (map coming m.readers))
+
+-- each source tells its bytes
+abbrev pub EachTells : List Reader → Type 0
+EachTells readers = AllByRecursion (λ r. IsTrue r.tells) readers
+
+-- each reader has taken no more than the item in front needs
+abbrev pub EachOnLine : List Reader → Type 0
+EachOnLine readers = AllByRecursion IsOnLine readers
+
+-- at the end of a stream all its bytes were taken
+abbrev pub EachAllTaken : List Reader → Type 0
+EachAllTaken readers = AllByRecursion (λ r. IsAllTaken r.ahead r.left) readers
+
+-- each reader has its first item in front, or its end or a fault
+abbrev pub EachFetched : List Reader → Type 0
+EachFetched readers = AllByRecursion (λ r. IsFetched r.ahead) readers
+
+-- how many items may still come, of any sources
+abbrev pub room_of : List Reader → ℕ
+room_of [] = 0
+room_of (r ∷ rs) = r.room + room_of rs
+
+-- the names of the streams
+abbrev pub names_of : List Reader → List (List ℕ)
+names_of readers = map (λ r. r.name) readers
+
+-- the classes of the traces that the streams are of
+abbrev pub traces_of : List Reader → List TraceClass
+traces_of readers = map (λ r. r.trace) readers
+
+-- the bytes of each stream that were taken or are left
+abbrev pub given_of : List Reader → List ℕ
+given_of readers = map (λ r. r.taken + length r.left) readers
+
+-- this fault is want of memory
+abbrev pub IsRefusal : MergeFault → Type 0
+IsRefusal (Stream number fault) = fault ≡ faults.NoMemory
+IsRefusal NoMemory = Unit {0}
+
+-- this list, or none of it where a growth was refused
+abbrev pub MergedOrRefused : Merged → Merged → Type 0
+MergedOrRefused m actual = (actual ≡ m) ⊎ ((actual.items ≡ []) × ((f : MergeFault) × (actual.fault ≡ Some f) × IsRefusal f))
+
+-- What stands in front is left behind: an item, or the fault, behind which nothing comes.
+pub record GoesOn (old new : Merged) : Type 0 where
+  pub behind_item : (x : Placed) (rest : Merged) → old ≡ then x rest → MergedOrRefused rest new
+  pub behind_fault : old.items ≡ [] → new ≡ ends None
+
+-- the number of the stream of the item in front
+abbrev pub number_in : First → Option ℕ
+number_in (item i x) = Some i
+number_in (broken i f) = None
+number_in nothing = None
+
+-- the fault in front
+abbrev pub fault_in : First → Option MergeFault
+fault_in (item i x) = None
+fault_in (broken i f) = Some (Stream i f)
+fault_in nothing = None
+
+abbrev pub first_now : Merge → First
+first_now m = cond m.over nothing (first_of (map (λ r. r.ahead) m.readers))
+
+-- what stands first was fetched, and what is to come is the same, unless a growth was refused
+pub record Fetched (old new : Reader) : Type 0 where
+  pub told : IsTrue old.tells → OrRefused (coming old) (coming new)
+  pub fetched : IsFetched new.ahead
+  pub tells : IsTrue old.tells → IsTrue new.tells
+  pub name : new.name ≡ old.name
+  pub trace : new.trace ≡ old.trace
+  pub counted : IsTrue old.tells → new.taken + length new.left ≡ old.taken + length old.left
+  pub on_line : IsOnLine old → IsOnLine new
+  pub all_taken : IsTrue old.tells → IsAllTaken old.ahead old.left → IsAllTaken new.ahead new.left
+  pub room : new.room ≤ old.room
+
+abbrev pub EachIsFetched : List Reader → List Reader → Type 0
+EachIsFetched old new = AllZip Fetched old new
+
+-- the first readers were fetched, and the others are the same
+abbrev pub FetchedUpTo : ℕ → List Reader → List Reader → Type 0
+FetchedUpTo zero old new = new ≡ old
+FetchedUpTo (suc i) [] [] = Unit {0}
+FetchedUpTo (suc i) [] (s ∷ ss) = ⊥
+FetchedUpTo (suc i) (r ∷ rs) [] = ⊥
+FetchedUpTo (suc i) (r ∷ rs) (s ∷ ss) = Fetched r s × FetchedUpTo i rs ss
+
+-- an item in front is not before this time
+abbrev pub AheadNotBefore : Option ℤ → reader.Ahead → Type 0
+AheadNotBefore low reader.start = Unit {0}
+AheadNotBefore low (reader.item x) = NotBefore low (time_of x)
+AheadNotBefore low reader.ended = Unit {0}
+AheadNotBefore low (reader.fault f) = Unit {0}
+
+-- no item in front of a reader is before this time
+abbrev pub EachNotBefore : Option ℤ → List Reader → Type 0
+EachNotBefore low readers = AllByRecursion (λ r. AheadNotBefore low r.ahead) readers
+
+-- The item that comes next is the one in front of the reader of this number: of any sources it is that of the least turn,
+-- and where they tell their bytes the first one to come.
+pub record IsNext (m : Merge) (number : ℕ) : Type 0 where
+  pub front : Reader
+  pub next : Item Classes
+  pub rest : Merged
+  pub at : slice_get m.readers number ≡ Some front
+  pub ahead : front.ahead ≡ reader.item next
+  pub first : first_now m ≡ item number next
+  pub least : EachNotBefore (time_of next) m.readers
+  pub coming : EachTells m.readers → coming_of m ≡ then (record { number = number; item = next }) rest
+
+-- an item that is left took room
+abbrev pub RoomLeft : First → ℕ → ℕ → Type 0
+RoomLeft (item i x) old new = new < old
+RoomLeft (broken i f) old new = new ≡ old
+RoomLeft nothing old new = new ≡ old

@@ -1,0 +1,32 @@
+-- How far a merge has come.
+use Rattle.std.specs.Prelude.{◌≡◌, ℕ, Bool, true, false, List, map, Option, Some, None}
+use Rattle.ctf_packet.specs.declared.fault.StreamFault.{StreamFault}
+use Rattle.std.specs.declared.cmp.Reverse.{Reverse}
+use Rattle.ctf_stream.specs.Reader as reader
+use Rattle.ctf_stream.specs.Reader.{Reader}
+use Rattle.ctf_merge.specs.Merged.{first_of, broken}
+use Rattle.ctf_merge.specs.Merges.{EachFetched}
+use Rattle.ctf_merge.specs.Turns.{LinedUp}
+use Rattle.ctf_merge.specs.declared.turn.Turn.{Turn}
+use Rattle.ctf_merge.specs.declared.merge.Stage.{Stage}
+use Rattle.ctf_merge.specs.declared.merge.Stage.TheVariants as stages
+
+abbrev pub is_over : Stage → Bool
+is_over stages.Going = false
+is_over (stages.Broken number fault) = false
+is_over stages.Over = true
+
+-- the stage where a stream has this fault in front, or none
+abbrev pub stage_of : ℕ → Option StreamFault → Stage
+stage_of number (Some fault) = stages.Broken number fault
+stage_of number None = stages.Going
+
+-- the turns stand in a heap; a fault is in front; or it was left behind
+abbrev pub Stands : Stage → List reader.Ahead → List (Reverse Turn) → Type 0
+Stands stages.Going heads heap = LinedUp heads heap
+Stands (stages.Broken number fault) heads heap = first_of heads ≡ broken number fault
+Stands stages.Over heads heap = Unit {0}
+
+pub record IsStanding (readers : List Reader) (heap : List (Reverse Turn)) (stage : Stage) : Type 0 where
+  pub fetched : EachFetched readers
+  pub stands : Stands stage (map (λ r. r.ahead) readers) heap

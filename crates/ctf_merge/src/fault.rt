@@ -1,0 +1,15 @@
+//! Why a merge goes no further.
+
+use ctf_packet::StreamFault;
+use thiserror::Error;
+
+/// Why a merge of streams goes no further.
+#[derive(Clone, Copy, Debug, PartialEq, Eq, Error)]
+pub enum MergeFault {
+    /// A stream goes no further. It is the one of this number, from 0.
+    #[error("{fault}")]
+    Stream { number: usize, fault: StreamFault },
+    /// A growth was refused.
+    #[error("no memory")]
+    NoMemory,
+}

@@ -1,0 +1,250 @@
+//! Several readers as one.
+
+ghost use Rattle.std.specs.Prelude.{◌≡◌, ◌<◌, [], map, IfOk, IsOk, OnOk, IfSome, IfNone, MatchOption, slice_get, false};
+ghost use Rattle.ctf_stream.specs.Reader.{coming};
+ghost use Rattle.ctf_merge.specs.Merged.{merged};
+ghost use Rattle.ctf_merge.specs.Merges.{coming_of, first_now, number_in, fault_in, names_of, traces_of, given_of, room_of, MergedOrRefused, EachFetched, EachTells, EachOnLine, EachAllTaken, Fetched, EachIsFetched, GoesOn, IsNext, RoomLeft};
+ghost use Rattle.std.specs.BinaryHeap.{heap_items, heap_len, heap_capacity, KeepsHeap};
+ghost use Rattle.ctf_merge.specs.Finding.{Finds};
+ghost use Rattle.ctf_merge.specs.Stages.{is_over, stage_of, Stands};
+ghost use Rattle.ctf_merge.specs.Turns.{last_cmp, turn_at, fault_at, Joins};
+
+use crate::fault::MergeFault;
+use crate::turn::Turn;
+use ctf_bits::Source;
+use ctf_list::NoMemory;
+use ctf_packet::StreamFault;
+use ctf_stream::{Ahead, StreamReader};
+use std::alloc::Global;
+use std::cmp::Reverse;
+use std::collections::BinaryHeap;
+use std::marker::Model;
+
+/// What comes first of several streams.
+#[derive(Clone, Copy, Debug, PartialEq, Eq)]
+enum First {
+    /// The item of the stream of this number.
+    Item(usize),
+    /// The fault of the stream of this number.
+    Fault(usize, StreamFault),
+    Nothing,
+}
+
+/// How far a merge has come.
+#[derive(Clone, Copy, Debug, PartialEq, Eq)]
+pub(crate) enum Stage {
+    /// The first item comes next, or the end.
+    Going,
+    /// The fault of the stream of this number comes next.
+    Broken(usize, StreamFault),
+    /// The fault was left behind.
+    Over,
+}
+
+impl Stage {
+    /// The stage where this stream has a fault in front, or none.
+    fn of(number: usize, fault: Option<StreamFault>) -> Stage
+        ensures { result ≡ stage_of number fault }
+    {
+        match fault {
+            Some(fault) => Stage::Broken(number, fault),
+            None => Stage::Going,
+        }
+    }
+}
+
+/// Several streams as one: their items by time, an item without a time first, and by the stream's number
+/// where two have one time. It ends at the first fault that has no item before it, of several at the least
+/// number.
+#[derive(Drop)]
+pub struct Merge<'a, S: Source + Drop> {
+    readers: Vec<StreamReader<'a, S>>,
+    /// The turns of the streams with an item in front, while no fault comes next. It has room for each
+    /// stream's.
+    turns: BinaryHeap<Reverse<Turn>>,
+    stage: Stage,
+}
+
+impl<'a, S: Source + Drop> Model for Merge<'a, S> {
+    ghost use Rattle.ctf_merge.specs.Merges.{Merge};
+    ghost use Rattle.ctf_merge.specs.Stages.{is_over, IsStanding};
+    ghost use Rattle.std.specs.BinaryHeap.{heap_items};
+
+    ghost Value = { Merge };
+
+    ghost use Rattle.ctf_class.specs.contracts.class.Kind as kinds;
+    ghost use Rattle.ctf_stream.specs.Codes.{coded_val};
+    ghost use Rattle.std.specs.Coded.{codes};
+
+    ghost coded = { Prim.hlevel (codes, kinds.the_row.coded, coded_val) };
+
+    ghost view = { λ m. record { readers = m.readers.items; over = is_over m.stage } };
+
+    ghost invariant = { λ m. IsStanding m.readers.items (heap_items m.turns) m.stage };
+}
+
+/// Fetches what stands first, where nothing was fetched.
+fn fetch<'a, S: Source + Drop>(reader: &mut StreamReader<'a, S>)
+    ensures { Fetched reader.old reader.new }
+{
+    match reader.ahead() {
+        Ahead::Start => reader.go_on(),
+        Ahead::Item(_) => {}
+        Ahead::Ended => {}
+        Ahead::Fault(_) => {}
+    }
+}
+
+/// Fetches what stands first of each reader.
+fn fetch_each<'a, S: Source + Drop>(readers: &mut [StreamReader<'a, S>])
+    ensures { EachIsFetched readers.old readers.new }
+{
+    for reader in readers.iter_mut() {
+        fetch(reader);
+    }
+}
+
+/// Lines up the turn of a stream by what stands in front of it. Gives the fault that stands there.
+#[tactic(auto, using(crate::proofs::Pushed::pushed))]
+fn line_up(
+    turns: &mut BinaryHeap<Reverse<Turn>>,
+    number: usize,
+    ahead: Ahead,
+) -> Result<Option<StreamFault>, NoMemory>
+    ensures fault { IfOk result (λ f. f ≡ fault_at ahead) }
+    ensures joins { OnOk result (Joins (turn_at number ahead) (heap_items turns.old) (heap_items turns.new)) }
+    ensures heap_order { OnOk result (KeepsHeap last_cmp (heap_items turns.old) (heap_items turns.new)) }
+    ensures room { heap_len turns.old < heap_capacity turns.old → IsOk result }
+{
+    match ahead {
+        Ahead::Item(time) => {
+            turns.push(Reverse(Turn { time, number }))?;
+            Ok(None)
+        }
+        Ahead::Fault(fault) => Ok(Some(fault)),
+        Ahead::Start => Ok(None),
+        Ahead::Ended => Ok(None),
+    }
+}
+
+/// Lines up the turns of all streams, up to the first one with a fault in front.
+fn line_up_each<'a, S: Source + Drop>(
+    alloc: Global,
+    readers: &[StreamReader<'a, S>],
+) -> Result<(BinaryHeap<Reverse<Turn>>, Stage), NoMemory>
+    ensures stands { IfOk result (λ r. Stands r.1 (map (λ s. s.ahead) readers.now) (heap_items r.0)) }
+    ensures open { IfOk result (λ r. is_over r.1 ≡ false) }
+{
+    let mut turns = BinaryHeap::with_capacity(alloc, readers.len())?;
+    for (number, reader) in readers.iter().enumerate() {
+        if let Some(fault) = line_up(&mut turns, number, reader.ahead())? {
+            return Ok((turns, Stage::Broken(number, fault)));
+        }
+    }
+    Ok((turns, Stage::Going))
+}
+
+impl<'a, S: Source + Drop> Merge<'a, S> {
+    /// Fetches the first item of each stream, also where one has a fault. What is to come is the merged list
+    /// of what was to come of the readers.
+    pub fn new(alloc: Global, readers: Vec<StreamReader<'a, S>>) -> Result<Merge<'a, S>, NoMemory>
+        ensures told { IfOk result (λ m. EachTells readers.entry.items → MergedOrRefused (merged (map coming readers.entry.items)) (coming_of m)) }
+        ensures open { IfOk result (λ m. m.over ≡ false) }
+        ensures names { IfOk result (λ m. names_of m.readers ≡ names_of readers.entry.items) }
+        ensures traces { IfOk result (λ m. traces_of m.readers ≡ traces_of readers.entry.items) }
+
+        // The bytes taken are those that the sources gave, and no more than the items in front need.
+        ensures tells { IfOk result (λ m. EachTells readers.entry.items → EachTells m.readers) }
+        ensures counted { IfOk result (λ m. EachTells readers.entry.items → given_of m.readers ≡ given_of readers.entry.items) }
+        ensures on_line { IfOk result (λ m. EachOnLine readers.entry.items → EachOnLine m.readers) }
+        ensures all_taken { IfOk result (λ m. EachTells readers.entry.items → EachAllTaken readers.entry.items → EachAllTaken m.readers) }
+    {
+        let mut readers = readers;
+        fetch_each(&mut readers);
+        let (turns, stage) = line_up_each(alloc, &readers)?;
+        Ok(Merge {
+            readers,
+            turns,
+            stage,
+        })
+    }
+
+    /// What comes next: a fault without items before it, else the item of the least turn.
+    fn first(&self) -> First
+        ensures finds { Finds (first_now self.now) result }
+        ensures fetched { EachFetched self.now.readers }
+    {
+        match self.stage {
+            Stage::Going => match self.turns.peek() {
+                Some(turn) => First::Item(turn.0.number),
+                None => First::Nothing,
+            },
+            Stage::Broken(number, fault) => First::Fault(number, fault),
+            Stage::Over => First::Nothing,
+        }
+    }
+
+    /// The number of the stream whose item comes next; `None` where a fault comes next, and at the end.
+    pub fn next_stream(&self) -> Option<usize>
+        ensures is { result ≡ number_in (first_now self.now) }
+        ensures item { IfSome result (IsNext self.now) }
+        ensures none { EachTells self.now.readers → IfNone result ((coming_of self.now).items ≡ []) }
+    {
+        match self.first() {
+            First::Item(number) => Some(number),
+            First::Fault(_number, _fault) => None,
+            First::Nothing => None,
+        }
+    }
+
+    /// The fault that comes next.
+    pub fn fault(&self) -> Option<MergeFault>
+        ensures is { result ≡ fault_in (first_now self.now) }
+        ensures shows { EachTells self.now.readers → (coming_of self.now).items ≡ [] → result ≡ (coming_of self.now).fault }
+    {
+        match self.first() {
+            First::Fault(number, fault) => Some(MergeFault::Stream { number, fault }),
+            First::Item(_number) => None,
+            First::Nothing => None,
+        }
+    }
+
+    /// Leaves the item in front behind, and fetches the next one of its stream; or leaves the fault in front
+    /// behind, and then nothing comes. The end stays.
+    pub fn go_on(&mut self)
+        ensures goes_on { EachTells self.old.readers → GoesOn (coming_of self.old) (coming_of self.new) }
+        ensures names { names_of self.new.readers ≡ names_of self.old.readers }
+        ensures traces { traces_of self.new.readers ≡ traces_of self.old.readers }
+
+        // Of any sources: an item that is left took room.
+        ensures room { RoomLeft (first_now self.old) (room_of self.old.readers) (room_of self.new.readers) }
+
+        // The bytes taken are those that the sources gave, and no more than the items in front need.
+        ensures tells { EachTells self.old.readers → EachTells self.new.readers }
+        ensures counted { EachTells self.old.readers → given_of self.new.readers ≡ given_of self.old.readers }
+        ensures on_line { EachOnLine self.old.readers → EachOnLine self.new.readers }
+        ensures all_taken { EachTells self.old.readers → EachAllTaken self.old.readers → EachAllTaken self.new.readers }
+    {
+        match self.stage {
+            Stage::Going => {
+                if let Some(Reverse(turn)) = self.turns.pop() {
+                    let reader = &mut self.readers[turn.number];
+                    reader.go_on();
+                    let ahead = reader.ahead();
+                    // The turn that was taken left room: nothing grows here.
+                    let fault = line_up(&mut self.turns, turn.number, ahead).unwrap();
+                    self.stage = Stage::of(turn.number, fault);
+                }
+            }
+            Stage::Broken(_number, _fault) => self.stage = Stage::Over,
+            Stage::Over => {}
+        }
+    }
+
+    /// The reader of one stream.
+    pub fn reader(&self, number: usize) -> Option<&StreamReader<'a, S>>
+        ensures { MatchOption result (slice_get self.now.readers number ≡ None) (λ r. slice_get self.now.readers number ≡ Some r.now) }
+    {
+        self.readers.get(number)
+    }
+}
