@@ -1,0 +1,174 @@
+//! Lines of items.
+
+ghost use Rattle.std.specs.Prelude.{◌≡◌, ◌+◌, ◌++◌, ◌≤◌, ℕ, List, [], take, vec_len, IfOk, OnOk};
+ghost use Rattle.ctf_class.specs.declared.trace.TraceClass.{TraceClass};
+ghost use Rattle.ctf_log.specs.Lines as lines;
+ghost use Rattle.ctf_stream.specs.Shown.{event_of, gap_of, item_of, IsOf};
+
+use crate::gap::append_gap;
+use ctf_class::Scope;
+use ctf_decode::Value;
+use ctf_list::NoMemory;
+use ctf_stamp::{MOST_PART, Stamper, Style};
+use ctf_stream::{Event, Gap, Item};
+use ctf_text::{put_packet_part, put_record, with_room};
+use std::alloc::Global;
+use std::marker::Model;
+
+/// Makes the lines of items, one after the other, in memory that it keeps. Contracts see its style and the
+/// text of the last line.
+#[derive(Drop)]
+pub struct Printer {
+    alloc: Global,
+    stamper: Stamper,
+    packet: Vec<u8>,
+    line: Vec<u8>,
+    end: usize,
+}
+
+impl Model for Printer {
+    ghost use Rattle.std.specs.Prelude.{◌≤◌, length, take};
+    ghost use Rattle.ctf_log.specs.Lines.{Printed};
+
+    ghost Value = { Printed };
+
+    ghost view = { λ printer. record { style = printer.stamper; text = take printer.end printer.line.items } };
+
+    ghost invariant = { λ printer. printer.end ≤ length printer.line.items };
+}
+
+impl Printer {
+    /// One that prints in this style, and has printed nothing. No memory is taken.
+    pub fn new(alloc: Global, style: Style) -> Printer
+        ensures style { result.style ≡ style }
+        ensures text { result.text ≡ [] }
+    {
+        let stamper = Stamper::new(style);
+        Printer {
+            alloc,
+            stamper,
+            packet: Vec::new(alloc),
+            line: Vec::new(alloc),
+            end: 0,
+        }
+    }
+
+    /// Makes the line of an item, with its newline. `last` is the time of the event record with a time that
+    /// was printed before, in nanoseconds since the epoch. At an error there is no text.
+    pub fn print(&mut self, item: &Item<'_>, last: Option<i64>) -> Result<(), NoMemory>
+        ensures line { (trace : TraceClass) (name : List ℕ) (end length : ℕ) → IsOf trace name item.now → OnOk result (self.new.text ≡ lines.line_of self.old.style last name (item_of item.now end length)) }
+        ensures style { self.new.style ≡ self.old.style }
+    {
+        self.end = 0;
+        match item {
+            Item::Event(event) => self.print_event(event, last),
+            Item::Discarded(gap) => self.print_gap(b"discarded ", b" events", gap),
+            Item::Lost(gap) => self.print_gap(b"lost ", b" packets", gap),
+        }
+    }
+
+    /// The text of the last line.
+    pub fn text(&self) -> &[u8]
+        ensures { result.now ≡ self.now.text }
+    {
+        &self.line[..self.end]
+    }
+
+    /// Makes the line of an event record.
+    fn print_event(&mut self, event: &Event<'_>, last: Option<i64>) -> Result<(), NoMemory>
+        ensures line { OnOk result (self.new.text ≡ lines.event_line self.old.style last (event_of event.now 0 0)) }
+        ensures style { self.new.style ≡ self.old.style }
+    {
+        let stamper = &mut self.stamper;
+        self.end = 0;
+        self.end = put_event(stamper, &mut self.packet, event, last, &mut self.line)?;
+        Ok(())
+    }
+
+    /// Makes the message about a gap.
+    fn print_gap(&mut self, verb: &[u8], noun: &[u8], gap: &Gap<'_>) -> Result<(), NoMemory>
+        ensures line { OnOk result (self.new.text ≡ lines.gap_line verb.now noun.now self.old.style gap.now.name.now (gap_of gap.now 0 0)) }
+        ensures style { self.new.style ≡ self.old.style }
+    {
+        self.end = 0;
+        self.line.clear();
+        append_gap(
+            self.alloc,
+            &mut self.line,
+            &mut self.stamper,
+            verb,
+            noun,
+            gap,
+        )?;
+        self.end = self.line.len();
+        Ok(())
+    }
+}
+
+/// Writes the line of an event record at the front of a buffer, and gives its length. The text of the packet's
+/// part is made in `packet`.
+fn put_event(
+    stamper: &mut Stamper,
+    packet: &mut Vec<u8>,
+    event: &Event<'_>,
+    last: Option<i64>,
+    line: &mut Vec<u8>,
+) -> Result<usize, NoMemory>
+    ensures line { IfOk result (λ end. take end line.new.items ≡ lines.event_line stamper.old last (event_of event.now 0 0)) }
+    ensures held { IfOk result (λ end. end ≤ vec_len line.new) }
+    ensures style { stamper.new ≡ stamper.old }
+{
+    with_room(MOST_PART, line, 0)?;
+    let end = stamper.put_part(event.moment, last, line.as_mut_slice(), 0);
+    let context = event.value(Scope::PacketContext);
+    let shared = put_packet_part(event.stream.packet_context(), context, packet, 0)?;
+    let end = put_body(event, &packet[..shared], line, end)?;
+    with_room(1, line, end)?;
+    line[end] = b'\n';
+    Ok(end + 1)
+}
+
+/// Writes the host, the name and the scopes of an event record.
+fn put_body(
+    event: &Event<'_>,
+    packet: &[u8],
+    line: &mut Vec<u8>,
+    at: usize,
+) -> Result<usize, NoMemory>
+    requires { at ≤ vec_len line.old }
+    ensures text { IfOk result (λ end. take end line.new.items ≡ take at line.old.items ++ lines.body_text packet.now (event_of event.now 0 0)) }
+    ensures held { IfOk result (λ end. end ≤ vec_len line.new) }
+{
+    let shared = event.value(Scope::StreamEventContext);
+    let own = event.value(Scope::EventContext);
+    let nothing = Value::Unsigned(0);
+    let fields = match event.value(Scope::EventFields) {
+        Some(fields) => fields,
+        None => &nothing,
+    };
+    put_record(
+        packet,
+        event.stream,
+        event.class,
+        shared,
+        own,
+        fields,
+        line,
+        at,
+    )
+}
+
+/// The line of an item, with its newline, in memory of its own.
+pub fn line(
+    alloc: Global,
+    item: &Item<'_>,
+    style: Style,
+    last: Option<i64>,
+) -> Result<Vec<u8>, NoMemory>
+    ensures { (trace : TraceClass) (name : List ℕ) (end length : ℕ) → IsOf trace name item.now → IfOk result (λ text. text.items ≡ lines.line_of style last name (item_of item.now end length)) }
+{
+    let mut printer = Printer::new(alloc, style);
+    printer.print(item, last)?;
+    let text = Vec::from_slice(alloc, printer.text())?;
+    Ok(text)
+}
