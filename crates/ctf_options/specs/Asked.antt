@@ -10,7 +10,7 @@ use Rattle.ctf_stamp.specs.declared.style.ClockStyle.{ClockStyle}
 use Rattle.ctf_stamp.specs.declared.style.ClockStyle.TheVariants.{Time, Date, Seconds, Cycles}
 use Rattle.ctf_options.specs.Numbers.{halves, integer_in}
 use Rattle.ctf_options.specs.Times.{Names, NamesNone}
-use Rattle.ctf_options.specs.declared.options.Trim.{Trim}
+use Rattle.ctf_stamp.specs.declared.trim.Trim.{Trim}
 
 -- the text of a value, where it is given
 abbrev pub given : Option (Bor (List ℕ)) → Option (List ℕ)

@@ -4,11 +4,10 @@ ghost use Rattle.std.specs.Prelude.{◌≡◌, ◌⊎◌, MatchOption, MatchResu
 ghost use Rattle.ctf_options.specs.Asked as asked;
 
 use crate::number::{halves, integer};
-use crate::options::Trim;
 use crate::time::instant;
 use crate::usage::Usage;
 use ctf_clock::Shift;
-use ctf_stamp::{ClockStyle, Zone, ZoneFault};
+use ctf_stamp::{ClockStyle, Trim, Zone, ZoneFault};
 use std::alloc::Global;
 
 /// UTC, or the zone of a POSIX rule.

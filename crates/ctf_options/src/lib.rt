@@ -13,5 +13,5 @@ mod usage;
 
 pub use arguments::options_of;
 pub use names::stream_names;
-pub use options::{Options, Trim};
+pub use options::Options;
 pub use usage::Usage;

@@ -2,23 +2,14 @@
 
 use ctf_clock::Shift;
 use ctf_list::{List, Text};
-use ctf_stamp::Style;
-
-/// Which times are printed: those from `begin` to `end`, both of them kept.
-#[derive(Clone, Copy, Debug, PartialEq, Eq)]
-pub struct Trim {
-    /// In nanoseconds since the epoch.
-    pub begin: Option<i64>,
-    /// In nanoseconds since the epoch; not before `begin`.
-    pub end: Option<i64>,
-}
+use ctf_stamp::{Style, Trim};
 
 /// What the words of a command line ask for.
 #[derive(Debug, Drop)]
 pub struct Options {
     /// The folders that hold the traces, 1 to 1,024 of them.
     pub dirs: List<Text>,
-    /// Which times are printed.
+    /// Which times are printed: the beginning is not after the end.
     pub trim: Trim,
     /// How times are printed.
     pub style: Style,

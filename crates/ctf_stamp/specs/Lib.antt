@@ -4,3 +4,4 @@ pub mod Civil
 pub mod Zones
 pub mod Stamps
 pub mod Laws
+pub mod Trims

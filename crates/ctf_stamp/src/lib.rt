@@ -1,5 +1,5 @@
-//! The times of a log's lines: stamps of moments in four styles, the time since the line before, and
-//! time zones.
+//! The times of a log: which of them are wanted, stamps of moments in four styles, the time since the line
+//! before, and time zones.
 #![tactic(auto)]
 
 mod civil;
@@ -8,10 +8,12 @@ mod laws;
 mod stamper;
 mod style;
 mod text;
+mod trim;
 mod zone;
 
 pub use laws::{civil_times_are_shown, folds_give_the_earlier};
 pub use stamper::{MOST_PART, MOST_STAMP, Stamper};
 pub use style::{ClockStyle, Style};
 pub use text::{append_part, append_stamp};
+pub use trim::{Trim, Verdict};
 pub use zone::{Zone, ZoneFault};
