@@ -10,7 +10,7 @@ ghost use Rattle.std.specs.Prelude.{◌*◌, ◌^◌, ◌≤◌, length};
 use anyhow::{Result, bail};
 use classes::Classes;
 use ctf_bits::{Order, uint};
-use ctf_decode::{Scopes, Value, decode_header_into, decode_into};
+use ctf_decode::{Scopes, Value, decode_into, last_id, moving_into};
 use std::alloc::Global;
 use std::time::Instant;
 use std::{env, fs};
@@ -82,7 +82,7 @@ fn decode_event(
     requires held { content ≤ 8 * length packet.now }
 {
     event.scopes.set_spent(0);
-    let header = decode_header_into(
+    let header = decode_into(
         alloc,
         &classes.header,
         packet,
@@ -90,8 +90,8 @@ fn decode_event(
         content,
         &event.scopes,
         &mut event.header,
-        &mut event.stamps,
     )?;
+    moving_into(&classes.header, &event.header, &mut event.stamps)?;
     event.scopes.set_spent(header.spent);
     let context = decode_into(
         alloc,
@@ -112,7 +112,8 @@ fn decode_event(
         &event.scopes,
         &mut event.fields,
     )?;
-    let id = u64::try_from(header.id.unwrap_or(0)).unwrap_or(0);
+    let id = last_id(&classes.header, &event.header).unwrap_or(0);
+    let id = u64::try_from(id).unwrap_or(0);
     let mut sum = total.sum.wrapping_add(id);
     for (_, number) in &event.stamps {
         sum = sum.wrapping_add(*number);

@@ -43,3 +43,8 @@ without_value known EventFields = record known { event_fields = None }
 
 abbrev pub with_spent : Known → ℕ → Known
 with_spent known spent = record known { spent = spent }
+
+-- the values of the packet alone, and none begun
+abbrev pub without_record : Known → Known
+without_record known =
+    record known { event_header = None; stream_event_context = None; event_context = None; event_fields = None; spent = 0 }

@@ -90,8 +90,9 @@ fn last_in_chosen(options: &[Member], i: usize, inner: &Value, last: &mut Option
     }
 }
 
-/// Keeps the number of a member that is named `id`.
-fn named_id(member: &Member, value: &Value, last: &mut Option<i128>)
+/// Keeps the number of a member that is an integer or an enumeration named `id`; of another member, the
+/// last one stays.
+pub fn named_id(member: &Member, value: &Value, last: &mut Option<i128>)
     ensures { last.new ≡ last_or last.old (fields.named_id member.now.name (form member.now.class) (val value.now)) }
 {
     if member.name.as_slice() == b"id".as_slice() {

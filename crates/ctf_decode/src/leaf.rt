@@ -2,6 +2,7 @@
 
 ghost use Rattle.std.specs.Prelude.{◌≡◌, ◌+◌, ◌≤◌, IfOk};
 ghost use Rattle.std.specs.Int.{next_multiple_of};
+ghost use Rattle.ctf_decode.specs.Values.{unsigned, signed, label};
 ghost use Rattle.ctf_decode.specs.Input.{integer_at, label_at, bits_of};
 ghost use Rattle.ctf_decode.specs.Views.{val, input};
 ghost use Rattle.ctf_decode.specs.Walk.{begin, leaf};
@@ -39,12 +40,12 @@ pub fn integer_into(
     if integer.is_signed {
         match sint(packet.bytes, begin, size, integer.order) {
             None => return Err(at.stop(DecodeFault::ContentEnds(u128::from(end)))),
-            Some(number) => *value = Value::Signed(number),
+            Some(number) => put_signed(value, number),
         }
     } else {
         match uint(packet.bytes, begin, size, integer.order) {
             None => return Err(at.stop(DecodeFault::ContentEnds(u128::from(end)))),
-            Some(number) => *value = Value::Unsigned(number),
+            Some(number) => put_unsigned(value, number),
         }
     }
     at.end = end;
@@ -77,15 +78,72 @@ pub fn enumeration_into(
     if container.is_signed {
         match sint(packet.bytes, begin, size, container.order) {
             None => return Err(at.stop(DecodeFault::ContentEnds(u128::from(end)))),
-            Some(number) => *value = Value::Label(i128::from(number)),
+            Some(number) => put_label(value, i128::from(number)),
         }
     } else {
         match uint(packet.bytes, begin, size, container.order) {
             None => return Err(at.stop(DecodeFault::ContentEnds(u128::from(end)))),
-            Some(number) => *value = Value::Label(i128::from(number)),
+            Some(number) => put_label(value, i128::from(number)),
         }
     }
     at.end = end;
     at.spent += 1;
     Ok(())
+}
+
+/// Makes an unsigned number the value. A value of this kind is changed in place.
+fn put_unsigned(value: &mut Value, number: u64)
+    ensures { val value.new ≡ unsigned number }
+{
+    if let Value::Unsigned(old) = value {
+        *old = number;
+        return;
+    }
+    new_unsigned(value, number);
+}
+
+#[cold]
+#[inline(never)]
+fn new_unsigned(value: &mut Value, number: u64)
+    ensures { val value.new ≡ unsigned number }
+{
+    *value = Value::Unsigned(number);
+}
+
+/// Makes a signed number the value. A value of this kind is changed in place.
+fn put_signed(value: &mut Value, number: i64)
+    ensures { val value.new ≡ signed number }
+{
+    if let Value::Signed(old) = value {
+        *old = number;
+        return;
+    }
+    new_signed(value, number);
+}
+
+#[cold]
+#[inline(never)]
+fn new_signed(value: &mut Value, number: i64)
+    ensures { val value.new ≡ signed number }
+{
+    *value = Value::Signed(number);
+}
+
+/// Makes an enumeration's number the value. A value of this kind is changed in place.
+fn put_label(value: &mut Value, number: i128)
+    ensures { val value.new ≡ label number }
+{
+    if let Value::Label(old) = value {
+        *old = number;
+        return;
+    }
+    new_label(value, number);
+}
+
+#[cold]
+#[inline(never)]
+fn new_label(value: &mut Value, number: i128)
+    ensures { val value.new ≡ label number }
+{
+    *value = Value::Label(number);
 }

@@ -2,8 +2,9 @@
 
 ghost use Rattle.std.specs.Prelude.{◌≡◌, ◌≤◌};
 ghost use Rattle.std.specs.Option.{option_copied};
-ghost use Rattle.ctf_decode.specs.Known.{nothing_known, value_at, with_value, without_value, with_spent};
+ghost use Rattle.ctf_decode.specs.Known.{nothing_known, value_at, with_value, without_value, without_record, with_spent};
 
+use crate::slot::Slot;
 use crate::value::Value;
 use ctf_class::Scope;
 use std::marker::Model;
@@ -14,12 +15,12 @@ pub const MOST_VALUES: u64 = 16_777_216;
 /// The values decoded so far, by scope, and how many values were begun for them. Contracts see both.
 #[derive(Debug, Drop)]
 pub struct Scopes {
-    packet_header: Option<Value>,
-    packet_context: Option<Value>,
-    event_header: Option<Value>,
-    stream_event_context: Option<Value>,
-    event_context: Option<Value>,
-    event_fields: Option<Value>,
+    packet_header: Slot,
+    packet_context: Slot,
+    event_header: Slot,
+    stream_event_context: Slot,
+    event_context: Slot,
+    event_fields: Slot,
     spent: u64,
 }
 
@@ -55,12 +56,12 @@ impl Scopes {
         ensures { result ≡ nothing_known }
     {
         Scopes {
-            packet_header: None,
-            packet_context: None,
-            event_header: None,
-            stream_event_context: None,
-            event_context: None,
-            event_fields: None,
+            packet_header: Slot::empty(),
+            packet_context: Slot::empty(),
+            event_header: Slot::empty(),
+            stream_event_context: Slot::empty(),
+            event_context: Slot::empty(),
+            event_fields: Slot::empty(),
             spent: 0,
         }
     }
@@ -69,13 +70,22 @@ impl Scopes {
     pub fn put(&mut self, scope: Scope, value: Value)
         ensures { self.new ≡ with_value self.old scope value }
     {
+        let mut value = value;
+        self.exchange(scope, &mut value);
+    }
+
+    /// The value of a scope, in place of the one that was there. Any value may be in `value` then: its
+    /// memory can be used again.
+    pub fn exchange(&mut self, scope: Scope, value: &mut Value)
+        ensures { self.new ≡ with_value self.old scope value.old }
+    {
         match scope {
-            Scope::PacketHeader => self.packet_header = Some(value),
-            Scope::PacketContext => self.packet_context = Some(value),
-            Scope::EventHeader => self.event_header = Some(value),
-            Scope::StreamEventContext => self.stream_event_context = Some(value),
-            Scope::EventContext => self.event_context = Some(value),
-            Scope::EventFields => self.event_fields = Some(value),
+            Scope::PacketHeader => self.packet_header.exchange(value),
+            Scope::PacketContext => self.packet_context.exchange(value),
+            Scope::EventHeader => self.event_header.exchange(value),
+            Scope::StreamEventContext => self.stream_event_context.exchange(value),
+            Scope::EventContext => self.event_context.exchange(value),
+            Scope::EventFields => self.event_fields.exchange(value),
         }
     }
 
@@ -84,16 +94,16 @@ impl Scopes {
         ensures { option_copied result ≡ value_at self.now scope }
     {
         match scope {
-            Scope::PacketHeader => self.packet_header.as_ref(),
-            Scope::PacketContext => self.packet_context.as_ref(),
-            Scope::EventHeader => self.event_header.as_ref(),
-            Scope::StreamEventContext => self.stream_event_context.as_ref(),
-            Scope::EventContext => self.event_context.as_ref(),
-            Scope::EventFields => self.event_fields.as_ref(),
+            Scope::PacketHeader => self.packet_header.get(),
+            Scope::PacketContext => self.packet_context.get(),
+            Scope::EventHeader => self.event_header.get(),
+            Scope::StreamEventContext => self.stream_event_context.get(),
+            Scope::EventContext => self.event_context.get(),
+            Scope::EventFields => self.event_fields.get(),
         }
     }
 
-    /// The value of a scope, which is then not there: it can be renewed in place and put back.
+    /// The value of a scope, which is then not there.
     pub fn take(&mut self, scope: Scope) -> Option<Value>
         ensures value { result ≡ value_at self.old scope }
         ensures rest { self.new ≡ without_value self.old scope }
@@ -106,6 +116,31 @@ impl Scopes {
             Scope::EventContext => self.event_context.take(),
             Scope::EventFields => self.event_fields.take(),
         }
+    }
+
+    /// Leaves no value in a scope. Any value may be in `spare` then: its memory can be used again.
+    pub fn leave(&mut self, scope: Scope, spare: &mut Value)
+        ensures { self.new ≡ without_value self.old scope }
+    {
+        match scope {
+            Scope::PacketHeader => self.packet_header.leave(spare),
+            Scope::PacketContext => self.packet_context.leave(spare),
+            Scope::EventHeader => self.event_header.leave(spare),
+            Scope::StreamEventContext => self.stream_event_context.leave(spare),
+            Scope::EventContext => self.event_context.leave(spare),
+            Scope::EventFields => self.event_fields.leave(spare),
+        }
+    }
+
+    /// Leaves the values of the packet alone. The memory of those of an event record is kept.
+    pub fn leave_record(&mut self)
+        ensures { self.new ≡ without_record self.old }
+    {
+        self.event_header.hide();
+        self.stream_event_context.hide();
+        self.event_context.hide();
+        self.event_fields.hide();
+        self.spent = 0;
     }
 
     /// How many values were begun before, at most `MOST_VALUES`.

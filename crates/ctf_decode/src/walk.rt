@@ -128,8 +128,20 @@ fn new_group_into(
     Ok(())
 }
 
-/// Keeps so many values, or puts as many there.
+/// Keeps so many values, or puts as many there. Mostly there are as many.
 fn with_room(values: &mut List<Value>, count: usize) -> Result<(), AllocError>
+    ensures { IfOk result (λ _. length values.new ≡ count) }
+{
+    if values.len() == count {
+        return Ok(());
+    }
+    resize(values, count)
+}
+
+/// Keeps so many values, or puts as many there.
+#[cold]
+#[inline(never)]
+fn resize(values: &mut List<Value>, count: usize) -> Result<(), AllocError>
     ensures { IfOk result (λ _. length values.new ≡ count) }
 {
     values.truncate(count);

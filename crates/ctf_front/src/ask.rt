@@ -105,8 +105,10 @@ fn ask(
         }
         Some(class) => {
             let content = front_content(have);
-            let spare = Value::Unsigned(0);
-            match scope_into(alloc, class, have, place, content, scope, spare, scopes) {
+            let mut spare = Value::Unsigned(0);
+            match scope_into(
+                alloc, class, have, place, content, scope, &mut spare, scopes,
+            ) {
                 Ok(end) => Ok(end),
                 Err(fault) => Err(stop_at(fault)),
             }

@@ -32,15 +32,6 @@ pub record Fitting (end n : ℕ) (s : Sizes) : Type 0 where
   pub inside : s.content ≤ s.packet
   pub there : s.packet ≤ 8 * n
 
--- a packet that begins at a byte of its stream, and whose bytes are among n there
-pub record Held (start n : ℕ) (packet : OpenPacket) : Type 0 where
-  pub starts : packet.start ≡ start
-  pub some : start < packet.end
-  pub there : packet.end ≤ start + n
-  pub begun : packet.first ≤ packet.content
-  pub inside : packet.content ≤ 8 * (packet.end - start)
-  pub bounded : packet.content ≤ longest
-
 -- a packet of these sizes at a place
 pub record Placed (start first : ℕ) (sizes : Sizes) (packet : OpenPacket) : Type 0 where
   pub starts : packet.start ≡ start

@@ -7,4 +7,5 @@ pub mod Records
 pub mod Items
 pub mod Gives
 pub mod Views
+pub mod Telling
 pub mod Laws

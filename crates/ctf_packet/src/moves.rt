@@ -1,6 +1,7 @@
-//! The clock behind a scope.
+//! The clock behind a scope, and the number that it names.
 
-ghost use Rattle.std.specs.Prelude.{◌≡◌, ℕ, map};
+ghost use Rattle.std.specs.Prelude.{◌≡◌, ℕ, map, IsTrue};
+ghost use Rattle.std.specs.List.{last_or};
 ghost use Rattle.std.specs.Int.{w64, cast_unsigned};
 ghost use Rattle.ctf_clock.specs.Clock.{advanced_by};
 ghost use Rattle.ctf_decode.specs.Values.{vals_of};
@@ -9,111 +10,133 @@ ghost use Rattle.ctf_decode.specs.Forms.{parts_of};
 ghost use Rattle.ctf_decode.specs.Fields as fields;
 ghost use Rattle.ctf_decode.specs.Views.{form, member_part, val};
 ghost use Rattle.ctf_packet.specs.Moved as moved;
+ghost use Rattle.ctf_packet.specs.Telling.{behind};
 
 use ctf_class::{Class, Integer, Kind, Member};
 use ctf_clock::{Moment, Timeline};
-use ctf_decode::{Value, choice_in, elements_in, members_in};
+use ctf_decode::{Value, choice_in, elements_in, members_in, named_id};
+
+/// What was read of a value: the last number named `id`, and the clock.
+#[derive(Clone, Copy, Debug)]
+pub(crate) struct Told {
+    pub(crate) id: Option<i128>,
+    pub(crate) clock: Moment,
+}
 
 /// The moment that is reached where the moving integers of a value set the clock, in the order in which
 /// they were decoded. `None` exactly where one of them is refused.
-#[cycle(moves)]
 pub fn moved(line: &Timeline, class: &Class, value: &Value, clock: Moment) -> Option<Moment>
     ensures { result ≡ advanced_by line.now clock (moved.moved (form class.now) (val value.now)) }
 {
+    let mut told = Told { id: None, clock };
+    if tell(line, class, value, &mut told) {
+        Some(told.clock)
+    } else {
+        None
+    }
+}
+
+/// Sets the clock by the moving integers of a value, in the order in which they were decoded, and keeps the
+/// last number of a structure member named `id`, if there is one. Whether no moving integer was refused.
+#[cycle(told)]
+pub(crate) fn tell(line: &Timeline, class: &Class, value: &Value, told: &mut Told) -> bool
+    ensures clock { behind result told.new ≡ advanced_by line.now told.old.clock (moved.moved (form class.now) (val value.now)) }
+    ensures id { IsTrue result → told.new.id ≡ last_or told.old.id (fields.ids (form class.now) (val value.now)) }
+{
     match &class.kind {
-        Kind::Integer(integer) => moved_by_integer(line, integer, value, clock),
-        Kind::Structure { members } => moved_by_members(
-            line,
-            members.as_slice(),
-            members_in(value),
-            clock,
-        ),
+        Kind::Integer(integer) => set_by(line, integer, value, told),
+        Kind::Structure { members } => {
+            tell_members(line, members.as_slice(), members_in(value), told)
+        }
         Kind::Variant {
             tag,
             choices,
             options,
-        } => moved_by_option(line, options.as_slice(), value, clock),
-        Kind::Array { length, element } => moved_by_elements(
-            line,
-            element.get(),
-            elements_in(value),
-            clock,
-        ),
-        Kind::Enumeration { container, labels } => Some(clock),
-        Kind::String => Some(clock),
-        Kind::Text { length } => Some(clock),
+        } => tell_option(line, options.as_slice(), value, told),
+        Kind::Array { length, element } => {
+            tell_elements(line, element.get(), elements_in(value), told)
+        }
+        Kind::Enumeration { container, labels } => true,
+        Kind::String => true,
+        Kind::Text { length } => true,
     }
 }
 
-/// The moment behind members.
-#[cycle(moves)]
-fn moved_by_members(
-    line: &Timeline,
-    members: &[Member],
-    values: &[Value],
-    clock: Moment,
-) -> Option<Moment>
-    ensures { result ≡ advanced_by line.now clock (moved.member_moved (parts_of (map member_part members.now)) (vals_of (map val values.now))) }
+/// The same of members.
+#[cycle(told)]
+fn tell_members(line: &Timeline, members: &[Member], values: &[Value], told: &mut Told) -> bool
+    ensures clock { behind result told.new ≡ advanced_by line.now told.old.clock (moved.member_moved (parts_of (map member_part members.now)) (vals_of (map val values.now))) }
+    ensures id { IsTrue result → told.new.id ≡ last_or told.old.id (fields.member_ids (parts_of (map member_part members.now)) (vals_of (map val values.now))) }
 {
-    let mut reached = clock;
     for (i, member) in members.iter().enumerate() {
         if i >= values.len() {
-            return Some(reached);
+            return true;
         }
         let value = &values[i];
-        reached = moved(line, &member.class, value, reached)?;
+        named_id(member, value, &mut told.id);
+        if !tell(line, &member.class, value, told) {
+            return false;
+        }
     }
-    Some(reached)
+    true
 }
 
-/// The moment behind elements.
-#[cycle(moves)]
-fn moved_by_elements(
-    line: &Timeline,
-    element: &Class,
-    values: &[Value],
-    clock: Moment,
-) -> Option<Moment>
-    ensures { result ≡ advanced_by line.now clock (moved.of_each (moved.moved (form element.now)) (vals_of (map val values.now))) }
+/// The same of elements.
+#[cycle(told)]
+fn tell_elements(line: &Timeline, element: &Class, values: &[Value], told: &mut Told) -> bool
+    ensures clock { behind result told.new ≡ advanced_by line.now told.old.clock (moved.of_each (moved.moved (form element.now)) (vals_of (map val values.now))) }
+    ensures id { IsTrue result → told.new.id ≡ last_or told.old.id (fields.of_each (fields.ids (form element.now)) (vals_of (map val values.now))) }
 {
-    let mut reached = clock;
     for value in values {
-        reached = moved(line, element, value, reached)?;
+        if !tell(line, element, value, told) {
+            return false;
+        }
     }
-    Some(reached)
+    true
 }
 
-/// The moment behind an option.
-#[cycle(moves)]
-fn moved_by_option(
-    line: &Timeline,
-    options: &[Member],
-    value: &Value,
-    clock: Moment,
-) -> Option<Moment>
-    ensures { result ≡ advanced_by line.now clock (moved.of_choice (fields.choice_in (val value.now)) (λ i v. moved.option_moved (parts_of (map member_part options.now)) i v)) }
+/// The same of an option.
+#[cycle(told)]
+fn tell_option(line: &Timeline, options: &[Member], value: &Value, told: &mut Told) -> bool
+    ensures clock { behind result told.new ≡ advanced_by line.now told.old.clock (moved.of_choice (fields.choice_in (val value.now)) (λ i v. moved.option_moved (parts_of (map member_part options.now)) i v)) }
+    ensures id { IsTrue result → told.new.id ≡ last_or told.old.id (fields.of_choice (fields.choice_in (val value.now)) (λ i v. fields.option_ids (parts_of (map member_part options.now)) i v)) }
 {
     match choice_in(value) {
-        None => Some(clock),
-        Some((i, inner)) => moved_by_chosen(line, options, i, inner, clock),
+        None => true,
+        Some((i, inner)) => tell_chosen(line, options, i, inner, told),
     }
 }
 
-/// The moment behind the value of option i.
-#[cycle(moves)]
-fn moved_by_chosen(
+/// The same of the value of option i.
+#[cycle(told)]
+fn tell_chosen(
     line: &Timeline,
     options: &[Member],
     i: usize,
     inner: &Value,
-    clock: Moment,
-) -> Option<Moment>
-    ensures { result ≡ advanced_by line.now clock (moved.option_moved (parts_of (map member_part options.now)) i (val inner.now)) }
+    told: &mut Told,
+) -> bool
+    ensures clock { behind result told.new ≡ advanced_by line.now told.old.clock (moved.option_moved (parts_of (map member_part options.now)) i (val inner.now)) }
+    ensures id { IsTrue result → told.new.id ≡ last_or told.old.id (fields.option_ids (parts_of (map member_part options.now)) i (val inner.now)) }
 {
     if i >= options.len() {
-        return Some(clock);
+        return true;
     }
-    moved(line, &options[i].class, inner, clock)
+    tell(line, &options[i].class, inner, told)
+}
+
+/// Sets the clock by an integer, if it is a moving one.
+fn set_by(line: &Timeline, integer: &Integer, value: &Value, told: &mut Told) -> bool
+    ensures clock { behind result told.new ≡ advanced_by line.now told.old.clock (moved.moved_in integer.now (val value.now)) }
+    ensures id { told.new.id ≡ told.old.id }
+{
+    match moved_by_integer(line, integer, value, told.clock) {
+        Some(next) => {
+            told.clock = next;
+            true
+        }
+        None => false,
+    }
 }
 
 /// The moment behind an integer.

@@ -1,21 +1,22 @@
 //! Event records.
 
 ghost use Rattle.std.specs.Prelude.{◌≡◌, ◌<◌, ◌≤◌, ◌*◌, ◌^◌, map, length, option_map, option_copied, IfOk, OnOk};
-ghost use Rattle.std.specs.List.{last_or};
 ghost use Rattle.ctf_clock.specs.declared.moment.Shift.{Shift};
+ghost use Rattle.ctf_decode.specs.Known.{without_record};
 ghost use Rattle.ctf_decode.specs.Views.{form, val};
 ghost use Rattle.ctf_packet.specs.Classes.{stream_form, event_form};
 ghost use Rattle.ctf_packet.specs.Records as records;
 ghost use Rattle.ctf_packet.specs.Views.{values_of, packet_values, opened_of, recorded_of, PutsHead, PutsBody};
 ghost use Rattle.ctf_packet.specs.Gives.{OrRefused};
 
-use crate::clock::clock_behind;
 use crate::fault::StreamFault;
 use crate::packet::OpenPacket;
 use crate::scope::record_scope;
-use ctf_class::{Class, EventClass, Scope, StreamClass};
+use crate::spares::Spares;
+use crate::told::told_by;
+use ctf_class::{EventClass, Scope, StreamClass};
 use ctf_clock::Moment;
-use ctf_decode::{Scopes, Value, last_id};
+use ctf_decode::{Scopes, Value};
 use std::alloc::Global;
 
 /// The header of an event record.
@@ -36,27 +37,6 @@ pub struct EventRecord<'a> {
     pub clock: Option<Moment>,
     /// Where it ends, in bits from the packet's first one.
     pub end: u64,
-}
-
-/// Values of another event record, whose memory may be used.
-#[derive(Debug, Drop)]
-struct SpareBody {
-    shared: Option<Value>,
-    own: Option<Value>,
-    fields: Option<Value>,
-}
-
-/// The number of the event class that a header names.
-fn id_of(class: Option<&Class>, header: Option<&Value>) -> Option<i128>
-    ensures { result ≡ last_or None (records.ids_in (option_map form (option_copied class.entry)) (option_map val (option_copied header.entry))) }
-{
-    match class {
-        None => None,
-        Some(class) => match header {
-            None => None,
-            Some(header) => last_id(class, header),
-        },
-    }
 }
 
 /// The event class of a number, or the only one.
@@ -86,7 +66,7 @@ fn put_body(
     bytes: &[u8],
     place: u64,
     content: u64,
-    spare: SpareBody,
+    spares: &mut Spares,
     scopes: &mut Scopes,
 ) -> Result<u64, StreamFault>
     requires start { place ≤ content }
@@ -97,11 +77,9 @@ fn put_body(
     ensures forward { IfOk result (λ end. place ≤ end) }
     ensures packet { OnOk result (packet_values (values_of scopes.new) ≡ packet_values (values_of scopes.old)) }
 {
-    let SpareBody {
-        shared: spare_shared,
-        own: spare_own,
-        fields: spare_fields,
-    } = spare;
+    let Ok(at) = spares.room_for(event.id) else {
+        return Err(StreamFault::NoMemory);
+    };
     let shared = stream.event_context();
     let end = record_scope(
         alloc,
@@ -110,7 +88,7 @@ fn put_body(
         place,
         content,
         Scope::StreamEventContext,
-        spare_shared,
+        &mut spares.shared,
         scopes,
     )?;
     let own = event.context();
@@ -121,7 +99,7 @@ fn put_body(
         end,
         content,
         Scope::EventContext,
-        spare_own,
+        &mut spares.bodies[at].own,
         scopes,
     )?;
     let fields = event.fields();
@@ -132,7 +110,7 @@ fn put_body(
         end,
         content,
         Scope::EventFields,
-        spare_fields,
+        &mut spares.bodies[at].fields,
         scopes,
     )
 }
@@ -145,7 +123,7 @@ fn put_head<'a>(
     bytes: &[u8],
     clock: Option<Moment>,
     place: u64,
-    spare: Option<Value>,
+    spare: &mut Value,
     scopes: &mut Scopes,
 ) -> Result<Head<'a>, StreamFault>
     requires spent { scopes.old.spent ≡ 0 }
@@ -170,43 +148,30 @@ fn put_head<'a>(
         scopes,
     )?;
     let header = scopes.get(Scope::EventHeader);
-    let clock = clock_behind(packet.line.as_ref(), clock, class, header)?;
-    match event_named(stream, id_of(class, header)) {
-        Some(event) => Ok(Head { event, clock, end }),
-        None => Err(StreamFault::UnknownEvent),
-    }
-}
-
-/// Values of another event record, whose memory may be used.
-#[derive(Debug, Drop)]
-struct Spare {
-    header: Option<Value>,
-    body: SpareBody,
-}
-
-/// Leaves the packet's values alone.
-fn take_record(scopes: &mut Scopes) -> Spare
-    ensures values { values_of scopes.new ≡ packet_values (values_of scopes.old) }
-    ensures spent { scopes.new.spent ≡ 0 }
-{
-    let header = scopes.take(Scope::EventHeader);
-    let shared = scopes.take(Scope::StreamEventContext);
-    let own = scopes.take(Scope::EventContext);
-    let fields = scopes.take(Scope::EventFields);
-    scopes.set_spent(0);
-    Spare {
-        header,
-        body: SpareBody {
-            shared,
-            own,
-            fields,
+    match told_by(packet.line.as_ref(), clock, class, header) {
+        Err(fault) => Err(fault),
+        Ok(told) => match event_named(stream, told.id) {
+            Some(event) => Ok(Head {
+                event,
+                clock: told.clock,
+                end,
+            }),
+            None => Err(StreamFault::UnknownEvent),
         },
     }
 }
 
+/// Leaves the packet's values alone.
+fn leave_record(spares: &mut Spares, scopes: &mut Scopes)
+    ensures { scopes.new ≡ without_record scopes.old }
+{
+    spares.take_back(scopes);
+    scopes.leave_record();
+}
+
 /// The event record at a place of a packet, in bits from its first one, where `bytes` are the packet's
 /// and its clock came so far. The values of the packet's header and context are in `scopes`, and so are
-/// those of the record then.
+/// those of the record then. The memory of `spares` is used.
 ///
 /// An error is the first fault of the record: F6 to F11, or `NoMemory`.
 #[tactic(auto, unfolding(crate::specs::Records::record_at))]
@@ -216,6 +181,7 @@ pub fn next_record<'a>(
     bytes: &[u8],
     clock: Option<Moment>,
     place: u64,
+    spares: &mut Spares,
     scopes: &mut Scopes,
 ) -> Result<EventRecord<'a>, StreamFault>
     requires start { place ≤ packet.now.content }
@@ -226,15 +192,26 @@ pub fn next_record<'a>(
     ensures forward { IfOk result (λ r. place < r.end) }
     ensures packet { OnOk result (packet_values (values_of scopes.new) ≡ packet_values (values_of scopes.old)) }
 {
-    let Spare { header, body } = take_record(scopes);
-    let head = put_head(alloc, packet, bytes, clock, place, header, scopes)?;
+    leave_record(spares, scopes);
+    let head = put_head(
+        alloc,
+        packet,
+        bytes,
+        clock,
+        place,
+        &mut spares.header,
+        scopes,
+    )?;
     let stream = packet.stream;
     let content = packet.content;
     let event = head.event;
-    let end = put_body(alloc, stream, event, bytes, head.end, content, body, scopes)?;
+    let end = put_body(
+        alloc, stream, event, bytes, head.end, content, spares, scopes,
+    )?;
     if end == place {
         return Err(StreamFault::EmptyEvent);
     }
+    spares.note(end - place, scopes.spent());
     Ok(EventRecord {
         event,
         clock: head.clock,

@@ -15,7 +15,8 @@ use ctf_decode::{DecodeFault, Scopes, Value, decode_into};
 use std::alloc::Global;
 
 /// Puts the value of a class that stands at a bit of some bytes, whose content ends at the bit `content`,
-/// in its scope. The place where it ends. The memory of `spare` is used for it.
+/// in its scope. The place where it ends. The memory of `spare` is used for it, and any value may be in it
+/// then.
 pub fn scope_into(
     alloc: Global,
     class: &Class,
@@ -23,7 +24,7 @@ pub fn scope_into(
     place: u64,
     content: u64,
     scope: Scope,
-    spare: Value,
+    spare: &mut Value,
     scopes: &mut Scopes,
 ) -> Result<u64, DecodeFault>
     requires start { place ≤ content }
@@ -34,10 +35,9 @@ pub fn scope_into(
     ensures within { IfOk result (λ end. end ≤ content) }
     ensures forward { IfOk result (λ end. place ≤ end) }
 {
-    let mut value = spare;
-    match decode_into(alloc, class, bytes, place, content, scopes, &mut value) {
+    match decode_into(alloc, class, bytes, place, content, scopes, spare) {
         Ok(reached) => {
-            scopes.put(scope, value);
+            scopes.exchange(scope, spare);
             scopes.set_spent(reached.spent);
             Ok(reached.end)
         }
@@ -56,24 +56,6 @@ pub fn front_content(left: &[u8]) -> u64
         return LONGEST_PACKET;
     }
     8 * bytes
-}
-
-/// What is wrong with a packet whose header or context has a fault.
-fn fault_in_front(ending: Ending, fault: DecodeFault) -> StreamFault
-    ensures { IsTold (values.fault_in_front ending) fault result }
-{
-    match fault {
-        DecodeFault::ContentEnds(bits) => {
-            if bits > u128::from(LONGEST_PACKET) {
-                StreamFault::ImpossibleSizes
-            } else {
-                cut_short(ending)
-            }
-        }
-        DecodeFault::NoOption => StreamFault::NoOption,
-        DecodeFault::TooManyValues => StreamFault::TooManyValues,
-        DecodeFault::NoMemory => StreamFault::NoMemory,
-    }
 }
 
 /// What is wrong with a stream that ends inside a packet.
@@ -98,39 +80,8 @@ fn fault_in_record(fault: DecodeFault) -> StreamFault
     }
 }
 
-/// Puts the value of a packet's header or context in its scope. The place where it ends.
-pub fn front_scope(
-    alloc: Global,
-    class: Option<&Class>,
-    left: &[u8],
-    place: u64,
-    ending: Ending,
-    scope: Scope,
-    scopes: &mut Scopes,
-) -> Result<u64, StreamFault>
-    requires { place ≤ min (8 * length left.now) values.longest }
-    ensures puts { let before = values_of scopes.old in
-        PutsScope scope before (values.scope_at (values.fault_in_front ending) (option_map form (option_copied class.entry)) (packets.front left.now before) place scopes.old.spent) result scopes.new }
-    ensures within { IfOk result (λ end. end ≤ min (8 * length left.now) values.longest) }
-{
-    match class {
-        None => {
-            scopes.take(scope);
-            Ok(place)
-        }
-        Some(class) => {
-            let content = front_content(left);
-            let spare = Value::Unsigned(0);
-            match scope_into(alloc, class, left, place, content, scope, spare, scopes) {
-                Ok(end) => Ok(end),
-                Err(fault) => Err(fault_in_front(ending, fault)),
-            }
-        }
-    }
-}
-
 /// Puts the value of a scope of an event record in it. The place where it ends. The memory of `spare` is
-/// used for it.
+/// used for it, and any value may be in it then.
 pub fn record_scope(
     alloc: Global,
     class: Option<&Class>,
@@ -138,7 +89,7 @@ pub fn record_scope(
     place: u64,
     content: u64,
     scope: Scope,
-    spare: Option<Value>,
+    spare: &mut Value,
     scopes: &mut Scopes,
 ) -> Result<u64, StreamFault>
     requires start { place ≤ content }
@@ -151,11 +102,10 @@ pub fn record_scope(
 {
     match class {
         None => {
-            scopes.take(scope);
+            scopes.leave(scope, spare);
             Ok(place)
         }
         Some(class) => {
-            let spare = spare.unwrap_or(Value::Unsigned(0));
             match scope_into(alloc, class, bytes, place, content, scope, spare, scopes) {
                 Ok(end) => Ok(end),
                 Err(fault) => Err(fault_in_record(fault)),

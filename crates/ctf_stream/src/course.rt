@@ -18,7 +18,7 @@ use crate::item::{Event, Gap, Item};
 use crate::packet::{Front, Packet};
 use ctf_bits::Source;
 use ctf_decode::Scopes;
-use ctf_packet::{OpenPacket, Reached, StreamFault};
+use ctf_packet::{OpenPacket, Reached, Spares, StreamFault};
 use std::alloc::Global;
 
 /// How far a stream was read.
@@ -31,6 +31,8 @@ pub(crate) struct Course<'a> {
     pub(crate) buffer: Buffer,
     /// The values of the packet at hand, and of the event record in front, if one stands there.
     pub(crate) scopes: Scopes,
+    /// Memory for the next event records.
+    spares: Spares,
     /// How many bytes were taken from the source.
     pub(crate) taken: u64,
 }
@@ -48,6 +50,7 @@ impl<'a> Course<'a> {
             packet: None,
             buffer: Buffer::new(alloc),
             scopes: Scopes::new(),
+            spares: Spares::new(alloc),
             taken: cut.at,
         }
     }
@@ -62,6 +65,7 @@ impl<'a> Course<'a> {
         self.packet = None;
         self.buffer = Buffer::new(alloc);
         self.scopes = Scopes::new();
+        self.spares = Spares::new(alloc);
     }
 
     /// The next item, out of a source. `None` where the stream ends.
@@ -153,7 +157,12 @@ impl<'a> Course<'a> {
             None => return Ok(None),
             Some(packet) => packet,
         };
-        match packet.next(alloc, self.buffer.as_slice(), &mut self.scopes) {
+        match packet.next(
+            alloc,
+            self.buffer.as_slice(),
+            &mut self.spares,
+            &mut self.scopes,
+        ) {
             Err(fault) => Err(fault),
             Ok(Some(front)) => Ok(Some(front)),
             Ok(None) => {

@@ -10,7 +10,7 @@ ghost use Rattle.ctf_stream.specs.Coming.{left_in, room_in, Within, TakesItem, T
 
 use ctf_clock::Moment;
 use ctf_decode::Scopes;
-use ctf_packet::{EventRecord, OpenPacket, StreamFault, next_record};
+use ctf_packet::{EventRecord, OpenPacket, Spares, StreamFault, next_record};
 use std::alloc::Global;
 
 /// A packet whose items are told one after the other.
@@ -40,13 +40,14 @@ pub(crate) enum Front<'a> {
 
 impl<'a> Packet<'a> {
     /// The next item, out of the packet's bytes; `None` behind the last one. `scopes` has the values of the
-    /// packet, and of an event record then.
+    /// packet, and of an event record then; the memory of `spares` is used for these.
     ///
     /// An error is the fault of the next event record: F6 to F11, or `NoMemory`.
     pub(crate) fn next(
         &mut self,
         alloc: Global,
         bytes: &[u8],
+        spares: &mut Spares,
         scopes: &mut Scopes,
     ) -> Result<Option<Front<'a>>, StreamFault>
         requires { Within bytes.now self.old }
@@ -67,7 +68,15 @@ impl<'a> Packet<'a> {
         if self.place >= self.opened.content {
             return Ok(None);
         }
-        let record = next_record(alloc, &self.opened, bytes, self.clock, self.place, scopes)?;
+        let record = next_record(
+            alloc,
+            &self.opened,
+            bytes,
+            self.clock,
+            self.place,
+            spares,
+            scopes,
+        )?;
         self.clock = record.clock;
         self.place = record.end;
         Ok(Some(Front::Event(record)))

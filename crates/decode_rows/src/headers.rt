@@ -3,7 +3,7 @@
 use crate::classes::{enumeration, integer, member, pair, stamp, structure, variant};
 use ctf_bits::Order::Le;
 use ctf_class::Class;
-use ctf_decode::{Scopes, Value, decode_header_into, last_id, moving};
+use ctf_decode::{Scopes, Value, decode_into, last_id, moving, moving_into};
 use ctf_list::List;
 use std::alloc::Global;
 use std::test::Fail;
@@ -40,17 +40,19 @@ fn header_of(
     let mut value = Value::Signed(1);
     let mut stamps = Vec::new(alloc);
     stamps.push((1, 1))?;
-    let header = decode_header_into(
+    let scopes = Scopes::new();
+    let header = decode_into(
         alloc,
         &class,
         packet.as_slice(),
         0,
         104,
-        &Scopes::new(),
+        &scopes,
         &mut value,
-        &mut stamps,
     )?;
-    Ok((header.id, header.end, stamps.last().copied(), stamps.len()))
+    moving_into(&class, &value, &mut stamps)?;
+    let id = last_id(&class, &value);
+    Ok((id, header.end, stamps.last().copied(), stamps.len()))
 }
 
 /// The last `id` counts, and the stamp of the option that is there.

@@ -1,7 +1,4 @@
 //! What small streams of bytes mean, computed. Each lemma in `proofs/` states the items of one stream and
 //! how it ends, and holds by computing the definition in `ctf_packet`. So the definition is tried on
-//! examples before any code is proved against it. Beside them stand two tests of the code.
+//! examples before any code is proved against it.
 #![tactic(auto)]
-
-mod classes;
-mod packets;

@@ -17,8 +17,8 @@ returns-in-Ok-clause-puts c =
     at_ok (form_of c.args.class) (form c.in-Some.class.now) (values.input_of c.args.have.now c.front_content-content.result before) (front c.args.have.now before) c.args.scope before c.args.place c.args.scopes.now.spent c.in-Ok.end c.scope_into.new.scopes
     (ap form_of c.in-Some.is) (ap (λ n. values.input_of c.args.have.now n before) c.front_content-content.ensures.value) c.in-Ok.ensures.puts
 
-pub returns-in-Err-clause-puts : goal.returns-in-Err-clause-puts
-returns-in-Err-clause-puts c =
+pub returns-clause-puts : goal.returns-clause-puts
+returns-clause-puts c =
     let before = values_of c.args.scopes.now in
     at_err (form_of c.args.class) (form c.in-Some.class.now) (values.input_of c.args.have.now c.front_content-content.result before) (front c.args.have.now before) c.args.scope before c.args.place c.args.scopes.now.spent c.in-Err.fault c.stop_at.result c.scope_into.new.scopes
     (ap form_of c.in-Some.is) (ap (λ n. values.input_of c.args.have.now n before) c.front_content-content.ensures.value) c.in-Err.ensures.puts c.stop_at.ensures

@@ -8,7 +8,7 @@ use Rattle.ctf_packet.proofs.scope.record_scope.Goals as goal
 pub returns-in-None-clause-puts : goal.returns-in-None-clause-puts
 returns-in-None-clause-puts c =
     let before = values_of c.args.scopes.now in
-    at_none values.fault_in_record (form_of c.args.class) (values.input_of c.args.bytes.now c.args.content before) c.args.scope c.args.scopes.now c.take.new.self c.args.place (ap form_of c.in-None.is) c.take.ensures.rest
+    at_none values.fault_in_record (form_of c.args.class) (values.input_of c.args.bytes.now c.args.content before) c.args.scope c.args.scopes.now c.leave.new.self c.args.place (ap form_of c.in-None.is) c.leave.ensures
 
 pub returns-in-Ok-clause-puts : goal.returns-in-Ok-clause-puts
 returns-in-Ok-clause-puts c =

@@ -1,0 +1,101 @@
+//! What the header of an event record tells.
+
+ghost use Rattle.std.specs.Prelude.{◌≡◌, [], Some, Ok, option_map, option_copied};
+ghost use Rattle.ctf_decode.specs.Views.{form, val};
+ghost use Rattle.ctf_packet.specs.Packets as packets;
+ghost use Rattle.ctf_packet.specs.Telling.{TellsHeader};
+
+use crate::fault::StreamFault;
+use crate::moves::{Told, tell};
+use ctf_class::Class;
+use ctf_clock::{Moment, Timeline};
+use ctf_decode::{Value, last_id};
+
+/// What the header of an event record tells of it.
+#[derive(Clone, Copy, Debug)]
+pub(crate) struct HeaderTold {
+    /// The number of its class, if there is one.
+    pub(crate) id: Option<i128>,
+    /// The clock behind it.
+    pub(crate) clock: Option<Moment>,
+}
+
+/// What a header tells, where the clock came so far.
+///
+/// F9 exactly where one of its moving integers is refused.
+pub(crate) fn told_by(
+    line: Option<&Timeline>,
+    clock: Option<Moment>,
+    class: Option<&Class>,
+    header: Option<&Value>,
+) -> Result<HeaderTold, StreamFault>
+    ensures { TellsHeader (option_copied line.entry) clock (option_map form (option_copied class.entry)) (option_map val (option_copied header.entry)) result }
+{
+    match class {
+        None => Ok(HeaderTold {
+            id: None,
+            clock: unmoved(line, clock),
+        }),
+        Some(class) => match header {
+            None => Ok(HeaderTold {
+                id: None,
+                clock: unmoved(line, clock),
+            }),
+            Some(header) => told_in(line, clock, class, header),
+        },
+    }
+}
+
+/// The clock behind a scope that does not set it.
+fn unmoved(line: Option<&Timeline>, clock: Option<Moment>) -> Option<Moment>
+    ensures { packets.clock_behind (option_copied line.entry) clock [] ≡ Ok result }
+{
+    match line {
+        None => None,
+        Some(_line) => clock,
+    }
+}
+
+/// What a header that is there tells.
+fn told_in(
+    line: Option<&Timeline>,
+    clock: Option<Moment>,
+    class: &Class,
+    header: &Value,
+) -> Result<HeaderTold, StreamFault>
+    ensures { TellsHeader (option_copied line.entry) clock (Some (form class.now)) (Some (val header.now)) result }
+{
+    match line {
+        None => Ok(HeaderTold {
+            id: last_id(class, header),
+            clock: None,
+        }),
+        Some(line) => match clock {
+            None => Ok(HeaderTold {
+                id: last_id(class, header),
+                clock: None,
+            }),
+            Some(clock) => told_on(line, clock, class, header),
+        },
+    }
+}
+
+/// What a header tells that sets a clock.
+fn told_on(
+    line: &Timeline,
+    clock: Moment,
+    class: &Class,
+    header: &Value,
+) -> Result<HeaderTold, StreamFault>
+    ensures { TellsHeader (Some line.now) (Some clock) (Some (form class.now)) (Some (val header.now)) result }
+{
+    let mut told = Told { id: None, clock };
+    if tell(line, class, header, &mut told) {
+        Ok(HeaderTold {
+            id: told.id,
+            clock: Some(told.clock),
+        })
+    } else {
+        Err(StreamFault::ClockRefused)
+    }
+}
