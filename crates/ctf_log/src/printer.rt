@@ -1,6 +1,6 @@
 //! Lines of items.
 
-ghost use Rattle.std.specs.Prelude.{◌≡◌, ◌+◌, ◌++◌, ◌≤◌, ℕ, List, [], take, vec_len, IfOk, OnOk};
+ghost use Rattle.std.specs.Prelude.{◌≡◌, ◌++◌, ◌≤◌, ℕ, List, [], take, vec_len, IfOk, OnOk, OnErr};
 ghost use Rattle.ctf_class.specs.declared.trace.TraceClass.{TraceClass};
 ghost use Rattle.ctf_log.specs.Lines as lines;
 ghost use Rattle.ctf_stream.specs.Shown.{event_of, gap_of, item_of, IsOf};
@@ -57,9 +57,9 @@ impl Printer {
     /// was printed before, in nanoseconds since the epoch. At an error there is no text.
     pub fn print(&mut self, item: &Item<'_>, last: Option<i64>) -> Result<(), NoMemory>
         ensures line { (trace : TraceClass) (name : List ℕ) (end length : ℕ) → IsOf trace name item.now → OnOk result (self.new.text ≡ lines.line_of self.old.style last name (item_of item.now end length)) }
+        ensures refused { OnErr result (self.new.text ≡ []) }
         ensures style { self.new.style ≡ self.old.style }
     {
-        self.end = 0;
         match item {
             Item::Event(event) => self.print_event(event, last),
             Item::Discarded(gap) => self.print_gap(b"discarded ", b" events", gap),
@@ -77,6 +77,7 @@ impl Printer {
     /// Makes the line of an event record.
     fn print_event(&mut self, event: &Event<'_>, last: Option<i64>) -> Result<(), NoMemory>
         ensures line { OnOk result (self.new.text ≡ lines.event_line self.old.style last (event_of event.now 0 0)) }
+        ensures refused { OnErr result (self.new.text ≡ []) }
         ensures style { self.new.style ≡ self.old.style }
     {
         let stamper = &mut self.stamper;
@@ -88,6 +89,7 @@ impl Printer {
     /// Makes the message about a gap.
     fn print_gap(&mut self, verb: &[u8], noun: &[u8], gap: &Gap<'_>) -> Result<(), NoMemory>
         ensures line { OnOk result (self.new.text ≡ lines.gap_line verb.now noun.now self.old.style gap.now.name.now (gap_of gap.now 0 0)) }
+        ensures refused { OnErr result (self.new.text ≡ []) }
         ensures style { self.new.style ≡ self.old.style }
     {
         self.end = 0;

@@ -7,8 +7,8 @@ use Rattle.ctf_packet.specs.Items.{Run, Item}
 use Rattle.ctf_packet.specs.declared.fault.StreamFault.{StreamFault}
 use Rattle.ctf_stream.specs.Ahead.{time_of}
 use Rattle.ctf_stream.specs.Reader as reader
-use Rattle.ctf_stream.specs.Reader.{Reader, coming, rest_of, RoomTaken, with_ahead, behind_ahead, OrRefused, IsFetched, IsOnLine, IsAllTaken}
-use Rattle.ctf_merge.specs.Times.{is_before}
+use Rattle.ctf_stream.specs.Reader.{Reader, coming, rest_of, RoomTaken, with_ahead, behind_ahead, OrRefused, IsFetched}
+use Rattle.stream_laws.specs.Times.{is_before}
 use Rattle.ctf_merge.specs.Merged.{Merged, Placed, First, item, broken, nothing, later, least, with_first, first_of, head_of, run_at, advance, without_first, ends, then, merged}
 use Rattle.ctf_merge.specs.Merges.{Merge, coming_of, first_now, GoesOn, MergedOrRefused, EachFetched, EachTells, EachOnLine, EachAllTaken, Fetched, EachIsFetched, FetchedUpTo, room_of, RoomLeft, names_of, traces_of, given_of}
 use Rattle.ctf_merge.specs.declared.fault.MergeFault.{MergeFault}

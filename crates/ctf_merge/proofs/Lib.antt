@@ -5,3 +5,4 @@ pub mod Turning
 pub mod Lining
 pub mod Rising
 pub mod Cutting
+pub mod Giving

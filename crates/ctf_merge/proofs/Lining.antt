@@ -13,7 +13,7 @@ use Rattle.ctf_packet.specs.declared.fault.StreamFault.{StreamFault}
 use Rattle.ctf_stream.specs.Ahead.{time_of, told}
 use Rattle.ctf_stream.specs.Reader as reader
 use Rattle.ctf_stream.specs.Reader.{Reader, coming}
-use Rattle.ctf_merge.specs.Times.{is_before}
+use Rattle.stream_laws.specs.Times.{is_before}
 use Rattle.ctf_merge.specs.Merged.{First, item, broken, nothing, later, least, with_first, first_of, ends, merged, advance}
 use Rattle.ctf_merge.specs.Turns.{turn_cmp, last_cmp, turn_at, turns_from, fault_at, Joins, LinedUp}
 use Rattle.ctf_merge.specs.Merges.{Merge, first_now, coming_of, EachFetched, EachNotBefore, AheadNotBefore, IsNext}
@@ -279,24 +279,37 @@ each_low : (from : ℕ) (readers : List Reader) (t : Turn) → IsLow t (turns_fr
 each_low from [] t low = tt
 each_low from (r ∷ rs) t low = low_by from r.ahead rs t (λ l. each_low (suc from) rs t l) low
 
-slice_is : (rs : List Reader) (n : ℕ) → n < length rs → (r : Reader) × (slice_get rs n ≡ Some r) × (r ≡ get_or rs n r)
-slice_is [] n lt = absurd (omega (arith, lt))
-slice_is (r ∷ rs) zero lt = (r, refl, refl)
-slice_is (r ∷ rs) (suc m) lt = slice_is rs m (omega (arith, lt))
+slice_at : (rs : List Reader) (n : ℕ) (r : Reader) → n < length rs → r ≡ get_or rs n r → slice_get rs n ≡ Some r
+slice_at [] n r lt is = absurd (omega (arith, lt))
+slice_at (s ∷ rs) zero r lt is = ap (λ (t : Reader). Some t) (sym is)
+slice_at (s ∷ rs) (suc m) r lt is = slice_at rs m r (omega (arith, lt)) is
 
-pub is_next : (m : Merge) (n : ℕ) (x : Item Classes) → EachFetched m.readers → first_now m ≡ item n x → IsNext m n
-is_next m n x each e =
+reader_is : (rs : List Reader) (n : ℕ) → n < length rs → (r : Reader) × (r ≡ get_or rs n r)
+reader_is [] n lt = absurd (omega (arith, lt))
+reader_is (r ∷ rs) zero lt = (r, refl)
+reader_is (r ∷ rs) (suc m) lt = reader_is rs m (omega (arith, lt))
+
+-- of the reader of its number
+pub next_at : (m : Merge) (n : ℕ) (x : Item Classes) (r : Reader) → EachFetched m.readers → first_now m ≡ item n x → r ≡ get_or m.readers n r
+    → (it : IsNext m n) × (it.front ≡ r) × (it.next ≡ x)
+next_at m n x r each e is =
     let opened = open_item m n x e in
     let at = in_front m n x opened.0 opened.1 in
-    let it = slice_is m.readers n at.within in
-    let here = front m.readers n x it.0 opened.1 it.2 in
-    record {
-      front = it.0;
+    let here = front m.readers n x r opened.1 is in
+    let it : IsNext m n = record {
+      front = r;
       next = x;
       rest = merged (advance n (map coming m.readers));
-      at = it.1;
+      at = slice_at m.readers n r at.within is;
       ahead = here.1;
       first = e;
       least = each_low 0 m.readers (turn_of n x) (lows 0 n (heads_of m.readers) n x (omega arith) opened.1);
       coming = λ tells. coming-item m n x each e;
-    }
+    } in
+    (it, refl, refl)
+
+pub is_next : (m : Merge) (n : ℕ) (x : Item Classes) → EachFetched m.readers → first_now m ≡ item n x → IsNext m n
+is_next m n x each e =
+    let opened = open_item m n x e in
+    let it = reader_is m.readers n (in_front m n x opened.0 opened.1).within in
+    (next_at m n x it.0 each e it.1).0

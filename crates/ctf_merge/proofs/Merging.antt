@@ -8,7 +8,7 @@ use Rattle.ctf_packet.specs.declared.fault.StreamFault.TheVariants as faults
 use Rattle.ctf_stream.specs.Ahead.{time_of}
 use Rattle.ctf_stream.specs.Reader as reader
 use Rattle.ctf_stream.specs.Reader.{OrRefused}
-use Rattle.ctf_merge.specs.Times.{is_before}
+use Rattle.stream_laws.specs.Times.{is_before}
 use Rattle.ctf_merge.specs.Merged.{Merged, First, item, broken, nothing, later, least, with_first, first_of, head_of, head_by, run_at, advance, without_first, count, ends, then, merged, merged_by}
 use Rattle.ctf_merge.specs.Merges.{MergedOrRefused}
 use Rattle.ctf_merge.specs.declared.fault.MergeFault.TheVariants.{Stream}

@@ -13,8 +13,7 @@ use Rattle.ctf_packet.specs.Classes.{Classes}
 use Rattle.ctf_packet.specs.Items.{Item}
 use Rattle.ctf_stream.specs.Ahead.{time_of, told}
 use Rattle.ctf_stream.specs.Reader as reader
-use Rattle.ctf_stream.specs.Reader.{Reader, coming}
-use Rattle.ctf_merge.specs.Times.{is_before}
+use Rattle.stream_laws.specs.Times.{is_before}
 use Rattle.ctf_merge.specs.Merged.{First, item, broken, nothing, later, least, with_first, first_of}
 use Rattle.ctf_merge.specs.Turns.{turn_cmp, turn_at, turns_from}
 use Rattle.ctf_merge.specs.declared.turn.Turn.{Turn}

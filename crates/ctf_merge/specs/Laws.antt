@@ -4,7 +4,8 @@ use Rattle.std.specs.List.{AllByRecursion}
 use Rattle.ctf_packet.specs.Classes.{Classes}
 use Rattle.ctf_packet.specs.Items.{Run, Item}
 use Rattle.ctf_packet.specs.declared.fault.StreamFault.{StreamFault}
-use Rattle.ctf_merge.specs.Times.{Rises}
+use Rattle.ctf_stream.specs.Ahead.{time_of}
+use Rattle.stream_laws.specs.Times.{NotBefore, Rises}
 use Rattle.ctf_merge.specs.Merged.{item, broken, nothing, first_of, head_of, advance, ends, then, merged, Placed, PlacedRise, IsMerged, IsCut}
 use Rattle.ctf_merge.specs.declared.fault.MergeFault.TheVariants.{Stream}
 
@@ -19,6 +20,10 @@ pub record MergeGoesOn : Type 0 where
 -- where the times of no stream fall, those of the merged list don't
 abbrev pub MergeRises : Type 0
 MergeRises = (low : Option ℤ) (runs : List (Run Classes)) → AllByRecursion (λ r. Rises low r.items) runs → PlacedRise low (merged runs).items
+
+-- of items whose times rise from one, none is before it
+abbrev pub NoneIsBefore : Type 0
+NoneIsBefore = (low : Option ℤ) (items : List Placed) → PlacedRise low items → AllByRecursion (λ x. NotBefore low (time_of x.item)) items
 
 -- The merged list is the one of all items of all streams in their order, up to the cut, where the times of no stream fall.
 abbrev pub MergeIsCut : Type 0

@@ -1,8 +1,7 @@
-pub mod Times
 pub mod Merged
 pub mod Merges
+pub mod Given
 pub mod Turns
 pub mod Stages
 pub mod Finding
-pub mod Trims
 pub mod Laws

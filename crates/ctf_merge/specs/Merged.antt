@@ -6,7 +6,7 @@ use Rattle.ctf_packet.specs.Items.{Run, Item}
 use Rattle.ctf_packet.specs.declared.fault.StreamFault.{StreamFault}
 use Rattle.ctf_stream.specs.Ahead.{time_of}
 use Rattle.ctf_stream.specs.Reader as reader
-use Rattle.ctf_merge.specs.Times.{is_before, NotBefore}
+use Rattle.stream_laws.specs.Times.{is_before, NotBefore}
 use Rattle.ctf_merge.specs.declared.fault.MergeFault.{MergeFault}
 use Rattle.ctf_merge.specs.declared.fault.MergeFault.TheVariants.{Stream}
 

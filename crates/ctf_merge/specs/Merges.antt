@@ -8,8 +8,8 @@ use Rattle.ctf_packet.specs.declared.fault.StreamFault.TheVariants as faults
 use Rattle.ctf_stream.specs.Ahead.{time_of}
 use Rattle.ctf_stream.specs.Reader as reader
 use Rattle.ctf_stream.specs.Reader.{Reader, coming, IsFetched, IsOnLine, IsAllTaken, OrRefused}
-use Rattle.ctf_merge.specs.Times.{NotBefore}
-use Rattle.ctf_merge.specs.Merged.{Merged, Placed, First, item, broken, nothing, first_of, ends, then, merged}
+use Rattle.stream_laws.specs.Times.{NotBefore, Rises}
+use Rattle.ctf_merge.specs.Merged.{Merged, Placed, First, item, broken, nothing, first_of, ends, then, merged, PlacedRise}
 use Rattle.ctf_merge.specs.declared.fault.MergeFault.{MergeFault}
 use Rattle.ctf_merge.specs.declared.fault.MergeFault.TheVariants.{Stream, NoMemory}
 
@@ -37,6 +37,14 @@ EachAllTaken readers = AllByRecursion (λ r. IsAllTaken r.ahead r.left) readers
 -- each reader has its first item in front, or its end or a fault
 abbrev pub EachFetched : List Reader → Type 0
 EachFetched readers = AllByRecursion (λ r. IsFetched r.ahead) readers
+
+-- the times of what is to come of each reader don't fall
+abbrev pub EachRises : List Reader → Type 0
+EachRises readers = AllByRecursion (λ r. Rises None (coming r).items) readers
+
+-- the times of what is to come don't fall
+abbrev pub ComingRises : Merge → Type 0
+ComingRises m = PlacedRise None (coming_of m).items
 
 -- how many items may still come, of any sources
 abbrev pub room_of : List Reader → ℕ

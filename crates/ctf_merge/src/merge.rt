@@ -1,9 +1,11 @@
 //! Several readers as one.
 
-ghost use Rattle.std.specs.Prelude.{◌≡◌, ◌<◌, [], map, IfOk, IsOk, OnOk, IfSome, IfNone, MatchOption, slice_get, false};
-ghost use Rattle.ctf_stream.specs.Reader.{coming};
+ghost use Rattle.std.specs.Prelude.{◌≡◌, ◌+◌, ◌<◌, [], length, map, IfOk, IsOk, OnOk, OnErr, IfSome, IfNone, IsTrue, MatchOption, slice_get, None, true, false};
+ghost use Rattle.ctf_stream.specs.Owned as owned;
+ghost use Rattle.ctf_stream.specs.Reader.{coming, rest_of, HasItem, OrRefused, IsFetched, IsOnLine, IsAllTaken};
 ghost use Rattle.ctf_merge.specs.Merged.{merged};
-ghost use Rattle.ctf_merge.specs.Merges.{coming_of, first_now, number_in, fault_in, names_of, traces_of, given_of, room_of, MergedOrRefused, EachFetched, EachTells, EachOnLine, EachAllTaken, Fetched, EachIsFetched, GoesOn, IsNext, RoomLeft};
+ghost use Rattle.ctf_merge.specs.Given.{Gives, GivesFirst, GivesFront, GivesRoom};
+ghost use Rattle.ctf_merge.specs.Merges.{coming_of, first_now, number_in, fault_in, names_of, traces_of, given_of, room_of, MergedOrRefused, ComingRises, EachRises, EachFetched, EachTells, EachOnLine, EachAllTaken, Fetched, EachIsFetched, GoesOn, IsNext, RoomLeft};
 ghost use Rattle.std.specs.BinaryHeap.{heap_items, heap_len, heap_capacity, KeepsHeap};
 ghost use Rattle.ctf_merge.specs.Finding.{Finds};
 ghost use Rattle.ctf_merge.specs.Stages.{is_over, stage_of, Stands};
@@ -14,7 +16,7 @@ use crate::turn::Turn;
 use ctf_bits::Source;
 use ctf_list::NoMemory;
 use ctf_packet::StreamFault;
-use ctf_stream::{Ahead, StreamReader};
+use ctf_stream::{Ahead, OwnedItem, StreamReader};
 use std::alloc::Global;
 use std::cmp::Reverse;
 use std::collections::BinaryHeap;
@@ -104,6 +106,32 @@ fn fetch_each<'a, S: Source + Drop>(readers: &mut [StreamReader<'a, S>])
     }
 }
 
+/// Gives the item in front of a reader, and fetches the next one.
+fn give<'a, S: Source + Drop>(
+    reader: &mut StreamReader<'a, S>,
+) -> Result<Option<OwnedItem<'a>>, StreamFault>
+    requires { HasItem reader.old.ahead }
+    ensures told { GivesFront reader.old.ahead result }
+    ensures of { owned.GivesOf reader.old.trace reader.old.name result }
+    ensures goes_on { IsTrue reader.old.tells → OnOk result (OrRefused (rest_of reader.old) (coming reader.new)) }
+    ensures fetched { IsFetched reader.new.ahead }
+    ensures room { owned.GivesRoom reader.old.room reader.new.room result }
+    ensures trace { reader.new.trace ≡ reader.old.trace }
+    ensures name { reader.new.name ≡ reader.old.name }
+    ensures tells { IsTrue reader.old.tells → IsTrue reader.new.tells }
+    ensures counted { IsTrue reader.old.tells → reader.new.taken + length reader.new.left ≡ reader.old.taken + length reader.old.left }
+    ensures on_line { IsOnLine reader.new }
+    ensures all_taken { IsTrue reader.old.tells → IsAllTaken reader.new.ahead reader.new.left }
+{
+    match reader.next() {
+        Ok(item) => {
+            fetch(reader);
+            Ok(item)
+        }
+        Err(fault) => Err(fault),
+    }
+}
+
 /// Lines up the turn of a stream by what stands in front of it. Gives the fault that stands there.
 #[tactic(auto, using(crate::proofs::Pushed::pushed))]
 fn line_up(
@@ -149,6 +177,7 @@ impl<'a, S: Source + Drop> Merge<'a, S> {
     /// of what was to come of the readers.
     pub fn new(alloc: Global, readers: Vec<StreamReader<'a, S>>) -> Result<Merge<'a, S>, NoMemory>
         ensures told { IfOk result (λ m. EachTells readers.entry.items → MergedOrRefused (merged (map coming readers.entry.items)) (coming_of m)) }
+        ensures rises { IfOk result (λ m. EachTells readers.entry.items → EachRises readers.entry.items → ComingRises m) }
         ensures open { IfOk result (λ m. m.over ≡ false) }
         ensures names { IfOk result (λ m. names_of m.readers ≡ names_of readers.entry.items) }
         ensures traces { IfOk result (λ m. traces_of m.readers ≡ traces_of readers.entry.items) }
@@ -213,6 +242,7 @@ impl<'a, S: Source + Drop> Merge<'a, S> {
     /// behind, and then nothing comes. The end stays.
     pub fn go_on(&mut self)
         ensures goes_on { EachTells self.old.readers → GoesOn (coming_of self.old) (coming_of self.new) }
+        ensures rises { EachTells self.old.readers → ComingRises self.old → ComingRises self.new }
         ensures names { names_of self.new.readers ≡ names_of self.old.readers }
         ensures traces { traces_of self.new.readers ≡ traces_of self.old.readers }
 
@@ -238,6 +268,59 @@ impl<'a, S: Source + Drop> Merge<'a, S> {
             }
             Stage::Broken(_number, _fault) => self.stage = Stage::Over,
             Stage::Over => {}
+        }
+    }
+
+    /// The next item, by value, while the next one of its stream is fetched; `None` at the end. The fault is told once, and
+    /// then nothing comes: one that was met while an item was fetched is told by the next call. A growth that is refused
+    /// for the item is told in its place.
+    ///
+    /// An error is the fault of a stream behind the items before, F1 to F11, F13, F14 or `NoMemory`, with its number.
+    pub fn next(&mut self) -> Result<Option<OwnedItem<'a>>, MergeFault>
+        ensures gives { EachTells self.old.readers → Gives (coming_of self.old) (coming_of self.new) result }
+        ensures rises { EachTells self.old.readers → ComingRises self.old → ComingRises self.new }
+
+        // Of any sources: what stood in front is told, behind a fault nothing comes, the end stays, and an item that is
+        // given took room.
+        ensures first { GivesFirst self.old result }
+        ensures over { OnErr result (self.new.over ≡ true) }
+        ensures stays { IfOk result (λ given. given ≡ None → self.new ≡ self.old) }
+        ensures room { GivesRoom (room_of self.old.readers) (room_of self.new.readers) result }
+        ensures names { names_of self.new.readers ≡ names_of self.old.readers }
+        ensures traces { traces_of self.new.readers ≡ traces_of self.old.readers }
+
+        // The bytes taken are those that the sources gave, and no more than the items in front need.
+        ensures tells { EachTells self.old.readers → EachTells self.new.readers }
+        ensures counted { EachTells self.old.readers → given_of self.new.readers ≡ given_of self.old.readers }
+        ensures on_line { EachOnLine self.old.readers → EachOnLine self.new.readers }
+        ensures all_taken { EachTells self.old.readers → EachAllTaken self.old.readers → EachAllTaken self.new.readers }
+    {
+        match self.stage {
+            Stage::Going => match self.turns.pop() {
+                Some(Reverse(turn)) => {
+                    let number = turn.number;
+                    let reader = &mut self.readers[number];
+                    match give(reader) {
+                        Ok(item) => {
+                            let ahead = reader.ahead();
+                            // The turn that was taken left room: nothing grows here.
+                            let fault = line_up(&mut self.turns, number, ahead).unwrap();
+                            self.stage = Stage::of(number, fault);
+                            Ok(item)
+                        }
+                        Err(fault) => {
+                            self.stage = Stage::Over;
+                            Err(MergeFault::Stream { number, fault })
+                        }
+                    }
+                }
+                None => Ok(None),
+            },
+            Stage::Broken(number, fault) => {
+                self.stage = Stage::Over;
+                Err(MergeFault::Stream { number, fault })
+            }
+            Stage::Over => Ok(None),
         }
     }
 

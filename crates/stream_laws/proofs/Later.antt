@@ -4,7 +4,8 @@ use Rattle.std.specs.Int.Signed.{lt_z}
 use Rattle.std.proofs.lemmas.Int.{ints}
 use Rattle.std.proofs.lemmas.Bool.Decides.{nat_tests}
 use Rattle.ctf_packet.specs.Items.{Item}
-use Rattle.stream_laws.specs.Times.{time_of, NotBefore, Rises}
+use Rattle.ctf_stream.specs.Ahead.{time_of}
+use Rattle.stream_laws.specs.Times.{NotBefore, Rises}
 
 -- the test and the order
 pub not_less : (a b : ℤ) → b ≤ℤ a → lt_z a b ≡ false

@@ -1,23 +1,14 @@
--- The times of items, and lists of items whose times never fall.
+-- Which times are before others, and lists of items whose times never fall.
 use Rattle.std.specs.Prelude.{◌≡◌, ℤ, Bool, true, false, List, [], ◌∷◌, Option, Some, None, option_map}
 use Rattle.std.specs.Int.Signed.{lt_z}
 use Rattle.std.specs.Option.{is_some}
 use Rattle.ctf_clock.specs.declared.moment.Moment.{Moment}
-use Rattle.ctf_packet.specs.Items.{Item, event, discarded, lost}
-
--- the clock of an item: that of an event record, or that behind the context of the packet that tells a gap
-abbrev pub clock_of : {C : Type 0} → Item C → Option Moment
-clock_of (event e) = e.clock
-clock_of (discarded g) = g.clock
-clock_of (lost g) = g.clock
+use Rattle.ctf_packet.specs.Items.{Item}
+use Rattle.ctf_stream.specs.Ahead.{time_of}
 
 -- the time that a clock tells, in nanoseconds since the epoch
 abbrev pub time_at : Option Moment → Option ℤ
 time_at clock = option_map (λ (moment : Moment). moment.time) clock
-
--- the time of an item: none in a stream without a clock
-abbrev pub time_of : {C : Type 0} → Item C → Option ℤ
-time_of item = time_at (clock_of item)
 
 -- whether a time is before another: none is before each, and not before itself (own)
 abbrev pub is_before : Option ℤ → Option ℤ → Bool

@@ -10,6 +10,7 @@ use Rattle.ctf_merge.specs.Stages.{is_over, stage_of}
 use Rattle.ctf_merge.specs.Turns.{turn_at, fault_at, Joins}
 use Rattle.ctf_merge.proofs.Going.{each_at, each_set, map-kept, room-front, goes-item, goes-fault, goes-nothing, coming-broken, coming-nothing}
 use Rattle.ctf_merge.proofs.Lining.{popped_front, stands_again, stage_open, first_going, first_broken, no_turn, none_left, lined_going}
+use Rattle.ctf_merge.proofs.Rising.{rises_on}
 use Rattle.ctf_merge.proofs.merge.Merge.go_on.Goals as goal
 
 pub index_mut-reader-requires : goal.index_mut-reader-requires
@@ -46,6 +47,9 @@ returns-in-Some-clause-goes_on g c =
     rw (← c.self.view_is) (λ tells.
     goes-item _ c.in-Some.field-0.0.number at.0 c.index_mut-reader.result.now c.go_on.new.self (is_over c.of-self-inside.result) open_ c.self.invariant.fetched at.1.first is
     (c.go_on.ensures.goes_on (each_at (λ r. IsTrue r.tells) c.self.inside.readers.items c.in-Some.field-0.0.number c.index_mut-reader.result.now at.1.within is tells)))
+
+pub returns-in-Some-clause-rises : goal.returns-in-Some-clause-rises
+returns-in-Some-clause-rises g c = λ tells rises. rises_on _ _ (returns-in-Some-clause-goes_on g c tells) rises
 
 pub returns-in-Some-clause-names : goal.returns-in-Some-clause-names
 returns-in-Some-clause-names g c =

@@ -6,6 +6,7 @@ use Rattle.std.specs.BinaryHeap.{heap_items}
 use Rattle.ctf_merge.specs.Stages.{Stands}
 use Rattle.ctf_merge.proofs.Lining.{open_coming}
 use Rattle.ctf_merge.proofs.Going.{written, length-fetched, told_at_first, each_fetched, tells_at_first, names_at_first, traces_at_first, given_at_first, on_line_at_first, all_taken_at_first}
+use Rattle.ctf_merge.proofs.Rising.{rises_at_first}
 use Rattle.ctf_merge.proofs.merge.Merge.new.Goals as goal
 
 -- the readers of the merge are those that were fetched
@@ -25,6 +26,9 @@ pub returns-clause-told : goal.returns-clause-told
 returns-clause-told g c = λ tells.
     subst (λ (m : Merged). MergedOrRefused (merged (map coming c.args.readers.items)) m) (sym (open_coming _ c.in_ok-turns.stage c.in_ok-turns.ensures.open))
     (told_at_first _ _ tells (readers_are c.args.readers.items c.deref_mut.result.now c.fetch_each.new.readers c.args.readers.len c.deref_mut.ensures.value c.args.readers.ok.0 c.fetch_each.ensures))
+
+pub returns-clause-rises : goal.returns-clause-rises
+returns-clause-rises g c = λ tells each. rises_at_first _ _ (returns-clause-told g c tells) each
 
 pub returns-clause-names : goal.returns-clause-names
 returns-clause-names g c =
