@@ -1,33 +1,8 @@
-//! Each sink on its happy path, through its bound, and at its end.
+//! Each sink on its happy path, through its bound, and writers that fail.
 
 use ctf_bits::{DripSink, FailingSink, Sink, SinkFault, ToWrite, VecSink};
 use std::io::{Error, ErrorKind, Write};
 use std::process::Abort;
-
-#[test]
-fn a_failing_sink_takes_a_part_and_fails(rt: HostRuntime) {
-    let text = b"packet";
-    for room in 0..text.len() {
-        let mut sink = FailingSink::new(rt.alloc(), room);
-        if room > 0 {
-            assert_eq!(rt; sink.put(text), Ok(room));
-        }
-        assert_eq!(rt; sink.put(text), Err(SinkFault::Failed));
-        assert_eq!(rt; sink.put(text), Err(SinkFault::Failed));
-        let (taken, _) = text.split_at(room);
-        assert_eq!(rt; sink.bytes(), taken);
-    }
-}
-
-#[test]
-fn a_drip_sink_takes_a_part(rt: HostRuntime) {
-    for (piece, first) in [(0, 1), (1, 1), (3, 3), (6, 6), (7, 6)] {
-        let mut sink = DripSink::new(rt.alloc(), piece);
-        assert_eq!(rt; sink.put(b"packet"), Ok(first));
-        let (taken, _) = b"packet".split_at(first);
-        assert_eq!(rt; sink.bytes(), taken);
-    }
-}
 
 /// Puts a text, what the sink leaves of it again, up to its end.
 fn pour<W: Sink>(rt: &impl Abort, sink: &mut W) {

@@ -1,4 +1,4 @@
-//! Each source on its happy path, through its bound, and at its end.
+//! Each source on its happy path, through its bound, and at its end, and readers that fail.
 
 ghost use Rattle.std.specs.Prelude.{◌<◌, ◌≤◌};
 
@@ -55,26 +55,6 @@ fn sources_give_their_bytes_in_pieces(rt: HostRuntime) {
         let mut source = FromRead::new(Cursor::new(*text));
         drain(&rt, &mut source, piece, text, Ending::Clean);
     }
-}
-
-#[test]
-fn a_piece_source_gives_pieces_and_counts_them(rt: HostRuntime) {
-    let mut buffer = [0; 8];
-    let mut source = PieceSource::new(b"packets", 3);
-    for (room, bytes, given) in [
-        (8, b"pac".as_slice(), 3),
-        (2, b"ke".as_slice(), 5),
-        (8, b"ts".as_slice(), 7),
-        (8, b"".as_slice(), 7),
-        (8, b"".as_slice(), 7),
-    ] {
-        assert!(rt; 0 < room && room <= 8);
-        assert_eq!(rt; source.take(&mut buffer[..room]), Ok(bytes.len()));
-        assert_eq!(rt; &buffer[..bytes.len().min(8)], bytes);
-        assert_eq!(rt; source.given(), given);
-    }
-    let mut one = PieceSource::new(b"packets", 0);
-    assert_eq!(rt; one.take(&mut buffer), Ok(1));
 }
 
 /// A reader that does the same at each call.
