@@ -1,8 +1,7 @@
 //! The trace class of metadata.
 #![tactic(auto)]
 
-mod fault;
 mod loading;
 
-pub use fault::LoadFault;
+pub use ctf_outcome::LoadFault;
 pub use loading::load;

@@ -3,8 +3,8 @@
 ghost use Rattle.std.specs.Prelude.{MatchResult};
 ghost use Rattle.ctf_load.specs.Loading.{Describes, IsBroken, HasTree, HasTokens};
 
-use crate::fault::LoadFault;
 use ctf_class::TraceClass;
+use ctf_outcome::LoadFault;
 use ctf_types::resolve;
 use std::alloc::Global;
 use tsdl_parse::parse;

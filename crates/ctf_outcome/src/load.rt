@@ -1,5 +1,8 @@
 //! Why metadata has no trace class.
 
+ghost use Rattle.std.specs.Prelude.{◌≡◌};
+ghost use Rattle.ctf_outcome.specs.Table.{is_refusal};
+
 use ctf_meaning::ResolveFault;
 use thiserror::Error;
 use tsdl_parse::SyntaxFault;
@@ -20,4 +23,18 @@ pub enum LoadFault {
     /// R1 to R9: what its tree means.
     #[error("metadata has no trace class")]
     Meaning(ResolveFault),
+}
+
+impl LoadFault {
+    /// Whether a growth was refused.
+    pub fn is_refusal(&self) -> bool
+        ensures { result ≡ is_refusal self.now }
+    {
+        match self {
+            LoadFault::Metadata(fault) => *fault == MetaFault::NoMemory,
+            LoadFault::Text(fault) => *fault == MetaFault::NoMemory,
+            LoadFault::Syntax(fault) => *fault == SyntaxFault::NoMemory,
+            LoadFault::Meaning(fault) => *fault == ResolveFault::NoMemory,
+        }
+    }
 }
