@@ -1,0 +1,7 @@
+pub mod Pieces
+pub mod Runs
+pub mod Reaching
+pub mod Fronts
+pub mod Stepping
+pub mod Opened
+pub mod Printed

@@ -1,0 +1,49 @@
+use Rattle.std.proofs.Common.{rules, ◌≡◌, ◌++◌, List, map, [], ◌∷◌, length, refl, sym, ap, ◌∙◌, subst, append_assoc, append-nil, arith}
+use Rattle.std.proofs.lemmas.List.{map-append}
+use Rattle.std.specs.Vec.Iter.{into_iter_items, into_iter_len}
+use Rattle.ctf_session.specs.Inputs.{Input, input_of}
+use Rattle.ctf_session.specs.Opening.{EachOpens}
+use Rattle.ctf_session.proofs.Opened.{opens_next, all_taken, taken_more}
+use Rattle.ctf_session.proofs.opening.open_streams.Goals as goal
+
+pub loop-name-init : goal.loop-name-init
+loop-name-init g c = record {
+  whole = refl;
+  rest = search rules;
+  opened = λ inputs each. subst (λ (xs : List Input). EachOpens c.args.shift xs c.args.readers.now.items) (sym (append-nil inputs)) each;
+  numbers = sym (append-nil c.args.numbers.now.items);
+}
+
+pub loop-name-preserved : goal.loop-name-preserved
+loop-name-preserved g c =
+    let steps : into_iter_items c.loop-name.name-iterator ≡ (c.in-Some.name, c.in-Some.source) ∷ into_iter_items c.next.new.self = c.in-Some.ensures.steps.0 in
+    record {
+      whole = taken_more c.loop-name.yielded _ _ _ _ c.loop-name.invariant.whole steps;
+      rest =
+          let was = c.loop-name.invariant.rest in
+          let gone = c.in-Some.ensures.steps.1 in
+          let short = ap length steps in
+          omega arith;
+      opened = λ inputs each. rw c.in_ok-push.ensures.items (opens_next c.args.shift inputs _ c.loop-name.yielded (c.in-Some.name, c.in-Some.source) c.loop-name.readers.items c.new.result
+          (c.loop-name.invariant.opened inputs each)
+          (record {
+            told = c.new.ensures.told;
+            name = c.new.ensures.name ∙ c.from_string-name.ensures;
+            tells = c.new.ensures.tells;
+            left = c.new.ensures.left;
+            taken = c.new.ensures.taken;
+            ahead = c.new.ensures.start;
+            on_line = c.new.ensures.on_line;
+          }));
+      numbers = rw (c.in_ok-push-2.ensures.items, c.loop-name.invariant.numbers, append_assoc, map-append) refl;
+    }
+
+pub returns-clause-opened : goal.returns-clause-opened
+returns-clause-opened g c = λ inputs each.
+    let all : c.loop-name.yielded ≡ c.args.streams.items = all_taken c.loop-name.yielded _ _ c.loop-name.invariant.whole (sym c.loop-name.invariant.rest ∙ c.in-None.ensures.steps.0) ∙ c.into_iter-name-iterator.ensures.into_iter_gives.0 in
+    rw (← all) (c.loop-name.invariant.opened inputs each)
+
+pub returns-clause-numbers : goal.returns-clause-numbers
+returns-clause-numbers g c =
+    let all : c.loop-name.yielded ≡ c.args.streams.items = all_taken c.loop-name.yielded _ _ c.loop-name.invariant.whole (sym c.loop-name.invariant.rest ∙ c.in-None.ensures.steps.0) ∙ c.into_iter-name-iterator.ensures.into_iter_gives.0 in
+    rw (← all) c.loop-name.invariant.numbers

@@ -1,0 +1,40 @@
+use Rattle.std.proofs.Common.{ap, refl, ◌∙◌}
+use Rattle.ctf_session.specs.Steps.{Counts}
+use Rattle.ctf_session.proofs.Reaching.{reaches-start, reaches-more, reaches-end}
+use Rattle.ctf_session.proofs.session.print_all.Goals as goal
+
+pub loop-outcome-init : goal.loop-outcome-init
+loop-outcome-init g c = record {
+  open_still = c.requires;
+  tells = λ t. t;
+  out_tells = λ t. t;
+  err_tells = λ t. t;
+  reaches = λ a b d. reaches-start _ _ _;
+  out_failures = refl;
+  out_refusals = refl;
+  err_failures = refl;
+  err_refusals = refl;
+}
+
+pub loop-outcome-preserved : goal.loop-outcome-preserved
+loop-outcome-preserved g c =
+    let before = c.loop-outcome.invariant in
+    let step = c.in-Went.ensures in
+    let counts = step.counts before.open_still in
+    record {
+      open_still = step.ends;
+      tells = λ t. step.tells (before.tells t);
+      out_tells = λ t. step.out_tells (before.out_tells t);
+      err_tells = λ t. step.err_tells (before.err_tells t);
+      reaches = λ a b d. reaches-more _ _ _ _ _ _ _ _ _ (before.reaches a b d) (step.steps (before.tells a) before.open_still (before.out_tells b) (before.err_tells d)) step.setting;
+      out_failures = ap (λ (k : Counts). k.out_failures) counts ∙ before.out_failures;
+      out_refusals = ap (λ (k : Counts). k.out_refusals) counts ∙ before.out_refusals;
+      err_failures = ap (λ (k : Counts). k.err_failures) counts ∙ before.err_failures;
+      err_refusals = ap (λ (k : Counts). k.err_refusals) counts ∙ before.err_refusals;
+    }
+
+pub returns-in-Ended-clause-runs : goal.returns-in-Ended-clause-runs
+returns-in-Ended-clause-runs g c = λ a b d.
+    let before = c.loop-outcome.invariant in
+    let step = c.in-Ended.ensures in
+    reaches-end _ _ _ _ _ _ _ _ _ (step.named before.open_still) (before.reaches a b d) (step.steps (before.tells a) before.open_still (before.out_tells b) (before.err_tells d))

@@ -1,0 +1,21 @@
+use Rattle.std.proofs.Common.{◌≡◌, ◌≤◌, None, IsTrue}
+use Rattle.ctf_session.specs.Steps.{Tells}
+use Rattle.ctf_session.proofs.Reaching.{Reaches}
+use Rattle.ctf_session.proofs.session.print_all.Given as goal
+
+abbrev pub invariant-loop-outcome : goal.invariant-loop-outcome
+invariant-loop-outcome g l = record {
+  open_still : l.session.ended ≡ None;
+  tells : Tells l.initial.session → Tells l.session;
+  out_tells : IsTrue (g.W.Sink.tells l.initial.out) → IsTrue (g.W.Sink.tells l.out);
+  err_tells : IsTrue (g.E.Sink.tells l.initial.err) → IsTrue (g.E.Sink.tells l.err);
+  reaches : Tells l.initial.session → IsTrue (g.W.Sink.tells l.initial.out) → IsTrue (g.E.Sink.tells l.initial.err) → Reaches l.initial.session l.session
+      (record { old_output = g.W.Sink.accepted l.initial.out; new_output = g.W.Sink.accepted l.out; old_messages = g.E.Sink.accepted l.initial.err; new_messages = g.E.Sink.accepted l.err });
+  out_failures : g.W.Sink.failures l.out ≡ g.W.Sink.failures l.initial.out;
+  out_refusals : g.W.Sink.refusals l.out ≡ g.W.Sink.refusals l.initial.out;
+  err_failures : g.E.Sink.failures l.err ≡ g.E.Sink.failures l.initial.err;
+  err_refusals : g.E.Sink.refusals l.err ≡ g.E.Sink.refusals l.initial.err;
+}
+
+abbrev pub decreases-loop-outcome : goal.decreases-loop-outcome
+decreases-loop-outcome g l = l.session.room

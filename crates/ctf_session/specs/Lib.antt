@@ -1,0 +1,9 @@
+pub mod Putting
+pub mod Writing
+pub mod Inputs
+pub mod Opening
+pub mod Answers
+pub mod Steps
+pub mod Endings
+pub mod Printing
+pub mod Sessions

@@ -1,0 +1,174 @@
+-- What a step of a session does, and what a run of steps does.
+use Rattle.std.specs.Prelude.{◌≡◌, ℕ, ℤ, ◌<◌, ◌⊎◌, Bool, true, false, List, [], ◌∷◌, ◌++◌, Option, Some, None, Result, Ok, Err}
+use Rattle.ctf_bits.specs.Count.{one_more}
+use Rattle.ctf_bits.specs.declared.sink.SinkFault.{SinkFault}
+use Rattle.ctf_bits.specs.declared.sink.SinkFault.TheVariants as sink
+use Rattle.ctf_merge.specs.Merged.{Merged, Placed, then, PlacedRise}
+use Rattle.ctf_merge.specs.Merges.{MergedOrRefused, EachTells, IsRefusal}
+use Rattle.ctf_merge.specs.declared.fault.MergeFault.{MergeFault}
+use Rattle.ctf_outcome.specs.Table as table
+use Rattle.ctf_outcome.specs.declared.outcome.Outcome.{Outcome}
+use Rattle.ctf_outcome.specs.declared.outcome.Outcome.TheVariants as outcomes
+use Rattle.ctf_outcome.specs.declared.outcome.RunFault.{RunFault}
+use Rattle.ctf_outcome.specs.declared.outcome.RunFault.TheVariants as faults
+use Rattle.ctf_packet.specs.declared.fault.StreamFault.{StreamFault}
+use Rattle.ctf_packet.specs.declared.fault.StreamFault.TheVariants as streams
+use Rattle.ctf_stamp.specs.declared.trim.Verdict.{Verdict}
+use Rattle.ctf_stamp.specs.declared.trim.Verdict.TheVariants.{Before, Within, After}
+use Rattle.ctf_stream.specs.Reader.{Reader}
+use Rattle.ctf_session.specs.Answers.{Setting, Answer, answer, verdict, is_after, text_of, last_after, fault_texts, outcome_of}
+use Rattle.ctf_session.specs.Writing.{Texts, no_texts, Written, Writes, WritesParts}
+use Rattle.ctf_session.specs.declared.step.Step.{Step}
+use Rattle.ctf_session.specs.declared.step.Step.TheVariants as steps
+
+-- ---- a session
+
+pub record Session : Type 0 where
+  pub readers : List Reader
+  pub setting : Setting
+  -- the items to come up to the cut, and the fault; nothing once it has ended
+  pub coming : Merged
+  -- the time of the last printed event record that has one
+  pub last : Option ℤ
+  -- how it ended, once it has
+  pub ended : Option Outcome
+  -- how many items may still come, of any sources
+  pub room : ℕ
+
+-- each source tells its bytes, and the times of what is to come don't fall
+pub record Tells (s : Session) : Type 0 where
+  pub sources : EachTells s.readers
+  pub rises : PlacedRise None s.coming.items
+
+-- what is to come and how it is shown is the rest of a run
+abbrev pub answer_of : Session → Answer
+answer_of s = answer s.setting s.last s.coming
+
+-- ---- a step
+
+-- what is written for an item: nothing before the beginning
+abbrev pub shown_text : Verdict → Setting → Option ℤ → Placed → Texts
+shown_text Before setting last x = no_texts
+shown_text Within setting last x = text_of setting last x
+shown_text After setting last x = no_texts
+
+abbrev pub last_shown : Verdict → Option ℤ → Placed → Option ℤ
+last_shown Before last x = last
+last_shown Within last x = last_after last x.item
+last_shown After last x = last
+
+-- what is written for the first of what is to come
+abbrev pub next_texts_by : Setting → Option ℤ → List Placed → Option MergeFault → Texts
+next_texts_by setting last [] fault = fault_texts setting fault
+next_texts_by setting last (x ∷ xs) fault = shown_text (verdict setting x) setting last x
+
+abbrev pub next_texts : Session → Texts
+next_texts s = next_texts_by s.setting s.last s.coming.items s.coming.fault
+
+-- One item was taken, none after the end; its line or its message was written, nothing where it stands before the beginning.
+-- What is to come then is the rest, unless a growth was refused.
+pub record Goes (old new : Session) (w : Written) : Type 0 where
+  pub item : Placed
+  pub rest : Merged
+  pub takes : old.coming ≡ then item rest
+  pub not_after : is_after (verdict old.setting item) ≡ false
+  pub wrote : Writes w (shown_text (verdict old.setting item) old.setting old.last item)
+  pub leaves : MergedOrRefused rest new.coming
+  pub last_is : new.last ≡ last_shown (verdict old.setting item) old.last item
+
+-- every item that is left stands after the end
+abbrev pub EachAfter : Setting → List Placed → Type 0
+EachAfter setting [] = Unit {0}
+EachAfter setting (x ∷ xs) = (is_after (verdict setting x) ≡ true) × EachAfter setting xs
+
+-- what is told at the end: the fault, unless an item is left, which then stands after the end
+abbrev pub told_by : List Placed → Option MergeFault → Option MergeFault
+told_by [] fault = fault
+told_by (x ∷ xs) fault = None
+
+-- No item is left but those after the end; where none is left the fault is told.
+pub record Ends (old : Session) (outcome : Outcome) (w : Written) : Type 0 where
+  pub none_left : EachAfter old.setting old.coming.items
+  pub outcome_is : outcome ≡ outcome_of old.setting (told_by old.coming.items old.coming.fault)
+  pub wrote : Writes w (fault_texts old.setting (told_by old.coming.items old.coming.fault))
+
+-- the end, or a first part of what comes next
+abbrev pub EndsBy : Session → Outcome → Written → Type 0
+EndsBy old outcomes.Done w = Ends old outcomes.Done w
+EndsBy old (outcomes.Fault f) w = Ends old (outcomes.Fault f) w
+EndsBy old outcomes.WriteFailed w = WritesParts w (next_texts old)
+EndsBy old outcomes.NoMemory w = WritesParts w (next_texts old)
+
+-- what a step did, by its answer
+abbrev pub Steps : Session → Step → Session → Written → Type 0
+Steps old steps.Went new w = Goes old new w
+Steps old (steps.Ended o) new w = EndsBy old o w
+
+-- an answer that it ended stays
+abbrev pub IsRepeated : Option Outcome → Step → Type 0
+IsRepeated None result = Unit {0}
+IsRepeated (Some o) result = result ≡ steps.Ended o
+
+abbrev pub EndedBy : Step → Option Outcome → Type 0
+EndedBy steps.Went ended = ended ≡ None
+EndedBy (steps.Ended o) ended = ended ≡ Some o
+
+abbrev pub RoomAfter : Step → ℕ → ℕ → Type 0
+RoomAfter steps.Went old new = new < old
+RoomAfter (steps.Ended o) old new = new ≡ old
+
+-- a step that ended took nothing from a source
+abbrev pub ReadersAfter : Step → List Reader → List Reader → Type 0
+ReadersAfter steps.Went old new = Unit {0}
+ReadersAfter (steps.Ended o) old new = new ≡ old
+
+-- ---- the counts of both sinks
+
+pub record Counts : Type 0 where
+  pub out_failures : ℕ
+  pub out_refusals : ℕ
+  pub err_failures : ℕ
+  pub err_refusals : ℕ
+
+abbrev pub FailedOnce : Counts → Counts → Type 0
+FailedOnce old new = (new ≡ record old { out_failures = one_more old.out_failures }) ⊎ (new ≡ record old { err_failures = one_more old.err_failures })
+
+abbrev pub RefusedAtMostOnce : Counts → Counts → Type 0
+RefusedAtMostOnce old new = (new ≡ old) ⊎ ((new ≡ record old { out_refusals = one_more old.out_refusals }) ⊎ (new ≡ record old { err_refusals = one_more old.err_refusals }))
+
+-- no sink failed and none was refused memory, but the one that stopped the call, once
+abbrev pub CountsAfter : Outcome → Counts → Counts → Type 0
+CountsAfter outcomes.Done old new = new ≡ old
+CountsAfter (outcomes.Fault f) old new = new ≡ old
+CountsAfter outcomes.WriteFailed old new = FailedOnce old new
+CountsAfter outcomes.NoMemory old new = RefusedAtMostOnce old new
+
+abbrev pub CountsAfterStep : Step → Counts → Counts → Type 0
+CountsAfterStep steps.Went old new = new ≡ old
+CountsAfterStep (steps.Ended o) old new = CountsAfter o old new
+
+-- ---- want of memory is no fault
+
+abbrev pub IsWant : RunFault → Type 0
+IsWant (faults.Metadata trace fault) = table.is_refusal fault ≡ true
+IsWant (faults.Stream trace fault) = fault ≡ streams.NoMemory
+IsWant faults.NoMemory = Unit {0}
+
+abbrev pub IsNamed : Outcome → Type 0
+IsNamed outcomes.Done = Unit {0}
+IsNamed (outcomes.Fault f) = IsWant f → ⊥
+IsNamed outcomes.WriteFailed = Unit {0}
+IsNamed outcomes.NoMemory = Unit {0}
+
+abbrev pub IsNamedStep : Step → Type 0
+IsNamedStep steps.Went = Unit {0}
+IsNamedStep (steps.Ended o) = IsNamed o
+
+-- ---- a run
+
+-- A run ends with the answer's outcome and wrote its texts, or first parts of them.
+abbrev pub Answered : Answer → Outcome → Written → Type 0
+Answered a outcomes.Done w = (outcomes.Done ≡ a.outcome) × Writes w a.texts
+Answered a (outcomes.Fault f) w = (outcomes.Fault f ≡ a.outcome) × Writes w a.texts
+Answered a outcomes.WriteFailed w = WritesParts w a.texts
+Answered a outcomes.NoMemory w = WritesParts w a.texts

@@ -1,0 +1,67 @@
+//! The item in front of several streams, on its way to two sinks.
+
+ghost use Rattle.std.specs.Prelude.{◌≡◌, ◌⊎◌, [], IfOk, IsTrue, get_or};
+ghost use Rattle.ctf_log.specs.Lines.{line_of};
+ghost use Rattle.ctf_merge.specs.Merged.{item};
+ghost use Rattle.ctf_merge.specs.Merges.{IsNext, first_now, names_of};
+ghost use Rattle.ctf_packet.specs.Classes.{Classes};
+ghost use Rattle.ctf_packet.specs.Items.{Item};
+ghost use Rattle.ctf_session.specs.Answers as answers;
+ghost use Rattle.ctf_session.specs.Printing.{Prints, CountsAfterPrint, stop_in};
+ghost use Rattle.ctf_stream.specs.Ahead as aheads;
+
+use crate::log::Log;
+use crate::printing::{last_after, print, time_of};
+use crate::step::Stop;
+use ctf_bits::{Sink, Source};
+use ctf_log::Printer;
+use ctf_merge::Merge;
+
+/// The time of the item in front, that of the stream of this number, in nanoseconds since the epoch.
+pub(crate) fn front_time<'a, S: Source + Drop>(merge: &Merge<'a, S>, number: usize) -> Option<i64>
+    requires { IsNext merge.now number }
+    ensures { (next : Item Classes) → first_now merge.now ≡ item number next → result ≡ aheads.time_of next }
+{
+    let Some(reader) = merge.reader(number) else {
+        unreachable!()
+    };
+    let Some(item) = reader.head() else {
+        unreachable!()
+    };
+    time_of(&item)
+}
+
+/// Writes the line or the message of the item in front, that of the stream of this number. It gives the time of the last
+/// printed event record then, in nanoseconds since the epoch, or what stopped it.
+pub(crate) fn print_front<'a, S: Source + Drop, W: Log, E: Sink>(
+    merge: &Merge<'a, S>,
+    number: usize,
+    printer: &mut Printer,
+    last: Option<i64>,
+    out: &mut W,
+    err: &mut E,
+) -> Result<Option<i64>, Stop>
+    requires { IsNext merge.now number }
+    ensures prints { IsTrue (W.tells out.old) → IsTrue (E.tells err.old) → (next : Item Classes) → first_now merge.now ≡ item number next
+        → Prints (answers.by_kind next (line_of printer.old.style last (get_or (names_of merge.now.readers) number []) next)) (stop_in result)
+        (record { old_output = W.accepted out.old; new_output = W.accepted out.new; old_messages = E.accepted err.old; new_messages = E.accepted err.new }) }
+    ensures last { (next : Item Classes) → first_now merge.now ≡ item number next → IfOk result (λ l. l ≡ answers.last_after last next) }
+    ensures counts { CountsAfterPrint (stop_in result)
+        (record { out_failures = W.failures out.old; out_refusals = W.refusals out.old; err_failures = E.failures err.old; err_refusals = E.refusals err.old })
+        (record { out_failures = W.failures out.new; out_refusals = W.refusals out.new; err_failures = E.failures err.new; err_refusals = E.refusals err.new }) }
+    ensures settled { (err.new ≡ err.old) ⊎ IsTrue (W.settled out.new) }
+    ensures style { printer.new.style ≡ printer.old.style }
+    ensures out_tells { IsTrue (W.tells out.old) → IsTrue (W.tells out.new) }
+    ensures err_tells { IsTrue (E.tells err.old) → IsTrue (E.tells err.new) }
+{
+    let Some(reader) = merge.reader(number) else {
+        unreachable!()
+    };
+    let Some(item) = reader.head() else {
+        unreachable!()
+    };
+    match print(printer, &item, last, out, err) {
+        None => Ok(last_after(last, &item)),
+        Some(stop) => Err(stop),
+    }
+}

@@ -1,0 +1,20 @@
+//! A run over streams, an item at a time: what a log and its messages are.
+#![tactic(auto)]
+
+mod front;
+mod input;
+mod log;
+mod opening;
+mod printing;
+mod session;
+mod step;
+mod writing;
+
+pub use ctf_merge::MergeFault;
+pub use ctf_outcome::{LoadFault, Outcome, RunFault, io_line};
+pub use input::Streams;
+pub use log::Log;
+pub use printing::say;
+pub use session::{Session, print_all};
+pub use step::{Step, Stop};
+pub use writing::put_all;

@@ -1,0 +1,44 @@
+//! Where the lines of a log go.
+
+ghost use Rattle.std.specs.Prelude.{◌≡◌, Bool, true, IsTrue, OnOk};
+ghost use Rattle.ctf_session.specs.Putting.{failures_put, refusals_put};
+
+use ctf_bits::{DripSink, FailingSink, Sink, SinkFault, VecSink};
+
+/// A sink for the lines of a log. What it accepted it may hold back for a while.
+pub trait Log: Sink {
+    /// Whether nothing is held back.
+    ghost settled: { Self → Bool };
+
+    /// Passes on what is held back. At a fault it failed or was refused memory once more.
+    fn settle(&mut self) -> Result<(), SinkFault>
+        ensures settles { OnOk result (IsTrue (settled self.new)) }
+        ensures stays { IsTrue (Self.tells self.old) → IsTrue (Self.tells self.new) }
+        ensures keeps { IsTrue (Self.tells self.old) → Self.accepted self.new ≡ Self.accepted self.old }
+        ensures failed { Self.failures self.new ≡ failures_put result (Self.failures self.old) }
+        ensures refused { Self.refusals self.new ≡ refusals_put result (Self.refusals self.old) };
+}
+
+impl Log for VecSink {
+    ghost settled = { λ _. true };
+
+    fn settle(&mut self) -> Result<(), SinkFault> {
+        Ok(())
+    }
+}
+
+impl Log for FailingSink {
+    ghost settled = { λ _. true };
+
+    fn settle(&mut self) -> Result<(), SinkFault> {
+        Ok(())
+    }
+}
+
+impl Log for DripSink {
+    ghost settled = { λ _. true };
+
+    fn settle(&mut self) -> Result<(), SinkFault> {
+        Ok(())
+    }
+}

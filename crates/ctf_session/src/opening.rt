@@ -1,0 +1,63 @@
+//! The readers of the streams of several traces.
+
+ghost use Rattle.std.specs.Prelude.{◌≡◌, ◌++◌, List, map, IfOk, OnOk};
+ghost use Rattle.ctf_session.specs.Inputs.{Input, input_of, inputs_from};
+ghost use Rattle.ctf_session.specs.Opening.{EachOpens};
+
+use crate::input::Streams;
+use ctf_bits::Source;
+use ctf_class::TraceClass;
+use ctf_clock::Shift;
+use ctf_list::{NoMemory, Text};
+use ctf_stream::StreamReader;
+use std::alloc::Global;
+
+/// A reader of each stream, and the number of the trace of each.
+pub(crate) fn open_all<'a, S: Source + Drop>(
+    alloc: Global,
+    traces: Vec<Streams<'a, S>>,
+    shift: Shift,
+) -> Result<(Vec<StreamReader<'a, S>>, Vec<usize>), NoMemory>
+    ensures opened { IfOk result (λ r. EachOpens shift (inputs_from (λ s. record { tells = S.tells s; bytes = S.left s; ending = S.ending s }) 0 traces.entry.items) r.0.items) }
+    ensures numbers { IfOk result (λ r. r.1.items ≡ map (λ i. i.trace) (inputs_from (λ s. record { tells = S.tells s; bytes = S.left s; ending = S.ending s }) 0 traces.entry.items)) }
+{
+    let mut readers = Vec::new(alloc);
+    let mut numbers = Vec::new(alloc);
+    let mut number = 0;
+    for trace in traces {
+        let Streams { class, streams } = trace;
+        open_streams(
+            alloc,
+            number,
+            class,
+            streams,
+            shift,
+            &mut readers,
+            &mut numbers,
+        )?;
+        number += 1;
+    }
+    Ok((readers, numbers))
+}
+
+/// A reader more for each stream of a trace, and the number of the trace for each.
+fn open_streams<'a, S: Source + Drop>(
+    alloc: Global,
+    number: usize,
+    class: &'a TraceClass,
+    streams: Vec<(String, S)>,
+    shift: Shift,
+    readers: &mut Vec<StreamReader<'a, S>>,
+    numbers: &mut Vec<usize>,
+) -> Result<(), NoMemory>
+    ensures opened { (inputs : List Input) → EachOpens shift inputs readers.old.items
+        → OnOk result (EachOpens shift (inputs ++ map (input_of (λ s. record { tells = S.tells s; bytes = S.left s; ending = S.ending s }) number class.now) streams.items) readers.new.items) }
+    ensures numbers { OnOk result (numbers.new.items ≡ numbers.old.items ++ map (λ s. number) streams.items) }
+{
+    for (name, source) in streams {
+        let name = Text::from_string(name);
+        readers.push(StreamReader::new(alloc, class, name, source, shift))?;
+        numbers.push(number)?;
+    }
+    Ok(())
+}

@@ -1,0 +1,103 @@
+//! The texts of a step, on their way to two sinks.
+
+ghost use Rattle.std.specs.Prelude.{◌≡◌, ◌⊎◌, ℕ, ℤ, [], List, IsTrue, Option};
+ghost use Rattle.ctf_class.specs.declared.trace.TraceClass.{TraceClass};
+ghost use Rattle.ctf_log.specs.Lines.{line_of};
+ghost use Rattle.ctf_stream.specs.Ahead as aheads;
+ghost use Rattle.ctf_stream.specs.Shown.{item_of, IsOf};
+ghost use Rattle.ctf_session.specs.Answers as answers;
+ghost use Rattle.ctf_session.specs.Printing.{Prints, CountsAfterPrint};
+ghost use Rattle.ctf_session.specs.Printing as printing;
+
+use crate::log::Log;
+use crate::step::Stop;
+use crate::writing::put_all;
+use ctf_bits::{Sink, SinkFault};
+use ctf_log::Printer;
+use ctf_stream::Item;
+
+/// The time of an item, in nanoseconds since the epoch, where its stream has a clock.
+pub(crate) fn time_of(item: &Item<'_>) -> Option<i64>
+    ensures { (end length : ℕ) → result ≡ aheads.time_of (item_of item.now end length) }
+{
+    let moment = match item {
+        Item::Event(event) => event.moment,
+        Item::Discarded(gap) => gap.moment,
+        Item::Lost(gap) => gap.moment,
+    };
+    match moment {
+        None => None,
+        Some(moment) => Some(moment.time),
+    }
+}
+
+/// The time of the last printed event record behind this item, in nanoseconds since the epoch.
+pub(crate) fn last_after(last: Option<i64>, item: &Item<'_>) -> Option<i64>
+    ensures { (end length : ℕ) → result ≡ answers.last_after last (item_of item.now end length) }
+{
+    match item {
+        Item::Event(event) => match event.moment {
+            None => last,
+            Some(moment) => Some(moment.time),
+        },
+        Item::Discarded(_gap) => last,
+        Item::Lost(_gap) => last,
+    }
+}
+
+/// Writes the line of an event record to the one sink, or a message to the other. It answers what stopped it.
+pub(crate) fn print<W: Log, E: Sink>(
+    printer: &mut Printer,
+    item: &Item<'_>,
+    last: Option<i64>,
+    out: &mut W,
+    err: &mut E,
+) -> Option<Stop>
+    ensures prints { IsTrue (W.tells out.old) → IsTrue (E.tells err.old) → (trace : TraceClass) (name : List ℕ) (end length : ℕ) → IsOf trace name item.now
+        → Prints (answers.by_kind (item_of item.now end length) (line_of printer.old.style last name (item_of item.now end length))) result
+        (record { old_output = W.accepted out.old; new_output = W.accepted out.new; old_messages = E.accepted err.old; new_messages = E.accepted err.new }) }
+    ensures counts { CountsAfterPrint result
+        (record { out_failures = W.failures out.old; out_refusals = W.refusals out.old; err_failures = E.failures err.old; err_refusals = E.refusals err.old })
+        (record { out_failures = W.failures out.new; out_refusals = W.refusals out.new; err_failures = E.failures err.new; err_refusals = E.refusals err.new }) }
+    ensures settled { (err.new ≡ err.old) ⊎ IsTrue (W.settled out.new) }
+    ensures style { printer.new.style ≡ printer.old.style }
+    ensures out_tells { IsTrue (W.tells out.old) → IsTrue (W.tells out.new) }
+    ensures err_tells { IsTrue (E.tells err.old) → IsTrue (E.tells err.new) }
+{
+    match printer.print(item, last) {
+        Ok(()) => match item {
+            Item::Event(_event) => stop_of(put_all(out, printer.text())),
+            Item::Discarded(_gap) => say(printer.text(), out, err),
+            Item::Lost(_gap) => say(printer.text(), out, err),
+        },
+        Err(_refused) => Some(Stop::NoMemory),
+    }
+}
+
+/// Writes a message behind the whole log. It answers what stopped it.
+pub fn say<W: Log, E: Sink>(text: &[u8], out: &mut W, err: &mut E) -> Option<Stop>
+    ensures prints { IsTrue (W.tells out.old) → IsTrue (E.tells err.old) → Prints (record { output = []; messages = text.now }) result
+        (record { old_output = W.accepted out.old; new_output = W.accepted out.new; old_messages = E.accepted err.old; new_messages = E.accepted err.new }) }
+    ensures counts { CountsAfterPrint result
+        (record { out_failures = W.failures out.old; out_refusals = W.refusals out.old; err_failures = E.failures err.old; err_refusals = E.refusals err.old })
+        (record { out_failures = W.failures out.new; out_refusals = W.refusals out.new; err_failures = E.failures err.new; err_refusals = E.refusals err.new }) }
+    ensures settled { (err.new ≡ err.old) ⊎ IsTrue (W.settled out.new) }
+    ensures out_tells { IsTrue (W.tells out.old) → IsTrue (W.tells out.new) }
+    ensures err_tells { IsTrue (E.tells err.old) → IsTrue (E.tells err.new) }
+{
+    match out.settle() {
+        Ok(()) => stop_of(put_all(err, text)),
+        Err(fault) => stop_of(Err(fault)),
+    }
+}
+
+/// What a put stops.
+fn stop_of(put: Result<(), SinkFault>) -> Option<Stop>
+    ensures { result ≡ printing.stop_of put }
+{
+    match put {
+        Ok(()) => None,
+        Err(SinkFault::Failed) => Some(Stop::WriteFailed),
+        Err(SinkFault::NoMemory) => Some(Stop::NoMemory),
+    }
+}

@@ -1,0 +1,270 @@
+//! A run, a step at a time, over two sinks.
+
+ghost use Rattle.std.specs.Prelude.{◌≡◌, ◌⊎◌, [], ℕ, IsTrue, IfOk, Some, None, map, length, MatchOption, slice_get, get_or};
+ghost use Rattle.ctf_merge.specs.Merged.{merged};
+ghost use Rattle.ctf_merge.specs.Merges.{MergedOrRefused, EachTells, EachOnLine, EachAllTaken, given_of};
+ghost use Rattle.ctf_session.specs.Inputs.{inputs_from, run_in, AllTell};
+ghost use Rattle.ctf_session.specs.Endings as endings;
+ghost use Rattle.ctf_session.specs.Printing.{TellsFault};
+ghost use Rattle.ctf_session.specs.Steps.{answer_of, Tells, Steps, IsRepeated, EndedBy, CountsAfterStep, CountsAfter, IsNamedStep, IsNamed, Answered, RoomAfter, ReadersAfter, EndsBy};
+
+use crate::front::{front_time, print_front};
+use crate::input::Streams;
+use crate::log::Log;
+use crate::opening::open_all;
+use crate::printing::say;
+use crate::step::{Ending, Step, Stop};
+use ctf_bits::{Sink, Source};
+use ctf_list::NoMemory;
+use ctf_log::Printer;
+use ctf_merge::{Merge, MergeFault};
+use ctf_options::Options;
+use ctf_outcome::{Outcome, stream_line};
+use ctf_packet::StreamFault;
+use ctf_stamp::{Trim, Verdict};
+use ctf_stream::StreamReader;
+use std::alloc::Global;
+use std::marker::Model;
+
+/// Streams on their way to two sinks. It is seen as what is still to come.
+#[derive(Drop)]
+pub struct Session<'a, S: Source + Drop> {
+    alloc: Global,
+    merge: Merge<'a, S>,
+    /// The number of the trace of each stream.
+    traces: Vec<usize>,
+    trim: Trim,
+    printer: Printer,
+    /// The time of the last printed event record that has one, in nanoseconds since the epoch.
+    last: Option<i64>,
+    ended: Option<Ending>,
+}
+
+impl<'a, S: Source + Drop> Model for Session<'a, S> {
+    ghost use Rattle.ctf_session.specs.Steps.{Session};
+    ghost use Rattle.ctf_session.specs.Endings.{ended_by};
+    ghost use Rattle.ctf_session.specs.Sessions.{left_by};
+    ghost use Rattle.ctf_merge.specs.Merges.{coming_of, names_of, room_of};
+
+    ghost Value = { Session };
+
+    ghost use Rattle.ctf_class.specs.contracts.class.Kind as kinds;
+    ghost use Rattle.ctf_stream.specs.Codes.{coded_val};
+    ghost use Rattle.std.specs.Coded.{codes};
+
+    ghost coded = { Prim.hlevel (codes, kinds.the_row.coded, coded_val) };
+
+    ghost view = { λ s. record {
+      readers = s.merge.readers;
+      setting = record { trim = s.trim; style = s.printer.style; traces = s.traces.items; names = names_of s.merge.readers };
+      coming = left_by (ended_by s.ended) (coming_of s.merge);
+      last = s.last;
+      ended = ended_by s.ended;
+      room = room_of s.merge.readers;
+    } };
+}
+
+impl<'a, S: Source + Drop> Session<'a, S> {
+    /// Fetches the first item of each stream. What is to come is the merged list of the items of all streams up to
+    /// the cut, as the options ask for it. Streams are numbered by trace, and then in their order.
+    pub fn new(
+        alloc: Global,
+        traces: Vec<Streams<'a, S>>,
+        options: &Options,
+    ) -> Result<Session<'a, S>, NoMemory>
+        ensures told { let inputs = inputs_from (λ s. record { tells = S.tells s; bytes = S.left s; ending = S.ending s }) 0 traces.entry.items in
+            AllTell inputs → IfOk result (λ s. MergedOrRefused (merged (map (run_in options.now.shift) inputs)) s.coming) }
+        ensures setting { let inputs = inputs_from (λ s. record { tells = S.tells s; bytes = S.left s; ending = S.ending s }) 0 traces.entry.items in
+            IfOk result (λ s. s.setting ≡ record { trim = options.now.trim; style = options.now.style; traces = map (λ i. i.trace) inputs; names = map (λ i. i.name) inputs }) }
+        ensures begins { IfOk result (λ s. s.last ≡ None) }
+        ensures open { IfOk result (λ s. s.ended ≡ None) }
+
+        // The bytes taken are those that the sources gave, and no more than the items in front need.
+        ensures tells { AllTell (inputs_from (λ s. record { tells = S.tells s; bytes = S.left s; ending = S.ending s }) 0 traces.entry.items) → IfOk result (λ s. Tells s) }
+        ensures counted { let inputs = inputs_from (λ s. record { tells = S.tells s; bytes = S.left s; ending = S.ending s }) 0 traces.entry.items in
+            AllTell inputs → IfOk result (λ s. given_of s.readers ≡ map (λ i. length i.given.bytes) inputs) }
+        ensures on_line { IfOk result (λ s. EachOnLine s.readers) }
+        ensures all_taken { AllTell (inputs_from (λ s. record { tells = S.tells s; bytes = S.left s; ending = S.ending s }) 0 traces.entry.items) → IfOk result (λ s. EachAllTaken s.readers) }
+    {
+        let (readers, numbers) = open_all(alloc, traces, options.shift)?;
+        let merge = Merge::new(alloc, readers)?;
+        Ok(Session {
+            alloc,
+            merge,
+            traces: numbers,
+            trim: options.trim,
+            printer: Printer::new(alloc, options.style),
+            last: None,
+            ended: None,
+        })
+    }
+
+    /// Writes the line or the message of the next item, nothing for one before the beginning; or tells how the run
+    /// ends.
+    pub fn step<W: Log, E: Sink>(&mut self, out: &mut W, err: &mut E) -> Step
+        // One item and its text, or the end and the fault's line, or a first part of what comes next.
+        ensures steps { Tells self.old → self.old.ended ≡ None → IsTrue (W.tells out.old) → IsTrue (E.tells err.old) → Steps self.old result self.new
+            (record { old_output = W.accepted out.old; new_output = W.accepted out.new; old_messages = E.accepted err.old; new_messages = E.accepted err.new }) }
+        ensures setting { self.new.setting ≡ self.old.setting }
+
+        // An answer that it ended stays, and then nothing is written.
+        ensures repeated { IsRepeated self.old.ended result }
+        ensures untouched { (o : Outcome) → self.old.ended ≡ Some o → (self.new ≡ self.old) × ((out.new ≡ out.old) × (err.new ≡ err.old)) }
+        ensures ends { EndedBy result self.new.ended }
+
+        // No sink failed or was refused memory but the one that stopped the step, once.
+        ensures counts { self.old.ended ≡ None → CountsAfterStep result
+            (record { out_failures = W.failures out.old; out_refusals = W.refusals out.old; err_failures = E.failures err.old; err_refusals = E.refusals err.old })
+            (record { out_failures = W.failures out.new; out_refusals = W.refusals out.new; err_failures = E.failures err.new; err_refusals = E.refusals err.new }) }
+        ensures named { self.old.ended ≡ None → IsNamedStep result }
+
+        // No message is written while lines are held back.
+        ensures settled { (err.new ≡ err.old) ⊎ IsTrue (W.settled out.new) }
+
+        // Of any sources: a step that went took room; one that ended took nothing from a source.
+        ensures room { RoomAfter result self.old.room self.new.room }
+        ensures readers { ReadersAfter result self.old.readers self.new.readers }
+
+        // The bytes taken are those that the sources gave, and no more than the items in front need.
+        ensures tells { Tells self.old → Tells self.new }
+        ensures counted { EachTells self.old.readers → given_of self.new.readers ≡ given_of self.old.readers }
+        ensures on_line { EachOnLine self.old.readers → EachOnLine self.new.readers }
+        ensures all_taken { EachTells self.old.readers → EachAllTaken self.old.readers → EachAllTaken self.new.readers }
+        ensures out_tells { IsTrue (W.tells out.old) → IsTrue (W.tells out.new) }
+        ensures err_tells { IsTrue (E.tells err.old) → IsTrue (E.tells err.new) }
+    {
+        if let Some(ending) = self.ended {
+            return Step::Ended(ending.outcome());
+        }
+        let Some(number) = self.merge.next_stream() else {
+            let ending = self.end(out, err);
+            self.ended = Some(ending);
+            return Step::Ended(ending.outcome());
+        };
+        match self.trim.judge(front_time(&self.merge, number)) {
+            Verdict::After => {
+                self.ended = Some(Ending::Done);
+                Step::Ended(Outcome::Done)
+            }
+            Verdict::Before => {
+                self.merge.go_on();
+                Step::Went
+            }
+            Verdict::Within => {
+                let printer = &mut self.printer;
+                match print_front(&self.merge, number, printer, self.last, out, err) {
+                    Ok(last) => {
+                        self.last = last;
+                        self.merge.go_on();
+                        Step::Went
+                    }
+                    Err(stop) => {
+                        self.ended = Some(Ending::Stopped(stop));
+                        Step::Ended(stop.outcome())
+                    }
+                }
+            }
+        }
+    }
+
+    /// Tells how the run ends where no item comes: its fault's line, if there is one.
+    fn end<W: Log, E: Sink>(&self, out: &mut W, err: &mut E) -> Ending
+        ensures ends { EachTells self.now.readers → self.now.ended ≡ None → self.now.coming.items ≡ [] → IsTrue (W.tells out.old) → IsTrue (E.tells err.old) → EndsBy self.now (endings.outcome_of result)
+            (record { old_output = W.accepted out.old; new_output = W.accepted out.new; old_messages = E.accepted err.old; new_messages = E.accepted err.new }) }
+        ensures counts { CountsAfter (endings.outcome_of result)
+            (record { out_failures = W.failures out.old; out_refusals = W.refusals out.old; err_failures = E.failures err.old; err_refusals = E.refusals err.old })
+            (record { out_failures = W.failures out.new; out_refusals = W.refusals out.new; err_failures = E.failures err.new; err_refusals = E.refusals err.new }) }
+        ensures named { IsNamed (endings.outcome_of result) }
+        ensures settled { (err.new ≡ err.old) ⊎ IsTrue (W.settled out.new) }
+        ensures out_tells { IsTrue (W.tells out.old) → IsTrue (W.tells out.new) }
+        ensures err_tells { IsTrue (E.tells err.old) → IsTrue (E.tells err.new) }
+    {
+        match self.merge.fault() {
+            None => Ending::Done,
+            Some(MergeFault::NoMemory) => Ending::Stopped(Stop::NoMemory),
+            Some(MergeFault::Stream { number, fault }) => self.tell(number, fault, out, err),
+        }
+    }
+
+    /// Writes the line of a stream's fault. Want of memory has none.
+    fn tell<W: Log, E: Sink>(
+        &self,
+        number: usize,
+        fault: StreamFault,
+        out: &mut W,
+        err: &mut E,
+    ) -> Ending
+        ensures told { IsTrue (W.tells out.old) → IsTrue (E.tells err.old) → TellsFault self.now.setting number fault (endings.outcome_of result)
+            (record { old_output = W.accepted out.old; new_output = W.accepted out.new; old_messages = E.accepted err.old; new_messages = E.accepted err.new }) }
+        ensures counts { CountsAfter (endings.outcome_of result)
+            (record { out_failures = W.failures out.old; out_refusals = W.refusals out.old; err_failures = E.failures err.old; err_refusals = E.refusals err.old })
+            (record { out_failures = W.failures out.new; out_refusals = W.refusals out.new; err_failures = E.failures err.new; err_refusals = E.refusals err.new }) }
+        ensures named { IsNamed (endings.outcome_of result) }
+        ensures settled { (err.new ≡ err.old) ⊎ IsTrue (W.settled out.new) }
+        ensures out_tells { IsTrue (W.tells out.old) → IsTrue (W.tells out.new) }
+        ensures err_tells { IsTrue (E.tells err.old) → IsTrue (E.tells err.new) }
+    {
+        if let StreamFault::NoMemory = fault {
+            return Ending::Stopped(Stop::NoMemory);
+        }
+        match stream_line(self.alloc, fault, self.name(number)) {
+            Ok(text) => match say(&text, out, err) {
+                None => Ending::Fault(self.trace(number), fault),
+                Some(stop) => Ending::Stopped(stop),
+            },
+            Err(_refused) => Ending::Stopped(Stop::NoMemory),
+        }
+    }
+
+    /// The name of a stream.
+    fn name(&self, number: usize) -> &str
+        ensures { result.now ≡ get_or self.now.setting.names number [] }
+    {
+        match self.merge.reader(number) {
+            Some(reader) => reader.name(),
+            None => "",
+        }
+    }
+
+    /// The number of the trace of a stream.
+    fn trace(&self, number: usize) -> usize
+        ensures { result ≡ get_or self.now.setting.traces number 0 }
+    {
+        match self.traces.get(number) {
+            Some(trace) => *trace,
+            None => 0,
+        }
+    }
+
+    /// The reader of one stream. No memory is taken.
+    pub fn reader(&self, number: usize) -> Option<&StreamReader<'a, S>>
+        ensures { MatchOption result (slice_get self.now.readers number ≡ None) (λ r. slice_get self.now.readers number ≡ Some r.now) }
+    {
+        self.merge.reader(number)
+    }
+}
+
+/// Steps until the session ends.
+pub fn print_all<'a, S: Source + Drop, W: Log, E: Sink>(
+    session: &mut Session<'a, S>,
+    out: &mut W,
+    err: &mut E,
+) -> Outcome
+    requires { session.old.ended ≡ None }
+    ensures runs { Tells session.old → IsTrue (W.tells out.old) → IsTrue (E.tells err.old) → Answered (answer_of session.old) result
+        (record { old_output = W.accepted out.old; new_output = W.accepted out.new; old_messages = E.accepted err.old; new_messages = E.accepted err.new }) }
+    ensures counts { CountsAfter result
+        (record { out_failures = W.failures out.old; out_refusals = W.refusals out.old; err_failures = E.failures err.old; err_refusals = E.refusals err.old })
+        (record { out_failures = W.failures out.new; out_refusals = W.refusals out.new; err_failures = E.failures err.new; err_refusals = E.refusals err.new }) }
+    ensures named { IsNamed result }
+    ensures ends { session.new.ended ≡ Some result }
+    ensures out_tells { IsTrue (W.tells out.old) → IsTrue (W.tells out.new) }
+    ensures err_tells { IsTrue (E.tells err.old) → IsTrue (E.tells err.new) }
+{
+    loop {
+        match session.step(out, err) {
+            Step::Went => {}
+            Step::Ended(outcome) => return outcome,
+        }
+    }
+}
