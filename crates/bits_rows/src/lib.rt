@@ -1,10 +1,8 @@
-//! Tests of numbers, owners, sources and sinks. It is a crate of its own because a crate with tests is proved twice.
+//! Tests of numbers, sources and sinks. It is a crate of its own because a crate with tests is proved twice.
 #![tactic(auto)]
 
 #[cfg(test)]
 mod numbers;
-#[cfg(test)]
-mod owners;
 #[cfg(test)]
 mod sinks;
 #[cfg(test)]
