@@ -1,6 +1,7 @@
 //! The trace class of metadata.
 #![tactic(auto)]
 
+pub mod laws;
 mod loading;
 
 pub use ctf_outcome::LoadFault;

@@ -9,3 +9,4 @@ pub mod Complete
 pub mod Classes
 pub mod Members
 pub mod Earlier
+pub mod Named

@@ -3,6 +3,7 @@ use Rattle.std.specs.Prelude.{◌≡◌, ◌⊎◌, ◌≤◌, List, [], ◌∷�
 use Rattle.tsdl_tree.specs.declared.tree.Tree.{Tree}
 use Rattle.ctf_class.specs.declared.trace.TraceClass.{TraceClass}
 use Rattle.ctf_meaning.specs.declared.fault.ResolveFault.{ResolveFault}
+use Rattle.ctf_meaning.specs.declared.fault.ResolveFault.TheVariants.{NoMemory}
 use Rattle.ctf_meaning.specs.Name.{Name}
 use Rattle.ctf_meaning.specs.Written.{Declaration, Form, items_of, body_of}
 use Rattle.ctf_meaning.specs.Parts.{Located, located_from, class_of}
@@ -24,6 +25,10 @@ NeverBoth = (tree : Tree) (t : TraceClass) (fault : ResolveFault) → Denotes tr
 -- A text denotes a trace class, or a fault of it is told.
 abbrev pub ClassOrFault : Type 0
 ClassOrFault = (tree : Tree) → ((t : TraceClass) × Denotes tree t) ⊎ ((fault : ResolveFault) × Faulty tree fault)
+
+-- A fault that is told is one of a rule: want of memory is none.
+abbrev pub FaultsAreNamed : Type 0
+FaultsAreNamed = (tree : Tree) → Faulty tree NoMemory → ⊥
 
 -- What stands before a part decides what the part means: each of these is the same by the entries of the parts before it
 -- and by all entries of the text. What a name means where the part stands:

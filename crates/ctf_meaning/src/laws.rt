@@ -1,6 +1,6 @@
 //! What holds of the meaning of every text. Each function does nothing; what it ensures is a law.
 
-ghost use Rattle.ctf_meaning.specs.Laws.{OneClass, NeverBoth, ClassOrFault, NamesReadEarlier, ClassesReadEarlier, FaultsReadEarlier, EachHasShape, KeepsMembers, DepthBounded};
+ghost use Rattle.ctf_meaning.specs.Laws.{OneClass, NeverBoth, ClassOrFault, FaultsAreNamed, NamesReadEarlier, ClassesReadEarlier, FaultsReadEarlier, EachHasShape, KeepsMembers, DepthBounded};
 
 /// A text denotes one trace class at the most.
 pub fn one_class()
@@ -15,6 +15,11 @@ pub fn never_both()
 /// A text denotes a trace class, or a fault of it is told.
 pub fn class_or_fault()
     ensures { ClassOrFault }
+{}
+
+/// A fault that is told is one of a rule: want of memory is none.
+pub fn faults_are_named()
+    ensures { FaultsAreNamed }
 {}
 
 /// What a name means at a part depends on what stands before the part alone.

@@ -1,5 +1,5 @@
 -- What is refused is spelled by no tree, what is spelled is spelled by one, and typenames are whole runs of typewords.
-use Rattle.std.proofs.Common.{◌≡◌, ℕ, suc, inl, inr, false, List, ◌∷◌, ◌++◌, length, Result, Ok, Err, refl, subst, arith}
+use Rattle.std.proofs.Common.{◌≡◌, ℕ, suc, inl, inr, false, List, ◌∷◌, ◌++◌, ◌⊎◌, length, Result, Ok, Err, refl, subst, arith}
 use Rattle.tsdl_text.specs.declared.token.Token.{Token}
 use Rattle.tsdl_text.specs.Symbols.{is_typeword}
 use Rattle.tsdl_tree.specs.declared.tree.Declarator.{Declarator}
@@ -8,6 +8,7 @@ use Rattle.tsdl_tree.specs.declared.tree.Typename.{Typename}
 use Rattle.tsdl_grammar.specs.Terminals.{IsIdentifier}
 use Rattle.tsdl_grammar.specs.Repeats.{Listed}
 use Rattle.tsdl_grammar.specs.Grammar.{IsTypename, IsDeclarator}
+use Rattle.tsdl_grammar.specs.Nesting.{NestsDeeper, TreeOrNot}
 use Rattle.tsdl_grammar.specs.Spelling.{Spells, IsUnspelled, OneTree, WholeRun, run}
 use Rattle.tsdl_grammar.specs.Steps.{Refusal, bad, deep}
 use Rattle.tsdl_grammar.specs.Reading.{tree_at}
@@ -15,7 +16,7 @@ use Rattle.tsdl_grammar.proofs.ComesTools.{Comes}
 use Rattle.tsdl_grammar.proofs.CompleteParts.{run_behind}
 use Rattle.tsdl_grammar.proofs.CompleteCompounds.{declarators_run}
 use Rattle.tsdl_grammar.proofs.CompleteBlocks.{tree_comes}
-use Rattle.tsdl_grammar.proofs.LawsSound.{never_deep}
+use Rattle.tsdl_grammar.proofs.LawsSound.{never_deep, read_is_spelled, deep_is_deeper}
 
 not_bad : {A : Type 0} (r : Result A Refusal) (x : A) → Comes r x → r ≡ Err bad → ⊥
 not_bad r x h e = elim h.comes [ inl p ↦ cc | inr p ↦ cc ]
@@ -58,3 +59,13 @@ whole_run = record {
   alone = λ name ts e rest p h. run_alone p e rest h;
   before_declarator = λ name ts ds n us e rest p l i. (first_is l n us refl, run_before p _ (declarators_run l e rest i));
 }
+
+-- ---- a tree or none
+
+read_or_not : (limit : ℕ) (ts : List Token) (r : Result Tree Refusal) → tree_at limit ts ≡ r → ((tree : Tree) × Spells tree ts × (NestsDeeper limit ts → ⊥)) ⊎ (IsUnspelled ts ⊎ NestsDeeper limit ts)
+read_or_not limit ts (Ok tree) e = let read = read_is_spelled limit ts tree e in inl (tree, read.0, read.1)
+read_or_not limit ts (Err bad) e = inr (inl (bad_is_unspelled limit ts e))
+read_or_not limit ts (Err deep) e = inr (inr (deep_is_deeper limit ts e))
+
+pub tree_or_not : TreeOrNot
+tree_or_not limit ts = read_or_not limit ts (tree_at limit ts) refl

@@ -1,5 +1,6 @@
 //! What holds of the grammar, whatever the text.
 
+ghost use Rattle.tsdl_grammar.specs.Nesting.{TreeOrNot};
 ghost use Rattle.tsdl_grammar.specs.Spelling.{OneTree, WholeRun};
 
 /// No list of tokens is spelled by two trees.
@@ -11,4 +12,9 @@ pub fn one_tree()
 /// is the declarator's name.
 pub fn whole_run()
     ensures { WholeRun }
+{}
+
+/// Under any limit of nesting, tokens spell a tree, or none, or nest deeper.
+pub fn tree_or_not()
+    ensures { TreeOrNot }
 {}

@@ -1,0 +1,4 @@
+pub mod Laws
+pub mod Loaded
+pub mod Told
+pub mod Traces
