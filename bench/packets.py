@@ -1,6 +1,6 @@
 #!/usr/bin/env python3
-"""Writes a trace of one stream of COUNT packets of SIZE bytes each, in the manner of LTTng, and prints what
-`bench_stream` prints of it: packets.py COUNT SIZE FOLDER."""
+"""Writes a trace of STREAMS streams, one where the number is left out, of COUNT packets of SIZE bytes each, in the manner
+of LTTng, and prints what `bench_stream` prints of it: packets.py COUNT SIZE FOLDER [STREAMS]."""
 
 import pathlib
 import random
@@ -89,8 +89,8 @@ def fields(rng: random.Random, number: int) -> bytes:
 class Block:
     """Events of short stamps, but each fiftieth. A block differs from the one before by the whole stamps alone."""
 
-    def __init__(self, room: int) -> None:
-        rng = random.Random(1)
+    def __init__(self, room: int, seed: int) -> None:
+        rng = random.Random(seed)
         self.data = bytearray()
         self.stamps: list[int] = []
         self.whole: list[tuple[int, int]] = []
@@ -118,30 +118,36 @@ class Block:
         return bytes(self.data)
 
 
-def main(count: int, size: int, folder: str) -> None:
-    to = pathlib.Path(folder)
-    to.mkdir(parents=True, exist_ok=True)
-    (to / "metadata").write_text(METADATA)
-    block = Block(size - HEAD)
+def write_stream(path: pathlib.Path, number: int, count: int, size: int) -> tuple[int, int]:
+    """Writes the stream of a number, and gives how many events it has and their sum."""
+    block = Block(size - HEAD, number + 1)
     blocks = (size - HEAD) // len(block.data)
     used = HEAD + blocks * len(block.data)
     cycles = 0
     total = 0
-    with open(to / "s0", "wb") as file:
-        for number in range(count):
+    with open(path, "wb") as file:
+        for packet in range(count):
             last = cycles + (blocks - 1) * CYCLES_OF_A_BLOCK
             begin, end = cycles + block.stamps[0], last + block.stamps[-1]
-            file.write(struct.pack("<IIQQQQQQI", 0xC1FC1FC1, 0, begin, end, 8 * used, 8 * size, number, 0, 0))
+            file.write(struct.pack("<IIQQQQQQI", 0xC1FC1FC1, 0, begin, end, 8 * used, 8 * size, packet, 0, number))
             for _ in range(blocks):
                 file.write(block.at(cycles))
                 total += block.classes + sum(block.stamps) + cycles * len(block.stamps)
                 cycles += CYCLES_OF_A_BLOCK
             file.write(bytes(size - used))
-    print(f"events {count * blocks * len(block.stamps)}")
+    return count * blocks * len(block.stamps), total
+
+
+def main(count: int, size: int, folder: str, streams: int = 1) -> None:
+    to = pathlib.Path(folder)
+    to.mkdir(parents=True, exist_ok=True)
+    (to / "metadata").write_text(METADATA)
+    written = [write_stream(to / f"s{number}", number, count, size) for number in range(streams)]
+    print(f"events {sum(events for events, _ in written)}")
     print("discarded 0")
     print("lost 0")
-    print(f"sum {total % (1 << 64)}")
+    print(f"sum {sum(total for _, total in written) % (1 << 64)}")
 
 
 if __name__ == "__main__":
-    main(int(sys.argv[1]), int(sys.argv[2]), sys.argv[3])
+    main(int(sys.argv[1]), int(sys.argv[2]), sys.argv[3], *map(int, sys.argv[4:]))
