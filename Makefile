@@ -1,7 +1,7 @@
 # What a user and a developer call. Everything needs the toolchain's command, rt.
 PREFIX ?= /usr/local
 PROGRAM = crates/bt_ctf/out/bt_ctf
-TRACE ?= examples/tick
+TRACE ?= examples/lttng-ust
 
 .PHONY: run test install fmt
 
@@ -13,11 +13,13 @@ run:
 test:
 	rt ci
 
-# Proves and builds the program, and puts it in place.
+# Proves and builds the program, and puts it in place with its manual page.
 install:
-	cd crates/bt_ctf && rt run -- $(abspath $(TRACE)) > /dev/null
-	install -d $(DESTDIR)$(PREFIX)/bin
-	install -m 755 $(PROGRAM) $(DESTDIR)$(PREFIX)/bin/bt-ctf
+	@cd crates/bt_ctf && rt run -- $(abspath $(TRACE)) > /dev/null
+	@install -d $(DESTDIR)$(PREFIX)/bin $(DESTDIR)$(PREFIX)/share/man/man1
+	@install -m 755 $(PROGRAM) $(DESTDIR)$(PREFIX)/bin/bt-ctf
+	@install -m 644 docs/bt-ctf.1 $(DESTDIR)$(PREFIX)/share/man/man1/bt-ctf.1
+	@echo installed $(DESTDIR)$(PREFIX)/bin/bt-ctf
 
 # Lays out the sources.
 fmt:

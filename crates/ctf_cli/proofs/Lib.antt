@@ -1,10 +1,3 @@
-pub mod Described
-pub mod Events
-pub mod Lines
-pub mod OneAnswer
-pub mod Outcomes
-pub mod Phrases
-pub mod Pieces
-pub mod Scans
-pub mod Searches
-pub mod Streams
+pub mod Endings
+pub mod Names
+pub mod Opened

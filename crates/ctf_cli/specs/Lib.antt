@@ -1,11 +1,4 @@
-pub mod Tokens
-pub mod Scanning
-pub mod Description
-pub mod Parsing
-pub mod Laws
-pub mod Line
-pub mod Texts
-pub mod Outcome
-pub mod Reading
-pub mod Stops
-pub mod Arguments
+pub mod Ends
+pub mod Files
+pub mod LogWriters
+pub mod Traces

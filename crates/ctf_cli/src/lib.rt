@@ -1,18 +1,22 @@
-//! Prints the events of a trace: from the bytes of a metadata text and of a stream to printed lines.
+//! The program, over any folders and any sinks: words of a command line, traces in folders, a log and messages.
 #![tactic(auto)]
 
-mod arguments;
-mod fault;
-pub mod laws;
-mod line;
-mod message;
-mod metadata;
-mod reading;
-mod session;
-mod token;
-mod writing;
+mod disk;
+mod folders;
+mod log_writer;
+mod opening;
+mod printing;
+mod runtime;
 
-pub use arguments::{Options, Usage, options_of};
-pub use fault::{Outcome, RunFault};
-pub use message::io_line;
-pub use session::run;
+pub use ctf_options::{Options, Usage, options_of, stream_names};
+pub use ctf_run::{
+    LoadFault, Log, MergeFault, Outcome, RunFault, Session, Step, Streams, Trace, io_line, load,
+    run,
+};
+pub use ctf_stamp::{ClockStyle, Style, Trim, Zone};
+pub use disk::{Disk, DiskStream};
+pub use folders::{FolderFault, Folders};
+pub use log_writer::LogWriter;
+pub use opening::{Stop, open_traces};
+pub use printing::program;
+pub use runtime::start;

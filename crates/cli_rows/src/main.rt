@@ -1,0 +1,61 @@
+//! Runs the program over made-up files, and prints what it writes to the log and to its messages, and its status.
+//!
+//! In `data/`, `files` is a table of files, and `rows` one of command lines; in both a line that begins with `#` is a
+//! comment. A file is `PATH KIND CONTENT`: `text` and its text, `bytes` and its bytes in hexadecimal (`-` for none),
+//! `closed` where it can't be read or listed, `other` where it is no file. A command line is `HELD OUT ERR WORD ..`: how
+//! many bytes of the log are held back, after how many bytes the log and the messages fail once (`-`: never), and the
+//! words, of which `''` is the empty one. What is printed is written down in `stdout`, from the layout of lines.
+#![tactic(auto)]
+
+mod device;
+mod files;
+mod row;
+
+use anyhow::{Result, bail};
+use ctf_bits::ToWrite;
+use ctf_cli::{LogWriter, program};
+use device::Device;
+use files::{Files, files_of};
+use row::{Row, row_of};
+use std::alloc::Global;
+use std::{env, fs};
+
+fn main(rt: HostRuntime) -> Result<()> {
+    let mut words = env::args(&rt)?.skip(1);
+    let (Some(files), Some(rows)) = (words.next(), words.next()) else {
+        bail!("usage: cli_rows FILES ROWS");
+    };
+    let files = fs::read_to_string(&rt, files.as_str())?;
+    let files = files_of(rt.alloc(), &files)?;
+    let rows = fs::read_to_string(&rt, rows.as_str())?;
+    for line in rows.lines() {
+        if line.is_empty() || line.starts_with('#') {
+            continue;
+        }
+        println!(rt; "$ {line}")?;
+        let row = row_of(rt.alloc(), line)?;
+        print_run(&rt, &files, row)?;
+    }
+    Ok(())
+}
+
+/// Runs the program for a row, and prints what it wrote.
+fn print_run<R: Print + AllocGlobal>(rt: &R, files: &Files<'_>, row: Row) -> Result<()> {
+    let alloc: Global = rt.alloc();
+    let mut log = LogWriter::new(alloc, row.held, Device::new(alloc, row.out))?;
+    let mut messages = ToWrite::new(Device::new(alloc, row.err));
+    let status = program(alloc, &row.words, &files, &mut log, &mut messages);
+    print_lines(rt, "out", &log.close())?;
+    print_lines(rt, "err", &messages.into_inner())?;
+    println!(rt; "status {status}")?;
+    Ok(())
+}
+
+/// Prints the lines that a device took, each behind a mark.
+fn print_lines<R: Print + AllocGlobal>(rt: &R, mark: &str, device: &Device) -> Result<()> {
+    let text = String::from_utf8_lossy(rt.alloc(), device.bytes())?;
+    for line in text.as_str().lines() {
+        println!(rt; "{mark}: {line}")?;
+    }
+    Ok(())
+}

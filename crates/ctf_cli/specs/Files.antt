@@ -1,0 +1,38 @@
+-- What folders hold, and what reading them gives (own).
+use Rattle.std.specs.Prelude.{ℕ, Bool, List, Option, Some, None}
+use Rattle.ctf_bits.specs.declared.source.Ending.{Ending}
+use Rattle.ctf_session.specs.Inputs.{Given}
+use Rattle.ctf_cli.specs.declared.folders.FolderFault.{FolderFault}
+use Rattle.ctf_cli.specs.declared.folders.FolderFault.TheVariants.{Unreadable, NoMemory}
+
+-- what stands at a path, for one who looks for a stream: no file that is not empty, or one that can't be opened, or a stream
+pub data Found : Type 0 where
+  nothing : Found
+  closed : Found
+  stream : Given → Found
+
+-- what folders hold, by path
+pub record Files : Type 0 where
+  -- the names of the entries of a folder; none where it can't be listed
+  pub names : List ℕ → Option (List (List ℕ))
+  -- the bytes of a file; none where it can't be opened or read
+  pub bytes : List ℕ → Option (List ℕ)
+  pub found : List ℕ → Found
+
+-- a fault stands where something can't be read, and want of memory anywhere
+abbrev pub IsFault : Type 0 → FolderFault → Type 0
+IsFault blocked Unreadable = blocked
+IsFault blocked NoMemory = Unit {0}
+
+-- what a source gives, by what is known of it
+abbrev pub given_by : {S : Type 0} → (S → Bool) → (S → List ℕ) → (S → Ending) → S → Given
+given_by tells left ending s = record { tells = tells s; bytes = left s; ending = ending s }
+
+-- an open stream, or none
+abbrev pub found_of : {S : Type 0} → (S → Given) → Option S → Found
+found_of given None = nothing
+found_of given (Some s) = stream (given s)
+
+-- what the files of a system are said to hold: nothing is said of it
+abbrev pub untold : Files
+untold = record { names = λ dir. None; bytes = λ path. None; found = λ path. nothing }

@@ -1,0 +1,22 @@
+-- What a log in front of a writer holds.
+use Rattle.std.specs.Prelude.{ℕ, List, Bool, true, false, [], ◌∷◌}
+use Rattle.std.specs.Io.Buffered.{writer_buffer}
+use Rattle.std.specs.declared.alloc.Global.{Global}
+use Rattle.std.specs.declared.io.BufWriter.{BufWriter}
+use Rattle.ctf_cli.specs.declared.log_writer.LogWriter.{LogWriter}
+
+-- its buffered writer
+abbrev pub writer_of : {O : Type 0} → LogWriter O → BufWriter O Global
+writer_of log = log.writer
+
+-- how often it failed
+abbrev pub failures_of : {O : Type 0} → LogWriter O → ℕ
+failures_of log = log.failures
+
+abbrev pub is_empty : List ℕ → Bool
+is_empty [] = true
+is_empty (byte ∷ bytes) = false
+
+-- nothing is held back
+abbrev pub is_settled : {O : Type 0} → LogWriter O → Bool
+is_settled log = is_empty (writer_buffer log.writer)
