@@ -26,8 +26,9 @@ pub fn program<F: Folders, W: Log, E: Sink>(
 ) -> u8
     // What was written, and the status, are those of the traces in the folders, of the first path that cannot be read, or
     // of the words.
-    ensures ends { IsTrue (F.tells folders.now) → IsTrue (W.tells out.old) → IsTrue (E.tells err.old) → ends.Ends (map string_bytes words.now) (F.holds folders.now)
-        (record { out = ends.side_of W.accepted W.settled W.failures W.refusals out.old; err = ends.plain_side_of E.accepted E.failures E.refusals err.old }) (record { out = ends.side_of W.accepted W.settled W.failures W.refusals out.new; err = ends.plain_side_of E.accepted E.failures E.refusals err.new }) result }
+    ensures ends { let log = ends.side_of W.accepted W.settled W.failures W.refusals in let messages = ends.plain_side_of E.accepted E.failures E.refusals in
+        IsTrue (F.tells folders.now) → IsTrue (W.tells out.old) → IsTrue (E.tells err.old) → ends.Ends (map string_bytes words.now) (F.holds folders.now)
+        (record { out = log out.old; err = messages err.old }) (record { out = log out.new; err = messages err.new }) result }
 
     // Of any folders and sinks: on success no write of the log failed, and nothing of it is held back.
     ensures unfailing { result ≡ 0 → W.failures out.new ≡ W.failures out.old }
@@ -50,8 +51,9 @@ fn print<F: Folders, W: Log, E: Sink>(
     out: &mut W,
     err: &mut E,
 ) -> u8
-    ensures ends { IsTrue (F.tells folders.now) → IsTrue (W.tells out.old) → IsTrue (E.tells err.old) → ends.EndsFor options.now (F.holds folders.now)
-        (record { out = ends.side_of W.accepted W.settled W.failures W.refusals out.old; err = ends.plain_side_of E.accepted E.failures E.refusals err.old }) (record { out = ends.side_of W.accepted W.settled W.failures W.refusals out.new; err = ends.plain_side_of E.accepted E.failures E.refusals err.new }) result }
+    ensures ends { let log = ends.side_of W.accepted W.settled W.failures W.refusals in let messages = ends.plain_side_of E.accepted E.failures E.refusals in
+        IsTrue (F.tells folders.now) → IsTrue (W.tells out.old) → IsTrue (E.tells err.old) → ends.EndsFor options.now (F.holds folders.now)
+        (record { out = log out.old; err = messages err.old }) (record { out = log out.new; err = messages err.new }) result }
     ensures unfailing { result ≡ 0 → W.failures out.new ≡ W.failures out.old }
     ensures settled { result ≡ 0 → IsTrue (W.settled out.new) }
     ensures status { (result ≡ 0) ⊎ (result ≡ 1) }
@@ -68,7 +70,8 @@ fn print<F: Folders, W: Log, E: Sink>(
 
 /// Prints how the program is used.
 fn help<W: Log, E: Sink>(out: &mut W, err: &mut E) -> u8
-    ensures helps { IsTrue (W.tells out.old) → IsTrue (E.tells err.old) → ends.Helps (record { out = ends.side_of W.accepted W.settled W.failures W.refusals out.old; err = ends.plain_side_of E.accepted E.failures E.refusals err.old }) (record { out = ends.side_of W.accepted W.settled W.failures W.refusals out.new; err = ends.plain_side_of E.accepted E.failures E.refusals err.new }) result }
+    ensures helps { let log = ends.side_of W.accepted W.settled W.failures W.refusals in let messages = ends.plain_side_of E.accepted E.failures E.refusals in
+        IsTrue (W.tells out.old) → IsTrue (E.tells err.old) → ends.Helps (record { out = log out.old; err = messages err.old }) (record { out = log out.new; err = messages err.new }) result }
     ensures unfailing { result ≡ 0 → W.failures out.new ≡ W.failures out.old }
     ensures settled { result ≡ 0 → IsTrue (W.settled out.new) }
     ensures status { (result ≡ 0) ⊎ (result ≡ 1) }
