@@ -38,6 +38,12 @@ def run(words: list[str], library: pathlib.Path, number: int) -> tuple[int, byte
     return done.returncode, done.stdout, done.stderr
 
 
+def is_cut(whole: bytes, messages: bytes) -> bool:
+    """Whether messages are a first part of the whole ones, and then the line of O2."""
+    line = b"ERROR: O2: no memory\n"
+    return messages.endswith(line) and whole.startswith(messages[: -len(line)])
+
+
 def main(words: list[str]) -> int:
     with tempfile.TemporaryDirectory() as folder:
         source = pathlib.Path(folder) / "refuse.c"
@@ -54,7 +60,7 @@ def main(words: list[str]) -> int:
                 continue
             untouched = 0
             refused += 1
-            if status != 1 or not whole[1].startswith(output) or not messages.endswith(b"ERROR: O2: no memory\n"):
+            if status != 1 or not whole[1].startswith(output) or not is_cut(whole[2], messages):
                 print(f"growth {number}: status {status}, {messages!r}")
                 return 1
     print(f"{refused} growths refused")

@@ -4,10 +4,12 @@
 //! comment. A file is `PATH KIND CONTENT`: `text` and its text, `bytes` and its bytes in hexadecimal (`-` for none),
 //! `closed` where it can't be read or listed, `other` where it is no file. A command line is `HELD OUT ERR WORD ..`: how
 //! many bytes of the log are held back, after how many bytes the log and the messages fail once (`-`: never), and the
-//! words, of which `''` is the empty one. What is printed is written down in `stdout`, from the layout of lines.
+//! words, of which `''` is the empty one. `disk WORD ..` is a command line over the folders of `data/` itself, and
+//! `read BEFORE PATH` reads a file there that is opened behind so many others. What is printed is written down in `stdout`, from the layout of lines.
 #![tactic(auto)]
 
 mod device;
+mod disk;
 mod files;
 mod row;
 
@@ -15,6 +17,7 @@ use anyhow::{Result, bail};
 use ctf_bits::ToWrite;
 use ctf_cli::{LogWriter, program};
 use device::Device;
+use disk::{print_disk, print_file};
 use files::{Files, files_of};
 use row::{Row, row_of};
 use std::alloc::Global;
@@ -33,8 +36,14 @@ fn main(rt: HostRuntime) -> Result<()> {
             continue;
         }
         println!(rt; "$ {line}")?;
-        let row = row_of(rt.alloc(), line)?;
-        print_run(&rt, &files, row)?;
+        if let Some(words) = line.strip_prefix("disk ") {
+            print_disk(&rt, words)?;
+        } else if let Some(file) = line.strip_prefix("read ") {
+            print_file(&rt, file)?;
+        } else {
+            let row = row_of(rt.alloc(), line)?;
+            print_run(&rt, &files, row)?;
+        }
     }
     Ok(())
 }

@@ -1,7 +1,5 @@
 //! Rows of the table of command lines.
 
-ghost use Rattle.std.specs.Prelude.{◌<◌, IfOk};
-
 use anyhow::{Result, bail};
 use std::alloc::Global;
 
@@ -49,22 +47,8 @@ fn number_of(part: Option<&str>) -> Result<Option<usize>> {
 
 /// The bytes that a word of hexadecimal digits names; none of `-`.
 pub fn bytes_of(alloc: Global, word: &str) -> Result<Vec<u8>> {
-    let mut bytes = Vec::new(alloc);
-    if word == "-" {
-        return Ok(bytes);
-    }
-    for pair in word.as_bytes().chunks_exact(2) {
-        bytes.push(digit(pair[0])? * 16 + digit(pair[1])?)?;
-    }
-    Ok(bytes)
-}
-
-fn digit(byte: u8) -> Result<u8>
-    ensures { IfOk result (λ digit. digit < 16) }
-{
-    match byte {
-        b'0'..=b'9' => Ok(byte - b'0'),
-        b'A'..=b'F' => Ok(byte - b'A' + 10),
-        _ => bail!("no digit"),
+    match word {
+        "-" => Ok(Vec::new(alloc)),
+        digits => Ok(hex::decode(alloc, digits)?),
     }
 }

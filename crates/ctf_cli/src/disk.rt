@@ -81,12 +81,20 @@ impl<'a, R: Files + AllocGlobal + Clone + Drop> Folders for Disk<'a, R> {
     }
 }
 
-/// Whether a path leads to a file that is not empty. A link to nothing leads to none.
+/// Whether a path leads to a regular file that is not empty. A link to nothing, or to itself, leads to none.
 fn is_stream<R: Files>(rt: &R, path: &str) -> io::Result<bool> {
     match fs::metadata(rt, path) {
         Ok(found) => Ok(found.is_file() && found.len() > 0),
-        Err(error) if error.kind() == ErrorKind::NotFound => Ok(false),
+        Err(error) if leads_nowhere(error.kind()) => Ok(false),
         Err(error) => Err(error),
+    }
+}
+
+/// Whether this is told of a link that leads to no file.
+fn leads_nowhere(kind: ErrorKind) -> bool {
+    match kind {
+        ErrorKind::NotFound | ErrorKind::NotADirectory | ErrorKind::FilesystemLoop => true,
+        _ => false,
     }
 }
 

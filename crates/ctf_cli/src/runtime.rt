@@ -1,5 +1,7 @@
 //! The program over a runtime.
 
+ghost use Rattle.std.specs.Prelude.{◌≡◌, ◌⊎◌};
+
 use crate::disk::Disk;
 use crate::log_writer::LogWriter;
 use crate::printing::{program, say};
@@ -18,6 +20,7 @@ where
     R: Env + Files + AllocGlobal + Clone + Drop,
     O: Write + Drop,
     E: Write + Drop,
+    ensures status { (result ≡ 0) ⊎ (result ≡ 1) }
 {
     let mut messages = ToWrite::new(err);
     let words = match words(rt) {

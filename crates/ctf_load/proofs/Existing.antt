@@ -12,6 +12,7 @@ use Rattle.ctf_outcome.specs.Table.{is_refusal, is_resolve_refusal}
 use Rattle.ctf_outcome.specs.declared.load.LoadFault.{LoadFault}
 use Rattle.ctf_outcome.specs.declared.load.LoadFault.TheVariants as load
 use Rattle.tsdl_grammar.proofs.LawsComplete.{tree_or_not}
+use Rattle.tsdl_grammar.specs.Nesting.{NestsDeeper}
 use Rattle.tsdl_grammar.specs.Spelling.{Spells, last_line}
 use Rattle.tsdl_parse.specs.declared.fault.SyntaxFault.TheVariants as syntax
 use Rattle.tsdl_parse.specs.declared.metadata.TheConstants.{BRACE_LIMIT}
@@ -73,11 +74,11 @@ told_by_rule tree resolve.TooDeep told = refl
 told_by_rule tree resolve.NoMemory told = absurd (faults_are_named tree told)
 
 module _ (bytes text : List ℕ) (is_text : MetaText bytes text) where
-  by_tree : (tokens : List Token) → HasTokens bytes text tokens → (tree : Tree) → Spells tree tokens → Answered bytes
-  by_tree tokens has tree spelled =
+  by_tree : (tokens : List Token) → HasTokens bytes text tokens → (tree : Tree) → Spells tree tokens → (NestsDeeper BRACE_LIMIT tokens → ⊥) → Answered bytes
+  by_tree tokens has tree spelled shallow =
       ⊎_elim
-      (λ c. inl (c.0, (text, (tokens, (tree, record { has_tokens = has; spelled = spelled }, c.1)))))
-      (λ f. inr (load.Meaning f.0, (text, (tokens, (tree, record { has_tokens = has; spelled = spelled }, inr f.1))), told_by_rule tree f.0 f.1))
+      (λ c. inl (c.0, (text, (tokens, (tree, record { has_tokens = has; spelled = spelled; shallow = shallow }, c.1)))))
+      (λ f. inr (load.Meaning f.0, (text, (tokens, (tree, record { has_tokens = has; spelled = spelled; shallow = shallow }, inr f.1))), told_by_rule tree f.0 f.1))
       (class_or_fault tree)
 
   by_tokens : (ls : List Lexeme) → Lexes text ls → Answered bytes
@@ -86,7 +87,7 @@ module _ (bytes text : List ℕ) (is_text : MetaText bytes text) where
       let has : HasTokens bytes text tokens = record { is_text = is_text; lexes = subst (Lexes text) (sym (same_lexemes ls)) lexes } in
       let from : FromOne ls = subst FromOne (sym lexes.tokens_are) (from_one [] lexes.pieces) in
       ⊎_elim
-      (λ spelled. by_tree tokens has spelled.0 spelled.1)
+      (λ spelled. by_tree tokens has spelled.0 spelled.1 spelled.2)
       (λ refused. ⊎_elim
       (λ none. inr (load.Syntax (syntax.Syntax (last_line tokens)), (text, (tokens, has, (none, last_from_one ls from, omega arith))), refl))
       (λ deeper. inr (load.Syntax syntax.TooDeep, (text, (tokens, has, deeper)), refl))

@@ -3,7 +3,9 @@ use Rattle.std.specs.Prelude.{◌≡◌, ◌⊎◌, ℕ, List, map}
 use Rattle.ctf_class.specs.declared.trace.TraceClass.{TraceClass}
 use Rattle.ctf_meaning.specs.Denotes.{Denotes, Faulty}
 use Rattle.ctf_meaning.specs.declared.fault.ResolveFault.TheVariants as resolve
+use Rattle.tsdl_grammar.specs.Nesting.{NestsDeeper}
 use Rattle.tsdl_grammar.specs.Spelling.{Spells}
+use Rattle.tsdl_parse.specs.declared.metadata.TheConstants.{BRACE_LIMIT}
 use Rattle.tsdl_parse.specs.Fault.{IsCause}
 use Rattle.tsdl_text.specs.Packets.{MetaText, MetaRefused}
 use Rattle.tsdl_text.specs.Tokens.{lexeme, Lexes, TokensRefused}
@@ -17,10 +19,11 @@ pub record HasTokens (bytes text : List ℕ) (tokens : List Token) : Type 0 wher
   pub is_text : MetaText bytes text
   pub lexes : Lexes text (map lexeme tokens)
 
--- they spell this tree
+-- they spell this tree, and their braces nest no deeper than the limit
 pub record HasTree (bytes text : List ℕ) (tokens : List Token) (tree : Tree) : Type 0 where
   pub has_tokens : HasTokens bytes text tokens
   pub spelled : Spells tree tokens
+  pub shallow : NestsDeeper BRACE_LIMIT tokens → ⊥
 
 -- the trace class that metadata denotes
 abbrev pub Describes : List ℕ → TraceClass → Type 0

@@ -61,24 +61,8 @@ fn style_of(alloc: Global, word: &str) -> Result<Style> {
 
 /// The bytes that a word of hexadecimal digits names; none of `-`.
 fn bytes_of(alloc: Global, word: &str) -> Result<Vec<u8>> {
-    let mut bytes = Vec::new(alloc);
-    if word == "-" {
-        return Ok(bytes);
-    }
-    for pair in word.as_bytes().chunks_exact(2) {
-        bytes.push(digit(pair[0])? * 16 + digit(pair[1])?)?;
-    }
-    Ok(bytes)
-}
-
-ghost use Rattle.std.specs.Prelude.{◌<◌, IfOk};
-
-fn digit(byte: u8) -> Result<u8>
-    ensures { IfOk result (λ digit. digit < 16) }
-{
-    match byte {
-        b'0'..=b'9' => Ok(byte - b'0'),
-        b'A'..=b'F' => Ok(byte - b'A' + 10),
-        _ => bail!("no digit"),
+    match word {
+        "-" => Ok(Vec::new(alloc)),
+        digits => Ok(hex::decode(alloc, digits)?),
     }
 }

@@ -1,7 +1,5 @@
 //! The bytes of metadata and of streams.
 
-ghost use Rattle.std.specs.Prelude.{◌<◌, IfOk};
-
 use anyhow::{Result, bail};
 use std::alloc::Global;
 use std::fs;
@@ -61,22 +59,8 @@ fn changed(alloc: Global, bytes: &[u8], change: &str) -> Result<Vec<u8>> {
 
 /// The bytes that hexadecimal digits name; none of `-`.
 fn decoded(alloc: Global, digits: &str) -> Result<Vec<u8>> {
-    let mut bytes = Vec::new(alloc);
-    if digits == "-" {
-        return Ok(bytes);
-    }
-    for pair in digits.as_bytes().chunks_exact(2) {
-        bytes.push(digit(pair[0])? * 16 + digit(pair[1])?)?;
-    }
-    Ok(bytes)
-}
-
-fn digit(byte: u8) -> Result<u8>
-    ensures { IfOk result (λ digit. digit < 16) }
-{
-    match byte {
-        b'0'..=b'9' => Ok(byte - b'0'),
-        b'A'..=b'F' => Ok(byte - b'A' + 10),
-        _ => bail!("no digit"),
+    match digits {
+        "-" => Ok(Vec::new(alloc)),
+        digits => Ok(hex::decode(alloc, digits)?),
     }
 }

@@ -22,7 +22,7 @@ mod step;
 mod steps;
 
 use anyhow::{Result, bail};
-use ctf_load::load;
+use ctf_run::load;
 use row::row_of;
 use std::rt::Files;
 use std::{env, fs};
