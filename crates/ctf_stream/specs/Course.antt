@@ -4,6 +4,8 @@ use Rattle.ctf_bits.specs.declared.source.Ending.{Ending}
 use Rattle.ctf_decode.specs.Known.{Known}
 use Rattle.ctf_packet.specs.Classes.{Classes, TraceForm, trace_form}
 use Rattle.ctf_packet.specs.Items.{Run, stops, before, from_bytes}
+use Rattle.ctf_packet.specs.Scopes.{Values}
+use Rattle.ctf_packet.specs.Views.{values_of, packet_values}
 use Rattle.ctf_packet.specs.declared.fault.StreamFault.{StreamFault}
 use Rattle.ctf_stream.specs.Coming.{opened_in, left_in, item_in, room_in}
 use Rattle.ctf_stream.specs.Fetching.{OrNoMemory, behind_packet, FetchedAt}
@@ -11,6 +13,7 @@ use Rattle.ctf_stream.specs.declared.cut.CutPoint.{CutPoint}
 use Rattle.ctf_stream.specs.declared.packet.Packet.{Packet}
 use Rattle.ctf_stream.specs.declared.packet.Front.{Front}
 use Rattle.ctf_stream.specs.declared.course.Course.{Course}
+use Rattle.ctf_text.specs.Lines.{packet_part}
 
 abbrev pub trace_of : CutPoint → TraceForm Classes
 trace_of cut = trace_form cut.shift cut.trace.now
@@ -48,6 +51,15 @@ StandsAt cut bytes taken (Some p) = Inside cut bytes taken p
 
 abbrev pub Stands : Course → Type 0
 Stands c = StandsAt c.cut c.buffer c.taken c.packet
+
+-- the text that the lines of a packet's event records share, of a packet with these values
+abbrev pub IsPartOf : Values → List ℕ → Option Packet → Type 0
+IsPartOf values text None = Unit {0}
+IsPartOf values text (Some p) = text ≡ packet_part p.opened.stream.now.packet_context values.packet_context
+
+-- that of the packet at hand was made
+abbrev pub HasPart : Course → Type 0
+HasPart c = IsPartOf (packet_values (values_of c.scopes)) c.part c.packet
 
 abbrev pub room_within : Option Packet → ℕ
 room_within None = 0

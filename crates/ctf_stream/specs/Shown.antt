@@ -1,6 +1,7 @@
 -- Items by reference, as those that they are.
-use Rattle.std.specs.Prelude.{◌≡◌, ℕ, List, Option, Some, None}
+use Rattle.std.specs.Prelude.{◌≡◌, ℕ, List, Option, Some, None, IfSome, option_copied, option_map}
 use Rattle.ctf_class.specs.declared.trace.TraceClass.{TraceClass}
+use Rattle.ctf_decode.specs.Views.{val}
 use Rattle.ctf_packet.specs.Classes.{Classes}
 use Rattle.ctf_packet.specs.Views.{values_of}
 use Rattle.ctf_packet.specs.Items as items
@@ -9,6 +10,7 @@ use Rattle.ctf_stream.specs.declared.item.Event.{Event}
 use Rattle.ctf_stream.specs.declared.item.Gap.{Gap}
 use Rattle.ctf_stream.specs.declared.item.Item.{Item}
 use Rattle.ctf_stream.specs.declared.item.Item.TheVariants as shown
+use Rattle.ctf_text.specs.Lines.{packet_part}
 
 -- an event record, whose packet ends at a byte of the stream and has so many
 abbrev pub event_of : Event → ℕ → ℕ → items.Event Classes
@@ -23,9 +25,13 @@ item_of (shown.Event e) end length = items.event (event_of e end length)
 item_of (shown.Discarded g) end length = items.discarded (gap_of g end length)
 item_of (shown.Lost g) end length = items.lost (gap_of g end length)
 
--- it has this trace class, or this name of its stream
+-- its text of the part that the lines of its packet's event records share, if there is one, is right
+abbrev pub HasPart : Event → Type 0
+HasPart e = IfSome (option_copied e.part) (λ text. text ≡ packet_part e.stream.now.packet_context (option_map val e.scopes.now.packet_context))
+
+-- it has this trace class and the text of its packet, or this name of its stream
 abbrev pub IsOf : TraceClass → List ℕ → Item → Type 0
-IsOf trace name (shown.Event e) = e.trace.now ≡ trace
+IsOf trace name (shown.Event e) = (e.trace.now ≡ trace) × HasPart e
 IsOf trace name (shown.Discarded g) = g.name.now ≡ name
 IsOf trace name (shown.Lost g) = g.name.now ≡ name
 

@@ -10,13 +10,15 @@ ghost use Rattle.ctf_stream.specs.Coming.{TakesRoom};
 ghost use Rattle.ctf_stream.specs.Shown.{Shows};
 ghost use Rattle.ctf_stream.specs.Standing.{item_at};
 ghost use Rattle.ctf_stream.specs.Fetching.{longest_bytes};
-ghost use Rattle.ctf_stream.specs.Course.{coming_of, most_taken, Stands, room_of, StepsWithin, Enters, EntersRoom, Advances, IsOfPacket};
+ghost use Rattle.ctf_stream.specs.Course.{coming_of, most_taken, Stands, room_of, StepsWithin, Enters, EntersRoom, Advances, IsOfPacket, HasPart};
 
 use crate::buffer::Buffer;
 use crate::cut::CutPoint;
 use crate::item::{Event, Gap, Item};
 use crate::packet::{Front, Packet};
+use crate::part::PacketPart;
 use ctf_bits::Source;
+use ctf_class::Scope;
 use ctf_decode::Scopes;
 use ctf_packet::{OpenPacket, Reached, Spares, StreamFault};
 use std::alloc::Global;
@@ -31,6 +33,8 @@ pub(crate) struct Course<'a> {
     pub(crate) buffer: Buffer,
     /// The values of the packet at hand, and of the event record in front, if one stands there.
     pub(crate) scopes: Scopes,
+    /// What the lines of its event records share.
+    pub(crate) part: PacketPart,
     /// Memory for the next event records.
     spares: Spares,
     /// How many bytes were taken from the source.
@@ -50,6 +54,7 @@ impl<'a> Course<'a> {
             packet: None,
             buffer: Buffer::new(alloc),
             scopes: Scopes::new(),
+            part: PacketPart::new(alloc),
             spares: Spares::new(alloc),
             taken: cut.at,
         }
@@ -65,6 +70,7 @@ impl<'a> Course<'a> {
         self.packet = None;
         self.buffer = Buffer::new(alloc);
         self.scopes = Scopes::new();
+        self.part = PacketPart::new(alloc);
         self.spares = Spares::new(alloc);
     }
 
@@ -76,13 +82,15 @@ impl<'a> Course<'a> {
         alloc: Global,
         source: &mut S,
     ) -> Result<Option<Front<'a>>, StreamFault>
-        requires { Stands self.old }
+        requires stands { Stands self.old }
+        requires part { HasPart self.old }
         ensures tells { IsTrue (S.tells source.old) → IsTrue (S.tells source.new) }
         ensures same_end { IsTrue (S.tells source.old) → S.ending source.new ≡ S.ending source.old }
         ensures advances { let ending = S.ending source.old in
             IsTrue (S.tells source.old) → Advances (coming_of ending (S.left source.old) self.old) (coming_of ending (S.left source.new) self.new) self.new.cut self.new.scopes self.new.packet (S.left source.new) result }
         ensures counted { IsTrue (S.tells source.old) → self.new.taken + length (S.left source.new) ≡ self.old.taken + length (S.left source.old) }
         ensures stands { OnOk result (Stands self.new) }
+        ensures part { OnOk result (HasPart self.new) }
         ensures found { IfOk result (IsOfPacket self.new.packet) }
         ensures trace { self.new.cut.trace ≡ self.old.cut.trace }
         ensures room { TakesRoom (room_of self.old) (room_of self.new) result }
@@ -115,6 +123,7 @@ impl<'a> Course<'a> {
             IsTrue (S.tells source.old) → Enters (coming_of ending (S.left source.old) self.old) (coming_of ending (S.left source.new) self.new) self.new.cut (S.left source.new) result }
         ensures counted { IsTrue (S.tells source.old) → self.new.taken + length (S.left source.new) ≡ self.old.taken + length (S.left source.old) }
         ensures stands { OnOk result (Stands self.new) }
+        ensures part { OnOk result (HasPart self.new) }
         ensures none { IfOk result (λ found. found ≡ false → self.new.packet ≡ None) }
         ensures room { EntersRoom (room_of self.old) (room_of self.new) result }
         ensures cut { self.new.cut ≡ self.old.cut }
@@ -130,6 +139,11 @@ impl<'a> Course<'a> {
             Err(fault) => Err(fault),
             Ok(None) => Ok(false),
             Ok(Some(opened)) => {
+                let context = self.scopes.get(Scope::PacketContext);
+                match self.part.make(opened.stream.packet_context(), context) {
+                    Err(_) => return Err(StreamFault::NoMemory),
+                    Ok(()) => {}
+                }
                 self.packet = Some(Packet {
                     lost: opened.lost,
                     dropped: opened.dropped,
@@ -144,9 +158,11 @@ impl<'a> Course<'a> {
 
     /// The next item of the packet at hand. `None` where there is none, and the packet is left then.
     fn step_within(&mut self, alloc: Global) -> Result<Option<Front<'a>>, StreamFault>
-        requires { Stands self.old }
+        requires stands { Stands self.old }
+        requires part { HasPart self.old }
         ensures steps { (ending : Ending) (left : List ℕ) → StepsWithin (coming_of ending left self.old) (coming_of ending left self.new) self.new.cut self.new.scopes self.new.packet result }
         ensures stands { OnOk result (Stands self.new) }
+        ensures part { OnOk result (HasPart self.new) }
         ensures taken { self.new.taken ≡ self.old.taken }
         ensures room { TakesRoom (room_of self.old) (room_of self.new) result }
         ensures cut { OnErr result (self.new.cut ≡ self.old.cut) }
@@ -175,6 +191,7 @@ impl<'a> Course<'a> {
 
     /// The item in front, of the packet at hand. `name` is the stream's.
     pub(crate) fn item<'r>(&'r self, front: &'r Front<'a>, name: &'r str) -> Option<Item<'r>>
+        requires { HasPart self.now }
         ensures { Shows self.now.cut.trace.now name.now (item_at self.now self.now.packet front.now) result }
     {
         let packet = match &self.packet {
@@ -189,6 +206,7 @@ impl<'a> Course<'a> {
                 class: record.event,
                 moment: record.clock,
                 scopes: &self.scopes,
+                part: Some(self.part.as_slice()),
             })),
             Front::Discarded(count) => Some(Item::Discarded(Gap {
                 count: *count,

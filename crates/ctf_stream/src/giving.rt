@@ -33,6 +33,7 @@ impl<'a> Course<'a> {
         ensures packet { self.new.packet ≡ self.old.packet }
         ensures buffer { self.new.buffer ≡ self.old.buffer }
         ensures taken { self.new.taken ≡ self.old.taken }
+        ensures part { self.new.part ≡ self.old.part }
         ensures values { packet_values (values_of self.new.scopes) ≡ packet_values (values_of self.old.scopes) }
     {
         let packet = match &self.packet {

@@ -27,6 +27,8 @@ pub struct Event<'r> {
     pub moment: Option<Moment>,
     /// The values of its scopes.
     pub scopes: &'r Scopes,
+    /// The text that the lines of its packet's event records share, where it was made.
+    pub part: Option<&'r [u8]>,
 }
 
 /// What a tracer did not write before a packet.

@@ -10,6 +10,7 @@ mod giving;
 mod item;
 mod owned;
 mod packet;
+mod part;
 mod reader;
 
 pub use ahead::Ahead;

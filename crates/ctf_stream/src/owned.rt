@@ -1,6 +1,6 @@
 //! Items of a stream by value.
 
-ghost use Rattle.std.specs.Prelude.{◌≡◌, ℕ, List, option_copied, option_map};
+ghost use Rattle.std.specs.Prelude.{◌≡◌, ℕ, List, None, option_copied, option_map};
 ghost use Rattle.ctf_class.specs.declared.trace.TraceClass.{TraceClass};
 ghost use Rattle.ctf_decode.specs.Known.{value_at};
 ghost use Rattle.ctf_stream.specs.Shown as shown;
@@ -71,6 +71,7 @@ impl<'a> OwnedEvent<'a> {
         ensures class { result.class.now ≡ self.now.class.now }
         ensures moment { result.moment ≡ self.now.moment }
         ensures scopes { result.scopes.now ≡ self.now.scopes }
+        ensures part { result.part ≡ None }
     {
         Event {
             trace: self.trace,
@@ -78,6 +79,7 @@ impl<'a> OwnedEvent<'a> {
             class: self.class,
             moment: self.moment,
             scopes: &self.scopes,
+            part: None,
         }
     }
 

@@ -41,6 +41,7 @@ loop-fault-preserved g c =
       forward = search rules;
       trace = search rules;
       stands = search rules;
+      part = search rules;
       room = search rules;
     }
 

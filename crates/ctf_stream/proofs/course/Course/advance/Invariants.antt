@@ -1,5 +1,5 @@
 use Rattle.std.proofs.Common.{◌≡◌, ◌+◌, ◌≤◌, length, IsTrue}
-use Rattle.ctf_stream.specs.Course.{coming_of, Stands, room_of}
+use Rattle.ctf_stream.specs.Course.{coming_of, Stands, HasPart, room_of}
 use Rattle.ctf_stream.proofs.course.Course.advance.Given as goal
 
 abbrev pub invariant-loop-fault : goal.invariant-loop-fault
@@ -11,6 +11,7 @@ invariant-loop-fault g l = record {
   forward : l.initial.self.taken ≤ l.self.taken;
   trace : l.self.cut.trace ≡ l.initial.self.cut.trace;
   stands : Stands l.self;
+  part : HasPart l.self;
   room : room_of l.self ≤ room_of l.initial.self;
 }
 

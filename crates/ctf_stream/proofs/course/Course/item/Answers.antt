@@ -1,4 +1,6 @@
-use Rattle.std.proofs.Common.{◌-◌, refl}
+use Rattle.std.proofs.Common.{◌-◌, refl, subst, ◌∙◌}
+use Rattle.ctf_packet.specs.Views.{values_of, packet_values}
+use Rattle.ctf_stream.specs.Course.{IsPartOf}
 use Rattle.ctf_stream.specs.Reader.{item_ahead}
 use Rattle.ctf_stream.specs.Standing.{item_at}
 use Rattle.ctf_stream.proofs.course.Course.item.Goals as goal
@@ -6,7 +8,9 @@ use Rattle.ctf_stream.proofs.course.Course.item.Goals as goal
 pub returns-in-Event : goal.returns-in-Event
 returns-in-Event c =
     let p = c.in-Some.packet.opened in
-    ((p.end, (p.end - p.start, (λ i. item_ahead (item_at c.args.self.now (c.in-Some.is i) (c.in-Event.is i))))), refl)
+    let course = c.args.self.now in
+    let made = subst (IsPartOf (packet_values (values_of course.scopes)) course.part) c.in-Some.is c.requires in
+    ((p.end, (p.end - p.start, (λ i. item_ahead (item_at course (c.in-Some.is i) (c.in-Event.is i))))), (refl, c.as_slice.ensures ∙ made))
 
 pub returns-in-Discarded : goal.returns-in-Discarded
 returns-in-Discarded c =
