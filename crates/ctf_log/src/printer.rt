@@ -3,7 +3,7 @@
 ghost use Rattle.std.specs.Prelude.{◌≡◌, ◌++◌, ◌≤◌, ℕ, List, [], take, vec_len, IfOk, OnOk, OnErr};
 ghost use Rattle.ctf_class.specs.declared.trace.TraceClass.{TraceClass};
 ghost use Rattle.ctf_log.specs.Lines as lines;
-ghost use Rattle.ctf_stream.specs.Shown.{event_of, gap_of, item_of, IsOf};
+ghost use Rattle.ctf_stream.specs.Shown.{event_of, gap_of, item_of, HasPart, IsOf};
 
 use crate::gap::append_gap;
 use ctf_class::Scope;
@@ -76,7 +76,7 @@ impl Printer {
 
     /// Makes the line of an event record.
     fn print_event(&mut self, event: &Event<'_>, last: Option<i64>) -> Result<(), NoMemory>
-        ensures line { OnOk result (self.new.text ≡ lines.event_line self.old.style last (event_of event.now 0 0)) }
+        ensures line { HasPart event.now → OnOk result (self.new.text ≡ lines.event_line self.old.style last (event_of event.now 0 0)) }
         ensures refused { OnErr result (self.new.text ≡ []) }
         ensures style { self.new.style ≡ self.old.style }
     {
@@ -108,7 +108,7 @@ impl Printer {
 }
 
 /// Writes the line of an event record at the front of a buffer, and gives its length. The text of the packet's
-/// part is made in `packet`.
+/// part is made in `packet` where the event record has none.
 fn put_event(
     stamper: &mut Stamper,
     packet: &mut Vec<u8>,
@@ -116,18 +116,35 @@ fn put_event(
     last: Option<i64>,
     line: &mut Vec<u8>,
 ) -> Result<usize, NoMemory>
-    ensures line { IfOk result (λ end. take end line.new.items ≡ lines.event_line stamper.old last (event_of event.now 0 0)) }
+    ensures line { HasPart event.now → IfOk result (λ end. take end line.new.items ≡ lines.event_line stamper.old last (event_of event.now 0 0)) }
     ensures held { IfOk result (λ end. end ≤ vec_len line.new) }
     ensures style { stamper.new ≡ stamper.old }
 {
     with_room(MOST_PART, line, 0)?;
     let end = stamper.put_part(event.moment, last, line.as_mut_slice(), 0);
-    let context = event.value(Scope::PacketContext);
-    let shared = put_packet_part(event.stream.packet_context(), context, packet, 0)?;
-    let end = put_body(event, &packet[..shared], line, end)?;
+    let end = put_behind_stamp(event, packet, line, end)?;
     with_room(1, line, end)?;
     line[end] = b'\n';
     Ok(end + 1)
+}
+
+/// Writes what stands behind the stamp of an event record.
+fn put_behind_stamp(
+    event: &Event<'_>,
+    packet: &mut Vec<u8>,
+    line: &mut Vec<u8>,
+    at: usize,
+) -> Result<usize, NoMemory>
+    requires { at ≤ vec_len line.old }
+    ensures text { HasPart event.now → IfOk result (λ end. take end line.new.items ≡ take at line.old.items ++ lines.event_text (event_of event.now 0 0)) }
+    ensures held { IfOk result (λ end. end ≤ vec_len line.new) }
+{
+    if let Some(part) = event.part {
+        return put_body(event, part, line, at);
+    }
+    let context = event.value(Scope::PacketContext);
+    let shared = put_packet_part(event.stream.packet_context(), context, packet, 0)?;
+    put_body(event, &packet[..shared], line, at)
 }
 
 /// Writes the host, the name and the scopes of an event record.
