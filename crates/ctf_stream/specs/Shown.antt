@@ -1,5 +1,5 @@
 -- Items by reference, as those that they are.
-use Rattle.std.specs.Prelude.{◌≡◌, ℕ, List, Option, Some, None, IfSome, option_copied, option_map}
+use Rattle.std.specs.Prelude.{◌≡◌, ℕ, List, Option, Some, None, IsSome, IfSome, option_copied, option_map}
 use Rattle.ctf_class.specs.declared.trace.TraceClass.{TraceClass}
 use Rattle.ctf_decode.specs.Views.{val}
 use Rattle.ctf_packet.specs.Classes.{Classes}
@@ -28,6 +28,12 @@ item_of (shown.Lost g) end length = items.lost (gap_of g end length)
 -- its text of the part that the lines of its packet's event records share, if there is one, is right
 abbrev pub HasPart : Event → Type 0
 HasPart e = IfSome (option_copied e.part) (λ text. text ≡ packet_part e.stream.now.packet_context (option_map val e.scopes.now.packet_context))
+
+-- the text of its packet was made, for an event record
+abbrev pub IsMade : Item → Type 0
+IsMade (shown.Event e) = IsSome e.part
+IsMade (shown.Discarded g) = Unit {0}
+IsMade (shown.Lost g) = Unit {0}
 
 -- it has this trace class and the text of its packet, or this name of its stream
 abbrev pub IsOf : TraceClass → List ℕ → Item → Type 0

@@ -1,13 +1,13 @@
 //! How far a stream was read.
 
-ghost use Rattle.std.specs.Prelude.{◌≡◌, ◌+◌, ◌<◌, ◌≤◌, List, [], false, Some, None, ℕ, length, IsTrue, IfOk, OnOk, OnErr};
+ghost use Rattle.std.specs.Prelude.{◌≡◌, ◌+◌, ◌<◌, ◌≤◌, List, [], false, Some, None, ℕ, length, IsTrue, IfSome, IfOk, OnOk, OnErr};
 ghost use Rattle.ctf_bits.specs.declared.source.Ending.{Ending};
 ghost use Rattle.ctf_clock.specs.declared.moment.Shift.{Shift};
 ghost use Rattle.ctf_packet.specs.Packets as packets;
 ghost use Rattle.ctf_packet.specs.Scopes.{Values};
 ghost use Rattle.ctf_packet.specs.Views.{opened_of};
 ghost use Rattle.ctf_stream.specs.Coming.{TakesRoom};
-ghost use Rattle.ctf_stream.specs.Shown.{Shows};
+ghost use Rattle.ctf_stream.specs.Shown.{Shows, IsMade};
 ghost use Rattle.ctf_stream.specs.Standing.{item_at};
 ghost use Rattle.ctf_stream.specs.Fetching.{longest_bytes};
 ghost use Rattle.ctf_stream.specs.Course.{coming_of, most_taken, Stands, room_of, StepsWithin, Enters, EntersRoom, Advances, IsOfPacket, HasPart};
@@ -192,7 +192,8 @@ impl<'a> Course<'a> {
     /// The item in front, of the packet at hand. `name` is the stream's.
     pub(crate) fn item<'r>(&'r self, front: &'r Front<'a>, name: &'r str) -> Option<Item<'r>>
         requires { HasPart self.now }
-        ensures { Shows self.now.cut.trace.now name.now (item_at self.now self.now.packet front.now) result }
+        ensures shows { Shows self.now.cut.trace.now name.now (item_at self.now self.now.packet front.now) result }
+        ensures made { IfSome result IsMade }
     {
         let packet = match &self.packet {
             None => return None,

@@ -1,9 +1,9 @@
 //! A reader of one stream, a packet at a time.
 
-ghost use Rattle.std.specs.Prelude.{◌≡◌, ◌+◌, ◌<◌, ◌≤◌, ◌⊎◌, IsTrue, length};
+ghost use Rattle.std.specs.Prelude.{◌≡◌, ◌+◌, ◌<◌, ◌≤◌, ◌⊎◌, IsTrue, IfSome, length};
 ghost use Rattle.ctf_packet.specs.Classes.{trace_form};
 ghost use Rattle.ctf_packet.specs.Items.{run_of};
-ghost use Rattle.ctf_stream.specs.Shown.{Shows};
+ghost use Rattle.ctf_stream.specs.Shown.{Shows, IsMade};
 ghost use Rattle.ctf_stream.specs.Reader.{start, fault_ahead, coming, rest_of, OrRefused, IsFetched, IsLast, IsOnLine, IsAllTaken, RoomTaken};
 ghost use Rattle.ctf_stream.specs.Owned.{Gives, GivesAhead, GivesOf, GivesRoom, KeepsBehind, ahead_behind};
 
@@ -232,7 +232,8 @@ impl<'a, S: Source + Drop> StreamReader<'a, S> {
 
     /// The item in front, if one stands there. No memory is taken.
     pub fn head(&self) -> Option<Item<'_>>
-        ensures { Shows self.now.trace self.now.name self.now.ahead result }
+        ensures shows { Shows self.now.trace self.now.name self.now.ahead result }
+        ensures made { IfSome result IsMade }
     {
         match &self.head {
             Head::Item(front) => self.course.item(front, self.name.as_str()),

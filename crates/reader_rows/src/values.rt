@@ -2,7 +2,7 @@
 
 use crate::faults::SWITCH;
 use crate::reading::{changed, trace};
-use crate::texts::{LABELS, LTTNG, NARROW, SEQUENCE, TICK, VARIANT};
+use crate::texts::{LABELS, LTTNG, NARROW, PACKETS, SEQUENCE, TICK, VARIANT};
 use crate::told::{NO_SHIFT, reader};
 use crate::values::Part::{Choice, Label, List, Signed, Text, Unsigned};
 use ctf_bits::SliceSource;
@@ -201,4 +201,35 @@ fn record_of_a_tracer(rt: HostRuntime) {
         ]],
         None,
     );
+}
+
+/// The text that the lines of a packet's event records share: that of the packet at hand, and none of the one before.
+#[test]
+fn texts_of_packets(rt: HostRuntime) {
+    let alloc = rt.alloc();
+    let class = changed(
+        &rt,
+        alloc,
+        PACKETS,
+        "events_discarded; ",
+        "events_discarded; integer { size = 8; } cpu; ",
+    );
+    let bytes = [
+        0x30, 0x30, 0, 200, 0x10, 0x20, 0x28, 0x28, 0, 7, 0x30, 0x28, 0x28, 0, 10, 0x40,
+    ];
+    let source = SliceSource::new(&bytes);
+    let mut reader = reader(alloc, &class, source, NO_SHIFT).expect(&rt, "memory");
+    for text in [
+        b"{ cpu = 200 }".as_slice(),
+        b"{ cpu = 200 }",
+        b"{ cpu = 7 }",
+        b"{ cpu = 10 }",
+    ] {
+        reader.go_on();
+        let Some(Item::Event(event)) = reader.head() else {
+            assert!(rt; false, "no event record");
+            return;
+        };
+        assert_eq!(rt; event.part, Some(text));
+    }
 }
