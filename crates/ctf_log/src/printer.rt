@@ -3,7 +3,7 @@
 ghost use Rattle.std.specs.Prelude.{◌≡◌, ◌++◌, ◌≤◌, ℕ, List, [], take, vec_len, IfOk, OnOk, OnErr};
 ghost use Rattle.ctf_class.specs.declared.trace.TraceClass.{TraceClass};
 ghost use Rattle.ctf_log.specs.Lines as lines;
-ghost use Rattle.ctf_stream.specs.Shown.{event_of, gap_of, item_of, HasPart, IsOf};
+ghost use Rattle.ctf_stream.specs.Shown.{event_of, gap_of, item_of, PartIsRight, IsOf};
 
 use crate::gap::append_gap;
 use ctf_class::Scope;
@@ -76,7 +76,7 @@ impl Printer {
 
     /// Makes the line of an event record.
     fn print_event(&mut self, event: &Event<'_>, last: Option<i64>) -> Result<(), NoMemory>
-        ensures line { HasPart event.now → OnOk result (self.new.text ≡ lines.event_line self.old.style last (event_of event.now 0 0)) }
+        ensures line { PartIsRight event.now → OnOk result (self.new.text ≡ lines.event_line self.old.style last (event_of event.now 0 0)) }
         ensures refused { OnErr result (self.new.text ≡ []) }
         ensures style { self.new.style ≡ self.old.style }
     {
@@ -116,7 +116,7 @@ fn put_event(
     last: Option<i64>,
     line: &mut Vec<u8>,
 ) -> Result<usize, NoMemory>
-    ensures line { HasPart event.now → IfOk result (λ end. take end line.new.items ≡ lines.event_line stamper.old last (event_of event.now 0 0)) }
+    ensures line { PartIsRight event.now → IfOk result (λ end. take end line.new.items ≡ lines.event_line stamper.old last (event_of event.now 0 0)) }
     ensures held { IfOk result (λ end. end ≤ vec_len line.new) }
     ensures style { stamper.new ≡ stamper.old }
 {
@@ -136,7 +136,7 @@ fn put_behind_stamp(
     at: usize,
 ) -> Result<usize, NoMemory>
     requires { at ≤ vec_len line.old }
-    ensures text { HasPart event.now → IfOk result (λ end. take end line.new.items ≡ take at line.old.items ++ lines.event_text (event_of event.now 0 0)) }
+    ensures text { PartIsRight event.now → IfOk result (λ end. take end line.new.items ≡ take at line.old.items ++ lines.event_text (event_of event.now 0 0)) }
     ensures held { IfOk result (λ end. end ≤ vec_len line.new) }
 {
     if let Some(part) = event.part {

@@ -52,7 +52,7 @@ StandsAt cut bytes taken (Some p) = Inside cut bytes taken p
 abbrev pub Stands : Course → Type 0
 Stands c = StandsAt c.cut c.buffer c.taken c.packet
 
--- the text that the lines of a packet's event records share, of a packet with these values
+-- the text that the lines of a packet share, of one with these values
 abbrev pub IsPartOf : Values → List ℕ → Option Packet → Type 0
 IsPartOf values text None = Unit {0}
 IsPartOf values text (Some p) = text ≡ packet_part p.opened.stream.now.packet_context values.packet_context

@@ -25,19 +25,19 @@ item_of (shown.Event e) end length = items.event (event_of e end length)
 item_of (shown.Discarded g) end length = items.discarded (gap_of g end length)
 item_of (shown.Lost g) end length = items.lost (gap_of g end length)
 
--- its text of the part that the lines of its packet's event records share, if there is one, is right
-abbrev pub HasPart : Event → Type 0
-HasPart e = IfSome (option_copied e.part) (λ text. text ≡ packet_part e.stream.now.packet_context (option_map val e.scopes.now.packet_context))
+-- the text that the lines of its packet share, where it has it, is that of the packet context
+abbrev pub PartIsRight : Event → Type 0
+PartIsRight e = IfSome (option_copied e.part) (λ text. text ≡ packet_part e.stream.now.packet_context (option_map val e.scopes.now.packet_context))
 
--- the text of its packet was made, for an event record
+-- an event record has the text that the lines of its packet share
 abbrev pub IsMade : Item → Type 0
 IsMade (shown.Event e) = IsSome e.part
 IsMade (shown.Discarded g) = Unit {0}
 IsMade (shown.Lost g) = Unit {0}
 
--- it has this trace class and the text of its packet, or this name of its stream
+-- it has this trace class and the right text of its packet, or this name of its stream
 abbrev pub IsOf : TraceClass → List ℕ → Item → Type 0
-IsOf trace name (shown.Event e) = (e.trace.now ≡ trace) × HasPart e
+IsOf trace name (shown.Event e) = (e.trace.now ≡ trace) × PartIsRight e
 IsOf trace name (shown.Discarded g) = g.name.now ≡ name
 IsOf trace name (shown.Lost g) = g.name.now ≡ name
 

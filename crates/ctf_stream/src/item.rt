@@ -27,7 +27,7 @@ pub struct Event<'r> {
     pub moment: Option<Moment>,
     /// The values of its scopes.
     pub scopes: &'r Scopes,
-    /// The text that the lines of its packet's event records share, where it was made.
+    /// The text of the packet context in its line, where it was made: all event records of the packet have the same.
     pub part: Option<&'r [u8]>,
 }
 

@@ -1,4 +1,4 @@
-//! The text that the lines of a packet's event records share.
+//! The text that the lines of a packet share.
 
 ghost use Rattle.std.specs.Prelude.{◌≡◌, [], option_map, option_copied, OnOk};
 ghost use Rattle.ctf_decode.specs.Views.{val};
