@@ -3,7 +3,7 @@
 ghost use Rattle.std.specs.Prelude.{◌≡◌, ◌+◌, ◌-◌, ◌*◌, ◌/◌, ◌^◌, ◌<◌, ◌≤◌, ◌-ℤ◌, pos, length, SomeIff};
 ghost use Rattle.ctf_bits.specs.Number.{signed_number};
 
-use crate::number::{Order, uint};
+use crate::number::{Order, uint, uint_within};
 
 /// The number in two's complement of `n` bits, 1 to 64, at the bit `pos` of some bytes: `None` exactly
 /// where these bits pass the end of the bytes (CTF 1.8.3, section 4.1.5).
@@ -16,7 +16,19 @@ pub fn sint(bytes: &[u8], pos: u64, n: u32, order: Order) -> Option<i64>
     Some(twos_complement(value, n))
 }
 
+/// The same where the bytes are known to hold these bits.
+#[inline(always)]
+pub fn sint_within(bytes: &[u8], pos: u64, n: u32, order: Order) -> i64
+    requires some_bits { 1 ≤ n }
+    requires in_a_word { n ≤ 64 }
+    requires inside { pos + n ≤ 8 * length bytes.now }
+    ensures { result ≡ signed_number order bytes.now pos n }
+{
+    twos_complement(uint_within(bytes, pos, n, order), n)
+}
+
 /// A number of `n` bits, less 2 ^ n where its top bit is set.
+#[inline(always)]
 fn twos_complement(value: u64, n: u32) -> i64
     requires some_bits { 1 ≤ n }
     requires in_a_word { n ≤ 64 }

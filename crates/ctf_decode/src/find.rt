@@ -27,6 +27,20 @@ fn around<'a>(frame: &'a Frame<'a>, out: u32) -> Option<&'a [Value]>
     }
 }
 
+/// The same. Mostly it is the innermost structure.
+#[inline(always)]
+fn nearby<'a>(frame: &'a Frame<'a>, out: u32) -> Option<&'a [Value]>
+    ensures { option_map (λ vs. map val vs.now) result ≡ slice_get (env frame.now) out }
+{
+    if out != 0 {
+        return around(frame, out);
+    }
+    match frame {
+        Frame::Top => None,
+        Frame::Within(values, _outer) => Some(values),
+    }
+}
+
 /// The member at an index.
 fn nth(members: &[Value], index: usize) -> Option<&Value>
     ensures { option_copied result ≡ slice_get members.now index }
@@ -90,7 +104,7 @@ pub fn find<'a>(route: &Route, scopes: &'a Scopes, frame: &'a Frame<'a>) -> Opti
     let steps = route.steps.as_slice();
     match route.origin {
         Origin::Earlier(scope) => in_scope(scopes, scope, steps),
-        Origin::Enclosing(out) => match around(frame, out) {
+        Origin::Enclosing(out) => match nearby(frame, out) {
             None => None,
             Some(members) => inside(members, steps),
         },
@@ -126,7 +140,7 @@ fn number_of(value: &Value) -> u64
 }
 
 /// An enumeration's number.
-fn tag_of(value: &Value) -> Option<i128>
+pub(crate) fn tag_of(value: &Value) -> Option<i128>
     ensures { result ≡ routes.tag_of (Some (val value.now)) }
 {
     match value {
@@ -141,7 +155,7 @@ fn tag_of(value: &Value) -> Option<i128>
 }
 
 /// The option of the first choice that covers the tag.
-fn chosen(choices: &[Choice], tag: i128) -> Option<usize>
+pub(crate) fn chosen(choices: &[Choice], tag: i128) -> Option<usize>
     ensures { result ≡ routes.chosen choices.now tag }
 {
     for choice in choices {

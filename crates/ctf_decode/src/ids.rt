@@ -92,6 +92,7 @@ fn last_in_chosen(options: &[Member], i: usize, inner: &Value, last: &mut Option
 
 /// Keeps the number of a member that is an integer or an enumeration named `id`; of another member, the
 /// last one stays.
+#[inline(always)]
 pub fn named_id(member: &Member, value: &Value, last: &mut Option<i128>)
     ensures { last.new ≡ last_or last.old (fields.named_id member.now.name (form member.now.class) (val value.now)) }
 {

@@ -8,14 +8,14 @@ ghost use Rattle.ctf_decode.specs.Views.{val, input};
 ghost use Rattle.ctf_decode.specs.Walk.{begin, leaf};
 ghost use Rattle.ctf_decode.specs.Gives.{Gives};
 
-use crate::fault::DecodeFault;
 use crate::place::{Cursor, Packet, Stopped, begin_at};
 use crate::scopes::MOST_VALUES;
 use crate::value::Value;
-use ctf_bits::{sint, uint};
+use ctf_bits::{sint_within, uint_within};
 use ctf_class::{Align, Integer};
 
 /// Makes the integer at a place the value.
+#[inline(always)]
 pub fn integer_into(
     integer: &Integer,
     align: Align,
@@ -29,24 +29,20 @@ pub fn integer_into(
     ensures within { IfOk result (λ _. (at.new.end ≤ packet.now.content) × (at.new.spent ≤ MOST_VALUES)) }
 {
     if at.spent >= MOST_VALUES {
-        return Err(at.stop(DecodeFault::TooManyValues));
+        return Err(at.stop_full());
     }
     let size = integer.size.bits();
     let begin = begin_at(at.end, align);
     let end = begin + u64::from(size);
     if end > packet.content {
-        return Err(at.stop(DecodeFault::ContentEnds(u128::from(end))));
+        return Err(at.stop_beyond(end));
     }
     if integer.is_signed {
-        match sint(packet.bytes, begin, size, integer.order) {
-            None => return Err(at.stop(DecodeFault::ContentEnds(u128::from(end)))),
-            Some(number) => put_signed(value, number),
-        }
+        let number = sint_within(packet.bytes, begin, size, integer.order);
+        put_signed(value, number);
     } else {
-        match uint(packet.bytes, begin, size, integer.order) {
-            None => return Err(at.stop(DecodeFault::ContentEnds(u128::from(end)))),
-            Some(number) => put_unsigned(value, number),
-        }
+        let number = uint_within(packet.bytes, begin, size, integer.order);
+        put_unsigned(value, number);
     }
     at.end = end;
     at.spent += 1;
@@ -54,6 +50,7 @@ pub fn integer_into(
 }
 
 /// Makes the enumeration at a place the value.
+#[inline(always)]
 pub fn enumeration_into(
     container: &Integer,
     align: Align,
@@ -67,24 +64,20 @@ pub fn enumeration_into(
     ensures within { IfOk result (λ _. (at.new.end ≤ packet.now.content) × (at.new.spent ≤ MOST_VALUES)) }
 {
     if at.spent >= MOST_VALUES {
-        return Err(at.stop(DecodeFault::TooManyValues));
+        return Err(at.stop_full());
     }
     let size = container.size.bits();
     let begin = begin_at(at.end, align);
     let end = begin + u64::from(size);
     if end > packet.content {
-        return Err(at.stop(DecodeFault::ContentEnds(u128::from(end))));
+        return Err(at.stop_beyond(end));
     }
     if container.is_signed {
-        match sint(packet.bytes, begin, size, container.order) {
-            None => return Err(at.stop(DecodeFault::ContentEnds(u128::from(end)))),
-            Some(number) => put_label(value, i128::from(number)),
-        }
+        let number = sint_within(packet.bytes, begin, size, container.order);
+        put_label(value, i128::from(number));
     } else {
-        match uint(packet.bytes, begin, size, container.order) {
-            None => return Err(at.stop(DecodeFault::ContentEnds(u128::from(end)))),
-            Some(number) => put_label(value, i128::from(number)),
-        }
+        let number = uint_within(packet.bytes, begin, size, container.order);
+        put_label(value, i128::from(number));
     }
     at.end = end;
     at.spent += 1;

@@ -13,11 +13,12 @@ mod parts;
 mod place;
 mod scopes;
 mod slot;
+mod tagged;
 mod text;
 mod value;
 mod walk;
 
-pub use decoding::{Decoded, decode, decode_into};
+pub use decoding::{Decoded, decode, decode_header_into, decode_into};
 pub use fault::DecodeFault;
 pub use front::{Front, decode_front};
 pub use ids::{last_id, named_id};

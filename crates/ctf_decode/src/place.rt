@@ -2,6 +2,7 @@
 
 ghost use Rattle.std.specs.Prelude.{◌≡◌, ◌≤◌, ◌<◌, ◌*◌, ◌+◌, ◌^◌, length};
 ghost use Rattle.std.specs.Int.{next_multiple_of};
+ghost use Rattle.ctf_decode.specs.declared.fault.DecodeFault.TheVariants.{ContentEnds, NoOption, TooManyValues, NoMemory};
 
 use crate::fault::DecodeFault;
 use crate::scopes::Scopes;
@@ -59,6 +60,42 @@ impl Cursor {
     {
         self.fault = fault;
         Stopped
+    }
+
+    /// Stops for a place, in bits, that the content does not reach.
+    #[cold]
+    #[inline(never)]
+    pub fn stop_beyond(&mut self, end: u64) -> Stopped
+        ensures { self.new.fault ≡ ContentEnds end }
+    {
+        self.stop(DecodeFault::ContentEnds(u128::from(end)))
+    }
+
+    /// Stops where memory is refused.
+    #[cold]
+    #[inline(never)]
+    pub fn stop_refused(&mut self) -> Stopped
+        ensures { self.new.fault ≡ NoMemory }
+    {
+        self.stop(DecodeFault::NoMemory)
+    }
+
+    /// Stops for a tag that chooses no option.
+    #[cold]
+    #[inline(never)]
+    pub fn stop_chosen(&mut self) -> Stopped
+        ensures { self.new.fault ≡ NoOption }
+    {
+        self.stop(DecodeFault::NoOption)
+    }
+
+    /// Stops for too many values.
+    #[cold]
+    #[inline(never)]
+    pub fn stop_full(&mut self) -> Stopped
+        ensures { self.new.fault ≡ TooManyValues }
+    {
+        self.stop(DecodeFault::TooManyValues)
     }
 }
 

@@ -61,19 +61,19 @@ pub fn string_into(
     ensures within { IfOk result (λ _. (at.new.end ≤ packet.now.content) × (at.new.spent ≤ MOST_VALUES)) }
 {
     if at.spent >= MOST_VALUES {
-        return Err(at.stop(DecodeFault::TooManyValues));
+        return Err(at.stop_full());
     }
     let begin = byte_at(at.end);
     if begin > packet.content {
-        return Err(at.stop(DecodeFault::ContentEnds(u128::from(begin + 8))));
+        return Err(at.stop_beyond(begin + 8));
     }
     let bytes = bytes_from(packet, begin);
     let Some(n) = zero_in(bytes) else {
         let end = begin + 8 * (bytes.len() as u64 + 1);
-        return Err(at.stop(DecodeFault::ContentEnds(u128::from(end))));
+        return Err(at.stop_beyond(end));
     };
     let Ok(()) = text_into(alloc, &bytes[..n], value) else {
-        return Err(at.stop(DecodeFault::NoMemory));
+        return Err(at.stop_refused());
     };
     at.end = begin + 8 * (n as u64 + 1);
     at.spent += 1;
@@ -113,7 +113,7 @@ pub fn characters_into(
     ensures within { IfOk result (λ _. (at.new.end ≤ packet.now.content) × (at.new.spent ≤ MOST_VALUES)) }
 {
     if at.spent >= MOST_VALUES {
-        return Err(at.stop(DecodeFault::TooManyValues));
+        return Err(at.stop_full());
     }
     let begin = byte_at(at.end);
     let end = u128::from(begin) + 8 * u128::from(count);
@@ -122,7 +122,7 @@ pub fn characters_into(
     }
     let text = before_zero(bytes_at(packet, begin, count));
     let Ok(()) = text_into(alloc, text, value) else {
-        return Err(at.stop(DecodeFault::NoMemory));
+        return Err(at.stop_refused());
     };
     at.end = begin + 8 * count;
     at.spent += 1;

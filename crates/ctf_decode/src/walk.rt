@@ -73,8 +73,30 @@ pub fn value_into(
     }
 }
 
+/// The same. Mostly it is a structure, which has no need to be told from other classes.
+#[inline(always)]
+pub fn scope_into(
+    alloc: Global,
+    class: &Class,
+    packet: &Packet<'_>,
+    frame: &Frame<'_>,
+    at: &mut Cursor,
+    value: &mut Value,
+) -> Result<(), Stopped>
+    requires start { at.old.end ≤ packet.now.content }
+    ensures gives { Gives result at.new (val value.new) (walk (form class.now) (input packet.now) (env frame.now) at.old.end at.old.spent) }
+    ensures within { IfOk result (λ _. (at.new.end ≤ packet.now.content) × (at.new.spent ≤ MOST_VALUES)) }
+{
+    if let Kind::Structure { members } = &class.kind {
+        let members = members.as_slice();
+        return structure_into(alloc, class.align, members, packet, frame, at, value);
+    }
+    value_into(alloc, class, packet, frame, at, value)
+}
+
 /// Makes the structure at a place the value.
 #[cycle(walk)]
+#[inline(always)]
 fn structure_into(
     alloc: Global,
     align: Align,
@@ -91,11 +113,11 @@ fn structure_into(
     ensures within { IfOk result (λ _. (at.new.end ≤ packet.now.content) × (at.new.spent ≤ MOST_VALUES)) }
 {
     if at.spent >= MOST_VALUES {
-        return Err(at.stop(DecodeFault::TooManyValues));
+        return Err(at.stop_full());
     }
     let begin = begin_at(at.end, align);
     if begin > packet.content {
-        return Err(at.stop(DecodeFault::ContentEnds(u128::from(begin))));
+        return Err(at.stop_beyond(begin));
     }
     at.end = begin;
     at.spent += 1;
@@ -168,7 +190,7 @@ fn members_into(
     ensures within { IfOk result (λ _. (at.new.end ≤ packet.now.content) × (at.new.spent ≤ MOST_VALUES)) }
 {
     let Ok(()) = with_room(values, members.len()) else {
-        return Err(at.stop(DecodeFault::NoMemory));
+        return Err(at.stop_refused());
     };
     each_member_into(alloc, members, packet, frame, at, values.as_mut_slice())
 }
@@ -195,8 +217,10 @@ fn each_member_into(
     Ok(())
 }
 
-/// Makes the next member of a structure the value at an index, those before it being there.
+/// Makes the next member of a structure the value at an index, those before it being there. Mostly it is an
+/// integer.
 #[cycle(walk)]
+#[inline(always)]
 fn member_into(
     alloc: Global,
     class: &Class,
@@ -211,8 +235,10 @@ fn member_into(
     ensures gives { GivesNext result at.new (map val (take i values.old)) (map val (take (i + 1) values.new)) (walk (form class.now) (input packet.now) (map val (take i values.old) ∷ env frame.now) at.old.end at.old.spent) }
     ensures within { IfOk result (λ _. (at.new.end ≤ packet.now.content) × (at.new.spent ≤ MOST_VALUES)) }
 {
+    if let Kind::Integer(integer) = &class.kind {
+        return integer_into(integer, class.align, packet, at, &mut values[i]);
+    }
     match &class.kind {
-        Kind::Integer(integer) => integer_into(integer, class.align, packet, at, &mut values[i]),
         Kind::Enumeration { container, labels } => {
             enumeration_into(container, class.align, packet, at, &mut values[i])
         }
@@ -241,9 +267,37 @@ fn inner_member_into(
 {
     let mut value = mem::replace(&mut values[i], Value::Unsigned(0));
     let inner = Frame::Within(&values[..i], &*frame);
-    value_into(alloc, class, packet, &inner, at, &mut value)?;
+    composite_into(alloc, class, packet, &inner, at, &mut value)?;
     values[i] = value;
     Ok(())
+}
+
+/// Makes the value of a class at a place the value. A variant goes to its option at once.
+#[cycle(walk)]
+#[inline(always)]
+fn composite_into(
+    alloc: Global,
+    class: &Class,
+    packet: &Packet<'_>,
+    frame: &Frame<'_>,
+    at: &mut Cursor,
+    value: &mut Value,
+) -> Result<(), Stopped>
+    requires start { at.old.end ≤ packet.now.content }
+    ensures gives { Gives result at.new (val value.new) (walk (form class.now) (input packet.now) (env frame.now) at.old.end at.old.spent) }
+    ensures within { IfOk result (λ _. (at.new.end ≤ packet.now.content) × (at.new.spent ≤ MOST_VALUES)) }
+{
+    match &class.kind {
+        Kind::Variant {
+            tag,
+            choices,
+            options,
+        } => {
+            let chosen = option_at(tag, choices.as_slice(), packet.scopes, frame);
+            choice_into(alloc, options.as_slice(), chosen, packet, frame, at, value)
+        }
+        _ => value_into(alloc, class, packet, frame, at, value),
+    }
 }
 
 /// Makes the array of so many elements at a place the value.
@@ -264,11 +318,11 @@ fn array_into(
     ensures within { IfOk result (λ _. (at.new.end ≤ packet.now.content) × (at.new.spent ≤ MOST_VALUES)) }
 {
     if at.spent >= MOST_VALUES {
-        return Err(at.stop(DecodeFault::TooManyValues));
+        return Err(at.stop_full());
     }
     let begin = begin_at(at.end, element.align);
     if begin > packet.content {
-        return Err(at.stop(DecodeFault::ContentEnds(u128::from(begin))));
+        return Err(at.stop_beyond(begin));
     }
     at.end = begin;
     at.spent += 1;
@@ -322,7 +376,7 @@ fn element_into(
 {
     if i == values.len() {
         let Ok(()) = values.push(Value::Unsigned(0)) else {
-            return Err(at.stop(DecodeFault::NoMemory));
+            return Err(at.stop_refused());
         };
     }
     value_into(alloc, element, packet, frame, at, &mut values[i])
@@ -345,10 +399,10 @@ fn choice_into(
     ensures within { IfOk result (λ _. (at.new.end ≤ packet.now.content) × (at.new.spent ≤ MOST_VALUES)) }
 {
     if at.spent >= MOST_VALUES {
-        return Err(at.stop(DecodeFault::TooManyValues));
+        return Err(at.stop_full());
     }
     let Some(i) = chosen else {
-        return Err(at.stop(DecodeFault::NoOption));
+        return Err(at.stop_chosen());
     };
     at.spent += 1;
     option_into(alloc, options, i, packet, frame, at, value)
@@ -371,7 +425,7 @@ fn option_into(
     ensures within { IfOk result (λ _. (at.new.end ≤ packet.now.content) × (at.new.spent ≤ MOST_VALUES)) }
 {
     if i >= options.len() {
-        return Err(at.stop(DecodeFault::NoOption));
+        return Err(at.stop_chosen());
     }
     let class = &options[i].class;
     if let Value::Choice(option, inner) = value {
@@ -400,7 +454,7 @@ fn new_choice_into(
     let mut inner = Value::Unsigned(0);
     value_into(alloc, class, packet, frame, at, &mut inner)?;
     let Ok(inner) = Boxed::new(alloc, inner) else {
-        return Err(at.stop(DecodeFault::NoMemory));
+        return Err(at.stop_refused());
     };
     *value = Value::Choice(i, inner);
     Ok(())

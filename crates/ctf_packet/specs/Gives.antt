@@ -1,5 +1,5 @@
 -- What calls answer, in terms of the definitions.
-use Rattle.std.specs.Prelude.{◌≡◌, ℕ, ◌+◌, ◌-◌, ◌*◌, ◌/◌, ◌%◌, ◌<◌, ◌≤◌, true, false, ◌⊎◌, Option, Some, None, Result, Ok, Err}
+use Rattle.std.specs.Prelude.{◌≡◌, ℕ, ◌+◌, ◌*◌, ◌/◌, ◌%◌, ◌<◌, ◌≤◌, true, false, ◌⊎◌, Option, Some, None, Result, Ok, Err}
 use Rattle.ctf_packet.specs.Scopes.{longest}
 use Rattle.ctf_packet.specs.Packets.{sizes_of, are_possible}
 use Rattle.ctf_packet.specs.declared.packet.OpenPacket.{OpenPacket}

@@ -74,11 +74,31 @@ fn tell_members(line: &Timeline, members: &[Member], values: &[Value], told: &mu
         }
         let value = &values[i];
         named_id(member, value, &mut told.id);
-        if !tell(line, &member.class, value, told) {
+        if !tell_member(line, &member.class, value, told) {
             return false;
         }
     }
     true
+}
+
+/// The same of one member. A variant goes to its option at once.
+#[cycle(told)]
+#[inline(always)]
+fn tell_member(line: &Timeline, class: &Class, value: &Value, told: &mut Told) -> bool
+    ensures clock { behind result told.new ≡ advanced_by line.now told.old.clock (moved.moved (form class.now) (val value.now)) }
+    ensures id { IsTrue result → told.new.id ≡ last_or told.old.id (fields.ids (form class.now) (val value.now)) }
+{
+    match &class.kind {
+        Kind::Integer(integer) => set_by(line, integer, value, told),
+        Kind::Enumeration { container, labels } => true,
+        Kind::String => true,
+        Kind::Variant {
+            tag,
+            choices,
+            options,
+        } => tell_option(line, options.as_slice(), value, told),
+        _ => tell(line, class, value, told),
+    }
 }
 
 /// The same of elements.
@@ -126,6 +146,7 @@ fn tell_chosen(
 }
 
 /// Sets the clock by an integer, if it is a moving one.
+#[inline(always)]
 fn set_by(line: &Timeline, integer: &Integer, value: &Value, told: &mut Told) -> bool
     ensures clock { behind result told.new ≡ advanced_by line.now told.old.clock (moved.moved_in integer.now (val value.now)) }
     ensures id { told.new.id ≡ told.old.id }
@@ -140,6 +161,7 @@ fn set_by(line: &Timeline, integer: &Integer, value: &Value, told: &mut Told) ->
 }
 
 /// The moment behind an integer.
+#[inline(always)]
 fn moved_by_integer(
     line: &Timeline,
     integer: &Integer,
@@ -159,6 +181,7 @@ fn moved_by_integer(
     }
 }
 
+#[inline(always)]
 fn moved_by_unsigned(line: &Timeline, width: u32, value: &Value, clock: Moment) -> Option<Moment>
     ensures { result ≡ advanced_by line.now clock (moved.unsigned_pair width (val value.now)) }
 {

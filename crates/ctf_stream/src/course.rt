@@ -61,6 +61,8 @@ impl<'a> Course<'a> {
     }
 
     /// Gives the memory back, and holds nothing.
+    #[cold]
+    #[inline(never)]
     pub(crate) fn release(&mut self, alloc: Global)
         ensures cut { self.new.cut ≡ self.old.cut }
         ensures packet { self.new.packet ≡ None }
@@ -113,7 +115,8 @@ impl<'a> Course<'a> {
         }
     }
 
-    /// Fetches the next packet. Whether there is one.
+    /// Fetches the next packet. Whether there is one. It is kept out of the way from one event record to the next.
+    #[inline(never)]
     fn enter<S: Source>(&mut self, alloc: Global, source: &mut S) -> Result<bool, StreamFault>
         requires between { self.old.packet ≡ None }
         requires stands { Stands self.old }
@@ -227,6 +230,7 @@ impl<'a> Course<'a> {
     }
 
     /// Leaves the packet at hand behind.
+    #[inline(never)]
     fn leave(&mut self, reached: Reached)
         ensures packet { self.new.packet ≡ None }
         ensures trace { self.new.cut.trace ≡ self.old.cut.trace }

@@ -3,7 +3,8 @@
 use crate::classes::{enumeration, integer, member, pair, stamp, structure, variant};
 use ctf_bits::Order::Le;
 use ctf_class::Class;
-use ctf_decode::{Scopes, Value, decode_into, last_id, moving, moving_into};
+use ctf_decode::DecodeFault::{self, ContentEnds};
+use ctf_decode::{Scopes, Value, decode_header_into, decode_into, last_id, moving, moving_into};
 use ctf_list::List;
 use std::alloc::Global;
 use std::test::Fail;
@@ -31,40 +32,77 @@ fn compact(alloc: Global) -> Result<Class, Fail> {
     pair(alloc, (b"id", tag), (b"v", choice))
 }
 
-/// Class number, end and last stamp of the header at the start of a packet, with the number of stamps.
-fn header_of(
+/// How far the header at the start of a packet comes, which is decoded into the value, or the fault. `None`
+/// where the general way says another thing of the other value.
+fn reached(
     alloc: Global,
+    class: &Class,
     packet: &[u8; 13],
-) -> Result<(Option<i128>, u64, Option<(u32, u64)>, usize), Fail> {
-    let class = compact(alloc)?;
-    let mut value = Value::Signed(1);
-    let mut stamps = Vec::new(alloc);
-    stamps.push((1, 1))?;
+    content: u64,
+    value: &mut Value,
+    other: &mut Value,
+) -> Option<Result<u64, DecodeFault>> {
+    if content > 104 {
+        return None;
+    }
+    let bytes = packet.as_slice();
     let scopes = Scopes::new();
-    let header = decode_into(
-        alloc,
-        &class,
-        packet.as_slice(),
-        0,
-        104,
-        &scopes,
-        &mut value,
-    )?;
-    moving_into(&class, &value, &mut stamps)?;
-    let id = last_id(&class, &value);
-    Ok((id, header.end, stamps.last().copied(), stamps.len()))
+    let found = decode_header_into(alloc, class, bytes, 0, content, &scopes, value);
+    let wanted = decode_into(alloc, class, bytes, 0, content, &scopes, other);
+    if found != wanted || (found.is_ok() && *value != *other) {
+        return None;
+    }
+    Some(found.map(|header| header.end))
 }
 
-/// The last `id` counts, and the stamp of the option that is there.
+/// Class number, last stamp and the number of stamps of a header.
+fn said_of(
+    alloc: Global,
+    class: &Class,
+    value: &Value,
+) -> Result<(Option<i128>, Option<(u32, u64)>, usize), Fail> {
+    let mut stamps = Vec::new(alloc);
+    stamps.push((1, 1))?;
+    moving_into(class, value, &mut stamps)?;
+    Ok((last_id(class, value), stamps.last().copied(), stamps.len()))
+}
+
+/// The last `id` counts, and the stamp of the option that is there. Each header is decoded into the value of
+/// the one before it, of the same option or of the other one.
 #[test]
 fn headers(rt: HostRuntime) -> Result<(), Fail> {
     let alloc = rt.alloc();
+    let class = compact(alloc)?;
     let long = [0x1F, 40, 0, 0, 0, 0, 0x94, 0x35, 0x77, 0, 0, 0, 0];
-    let want = (Some(40), 104, Some((64, 2_000_000_000)), 1);
-    assert!(rt; header_of(alloc, &long)? == want);
+    let other_long = [0xFF, 0, 1, 0, 0, 9, 0, 0, 0, 0, 0, 0, 0x80];
     let short = [0xE0, 0xFF, 0xFF, 0xFF, 0, 0, 0, 0, 0, 0, 0, 0, 0];
-    let want = (Some(0), 32, Some((27, 134_217_727)), 1);
-    assert!(rt; header_of(alloc, &short)? == want);
+    let other_short = [0x3E, 0, 0, 0, 0, 0, 0, 0, 0, 0, 0, 0, 0];
+    let rows = [
+        (long, 104, 40, (64, 2_000_000_000)),
+        (other_long, 104, 256, (64, 0x8000_0000_0000_0009)),
+        (short, 32, 0, (27, 134_217_727)),
+        (other_short, 32, 30, (27, 1)),
+        (long, 104, 40, (64, 2_000_000_000)),
+    ];
+    let mut value = Value::Signed(1);
+    let mut other = Value::Signed(1);
+    for (packet, end, id, stamp) in rows {
+        let found = reached(alloc, &class, &packet, 104, &mut value, &mut other);
+        assert!(rt; found == Some(Ok(end)), "of {id}");
+        let said = said_of(alloc, &class, &value)?;
+        assert!(rt; said == (Some(id), Some(stamp), 1), "of {id}");
+    }
+    for (packet, end, id, _) in rows {
+        let found = reached(
+            alloc,
+            &class,
+            &packet,
+            end.saturating_sub(1),
+            &mut value,
+            &mut other,
+        );
+        assert!(rt; found == Some(Err(ContentEnds(u128::from(end)))), "of {id}");
+    }
     Ok(())
 }
 

@@ -14,11 +14,11 @@ returns-in-Ok c =
     let d = input_in c.args.packet.now c.args.content c.args.scopes.now in
     let s = c.args.scopes.now.spent in
     let p = c.args.start in
-    let at = c.value_into.new.at in
+    let at = c.scope_into.new.at in
     let g = rw (env-Top, c.spent.ensures.value) at c.in-Ok.ensures.gives in
     record {
-      value = told_value d (Stands k d [] p) (Breaks k d [] p s) s (walk k d [] p s) (walk_is k d [] p s) (val c.value_into.new.value) at.end at.spent g;
-      counted = told_count d (Stands k d [] p) (Breaks k d [] p s) s (walk k d [] p s) (walk_is k d [] p s) (val c.value_into.new.value) at.end at.spent g;
+      value = told_value d (Stands k d [] p) (Breaks k d [] p s) s (walk k d [] p s) (walk_is k d [] p s) (val c.scope_into.new.value) at.end at.spent g;
+      counted = told_count d (Stands k d [] p) (Breaks k d [] p s) s (walk k d [] p s) (walk_is k d [] p s) (val c.scope_into.new.value) at.end at.spent g;
       few = c.in-Ok.ensures.within.1;
       within = c.in-Ok.ensures.within.0;
       fault = tt;
@@ -31,4 +31,4 @@ returns-in-Err-clause-fault c =
     let s = c.args.scopes.now.spent in
     let p = c.args.start in
     let g = rw (env-Top, c.spent.ensures.value) at c.in-Err.ensures.gives in
-    told_fault d (Stands k d [] p) (Breaks k d [] p s) s (walk k d [] p s) (walk_is k d [] p s) c.value_into.new.at.fault g
+    told_fault d (Stands k d [] p) (Breaks k d [] p s) s (walk k d [] p s) (walk_is k d [] p s) c.scope_into.new.at.fault g

@@ -35,13 +35,13 @@ tell_elements-loop-value-preserved t c =
       rw told (numbered.elements_next c.loop-value.told.id (form c.args.element.now) c.args.values.now c.loop-value.value-index c.value-item.result c.loop-value-test.true c.value-item.is ∙ c.loop-value.invariant.1),
     )
 
-pub tell_members-returns-then-not-tell-clause-clock : goal.tell_members-returns-then-not-tell-clause-clock
-tell_members-returns-then-not-tell-clause-clock t c =
-    members_stop c.args.line.now c.loop-i.told.clock c.args.members.now c.args.values.now c.loop-i.i c.index-members-i.result c.index-values-i.result c.loop-i-test.true c.if-i-values.false c.index-members-i.is c.index-values-i.is c.if-not-tell.ensures.clock ∙ c.loop-i.invariant.0
+pub tell_members-returns-then-not-tell_member-clause-clock : goal.tell_members-returns-then-not-tell_member-clause-clock
+tell_members-returns-then-not-tell_member-clause-clock t c =
+    members_stop c.args.line.now c.loop-i.told.clock c.args.members.now c.args.values.now c.loop-i.i c.index-members-i.result c.index-values-i.result c.loop-i-test.true c.if-i-values.false c.index-members-i.is c.index-values-i.is c.if-not-tell_member.ensures.clock ∙ c.loop-i.invariant.0
 
 pub tell_members-loop-i-preserved : goal.tell_members-loop-i-preserved
 tell_members-loop-i-preserved t c =
-    let told = c.if-not-tell.ensures.id refl in (
-      members_next c.args.line.now c.loop-i.told.clock c.tell.new.told.clock c.args.members.now c.args.values.now c.loop-i.i c.index-members-i.result c.index-values-i.result c.loop-i-test.true c.if-i-values.false c.index-members-i.is c.index-values-i.is c.if-not-tell.ensures.clock ∙ c.loop-i.invariant.0,
+    let told = c.if-not-tell_member.ensures.id refl in (
+      members_next c.args.line.now c.loop-i.told.clock c.tell_member.new.told.clock c.args.members.now c.args.values.now c.loop-i.i c.index-members-i.result c.index-values-i.result c.loop-i-test.true c.if-i-values.false c.index-members-i.is c.index-values-i.is c.if-not-tell_member.ensures.clock ∙ c.loop-i.invariant.0,
       rw (told, c.named_id.ensures) (numbered.members_next c.loop-i.told.id c.args.members.now c.args.values.now c.loop-i.i c.index-members-i.result c.index-values-i.result c.loop-i-test.true c.if-i-values.false c.index-members-i.is c.index-values-i.is ∙ c.loop-i.invariant.1),
     )

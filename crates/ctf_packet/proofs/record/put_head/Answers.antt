@@ -1,10 +1,10 @@
-use Rattle.std.proofs.Common.{◌≡◌, ◌∙◌, None, Ok, Err, option_map, ap, sym, refl, inl, rules}
+use Rattle.std.proofs.Common.{◌∙◌, None, Ok, option_map, ap, sym, refl, inl}
 use Rattle.std.specs.List.{last_or}
 use Rattle.ctf_decode.specs.Views.{form, val}
 use Rattle.ctf_packet.specs.Classes.{stream_form, event_form}
 use Rattle.ctf_packet.specs.Packets as packets
 use Rattle.ctf_packet.specs.Records as records
-use Rattle.ctf_packet.specs.Views.{values_of, packet_values}
+use Rattle.ctf_packet.specs.Views.{packet_values}
 use Rattle.ctf_packet.proofs.Heads as heads
 use Rattle.ctf_packet.proofs.record.put_head.Goals as goal
 
