@@ -3,7 +3,7 @@ use Rattle.std.proofs.Common.{◌≡◌, ℕ, zero, suc, ◌+◌, ◌-◌, ◌*�
 use Rattle.std.proofs.Math.ListN.{get_or-append}
 use Rattle.std.proofs.Math.Seq.{take-length, take-add, take-append-add, get_or-append_right}
 use Rattle.std.proofs.lemmas.Grind.{flat_map-append, take-set_at}
-use Rattle.std.proofs.lemmas.List.{length-take-le, length-set, append-nil, get_or-drop, take_more, take-take, take_all}
+use Rattle.std.proofs.lemmas.List.{length-take-le, length-set, append-nil, get_or-drop, take_more}
 use Rattle.std.proofs.lemmas.Bool.{cases_lt}
 use Rattle.std.specs.Int.{w64, to_le_bytes}
 use Rattle.std.specs.List.{flat_map, slice_range}
@@ -107,13 +107,3 @@ written-more line front before words at to i within already wrote =
     let more = word_bytes-more words i within in
     let grouped = append_assoc (take at front) (flat_map (to_le_bytes w64) (take i words)) (to_le_bytes w64 (get_or words i 0)) in
     wrote ∙ (ap (λ xs. xs ++ to_le_bytes w64 (get_or words i 0)) already ∙ (grouped ∙ ap (λ xs. take at front ++ xs) (sym more)))
-
--- a text whose words are all written is written
-pub written-all : (line front words text : List ℕ) (at to i count : ℕ) → length words ≤ i → take to line ≡ take at front ++ flat_map (to_le_bytes w64) (take i words) → to ≡ at + 8 * i → at ≤ length front → count ≤ 8 * length words → first_bytes words count ≡ text → take (at + count) line ≡ take at front ++ text
-written-all line front words text at to i count past already counted within enough is =
-    let bytes = flat_map (to_le_bytes w64) words in
-    let all : take i words ≡ words = take_all i words past in
-    let short : take (at + count) (take to line) ≡ take (at + count) line = take-take (at + count) to line (omega arith) in
-    let size : length (take at front) ≡ at = length-take-le at front within in
-    let seam : take (length (take at front) + count) (take at front ++ bytes) ≡ take at front ++ take count bytes = take-append-add (take at front) bytes count in
-    cc

@@ -1,7 +1,8 @@
 //! Texts that are kept as they are printed.
 
-ghost use Rattle.std.specs.Prelude.{◌≡◌, ◌+◌, ◌++◌, ◌≤◌, length, take, IfOk};
+ghost use Rattle.std.specs.Prelude.{◌≡◌, ◌+◌, ◌*◌, ◌^◌, ◌++◌, ◌≤◌, length, take, IfOk};
 ghost use Rattle.std.specs.Int.{w64, to_le_bytes};
+ghost use Rattle.std.specs.List.{flat_map};
 
 use crate::words::words_of;
 use ctf_list::NoMemory;
@@ -17,7 +18,7 @@ pub struct Ready {
 }
 
 impl Model for Ready {
-    ghost use Rattle.std.specs.Prelude.{List, ℕ, ◌+◌, ◌*◌, ◌≤◌, vec_len};
+    ghost use Rattle.std.specs.Prelude.{List, ℕ, ◌+◌, ◌*◌, ◌^◌, ◌≤◌, vec_len};
     ghost use Rattle.std.specs.Coded.{coded_list, coded_ℕ};
     ghost use Rattle.ctf_class.specs.Words.{first_bytes};
 
@@ -27,7 +28,7 @@ impl Model for Ready {
 
     ghost view = { λ ready. first_bytes ready.words.items ready.length };
 
-    ghost invariant = { λ ready. (ready.length ≤ 8 * vec_len ready.words) × (8 * vec_len ready.words ≤ ready.length + 7) };
+    ghost invariant = { λ ready. (ready.length ≤ 8 * vec_len ready.words) × (8 * vec_len ready.words ≤ ready.length + 7) × (ready.length ≤ 2 ^ 63) };
 }
 
 impl Ready {
@@ -44,7 +45,8 @@ impl Ready {
 
     /// How many bytes the text has.
     pub fn len(&self) -> usize
-        ensures { result ≡ length self.now }
+        ensures is { result ≡ length self.now }
+        ensures bounded { result ≤ 2 ^ 63 }
     {
         self.length
     }
@@ -56,16 +58,42 @@ impl Ready {
         ensures end { result ≡ at + length self.now }
         ensures text { take result line.new ≡ take at line.old ++ self.now }
     {
-        let mut to = at;
-        for word in &self.words {
-            put_word(line, to, *word);
-            to += 8;
-        }
+        put_words(self.words.as_slice(), line, at);
         at + self.length
     }
 }
 
+/// Writes the bytes of words. Mostly there are one or two.
+#[inline(always)]
+fn put_words(words: &[u64], line: &mut [u8], at: usize)
+    requires { at + 8 * length words.now ≤ length line.old }
+    ensures { take (at + 8 * length words.now) line.new ≡ take at line.old ++ flat_map (to_le_bytes w64) words.now }
+{
+    match words.len() {
+        1 => put_word(line, at, words[0]),
+        2 => {
+            put_word(line, at, words[0]);
+            put_word(line, at + 8, words[1]);
+        }
+        _ => put_each(words, line, at),
+    }
+}
+
+/// The same of any number of words.
+#[inline(never)]
+fn put_each(words: &[u64], line: &mut [u8], at: usize)
+    requires { at + 8 * length words.now ≤ length line.old }
+    ensures { take (at + 8 * length words.now) line.new ≡ take at line.old ++ flat_map (to_le_bytes w64) words.now }
+{
+    let mut to = at;
+    for word in words {
+        put_word(line, to, *word);
+        to += 8;
+    }
+}
+
 /// Writes the bytes of a word, the lowest first.
+#[inline(always)]
 fn put_word(line: &mut [u8], at: usize, word: u64)
     requires { at + 8 ≤ length line.old }
     ensures { take (at + 8) line.new ≡ take at line.old ++ to_le_bytes w64 word }

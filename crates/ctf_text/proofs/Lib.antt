@@ -6,4 +6,5 @@ pub mod NamesLemmas
 pub mod BinaryLemmas
 pub mod DecimalLemmas
 pub mod DigitsLemmas
+pub mod HexadecimalLemmas
 pub mod PatternLemmas

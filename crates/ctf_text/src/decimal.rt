@@ -42,7 +42,21 @@ pub fn put_unsigned(number: u64, line: &mut [u8], at: usize) -> usize
     end
 }
 
-/// The same of a number that may be negative, with room for 40 bytes.
+/// The same of a number of 64 bits that may be negative, with room for 21 bytes.
+#[inline(always)]
+pub fn put_signed_short(number: i64, line: &mut [u8], at: usize) -> usize
+    requires room { at + 21 ≤ length line.old }
+    ensures text { take result line.new ≡ take at line.old ++ signed_decimal number }
+    ensures near { result ≤ at + 21 }
+{
+    if number >= 0 {
+        return put_unsigned(number.unsigned_abs(), line, at);
+    }
+    line[at] = b'-';
+    put_unsigned(number.unsigned_abs(), line, at + 1)
+}
+
+/// The same of a number of 128 bits, with room for 40 bytes.
 pub fn put_signed(number: i128, line: &mut [u8], at: usize) -> usize
     requires room { at + 40 ≤ length line.old }
     ensures text { take result line.new ≡ take at line.old ++ signed_decimal number }

@@ -34,7 +34,8 @@ fn low_bits(number: u64, count: u32) -> u8
 }
 
 /// The digit of a number from 0 to 15, in upper case.
-fn digit_of(number: u8) -> u8
+#[inline(always)]
+pub fn digit_of(number: u8) -> u8
     requires { number < 16 }
     ensures { result ≡ digit_glyph true number }
 {

@@ -5,6 +5,7 @@ mod binary;
 mod decimal;
 mod digits;
 mod element;
+mod hexadecimal;
 mod label;
 mod mark;
 mod number;

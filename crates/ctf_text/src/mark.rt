@@ -45,7 +45,7 @@ pub fn put_ready(
     ensures text { IfOk result (λ end. take end buffer.new.items ≡ take at buffer.old.items ++ (mark ∷ 32 ∷ ready.now)) }
     ensures room { IfOk result (λ end. end + more ≤ vec_len buffer.new) }
 {
-    with_room(ready.len().saturating_add(more + 9), buffer, at)?;
+    with_room(ready.len() + more + 9, buffer, at)?;
     let line = buffer.as_mut_slice();
     let begin = put_lead(mark, line, at);
     Ok(ready.put(line, begin))

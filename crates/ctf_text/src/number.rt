@@ -1,19 +1,47 @@
 //! Numbers of integer classes.
 
-ghost use Rattle.std.specs.Prelude.{◌≡◌, ◌+◌, ◌++◌, ◌≤◌, length, take};
+ghost use Rattle.std.specs.Prelude.{◌≡◌, ◌+◌, ◌++◌, ◌≤◌, pos, length, take};
 ghost use Rattle.ctf_text.specs.Numbers.{number_text};
 
 use crate::binary::put_bits;
-use crate::decimal::put_signed;
+use crate::decimal::{put_signed, put_signed_short, put_unsigned};
 use crate::digits::put_digits;
+use crate::hexadecimal::put_hexadecimal;
 use crate::pattern::pattern;
 use ctf_class::{Base, Integer};
 
 /// How many bytes a number takes at the most.
 pub const LONGEST_NUMBER: usize = 66;
 
-/// Writes a number of an integer class at an index of a line that has room for it, and gives the index
-/// behind it.
+/// Writes an unsigned number of an integer class at an index of a line that has room for it, and gives the
+/// index behind it. Mostly its base is ten.
+#[inline(always)]
+pub fn put_unsigned_number(integer: &Integer, number: u64, line: &mut [u8], at: usize) -> usize
+    requires room { at + LONGEST_NUMBER ≤ length line.old }
+    ensures text { take result line.new ≡ take at line.old ++ number_text integer.now (pos number) }
+    ensures near { result ≤ at + LONGEST_NUMBER }
+{
+    match integer.base {
+        Base::Decimal => put_unsigned(number, line, at),
+        _ => put_number(integer, i128::from(number), line, at),
+    }
+}
+
+/// The same of a signed number.
+#[inline(always)]
+pub fn put_signed_number(integer: &Integer, number: i64, line: &mut [u8], at: usize) -> usize
+    requires room { at + LONGEST_NUMBER ≤ length line.old }
+    ensures text { take result line.new ≡ take at line.old ++ number_text integer.now number }
+    ensures near { result ≤ at + LONGEST_NUMBER }
+{
+    match integer.base {
+        Base::Decimal => put_signed_short(number, line, at),
+        _ => put_number(integer, i128::from(number), line, at),
+    }
+}
+
+/// The same of a number of 128 bits.
+#[inline(never)]
 #[tactic(auto, using(crate::proofs::DigitsLemmas::length_hexadecimal, crate::proofs::DigitsLemmas::length_octal))]
 pub fn put_number(integer: &Integer, number: i128, line: &mut [u8], at: usize) -> usize
     requires room { at + LONGEST_NUMBER ≤ length line.old }
@@ -25,7 +53,7 @@ pub fn put_number(integer: &Integer, number: i128, line: &mut [u8], at: usize) -
         Base::Hexadecimal => {
             line[at] = b'0';
             line[at + 1] = b'x';
-            put_digits(pattern(integer.size, number), 4, line, at + 2)
+            put_hexadecimal(pattern(integer.size, number), line, at + 2)
         }
         Base::Octal => {
             line[at] = b'0';

@@ -48,7 +48,7 @@ fn put_heading(heading: &Heading, buffer: &mut Vec<u8>, at: usize) -> Result<usi
     ensures held { IfOk result (λ end. end ≤ vec_len buffer.new) }
 {
     let ready = heading.ready();
-    with_room(ready.len().saturating_add(7), buffer, at)?;
+    with_room(ready.len() + 7, buffer, at)?;
     Ok(ready.put(buffer.as_mut_slice(), at))
 }
 
@@ -68,6 +68,7 @@ fn put_shared_part(bytes: &[u8], buffer: &mut Vec<u8>, at: usize) -> Result<usiz
 }
 
 /// Writes a scope, if it has a class and a value, and a comma behind it.
+#[inline(always)]
 fn put_scope(
     class: Option<&Class>,
     value: Option<&Value>,

@@ -1,6 +1,6 @@
 //! Room in a line's buffer.
 
-ghost use Rattle.std.specs.Prelude.{◌≡◌, ◌+◌, ◌*◌, ◌^◌, ◌≤◌, take, vec_len, IfOk};
+ghost use Rattle.std.specs.Prelude.{◌≡◌, ◌+◌, ◌*◌, ◌^◌, ◌≤◌, take, vec_len, IfOk, IsTrue};
 
 use ctf_list::NoMemory;
 
@@ -26,7 +26,7 @@ pub fn with_room_for_text(count: usize, buffer: &mut Vec<u8>, at: usize) -> Resu
     ensures kept { IfOk result (λ _. take at buffer.new.items ≡ take at buffer.old.items) }
     ensures room { IfOk result (λ _. at + 4 * count + 8 ≤ vec_len buffer.new) }
 {
-    if count + 1 < (buffer.len() - at) / 4 {
+    if holds_text(count, buffer.len() - at) {
         return Ok(());
     }
     let Some(need) = (count + 2).checked_mul(4) else {
@@ -35,7 +35,17 @@ pub fn with_room_for_text(count: usize, buffer: &mut Vec<u8>, at: usize) -> Resu
     grow(need, buffer, at)
 }
 
-/// The same where the buffer is too short. It gets at least twice as long.
+/// Whether so much room holds the text of so many bytes, escaped, and 8 bytes more. It may also say no where
+/// there is just as much room as that.
+#[inline(always)]
+pub fn holds_text(count: usize, room: usize) -> bool
+    requires { count ≤ 2 ^ 63 }
+    ensures { IsTrue result → 4 * count + 8 ≤ room }
+{
+    count + 1 < room / 4
+}
+
+/// Makes room where the buffer is too short. It gets at least twice as long.
 #[cold]
 #[inline(never)]
 fn grow(need: usize, buffer: &mut Vec<u8>, at: usize) -> Result<(), NoMemory>

@@ -1,10 +1,12 @@
 //! Texts of strings.
 
 ghost use Rattle.std.specs.Prelude.{◌≡◌, ◌+◌, ◌*◌, ◌++◌, ◌∷◌, [], ◌≤◌, ◌<◌, ◌/◌, ◌%◌, length, take, vec_len, IfOk, IsTrue};
+ghost use Rattle.std.specs.List.{All};
 ghost use Rattle.ctf_class.specs.Escapes.{escaped, shown_byte, hex_digit};
 ghost use Rattle.ctf_class.specs.Names.{label_text};
 
-use crate::room::with_room_for_text;
+use crate::mark::put_bytes;
+use crate::room::{holds_text, with_room_for_text};
 use ctf_list::NoMemory;
 
 /// Writes a text, escaped and in quotes, at an index of a buffer, and gives the index behind it. What stands
@@ -14,11 +16,26 @@ pub fn put_quoted(bytes: &[u8], buffer: &mut Vec<u8>, at: usize) -> Result<usize
     ensures text { IfOk result (λ end. take end buffer.new.items ≡ take at buffer.old.items ++ label_text bytes.now) }
     ensures held { IfOk result (λ end. end ≤ vec_len buffer.new) }
 {
+    if holds_text(bytes.len(), buffer.len() - at) {
+        return Ok(put_in_quotes(bytes, buffer.as_mut_slice(), at));
+    }
+    put_with_room(bytes, buffer, at)
+}
+
+/// The same where the buffer may be too short. It is rare, and so it takes no part in what else is written.
+#[cold]
+#[inline(never)]
+fn put_with_room(bytes: &[u8], buffer: &mut Vec<u8>, at: usize) -> Result<usize, NoMemory>
+    requires { at ≤ vec_len buffer.old }
+    ensures text { IfOk result (λ end. take end buffer.new.items ≡ take at buffer.old.items ++ label_text bytes.now) }
+    ensures held { IfOk result (λ end. end ≤ vec_len buffer.new) }
+{
     with_room_for_text(bytes.len(), buffer, at)?;
     Ok(put_in_quotes(bytes, buffer.as_mut_slice(), at))
 }
 
 /// The same in a line that has room for it.
+#[inline(always)]
 fn put_in_quotes(bytes: &[u8], line: &mut [u8], at: usize) -> usize
     requires { at + 4 * length bytes.now + 8 ≤ length line.old }
     ensures text { take result line.new ≡ take at line.old ++ label_text bytes.now }
@@ -30,47 +47,94 @@ fn put_in_quotes(bytes: &[u8], line: &mut [u8], at: usize) -> usize
     end + 1
 }
 
+/// How many bytes of a long text are written at once.
+const STEP: usize = 16;
+
 /// Writes a text, escaped, at an index of a line that has room for it, and gives the index behind it. It
-/// goes by eight bytes: mostly none of them is escaped.
+/// goes by many bytes: mostly none of them is escaped.
+#[inline(always)]
 fn put_escaped(bytes: &[u8], line: &mut [u8], at: usize) -> usize
     requires { at + 4 * length bytes.now ≤ length line.old }
     ensures text { take result line.new ≡ take at line.old ++ escaped bytes.now }
     ensures near { result ≤ at + 4 * length bytes.now }
 {
-    let mut to = at;
-    for i in 0..bytes.len() / 8 {
-        to = put_eight(&bytes[8 * i..8 * i + 8], line, to);
+    if bytes.len() > 2 * STEP {
+        return put_long(bytes, line, at);
     }
-    put_each(&bytes[bytes.len() / 8 * 8..], line, to)
+    put_short(bytes, line, at)
 }
 
-/// The same of eight bytes.
-#[inline(always)]
-fn put_eight(bytes: &[u8], line: &mut [u8], at: usize) -> usize
-    requires eight { length bytes.now ≡ 8 }
-    requires room { at + 32 ≤ length line.old }
+/// The same of a long text.
+#[inline(never)]
+fn put_long(bytes: &[u8], line: &mut [u8], at: usize) -> usize
+    requires { at + 4 * length bytes.now ≤ length line.old }
     ensures text { take result line.new ≡ take at line.old ++ escaped bytes.now }
-    ensures near { result ≤ at + 32 }
+    ensures near { result ≤ at + 4 * length bytes.now }
+{
+    let steps = bytes.len().saturating_sub(STEP + 1) / STEP;
+    let mut to = at;
+    for i in 0..steps {
+        to = put_step(&bytes[STEP * i..STEP * i + STEP], line, to);
+    }
+    put_short(&bytes[STEP * steps..], line, to)
+}
+
+/// The same of so many bytes as are written at once.
+#[inline(always)]
+fn put_step(bytes: &[u8], line: &mut [u8], at: usize) -> usize
+    requires whole { length bytes.now ≡ STEP }
+    requires room { at + 4 * STEP ≤ length line.old }
+    ensures text { take result line.new ≡ take at line.old ++ escaped bytes.now }
+    ensures near { result ≤ at + 4 * STEP }
 {
     if !are_plain(bytes) {
         return put_each(bytes, line, at);
     }
-    line[at] = bytes[0];
-    line[at + 1] = bytes[1];
-    line[at + 2] = bytes[2];
-    line[at + 3] = bytes[3];
-    line[at + 4] = bytes[4];
-    line[at + 5] = bytes[5];
-    line[at + 6] = bytes[6];
-    line[at + 7] = bytes[7];
-    at + 8
+    put_bytes(bytes, line, at)
+}
+
+/// The same of a text of up to two steps.
+#[inline(always)]
+fn put_short(bytes: &[u8], line: &mut [u8], at: usize) -> usize
+    requires few { length bytes.now ≤ 2 * STEP }
+    requires room { at + 4 * length bytes.now ≤ length line.old }
+    ensures text { take result line.new ≡ take at line.old ++ escaped bytes.now }
+    ensures near { result ≤ at + 4 * length bytes.now }
+{
+    match bytes.len() {
+        0..=3 => put_each(bytes, line, at),
+        4..=7 => put_ends::<4>(bytes, line, at),
+        8..=15 => put_ends::<8>(bytes, line, at),
+        _ => put_ends::<STEP>(bytes, line, at),
+    }
+}
+
+/// The same of a text that its first and its last so many bytes cover. Both are written at once: what stands
+/// in both of them is written twice. It is not inlined, since looking at several bytes in one step is lost
+/// where it is merged for several counts.
+#[inline(never)]
+fn put_ends<const COUNT: usize>(bytes: &[u8], line: &mut [u8], at: usize) -> usize
+    requires enough { COUNT ≤ length bytes.now }
+    requires covered { length bytes.now ≤ 2 * COUNT }
+    requires room { at + 4 * length bytes.now ≤ length line.old }
+    ensures text { take result line.new ≡ take at line.old ++ escaped bytes.now }
+    ensures near { result ≤ at + 4 * length bytes.now }
+{
+    let begin = bytes.len() - COUNT;
+    let first = &bytes[..COUNT];
+    let last = &bytes[begin..];
+    if !(are_plain(first) & are_plain(last)) {
+        return put_each(bytes, line, at);
+    }
+    put_bytes(first, line, at);
+    put_bytes(last, line, at + begin)
 }
 
 /// Whether all of some bytes are shown as they are. It looks at each of them, so that several are looked at
 /// in one step.
 #[inline(always)]
 fn are_plain(bytes: &[u8]) -> bool
-    ensures { IsTrue result → escaped bytes.now ≡ bytes.now }
+    ensures { IsTrue result → All (λ byte. shown_byte byte ≡ byte ∷ []) bytes.now }
 {
     let mut plain = true;
     for byte in bytes {
@@ -80,6 +144,7 @@ fn are_plain(bytes: &[u8]) -> bool
 }
 
 /// The same byte by byte.
+#[inline(never)]
 fn put_each(bytes: &[u8], line: &mut [u8], at: usize) -> usize
     requires { at + 4 * length bytes.now ≤ length line.old }
     ensures text { take result line.new ≡ take at line.old ++ escaped bytes.now }

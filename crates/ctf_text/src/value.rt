@@ -14,7 +14,7 @@ ghost use Rattle.ctf_text.specs.Texts.{member_part, member_texts, element_texts,
 use crate::element::put_index;
 use crate::label::put_labelled;
 use crate::mark::{put_end, put_nothing, put_ready};
-use crate::number::{LONGEST_NUMBER, put_number};
+use crate::number::{LONGEST_NUMBER, put_signed_number, put_unsigned_number};
 use crate::room::with_room;
 use crate::text::put_quoted;
 use ctf_class::{Class, Integer, Kind, Label, Member};
@@ -36,12 +36,42 @@ pub fn put_value(
     ensures text { IfOk result (λ end. take end buffer.new.items ≡ take at buffer.old.items ++ texts.value_text class.now (val value.now)) }
     ensures held { IfOk result (λ end. end ≤ vec_len buffer.new) }
 {
-    with_room(LONGEST_NUMBER, buffer, at)?;
+    match &class.kind {
+        Kind::Structure { members } => {
+            put_structure(members.as_slice(), members_in(value), buffer, at)
+        }
+        _ => {
+            with_room(LONGEST_NUMBER, buffer, at)?;
+            put_field(class, value, buffer, at)
+        }
+    }
+}
+
+/// The same of a part of a value, where there is room for a number. Mostly it is an integer, or else a string.
+#[cycle(texts)]
+#[inline(always)]
+fn put_part(
+    class: &Class,
+    value: &Value,
+    buffer: &mut Vec<u8>,
+    at: usize,
+) -> Result<usize, NoMemory>
+    requires { at + LONGEST_NUMBER ≤ vec_len buffer.old }
+    ensures text { IfOk result (λ end. take end buffer.new.items ≡ take at buffer.old.items ++ texts.value_text class.now (val value.now)) }
+    ensures held { IfOk result (λ end. end ≤ vec_len buffer.new) }
+{
+    if let Kind::Integer(integer) = &class.kind {
+        return Ok(put_integer(integer, value, buffer.as_mut_slice(), at));
+    }
+    if let Kind::String = &class.kind {
+        return put_string(value, buffer, at);
+    }
     put_field(class, value, buffer, at)
 }
 
-/// The same where there is room for a number.
+/// The same of any class. What it calls is not inlined, so that it saves nothing before it knows the class.
 #[cycle(texts)]
+#[inline(never)]
 fn put_field(
     class: &Class,
     value: &Value,
@@ -80,18 +110,17 @@ fn put_integer(integer: &Integer, value: &Value, line: &mut [u8], at: usize) -> 
     ensures text { take result line.new ≡ take at line.old ++ texts.integer_text integer.now (val value.now) }
     ensures near { result ≤ at + LONGEST_NUMBER }
 {
-    match value {
-        Value::Unsigned(number) => put_number(integer, i128::from(*number), line, at),
-        Value::Signed(number) => put_number(integer, i128::from(*number), line, at),
-        Value::Label(_) => at,
-        Value::Text(_) => at,
-        Value::Group(_) => at,
-        Value::List(_) => at,
-        Value::Choice(_, _) => at,
+    if let Value::Unsigned(number) = value {
+        return put_unsigned_number(integer, *number, line, at);
     }
+    if let Value::Signed(number) = value {
+        return put_signed_number(integer, *number, line, at);
+    }
+    at
 }
 
 /// Writes an enumeration.
+#[inline(never)]
 fn put_enumeration(
     container: &Integer,
     labels: &[Label],
@@ -120,15 +149,10 @@ fn put_string(value: &Value, buffer: &mut Vec<u8>, at: usize) -> Result<usize, N
     ensures text { IfOk result (λ end. take end buffer.new.items ≡ take at buffer.old.items ++ texts.string_text (val value.now)) }
     ensures held { IfOk result (λ end. end ≤ vec_len buffer.new) }
 {
-    match value {
-        Value::Text(bytes) => put_quoted(bytes.as_slice(), buffer, at),
-        Value::Unsigned(_) => Ok(at),
-        Value::Signed(_) => Ok(at),
-        Value::Label(_) => Ok(at),
-        Value::Group(_) => Ok(at),
-        Value::List(_) => Ok(at),
-        Value::Choice(_, _) => Ok(at),
+    if let Value::Text(bytes) = value {
+        return put_quoted(bytes.as_slice(), buffer, at);
     }
+    Ok(at)
 }
 
 /// Writes a structure.
@@ -180,6 +204,7 @@ fn put_members(
 
 /// Writes a member behind a mark.
 #[cycle(texts)]
+#[inline(always)]
 pub fn put_member(
     lead: u8,
     member: &Member,
@@ -192,7 +217,7 @@ pub fn put_member(
     ensures held { IfOk result (λ end. end ≤ vec_len buffer.new) }
 {
     let begin = put_ready(lead, member.name.ready(), LONGEST_NUMBER, buffer, at)?;
-    put_field(&member.class, value, buffer, begin)
+    put_part(&member.class, value, buffer, begin)
 }
 
 /// Writes the option that was chosen.
@@ -290,5 +315,5 @@ fn put_element(
     ensures held { IfOk result (λ end. end ≤ vec_len buffer.new) }
 {
     let begin = put_index(lead, i, buffer, at)?;
-    put_field(element, value, buffer, begin)
+    put_part(element, value, buffer, begin)
 }

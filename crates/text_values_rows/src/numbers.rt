@@ -1,6 +1,6 @@
 //! Integers in each base.
 
-use crate::classes::integer;
+use crate::classes::{decimal, integer};
 use crate::values::shows;
 use ctf_class::Base::{self, Binary, Decimal, Hexadecimal, Octal};
 use ctf_decode::Value;
@@ -9,7 +9,7 @@ use std::test::Fail;
 #[test]
 fn unsigned(rt: HostRuntime) -> Result<(), Fail> {
     let alloc = rt.alloc();
-    let rows: [(u32, Base, u64, &[u8]); 22] = [
+    let rows: [(u32, Base, u64, &[u8]); 25] = [
         (8, Decimal, 0, b"0"),
         (8, Decimal, 9, b"9"),
         (8, Decimal, 10, b"10"),
@@ -22,6 +22,9 @@ fn unsigned(rt: HostRuntime) -> Result<(), Fail> {
         (8, Hexadecimal, 0, b"0x0"),
         (8, Hexadecimal, 15, b"0xF"),
         (8, Hexadecimal, 0x10, b"0x10"),
+        (8, Hexadecimal, 0xFF, b"0xFF"),
+        (16, Hexadecimal, 0x100, b"0x100"),
+        (20, Hexadecimal, 0xABCDE, b"0xABCDE"),
         (64, Hexadecimal, 0x0123_4567_89AB_CDEF, b"0x123456789ABCDEF"),
         (64, Hexadecimal, u64::MAX, b"0xFFFFFFFFFFFFFFFF"),
         (8, Octal, 0, b"00"),
@@ -67,6 +70,38 @@ fn signed(rt: HostRuntime) -> Result<(), Fail> {
     for (size, base, number, want) in rows {
         let class = integer(size, true, base)?;
         shows(alloc, &class, &Value::Signed(number), want)?;
+    }
+    Ok(())
+}
+
+/// The number that some digits say.
+fn number_of(digits: &[u8]) -> Option<u64> {
+    let mut number = 0u64;
+    for digit in digits {
+        number = number.checked_mul(10)?;
+        number = number.checked_add(u64::from(digit.checked_sub(b'0')?))?;
+    }
+    Some(number)
+}
+
+/// As many digits of each kind as a number can have.
+#[test]
+fn counts_of_digits(rt: HostRuntime) -> Result<(), Fail> {
+    let alloc = rt.alloc();
+    let class = decimal()?;
+    let rows: [&[u8]; 3] = [
+        b"9999999999999999999",
+        b"10000000000000000000",
+        b"12345678901234567890",
+    ];
+    for digits in rows {
+        for count in 1..digits.len() + 1 {
+            let want = &digits[..count];
+            let Some(number) = number_of(want) else {
+                return Err(Fail::from("no number"));
+            };
+            shows(alloc, &class, &Value::Unsigned(number), want)?;
+        }
     }
     Ok(())
 }

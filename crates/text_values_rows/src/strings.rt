@@ -3,6 +3,7 @@
 use crate::classes::{string, text};
 use crate::values;
 use crate::values::shows;
+use std::alloc::Global;
 use std::test::Fail;
 
 #[test]
@@ -27,6 +28,45 @@ fn escapes(rt: HostRuntime) -> Result<(), Fail> {
         let value = values::text(alloc, bytes)?;
         shows(alloc, &string()?, &value, want)?;
         shows(alloc, &text()?, &value, want)?;
+    }
+    Ok(())
+}
+
+/// Text that is shown as it is.
+static PLAIN: [u8; 40] = *b"abcdefghijklmnopqrstuvwxyz0123456789 !~_";
+
+/// Whether the first bytes of the plain text are shown so, where one of them may be another byte.
+fn shows_with(alloc: Global, count: usize, place: usize, byte: u8) -> Result<(), Fail> {
+    let mut bytes = Vec::new(alloc);
+    let mut want = Vec::new(alloc);
+    want.push(b'"')?;
+    for (i, plain) in PLAIN.iter().enumerate() {
+        if i >= count {
+            continue;
+        }
+        let here = if i == place { byte } else { *plain };
+        bytes.push(here)?;
+        match here {
+            b'"' => want.extend_from_slice(b"\\\"")?,
+            1 => want.extend_from_slice(b"\\x01")?,
+            _ => want.push(here)?,
+        }
+    }
+    want.push(b'"')?;
+    let value = values::text(alloc, bytes.as_slice())?;
+    shows(alloc, &string()?, &value, want.as_slice())
+}
+
+/// A plain text of each length, and the same with a byte that is escaped at its begin, inside and at its end.
+#[test]
+fn lengths(rt: HostRuntime) -> Result<(), Fail> {
+    let alloc = rt.alloc();
+    for count in 0..41usize {
+        for byte in [b'+', b'"', 1] {
+            shows_with(alloc, count, 0, byte)?;
+            shows_with(alloc, count, count / 2, byte)?;
+            shows_with(alloc, count, count.saturating_sub(1), byte)?;
+        }
     }
     Ok(())
 }
