@@ -1,12 +1,10 @@
 -- The turns of streams in a heap.
-use Rattle.std.proofs.Common.{◌≡◌, ℕ, zero, suc, ◌+◌, ◌≤◌, ◌<◌, Bool, true, false, cond, List, [], ◌∷◌, ◌++◌, length, map, set, get_or, take, slice_get, Option, Some, None, refl, sym, ap, ◌∙◌, subst, arith}
+use Rattle.std.proofs.Common.{◌≡◌, ℕ, zero, suc, ◌+◌, ◌≤◌, ◌<◌, Bool, true, false, cond, List, [], ◌∷◌, ◌++◌, length, map, set, get_or, take, drop, slice_get, Option, Some, None, refl, sym, ap, ◌∙◌, subst, arith}
 use Rattle.std.specs.Ordering.{is_lt}
 use Rattle.std.specs.List.{AllByRecursion, sum_by}
-use Rattle.std.specs.List.Sorted.{IsPermutation}
-use Rattle.std.specs.BinaryHeap.{IsUpperBound, KeepsHeap, PopsGreatest}
+use Rattle.std.specs.BinaryHeap.{IsHeap, IsUpperBound, KeepsHeap}
 use Rattle.std.specs.declared.cmp.Reverse.{Reverse}
 use Rattle.std.proofs.lemmas.List.Sums.{sum_by-cons}
-use Rattle.std.proofs.lemmas.List.Sorted.{sum_by_popped}
 use Rattle.ctf_packet.specs.Classes.{Classes}
 use Rattle.ctf_packet.specs.Items.{Item}
 use Rattle.ctf_packet.specs.declared.fault.StreamFault.{StreamFault}
@@ -22,6 +20,7 @@ use Rattle.ctf_merge.specs.declared.merge.Stage.{Stage}
 use Rattle.ctf_merge.specs.declared.merge.Stage.TheVariants as stages
 use Rattle.ctf_merge.specs.declared.turn.Turn.{Turn}
 use Rattle.ctf_merge.proofs.Going.{front_by, next_by, map-set, InFront, in_front, open_item, front, coming-item}
+use Rattle.ctf_merge.proofs.Pushed.{first_and_rest}
 use Rattle.ctf_merge.proofs.Turning.{same_turn, not_before, indicator, none_sum, not_indicated, turn_of, sum_turns, at_least, no_turns, IsLow, lows, all_append}
 
 -- ---- what comes first of streams that are lined up
@@ -130,19 +129,19 @@ sound_set [] n h all here = tt
 sound_set (g ∷ hs) zero h all here = (here, all.1)
 sound_set (g ∷ hs) (suc m) h all here = (all.0, sound_set hs m h all.1 here)
 
-pub lined_again : (hs : List reader.Ahead) (old between new : List (Reverse Turn)) (t : Reverse Turn) (n : ℕ) (x : Item Classes) (h : reader.Ahead)
-    → LinedUp hs old → first_of hs ≡ item n x → t.0 ≡ turn_of n x → PopsGreatest last_cmp old t between → IsPermutation old (t ∷ between)
-    → Joins (turn_at n (told h)) between new → KeepsHeap last_cmp between new → fault_at (told h) ≡ None → LinedUp (set hs n h) new
-lined_again hs old between new t n x h lined e is pops moved joins keeps sound = record {
+pub lined_again : (hs : List reader.Ahead) (old new : List (Reverse Turn)) (t : Reverse Turn) (n : ℕ) (x : Item Classes) (h : reader.Ahead)
+    → LinedUp hs old → first_of hs ≡ item n x → t.0 ≡ turn_of n x → 0 < length old → t ≡ get_or old 0 t
+    → Joins (turn_at n (told h)) (drop 1 old) new → KeepsHeap last_cmp old new → fault_at (told h) ≡ None → LinedUp (set hs n h) new
+lined_again hs old new t n x h lined e is filled top joins keeps sound = record {
   sound = sound_set hs n h lined.sound sound;
-  heap_order = keeps (pops lined.heap_order).0;
+  heap_order = keeps lined.heap_order;
   turns = λ f.
       let joined = joins f in
       let had = lined.turns f in
-      let popped = sum_by_popped (λ (u : Reverse Turn). f u.0) t old between moved in
+      let parts = first_and_rest f t old filled top in
       let changed = sum_set f 0 n hs n x h (omega arith) e in
       let same = ap f is in
-      omega (arith, joined, had, popped, changed, same);
+      omega (arith, joined, had, parts, changed, same);
 }
 
 fault_is : (h : reader.Ahead) (f : StreamFault) → fault_at (told h) ≡ Some f → h ≡ reader.fault f
@@ -230,21 +229,21 @@ none_left (suc m) h = absurd (let no = h (omega arith) in cc)
 pub open_coming : (readers : List Reader) (stage : Stage) → is_over stage ≡ false → coming_of (record { readers = readers; over = is_over stage }) ≡ merged (map coming readers)
 open_coming readers stage open_ = ap (λ (b : Bool). cond b (ends None) (merged (map coming readers))) open_
 
--- the turn that was popped is that of the first item
-pub popped_front : (readers : List Reader) (stage : Stage) (heap between : List (Reverse Turn)) (t : Reverse Turn) (n : ℕ) → stage ≡ stages.Going → Stands stage (heads_of readers) heap
-    → n ≡ length heap → 0 < n → t ≡ get_or heap 0 t → PopsGreatest last_cmp heap t between
+-- the first turn is that of the first item
+pub turn_front : (readers : List Reader) (stage : Stage) (heap : List (Reverse Turn)) (t : Reverse Turn) (n : ℕ) → stage ≡ stages.Going → Stands stage (heads_of readers) heap
+    → n ≡ length heap → 0 < n → t ≡ get_or heap 0 t → (IsHeap last_cmp heap → IsUpperBound last_cmp t heap)
     → (x : Item Classes) × InFront (record { readers = readers; over = is_over stage }) t.0.number x × (t.0 ≡ turn_of t.0.number x)
-popped_front readers stage heap between t n going stands len filled top pops =
+turn_front readers stage heap t n going stands len filled top greatest =
     let lined = lined_going stage (heads_of readers) heap going stands in
-    let at = top_turn (heads_of readers) heap t lined (omega (arith, len, filled)) top (pops lined.heap_order).1 in
+    let at = top_turn (heads_of readers) heap t lined (omega (arith, len, filled)) top (greatest lined.heap_order) in
     (at.0, in_front (record { readers = readers; over = is_over stage }) t.0.number at.0 (ap is_over going) at.1, at.2)
 
 -- the streams once its stream went on
-pub stands_again : (readers : List Reader) (stage next : Stage) (heap between new : List (Reverse Turn)) (t : Reverse Turn) (x : Item Classes) (r : Reader) → stage ≡ stages.Going
+pub stands_again : (readers : List Reader) (stage next : Stage) (heap new : List (Reverse Turn)) (t : Reverse Turn) (n : ℕ) (x : Item Classes) (r : Reader) → stage ≡ stages.Going
     → Stands stage (heads_of readers) heap → InFront (record { readers = readers; over = is_over stage }) t.0.number x → t.0 ≡ turn_of t.0.number x
-    → PopsGreatest last_cmp heap t between → IsPermutation heap (t ∷ between) → Joins (turn_at t.0.number (told r.ahead)) between new → KeepsHeap last_cmp between new
+    → n ≡ length heap → 0 < n → t ≡ get_or heap 0 t → Joins (turn_at t.0.number (told r.ahead)) (drop 1 heap) new → KeepsHeap last_cmp heap new
     → next ≡ stage_of t.0.number (fault_at (told r.ahead)) → Stands next (heads_of (set readers t.0.number r)) new
-stands_again readers stage next heap between new t x r going stands at is pops moved joins keeps next_is =
+stands_again readers stage next heap new t n x r going stands at is len filled top joins keeps next_is =
     subst (λ (s : Stage). Stands s (heads_of (set readers t.0.number r)) new) (sym next_is)
     (subst (λ (hs : List reader.Ahead). Stands (stage_of t.0.number (fault_at (told r.ahead))) hs new) (sym (map-set (λ (q : Reader). q.ahead) readers t.0.number r))
     (by_fault (fault_at (told r.ahead)) refl))
@@ -253,7 +252,7 @@ stands_again readers stage next heap between new t x r going stands at is pops m
     lined = lined_going stage (heads_of readers) heap going stands
 
     by_fault : (f : Option StreamFault) → fault_at (told r.ahead) ≡ f → Stands (stage_of t.0.number f) (set (heads_of readers) t.0.number r.ahead) new
-    by_fault None e = lined_again (heads_of readers) heap between new t t.0.number x r.ahead lined at.heads is pops moved joins keeps e
+    by_fault None e = lined_again (heads_of readers) heap new t t.0.number x r.ahead lined at.heads is (omega (arith, len, filled)) top joins keeps e
     by_fault (Some f) e = broken_again (heads_of readers) t.0.number r.ahead f lined.sound (let lt = at.within in let len = length-heads readers in omega (arith, lt, len)) e
 
 pub stage_open : (n : ℕ) (f : Option StreamFault) → is_over (stage_of n f) ≡ false

@@ -1,6 +1,6 @@
 //! Several readers as one.
 
-ghost use Rattle.std.specs.Prelude.{◌≡◌, ◌+◌, ◌<◌, [], length, map, IfOk, IsOk, OnOk, OnErr, IfSome, IfNone, IsTrue, MatchOption, slice_get, None, true, false};
+ghost use Rattle.std.specs.Prelude.{◌≡◌, ◌+◌, ◌<◌, [], length, map, drop, IfOk, IsOk, OnOk, OnErr, IfSome, IfNone, IsTrue, MatchOption, slice_get, None, true, false};
 ghost use Rattle.ctf_stream.specs.Owned as owned;
 ghost use Rattle.ctf_stream.specs.Reader.{coming, rest_of, HasItem, OrRefused, IsFetched, IsOnLine, IsAllTaken};
 ghost use Rattle.ctf_merge.specs.Merged.{merged};
@@ -155,6 +155,32 @@ fn line_up(
     }
 }
 
+/// Replaces the first turn by the next one of its stream, by what stands in front of that, in one walk through the
+/// heap. Takes it out where no item stands there. Gives the fault that stands there.
+fn replace_first(
+    turns: &mut BinaryHeap<Reverse<Turn>>,
+    number: usize,
+    ahead: Ahead,
+) -> Option<StreamFault>
+    requires { 0 < heap_len turns.old }
+    ensures fault { result ≡ fault_at ahead }
+    ensures joins { Joins (turn_at number ahead) (drop 1 (heap_items turns.old)) (heap_items turns.new) }
+    ensures heap_order { KeepsHeap last_cmp (heap_items turns.old) (heap_items turns.new) }
+{
+    let fault = match ahead {
+        Ahead::Item(time) => {
+            let mut first = turns.peek_mut().unwrap();
+            *first = Reverse(Turn { time, number });
+            return None;
+        }
+        Ahead::Fault(fault) => Some(fault),
+        Ahead::Start => None,
+        Ahead::Ended => None,
+    };
+    turns.pop();
+    fault
+}
+
 /// Lines up the turns of all streams, up to the first one with a fault in front.
 fn line_up_each<'a, S: Source + Drop>(
     alloc: Global,
@@ -257,13 +283,13 @@ impl<'a, S: Source + Drop> Merge<'a, S> {
     {
         match self.stage {
             Stage::Going => {
-                if let Some(Reverse(turn)) = self.turns.pop() {
-                    let reader = &mut self.readers[turn.number];
+                if let Some(turn) = self.turns.peek() {
+                    let number = turn.0.number;
+                    let reader = &mut self.readers[number];
                     reader.go_on();
                     let ahead = reader.ahead();
-                    // The turn that was taken left room: nothing grows here.
-                    let fault = line_up(&mut self.turns, turn.number, ahead).unwrap();
-                    self.stage = Stage::of(turn.number, fault);
+                    let fault = replace_first(&mut self.turns, number, ahead);
+                    self.stage = Stage::of(number, fault);
                 }
             }
             Stage::Broken(_number, _fault) => self.stage = Stage::Over,
@@ -296,15 +322,14 @@ impl<'a, S: Source + Drop> Merge<'a, S> {
         ensures all_taken { EachTells self.old.readers → EachAllTaken self.old.readers → EachAllTaken self.new.readers }
     {
         match self.stage {
-            Stage::Going => match self.turns.pop() {
-                Some(Reverse(turn)) => {
-                    let number = turn.number;
+            Stage::Going => match self.turns.peek() {
+                Some(turn) => {
+                    let number = turn.0.number;
                     let reader = &mut self.readers[number];
                     match give(reader) {
                         Ok(item) => {
                             let ahead = reader.ahead();
-                            // The turn that was taken left room: nothing grows here.
-                            let fault = line_up(&mut self.turns, number, ahead).unwrap();
+                            let fault = replace_first(&mut self.turns, number, ahead);
                             self.stage = Stage::of(number, fault);
                             Ok(item)
                         }
