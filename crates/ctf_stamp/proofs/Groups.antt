@@ -1,6 +1,8 @@
 -- Digits in groups.
-use Rattle.std.proofs.Common.{◌≡◌, ℕ, zero, suc, ◌+◌, ◌*◌, ◌/◌, ◌%◌, ◌^◌, ◌<◌, List, [], ◌∷◌, ◌++◌, length, refl, sym, ap, subst, ◌∙◌, add-zero, add-suc, mul_comm, append_assoc, append-nil, length-append, arith}
-use Rattle.std.proofs.Math.Nat.{div-add-mod, mod-lt, pow-succ', mul_left_comm}
+use Rattle.std.proofs.Common.{◌≡◌, ℕ, zero, suc, ◌+◌, ◌*◌, ◌/◌, ◌%◌, ◌^◌, ◌<◌, ◌≤◌, List, [], ◌∷◌, ◌++◌, length, refl, sym, ap, subst, ◌∙◌, add-zero, add-suc, mul_comm, append_assoc, append-nil, length-append, arith}
+use Rattle.std.proofs.Math.Nat.{div-add-mod, div-div-eq-div-mul, mod-lt, pow-succ', mul_left_comm}
+use Rattle.std.specs.Fmt.{decimal}
+use Rattle.std.proofs.lemmas.Fmt.{decimal_digit, decimal_step}
 use Rattle.ctf_stamp.specs.Digits.{last_digits}
 
 pub digits_long : (k n : ℕ) → length (last_digits k n) ≡ k
@@ -40,15 +42,38 @@ two_digits a b n h f g =
     let e : a ≡ n / 10 % 10 = omega arith in
     ap (λ m. (48 + m) ∷ (48 + b) ∷ []) e ∙ ap (λ m. (48 + n / 10 % 10) ∷ (48 + m) ∷ []) g
 
-pub nine_digits : (n : ℕ) → n < 1000000000 → (48 + n / 100000000) ∷ last_digits 8 (n % 100000000) ≡ last_digits 9 n
-unfolding last_digits
-nine_digits n h =
-    let e : n / 100000000 ≡ n / 100000000 % 10 = omega arith in
-    ap (λ m. (48 + m) ∷ last_digits 8 (n % 100000000)) e ∙ sym (split 1 8 100000000 n (omega arith) refl)
-
 pub twenty_digits : (n : ℕ) → (last_digits 4 (n / 10000000000000000) ++ last_digits 8 (n / 100000000 % 100000000)) ++ last_digits 8 (n % 100000000) ≡ last_digits 20 n
 twenty_digits n =
     let a = split 12 8 100000000 n (omega arith) refl in
     let b = split 4 8 100000000 (n / 100000000) (omega arith) refl in
     let e : n / 10000000000000000 ≡ n / 100000000 / 100000000 = omega arith in
     ap (λ m. (last_digits 4 m ++ last_digits 8 (n / 100000000 % 100000000)) ++ last_digits 8 (n % 100000000)) e ∙ sym (a ∙ ap (λ xs. xs ++ last_digits 8 (n % 100000000)) b)
+
+ten_pos : (k : ℕ) → 0 < 10 ^ k
+ten_pos zero = omega arith
+ten_pos (suc k) = rw (pow-succ' 10 k) (omega (arith, ten_pos k))
+
+-- a number is its front and its last digits
+decimal_long : (k n : ℕ) → 10 ^ k ≤ n → n < 2 ^ 64 → decimal n ≡ decimal (n / 10 ^ k) ++ last_digits k n
+unfolding last_digits
+decimal_long zero n low fits = let e : n / 1 ≡ n = omega arith in rw (e, append-nil) refl
+decimal_long (suc k) n low fits =
+    let p = 10 ^ k in
+    let e : 10 ^ suc k ≡ 10 * p = pow-succ' 10 k in
+    let one = ten_pos k in
+    let step = decimal_step n (omega arith) fits in
+    let front = decimal_long k (n / 10) (omega arith) (omega arith) in
+    let same : n / 10 / p ≡ n / (10 * p) = div-div-eq-div-mul n 10 p in
+    rw (step, front, e, append_assoc, same) refl
+
+-- a digit more in front of nine
+pub second_text : (n : ℕ) → n < 1000000000 → decimal (1000000000 + n) ≡ 49 ∷ last_digits 9 n
+unfolding last_digits
+second_text n small =
+    let front : (1000000000 + n) / 1000000000 ≡ 1 = omega arith in
+    let last = joined 0 9 1 n small in
+    decimal_long 9 (1000000000 + n) (omega arith) (omega arith) ∙ rw (front, decimal_digit 1 (omega arith)) (ap (λ (xs : List ℕ). 49 ∷ xs) last)
+
+pub second_long : (n : ℕ) → n < 1000000000 → length (decimal (1000000000 + n)) ≡ 10
+unfolding last_digits
+second_long n small = ap length (second_text n small) ∙ ap (λ (k : ℕ). 1 + k) (digits_long 9 n)

@@ -1,10 +1,10 @@
 //! Digits and bytes that are written into a slice at an index. Each call gives the index behind what it wrote.
 
-ghost use Rattle.std.specs.Prelude.{◌≡◌, ◌+◌, ◌<◌, ◌≤◌, [], ◌∷◌, length, decimal};
+ghost use Rattle.std.specs.Prelude.{◌≡◌, ◌+◌, ◌<◌, ◌≤◌, [], ◌∷◌, ◌++◌, codes, length, decimal};
 ghost use Rattle.ctf_stamp.specs.Digits.{last_digits, seconds_text};
 ghost use Rattle.ctf_stamp.specs.Putting.{IsPut};
 
-use itoa::Buffer;
+use itoa::{Buffer, write_digits};
 
 /// Nanoseconds in a second.
 const SECOND: u64 = 1_000_000_000;
@@ -54,15 +54,16 @@ fn put_eight(number: u32, line: &mut [u8], at: usize) -> usize
     put_four(number % 10_000, line, at)
 }
 
-/// Nine digits.
-#[inline(always)]
-pub(crate) fn put_nine(number: u32, line: &mut [u8], at: usize) -> usize
+/// A dot and nine digits. The kit writes as many digits as a number has, so it is given one more in front, and
+/// the dot takes its place.
+pub(crate) fn put_fraction(number: u32, line: &mut [u8], at: usize) -> usize
     requires nine { number < 1000000000 }
-    requires room { at + 9 ≤ length line.old }
-    ensures { IsPut line.old line.new at result (last_digits 9 number) }
+    requires room { at + 10 ≤ length line.old }
+    ensures { IsPut line.old line.new at result (codes "." ++ last_digits 9 number) }
 {
-    let at = put_byte(b'0' + (number / 100_000_000) as u8, line, at);
-    put_eight(number % 100_000_000, line, at)
+    write_digits(SECOND + u64::from(number), line, at + 10);
+    line[at] = b'.';
+    at + 10
 }
 
 /// Twenty digits.
@@ -109,6 +110,5 @@ pub(crate) fn put_seconds(nanos: u64, line: &mut [u8], at: usize) -> usize
     ensures short { result ≤ at + 30 }
 {
     let at = put_decimal(nanos / SECOND, line, at);
-    let at = put_byte(b'.', line, at);
-    put_nine((nanos % SECOND) as u32, line, at)
+    put_fraction((nanos % SECOND) as u32, line, at)
 }

@@ -8,7 +8,7 @@ ghost use Rattle.ctf_stamp.specs.Civil.{second_of, within_second};
 ghost use Rattle.ctf_stamp.specs.Zones.{civil_at};
 
 use crate::civil::{MOST_HEAD, put_head};
-use crate::digits::{put_byte, put_bytes, put_nine, put_seconds, put_twenty};
+use crate::digits::{put_byte, put_bytes, put_fraction, put_seconds, put_twenty};
 use crate::style::{ClockStyle, Style};
 use ctf_clock::Moment;
 use std::marker::Model;
@@ -139,9 +139,20 @@ fn put_second(head: &[u8], nanos: u32, line: &mut [u8], at: usize) -> usize
         (head.now ++ (codes "." ++ last_digits 9 nanos)) }
     ensures short { result ≤ at + MOST_STAMP }
 {
-    let at = put_bytes(head, line, at);
-    let at = put_byte(b'.', line, at);
-    put_nine(nanos, line, at)
+    let at = put_kept(head, line, at);
+    put_fraction(nanos, line, at)
+}
+
+/// What is kept of a second. Mostly it is `hh:mm:ss`, which is written as one word.
+#[inline(always)]
+fn put_kept(head: &[u8], line: &mut [u8], at: usize) -> usize
+    requires { at + length head.now ≤ length line.old }
+    ensures { IsPut line.old line.new at result head.now }
+{
+    if head.len() == 8 {
+        return put_bytes(&head[..8], line, at);
+    }
+    put_bytes(head, line, at)
 }
 
 /// The second in which a time lies, and the nanoseconds behind its start.

@@ -1,7 +1,11 @@
-use Rattle.ctf_stamp.proofs.Putting.{put_both}
-use Rattle.ctf_stamp.specs.Digits.{seconds_text}
+use Rattle.std.proofs.Common.{◌/◌, ◌%◌, [], ◌∷◌, sym, append_assoc}
+use Rattle.std.specs.Fmt.{decimal}
+use Rattle.ctf_stamp.proofs.Putting.{put_both, put_as}
+use Rattle.ctf_stamp.specs.Digits.{last_digits, seconds_text}
 use Rattle.ctf_stamp.proofs.digits.put_seconds.Goals as goal
 
 pub returns-clause-put : goal.returns-clause-put
 unfolding seconds_text
-returns-clause-put c = put_both (put_both c.put_decimal-at.ensures.put c.put_byte-at.ensures) c.put_nine.ensures
+returns-clause-put c =
+    put_as (put_both c.put_decimal-at.ensures.put c.put_fraction.ensures)
+    (sym (append_assoc (decimal (c.args.nanos / 1000000000)) (46 ∷ []) (last_digits 9 (c.args.nanos % 1000000000))))
