@@ -1,7 +1,7 @@
 //! A log that is held back in a buffer in front of a writer.
 
 ghost use Rattle.std.specs.Prelude.{◌≡◌, IfOk, [], true, is_some, unwrap_or, IsTrue};
-ghost use Rattle.std.specs.Io.Buffered.{writer_contents};
+ghost use Rattle.std.specs.Io.Buffered.{writer_contents, writer_inner};
 ghost use Rattle.ctf_bits.specs.Count.{one_more};
 ghost use Rattle.ctf_cli.specs.LogWriters.{writer_of, failures_of};
 
@@ -37,7 +37,8 @@ impl<O: Write + Drop> LogWriter<O> {
 
     /// Drops what is still held back: nothing is written after a failure.
     pub fn close(self) -> O
-        ensures { IsTrue (⟦<LogWriter<O> as Log>⟧.settled self) → unwrap_or (O.contents result) [] ≡ ⟦<LogWriter<O> as Sink>⟧.accepted self }
+        ensures as_it_was { result ≡ writer_inner (writer_of self) }
+        ensures settled { IsTrue (⟦<LogWriter<O> as Log>⟧.settled self) → unwrap_or (O.contents result) [] ≡ ⟦<LogWriter<O> as Sink>⟧.accepted self }
     {
         let LogWriter {
             writer,

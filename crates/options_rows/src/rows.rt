@@ -67,7 +67,7 @@ fn trims(rt: HostRuntime) -> Result<(), Fail> {
             None,
         ),
         (
-            "--begin=2012-11-04 01:30",
+            "--begin=2012-11-04 01:30:00",
             RULE,
             Some(1_352_007_000_000_000_000),
             None,
