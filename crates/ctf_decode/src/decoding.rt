@@ -71,7 +71,7 @@ pub fn decode_into(
 }
 
 /// The same. It is faster where the class is a structure of an enumeration and a variant on it, as the headers of
-/// most event records are (CTF 1.8.3, section 6.1.1).
+/// most event records are (CTF 1.8.3, section 6.1).
 #[inline(always)]
 pub fn decode_header_into(
     alloc: Global,

@@ -27,20 +27,6 @@ fn around<'a>(frame: &'a Frame<'a>, out: u32) -> Option<&'a [Value]>
     }
 }
 
-/// The same. Mostly it is the innermost structure.
-#[inline(always)]
-fn nearby<'a>(frame: &'a Frame<'a>, out: u32) -> Option<&'a [Value]>
-    ensures { option_map (λ vs. map val vs.now) result ≡ slice_get (env frame.now) out }
-{
-    if out != 0 {
-        return around(frame, out);
-    }
-    match frame {
-        Frame::Top => None,
-        Frame::Within(values, _outer) => Some(values),
-    }
-}
-
 /// The member at an index.
 fn nth(members: &[Value], index: usize) -> Option<&Value>
     ensures { option_copied result ≡ slice_get members.now index }
@@ -104,7 +90,7 @@ pub fn find<'a>(route: &Route, scopes: &'a Scopes, frame: &'a Frame<'a>) -> Opti
     let steps = route.steps.as_slice();
     match route.origin {
         Origin::Earlier(scope) => in_scope(scopes, scope, steps),
-        Origin::Enclosing(out) => match nearby(frame, out) {
+        Origin::Enclosing(out) => match around(frame, out) {
             None => None,
             Some(members) => inside(members, steps),
         },

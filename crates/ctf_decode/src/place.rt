@@ -83,7 +83,7 @@ impl Cursor {
     /// Stops for a tag that chooses no option.
     #[cold]
     #[inline(never)]
-    pub fn stop_chosen(&mut self) -> Stopped
+    pub fn stop_unchosen(&mut self) -> Stopped
         ensures { self.new.fault ≡ NoOption }
     {
         self.stop(DecodeFault::NoOption)

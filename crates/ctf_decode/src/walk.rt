@@ -267,37 +267,9 @@ fn inner_member_into(
 {
     let mut value = mem::replace(&mut values[i], Value::Unsigned(0));
     let inner = Frame::Within(&values[..i], &*frame);
-    composite_into(alloc, class, packet, &inner, at, &mut value)?;
+    value_into(alloc, class, packet, &inner, at, &mut value)?;
     values[i] = value;
     Ok(())
-}
-
-/// Makes the value of a class at a place the value. A variant goes to its option at once.
-#[cycle(walk)]
-#[inline(always)]
-fn composite_into(
-    alloc: Global,
-    class: &Class,
-    packet: &Packet<'_>,
-    frame: &Frame<'_>,
-    at: &mut Cursor,
-    value: &mut Value,
-) -> Result<(), Stopped>
-    requires start { at.old.end ≤ packet.now.content }
-    ensures gives { Gives result at.new (val value.new) (walk (form class.now) (input packet.now) (env frame.now) at.old.end at.old.spent) }
-    ensures within { IfOk result (λ _. (at.new.end ≤ packet.now.content) × (at.new.spent ≤ MOST_VALUES)) }
-{
-    match &class.kind {
-        Kind::Variant {
-            tag,
-            choices,
-            options,
-        } => {
-            let chosen = option_at(tag, choices.as_slice(), packet.scopes, frame);
-            choice_into(alloc, options.as_slice(), chosen, packet, frame, at, value)
-        }
-        _ => value_into(alloc, class, packet, frame, at, value),
-    }
 }
 
 /// Makes the array of so many elements at a place the value.
@@ -402,7 +374,7 @@ fn choice_into(
         return Err(at.stop_full());
     }
     let Some(i) = chosen else {
-        return Err(at.stop_chosen());
+        return Err(at.stop_unchosen());
     };
     at.spent += 1;
     option_into(alloc, options, i, packet, frame, at, value)
@@ -425,7 +397,7 @@ fn option_into(
     ensures within { IfOk result (λ _. (at.new.end ≤ packet.now.content) × (at.new.spent ≤ MOST_VALUES)) }
 {
     if i >= options.len() {
-        return Err(at.stop_chosen());
+        return Err(at.stop_unchosen());
     }
     let class = &options[i].class;
     if let Value::Choice(option, inner) = value {

@@ -27,7 +27,7 @@ elements_into-loop-i-preserved t c = record {
 
 pub option_into-returns-then-i-options-clause-gives : goal.option_into-returns-then-i-options-clause-gives
 option_into-returns-then-i-options-clause-gives t c =
-    rw (c.stop_chosen.ensures) (ap (λ r. and_then r (as_choice c.args.i)) (option_past (input c.args.packet.now) (env c.args.frame.now) c.args.options.now c.args.i c.args.at.now.end c.args.at.now.spent c.if-i-options.true))
+    rw (c.stop_unchosen.ensures) (ap (λ r. and_then r (as_choice c.args.i)) (option_past (input c.args.packet.now) (env c.args.frame.now) c.args.options.now c.args.i c.args.at.now.end c.args.at.now.spent c.if-i-options.true))
 
 pub option_into-returns-in-Choice-clause-gives : goal.option_into-returns-in-Choice-clause-gives
 option_into-returns-in-Choice-clause-gives t c =
