@@ -49,6 +49,7 @@ impl Timeline {
 
     /// The time at a value of the clock, in nanoseconds since the epoch, rounded down. `None` exactly
     /// where it has more than 64 bits.
+    #[inline(always)]
     pub fn time(&self, cycles: u64) -> Option<i64>
         ensures { result ≡ clocks.time_of self.now cycles }
     {
@@ -63,6 +64,7 @@ impl Timeline {
     }
 
     /// The moment at a value of the clock. `None` exactly where its time has more than 64 bits.
+    #[inline(always)]
     pub fn moment(&self, cycles: u64) -> Option<Moment>
         ensures { result ≡ clocks.moment_at self.now cycles }
     {
@@ -73,6 +75,7 @@ impl Timeline {
     /// The moment at which an integer of `width` bits sets the clock: its value becomes the least number
     /// that is not below the old one and has the integer's bits (CTF 1.8.3, section 8). `None` exactly
     /// where that value or its time has more than 64 bits.
+    #[inline(always)]
     pub fn advance(&self, from: Moment, width: u32, number: u64) -> Option<Moment>
         ensures { result ≡ clocks.advanced self.now from width number }
     {

@@ -27,19 +27,12 @@ use Rattle.ctf_decode.proofs.Views.{form-is, part-is, shape-Enumeration, shape-V
 pub values_next : (vs : List Value) (i : ℕ) (v : Value) → i < length vs → map val (take (i + 1) (set vs i v)) ≡ map val (take i vs) ++ val v ∷ []
 values_next vs i v h = ap (map val) (take_more_set vs i v h) ∙ map-append val (take i vs) (v ∷ [])
 
--- two values that are put in the place of two, the second in the place of one that was there meanwhile
-pub values_two : (vs : List Value) (v x w : Value) → length vs ≡ 2 → map val (set (set (set vs 0 v) 1 x) 1 w) ≡ val v ∷ val w ∷ []
-values_two [] v x w h = absurd (omega (arith, h))
-values_two (a ∷ []) v x w h = absurd (omega (arith, h))
-values_two (a ∷ b ∷ []) v x w h = refl
-values_two (a ∷ b ∷ y ∷ ys) v x w h = absurd (omega (arith, h))
-
--- what stands before the second of them
-pub values_first : (vs : List Value) (v w : Value) → length vs ≡ 2 → map val (take 1 (set (set vs 0 v) 1 w)) ≡ val v ∷ []
-values_first [] v w h = absurd (omega (arith, h))
-values_first (a ∷ []) v w h = absurd (omega (arith, h))
-values_first (a ∷ b ∷ []) v w h = refl
-values_first (a ∷ b ∷ x ∷ xs) v w h = absurd (omega (arith, h))
+-- two values that are put in the place of two
+pub values_two : (vs : List Value) (v w : Value) → length vs ≡ 2 → map val (set (set vs 0 v) 1 w) ≡ val v ∷ val w ∷ []
+values_two [] v w h = absurd (omega (arith, h))
+values_two (a ∷ []) v w h = absurd (omega (arith, h))
+values_two (a ∷ b ∷ []) v w h = refl
+values_two (a ∷ b ∷ y ∷ ys) v w h = absurd (omega (arith, h))
 
 -- a tag is an enumeration's number
 pub tag_is : (v : Val) (z : ℤ) → Some z ≡ tag_of (Some v) → v ≡ label z

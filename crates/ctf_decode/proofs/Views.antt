@@ -1,5 +1,5 @@
 -- Values, frames and classes, level by level.
-use Rattle.std.proofs.Common.{◌≡◌, ℕ, zero, List, [], ◌∷◌, map, None, option_map, Bor, refl, ap, ◌∙◌, rules, drop, suc, ◌+◌, ◌<◌, arith, sym, length, get_or}
+use Rattle.std.proofs.Common.{◌≡◌, ℕ, ℤ, zero, List, [], ◌∷◌, map, None, option_map, Bor, refl, ap, ◌∙◌, rules, drop, suc, ◌+◌, ◌<◌, arith, sym, length, get_or}
 use Rattle.std.specs.Prelude.{slice_get, option_and_then}
 use Rattle.std.proofs.Math.Seq.{drop-cons}
 use Rattle.ctf_class.specs.declared.integer.Integer.{Integer}
@@ -12,7 +12,7 @@ use Rattle.ctf_class.specs.declared.class.Class.{Class}
 use Rattle.ctf_class.specs.declared.class.Kind as kind
 use Rattle.ctf_class.specs.declared.class.Kind.{Kind}
 use Rattle.ctf_class.specs.declared.class.Member.{Member}
-use Rattle.ctf_decode.specs.Values.{Val, group, list, choice, vals_of, nth, down}
+use Rattle.ctf_decode.specs.Values.{Val, label, group, list, choice, vals_of, nth, down}
 use Rattle.ctf_decode.specs.Forms as forms
 use Rattle.ctf_decode.specs.Forms.{parts_of}
 use Rattle.ctf_decode.specs.Views.{form, shape, member_part, val, val_step, env}
@@ -23,6 +23,9 @@ use Rattle.ctf_decode.specs.declared.value.Value as value
 use Rattle.ctf_decode.specs.declared.value.Value.{Value}
 use Rattle.ctf_decode.specs.declared.place.Frame as frame
 use Rattle.ctf_decode.specs.declared.place.Frame.{Frame}
+
+pub val-Label : (z : ℤ) → val (value.Label z) ≡ label z
+val-Label z = search (rules, value.the_lemmas)
 
 pub val-Group : (vs : List Value) → val (value.Group vs) ≡ group (vals_of (map val vs))
 val-Group vs = search (rules, value.the_lemmas)

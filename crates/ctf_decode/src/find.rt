@@ -114,30 +114,20 @@ pub fn length_at(length: &Length, scopes: &Scopes, frame: &Frame<'_>) -> u64
 fn number_of(value: &Value) -> u64
     ensures { result ≡ routes.number_of (Some (val value.now)) }
 {
-    match value {
-        Value::Unsigned(number) => *number,
-        Value::Signed(_) => 0,
-        Value::Label(_) => 0,
-        Value::Text(_) => 0,
-        Value::Group(_) => 0,
-        Value::List(_) => 0,
-        Value::Choice(_, _) => 0,
+    if let Value::Unsigned(number) = value {
+        return *number;
     }
+    0
 }
 
 /// An enumeration's number.
 pub(crate) fn tag_of(value: &Value) -> Option<i128>
     ensures { result ≡ routes.tag_of (Some (val value.now)) }
 {
-    match value {
-        Value::Label(tag) => Some(*tag),
-        Value::Unsigned(_) => None,
-        Value::Signed(_) => None,
-        Value::Text(_) => None,
-        Value::Group(_) => None,
-        Value::List(_) => None,
-        Value::Choice(_, _) => None,
+    if let Value::Label(tag) = value {
+        return Some(*tag);
     }
+    None
 }
 
 /// The option of the first choice that covers the tag.

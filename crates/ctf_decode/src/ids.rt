@@ -105,65 +105,39 @@ pub fn named_id(member: &Member, value: &Value, last: &mut Option<i128>)
 fn number_in(class: &Class, value: &Value, last: &mut Option<i128>)
     ensures { last.new ≡ last_or last.old (fields.number_in (form class.now) (val value.now)) }
 {
-    match &class.kind {
-        Kind::Integer(integer) => {
-            if integer.is_signed {
-                signed_in(value, last);
-            } else {
-                unsigned_in(value, last);
-            }
+    if let Kind::Enumeration { container, labels } = &class.kind {
+        label_in(value, last);
+        return;
+    }
+    if let Kind::Integer(integer) = &class.kind {
+        if integer.is_signed {
+            signed_in(value, last);
+        } else {
+            unsigned_in(value, last);
         }
-        Kind::Enumeration { container, labels } => label_in(value, last),
-        Kind::String => {}
-        Kind::Structure { members } => {}
-        Kind::Variant {
-            tag,
-            choices,
-            options,
-        } => {}
-        Kind::Array { length, element } => {}
-        Kind::Text { length } => {}
     }
 }
 
 fn unsigned_in(value: &Value, last: &mut Option<i128>)
     ensures { last.new ≡ last_or last.old (fields.unsigned_in (val value.now)) }
 {
-    match value {
-        Value::Unsigned(number) => *last = Some(i128::from(*number)),
-        Value::Signed(_) => {}
-        Value::Label(_) => {}
-        Value::Text(_) => {}
-        Value::Group(_) => {}
-        Value::List(_) => {}
-        Value::Choice(_, _) => {}
+    if let Value::Unsigned(number) = value {
+        *last = Some(i128::from(*number));
     }
 }
 
 fn signed_in(value: &Value, last: &mut Option<i128>)
     ensures { last.new ≡ last_or last.old (fields.signed_in (val value.now)) }
 {
-    match value {
-        Value::Signed(number) => *last = Some(i128::from(*number)),
-        Value::Unsigned(_) => {}
-        Value::Label(_) => {}
-        Value::Text(_) => {}
-        Value::Group(_) => {}
-        Value::List(_) => {}
-        Value::Choice(_, _) => {}
+    if let Value::Signed(number) = value {
+        *last = Some(i128::from(*number));
     }
 }
 
 fn label_in(value: &Value, last: &mut Option<i128>)
     ensures { last.new ≡ last_or last.old (fields.label_in (val value.now)) }
 {
-    match value {
-        Value::Label(number) => *last = Some(*number),
-        Value::Unsigned(_) => {}
-        Value::Signed(_) => {}
-        Value::Text(_) => {}
-        Value::Group(_) => {}
-        Value::List(_) => {}
-        Value::Choice(_, _) => {}
+    if let Value::Label(number) = value {
+        *last = Some(*number);
     }
 }

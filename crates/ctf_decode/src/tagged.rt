@@ -15,7 +15,7 @@ use crate::scopes::MOST_VALUES;
 use crate::value::Value;
 use ctf_class::{Align, Class, Kind, Member, Origin, Route};
 use ctf_list::{Boxed, List};
-use std::mem;
+use std::slice;
 
 /// Makes the structure of an enumeration and a variant on it, whose options are structures of integers, the
 /// value, where the value was one of these. Whether it did; else the value and the cursor are any.
@@ -111,11 +111,10 @@ fn pair_into(
         return false;
     }
     at.spent += 1;
-    let mut value = mem::replace(&mut values[1], Value::Unsigned(0));
-    let frame = Frame::Within(&values[..1], &Frame::Top);
-    let is_done = chosen_into(options.as_slice(), i, packet, &frame, at, &mut value);
-    values[1] = value;
-    is_done
+    // The option sees the tag alone. It is made once more, so that the option's value is changed where it stands.
+    let before = Value::Label(number);
+    let frame = Frame::Within(slice::from_ref(&before), &Frame::Top);
+    chosen_into(options.as_slice(), i, packet, &frame, at, &mut values[1])
 }
 
 /// Whether a route leads to the first member of the innermost structure.

@@ -218,7 +218,8 @@ fn each_member_into(
 }
 
 /// Makes the next member of a structure the value at an index, those before it being there. Mostly it is an
-/// integer.
+/// integer, or else a string: two comparisons tell these apart, where many classes would be told by a table of jumps,
+/// which a processor foresees worse.
 #[cycle(walk)]
 #[inline(always)]
 fn member_into(
@@ -238,13 +239,38 @@ fn member_into(
     if let Kind::Integer(integer) = &class.kind {
         return integer_into(integer, class.align, packet, at, &mut values[i]);
     }
-    match &class.kind {
-        Kind::Enumeration { container, labels } => {
-            enumeration_into(container, class.align, packet, at, &mut values[i])
-        }
-        Kind::String => string_into(alloc, packet, at, &mut values[i]),
-        _ => inner_member_into(alloc, class, packet, frame, at, values, i),
+    if let Kind::String = &class.kind {
+        return string_into(alloc, packet, at, &mut values[i]);
     }
+    other_member_into(alloc, class, packet, frame, at, values, i)
+}
+
+/// The same of a member of another class.
+#[cycle(walk)]
+#[inline(never)]
+fn other_member_into(
+    alloc: Global,
+    class: &Class,
+    packet: &Packet<'_>,
+    frame: &Frame<'_>,
+    at: &mut Cursor,
+    values: &mut [Value],
+    i: usize,
+) -> Result<(), Stopped>
+    requires start { at.old.end ≤ packet.now.content }
+    requires room { i < length values.old }
+    ensures gives { GivesNext result at.new (map val (take i values.old)) (map val (take (i + 1) values.new)) (walk (form class.now) (input packet.now) (map val (take i values.old) ∷ env frame.now) at.old.end at.old.spent) }
+    ensures within { IfOk result (λ _. (at.new.end ≤ packet.now.content) × (at.new.spent ≤ MOST_VALUES)) }
+{
+    if let Kind::Text { length } = &class.kind {
+        let inner = Frame::Within(&values[..i], &*frame);
+        let count = length_at(length, packet.scopes, &inner);
+        return characters_into(alloc, count, packet, at, &mut values[i]);
+    }
+    if let Kind::Enumeration { container, labels } = &class.kind {
+        return enumeration_into(container, class.align, packet, at, &mut values[i]);
+    }
+    inner_member_into(alloc, class, packet, frame, at, values, i)
 }
 
 /// Makes the next member of a structure the value at an index, where it may see those before it. It is
@@ -350,6 +376,9 @@ fn element_into(
         let Ok(()) = values.push(Value::Unsigned(0)) else {
             return Err(at.stop_refused());
         };
+    }
+    if let Kind::Integer(integer) = &element.kind {
+        return integer_into(integer, element.align, packet, at, &mut values[i]);
     }
     value_into(alloc, element, packet, frame, at, &mut values[i])
 }

@@ -128,7 +128,8 @@ fn put_event(
     Ok(end + 1)
 }
 
-/// Writes what stands behind the stamp of an event record.
+/// Writes what stands behind the stamp of an event record. Mostly the text of its packet's part is there.
+#[inline(always)]
 fn put_behind_stamp(
     event: &Event<'_>,
     packet: &mut Vec<u8>,
@@ -142,12 +143,28 @@ fn put_behind_stamp(
     if let Some(part) = event.part {
         return put_body(event, part, line, at);
     }
+    put_with_part(event, packet, line, at)
+}
+
+/// The same, where the text of the packet's part is made first.
+#[inline(never)]
+fn put_with_part(
+    event: &Event<'_>,
+    packet: &mut Vec<u8>,
+    line: &mut Vec<u8>,
+    at: usize,
+) -> Result<usize, NoMemory>
+    requires { at ≤ vec_len line.old }
+    ensures text { IfOk result (λ end. take end line.new.items ≡ take at line.old.items ++ lines.event_text (event_of event.now 0 0)) }
+    ensures held { IfOk result (λ end. end ≤ vec_len line.new) }
+{
     let context = event.value(Scope::PacketContext);
     let shared = put_packet_part(event.stream.packet_context(), context, packet, 0)?;
     put_body(event, &packet[..shared], line, at)
 }
 
 /// Writes the host, the name and the scopes of an event record.
+#[inline(always)]
 fn put_body(
     event: &Event<'_>,
     packet: &[u8],

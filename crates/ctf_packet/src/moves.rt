@@ -38,8 +38,27 @@ pub fn moved(line: &Timeline, class: &Class, value: &Value, clock: Moment) -> Op
 
 /// Sets the clock by the moving integers of a value, in the order in which they were decoded, and keeps the
 /// last number of a structure member named `id`, if there is one. Whether no moving integer was refused.
+///
+/// Few classes are told apart at once, here and in a structure: comparisons are foreseen better than a table of jumps.
 #[cycle(told)]
+#[inline(never)]
 pub(crate) fn tell(line: &Timeline, class: &Class, value: &Value, told: &mut Told) -> bool
+    ensures clock { behind result told.new ≡ advanced_by line.now told.old.clock (moved.moved (form class.now) (val value.now)) }
+    ensures id { IsTrue result → told.new.id ≡ last_or told.old.id (fields.ids (form class.now) (val value.now)) }
+{
+    if let Kind::Structure { members } = &class.kind {
+        return tell_members(line, members.as_slice(), members_in(value), told);
+    }
+    if let Kind::Integer(integer) = &class.kind {
+        return set_by(line, integer, value, told);
+    }
+    tell_any(line, class, value, told)
+}
+
+/// The same, where it is seldom a structure or an integer.
+#[cycle(told)]
+#[inline(never)]
+fn tell_any(line: &Timeline, class: &Class, value: &Value, told: &mut Told) -> bool
     ensures clock { behind result told.new ≡ advanced_by line.now told.old.clock (moved.moved (form class.now) (val value.now)) }
     ensures id { IsTrue result → told.new.id ≡ last_or told.old.id (fields.ids (form class.now) (val value.now)) }
 {
@@ -88,17 +107,21 @@ fn tell_member(line: &Timeline, class: &Class, value: &Value, told: &mut Told) -
     ensures clock { behind result told.new ≡ advanced_by line.now told.old.clock (moved.moved (form class.now) (val value.now)) }
     ensures id { IsTrue result → told.new.id ≡ last_or told.old.id (fields.ids (form class.now) (val value.now)) }
 {
-    match &class.kind {
-        Kind::Integer(integer) => set_by(line, integer, value, told),
-        Kind::Enumeration { container, labels } => true,
-        Kind::String => true,
-        Kind::Variant {
-            tag,
-            choices,
-            options,
-        } => tell_option(line, options.as_slice(), value, told),
-        _ => tell(line, class, value, told),
+    if let Kind::Integer(integer) = &class.kind {
+        return set_by(line, integer, value, told);
     }
+    if let Kind::Enumeration { container, labels } = &class.kind {
+        return true;
+    }
+    if let Kind::Variant {
+        tag,
+        choices,
+        options,
+    } = &class.kind
+    {
+        return tell_option(line, options.as_slice(), value, told);
+    }
+    tell(line, class, value, told)
 }
 
 /// The same of elements.
@@ -185,29 +208,19 @@ fn moved_by_integer(
 fn moved_by_unsigned(line: &Timeline, width: u32, value: &Value, clock: Moment) -> Option<Moment>
     ensures { result ≡ advanced_by line.now clock (moved.unsigned_pair width (val value.now)) }
 {
-    match value {
-        Value::Unsigned(number) => line.advance(clock, width, *number),
-        Value::Signed(_) => Some(clock),
-        Value::Label(_) => Some(clock),
-        Value::Text(_) => Some(clock),
-        Value::Group(_) => Some(clock),
-        Value::List(_) => Some(clock),
-        Value::Choice(_, _) => Some(clock),
+    if let Value::Unsigned(number) = value {
+        return line.advance(clock, width, *number);
     }
+    Some(clock)
 }
 
 fn moved_by_signed(line: &Timeline, width: u32, value: &Value, clock: Moment) -> Option<Moment>
     ensures { result ≡ advanced_by line.now clock (moved.signed_pair width (val value.now)) }
 {
-    match value {
-        Value::Signed(number) => line.advance(clock, width, bits_of(*number)),
-        Value::Unsigned(_) => Some(clock),
-        Value::Label(_) => Some(clock),
-        Value::Text(_) => Some(clock),
-        Value::Group(_) => Some(clock),
-        Value::List(_) => Some(clock),
-        Value::Choice(_, _) => Some(clock),
+    if let Value::Signed(number) = value {
+        return line.advance(clock, width, bits_of(*number));
     }
+    Some(clock)
 }
 
 /// The bits of a number in two's complement.

@@ -1,6 +1,6 @@
 //! Stamps that are written into a slice.
 
-ghost use Rattle.std.specs.Prelude.{◌≡◌, ◌+◌, ◌<◌, ◌≤◌, ◌++◌, length, codes};
+ghost use Rattle.std.specs.Prelude.{◌≡◌, ◌+◌, ◌<◌, ◌≤◌, ◌++◌, length, codes, IfSome};
 ghost use Rattle.ctf_stamp.specs.Digits.{last_digits};
 ghost use Rattle.ctf_stamp.specs.Putting.{IsPut};
 ghost use Rattle.ctf_stamp.specs.Stamps.{stamp, stamp_part, stamp_by, delta_text, signed_seconds, fraction, head_at};
@@ -66,18 +66,20 @@ impl Stamper {
     }
 
     /// Writes the stamp of a moment at an index, and gives the index behind it.
+    #[inline(always)]
     pub fn put_stamp(&mut self, moment: Moment, line: &mut [u8], at: usize) -> usize
         requires { at + MOST_STAMP ≤ length line.old }
         ensures put { IsPut line.old line.new at result (stamp self.old moment) }
         ensures short { result ≤ at + MOST_STAMP }
         ensures style { self.new ≡ self.old }
     {
-        match self.style.clock {
-            ClockStyle::Time => self.put_civil(moment.time, line, at),
-            ClockStyle::Date => self.put_civil(moment.time, line, at),
-            ClockStyle::Seconds => put_signed(moment.time, line, at),
-            ClockStyle::Cycles => put_twenty(moment.cycles, line, at),
+        if let ClockStyle::Seconds = self.style.clock {
+            return put_signed(moment.time, line, at);
         }
+        if let ClockStyle::Cycles = self.style.clock {
+            return put_twenty(moment.cycles, line, at);
+        }
+        self.put_civil(moment.time, line, at)
     }
 
     /// The stamp of a time in a civil style.
@@ -88,10 +90,12 @@ impl Stamper {
         ensures short { result ≤ at + MOST_STAMP }
         ensures style { self.new ≡ self.old }
     {
-        let (second, nanos) = split(time);
-        if self.kept && self.second == second && nanos != LAST_NANO {
-            return put_second(&self.text[..self.length], nanos, line, at);
+        if self.kept {
+            if let Some(nanos) = nanos_within(self.second, time) {
+                return put_second(&self.text[..self.length], nanos, line, at);
+            }
         }
+        let (second, nanos) = split(time);
         self.length = put_head(&self.style, time, &mut self.text, 0);
         self.second = second;
         self.kept = nanos != LAST_NANO;
@@ -153,6 +157,25 @@ fn put_kept(head: &[u8], line: &mut [u8], at: usize) -> usize
         return put_bytes(&head[..8], line, at);
     }
     put_bytes(head, line, at)
+}
+
+/// The nanoseconds of a time behind the start of a second, if it lies in that second and is not its last nanosecond.
+/// It takes no division.
+#[inline(always)]
+fn nanos_within(second: i64, time: i64) -> Option<u32>
+    ensures second { IfSome result (λ _. second_of time ≡ second) }
+    ensures nanos { IfSome result (λ n. n ≡ within_second time) }
+    ensures early { IfSome result (λ n. n < 999999999) }
+{
+    let start = second.checked_mul(SECOND)?;
+    if time < start {
+        return None;
+    }
+    let nanos = time.abs_diff(start);
+    if nanos >= u64::from(LAST_NANO) {
+        return None;
+    }
+    Some(nanos as u32)
 }
 
 /// The second in which a time lies, and the nanoseconds behind its start.

@@ -35,18 +35,22 @@ fn time_of(front: &Front, packet: &Packet) -> Option<i64>
 }
 
 impl<'a, S: Source + Drop> StreamReader<'a, S> {
-    /// What stands in front.
+    /// What stands in front. Mostly it is an item.
     pub fn ahead(&self) -> Ahead
         ensures { result ≡ told self.now.ahead }
     {
-        match &self.head {
-            Head::Start => Ahead::Start,
-            Head::Item(front) => match &self.course.packet {
+        if let Head::Item(front) = &self.head {
+            return match &self.course.packet {
                 Some(packet) => Ahead::Item(time_of(front, packet)),
                 None => Ahead::Start,
-            },
-            Head::Ended => Ahead::Ended,
-            Head::Fault(fault) => Ahead::Fault(*fault),
+            };
         }
+        if let Head::Fault(fault) = &self.head {
+            return Ahead::Fault(*fault);
+        }
+        if let Head::Ended = &self.head {
+            return Ahead::Ended;
+        }
+        Ahead::Start
     }
 }

@@ -1,6 +1,6 @@
 //! What stands around texts.
 
-ghost use Rattle.std.specs.Prelude.{◌≡◌, ◌+◌, ◌++◌, ◌∷◌, [], ◌≤◌, length, take, vec_len, IfOk};
+ghost use Rattle.std.specs.Prelude.{◌≡◌, ◌+◌, ◌*◌, ◌++◌, ◌∷◌, [], ◌≤◌, length, take, vec_len, IfOk};
 
 use crate::room::with_room;
 use ctf_class::Ready;
@@ -16,6 +16,35 @@ pub fn put_bytes(bytes: &[u8], line: &mut [u8], at: usize) -> usize
     let end = at + bytes.len();
     line[at..end].copy_from_slice(bytes);
     end
+}
+
+/// The same. Mostly there are 8 to 32 bytes, which their first and their last ones cover, so that they are written
+/// without a call.
+#[inline(always)]
+pub fn put_few(bytes: &[u8], line: &mut [u8], at: usize) -> usize
+    requires { at + length bytes.now ≤ length line.old }
+    ensures text { take result line.new ≡ take at line.old ++ bytes.now }
+    ensures end { result ≡ at + length bytes.now }
+{
+    match bytes.len() {
+        8..=16 => put_both_ends::<8>(bytes, line, at),
+        17..=32 => put_both_ends::<16>(bytes, line, at),
+        _ => put_bytes(bytes, line, at),
+    }
+}
+
+/// The same of bytes that their first and their last so many cover. What stands in both is written twice.
+#[inline(always)]
+pub fn put_both_ends<const COUNT: usize>(bytes: &[u8], line: &mut [u8], at: usize) -> usize
+    requires enough { COUNT ≤ length bytes.now }
+    requires covered { length bytes.now ≤ 2 * COUNT }
+    requires room { at + length bytes.now ≤ length line.old }
+    ensures text { take result line.new ≡ take at line.old ++ bytes.now }
+    ensures end { result ≡ at + length bytes.now }
+{
+    let begin = bytes.len() - COUNT;
+    put_bytes(&bytes[..COUNT], line, at);
+    put_bytes(&bytes[begin..], line, at + begin)
 }
 
 /// Writes a mark and a space at an index of a line, and gives the index behind them.

@@ -6,7 +6,7 @@ ghost use Rattle.ctf_class.specs.HostAndName.{heading_text};
 ghost use Rattle.ctf_decode.specs.Views.{val};
 ghost use Rattle.ctf_text.specs.Lines as lines;
 
-use crate::mark::{put_bytes, put_lead};
+use crate::mark::{put_few, put_lead};
 use crate::room::with_room;
 use crate::value::put_value;
 use ctf_class::{Class, EventClass, Heading, StreamClass};
@@ -63,7 +63,7 @@ fn put_shared_part(bytes: &[u8], buffer: &mut Vec<u8>, at: usize) -> Result<usiz
     }
     with_room(bytes.len() + 2, buffer, at)?;
     let line = buffer.as_mut_slice();
-    let end = put_bytes(bytes, line, at);
+    let end = put_few(bytes, line, at);
     Ok(put_lead(b',', line, end))
 }
 
@@ -89,6 +89,7 @@ fn put_scope(
 }
 
 /// Writes a value and a comma behind it.
+#[inline(always)]
 fn put_followed(
     class: &Class,
     value: &Value,

@@ -5,7 +5,7 @@ ghost use Rattle.std.specs.List.{All};
 ghost use Rattle.ctf_class.specs.Escapes.{escaped, shown_byte, hex_digit};
 ghost use Rattle.ctf_class.specs.Names.{label_text};
 
-use crate::mark::put_bytes;
+use crate::mark::{put_both_ends, put_bytes};
 use crate::room::{holds_text, with_room_for_text};
 use ctf_list::NoMemory;
 
@@ -126,8 +126,7 @@ fn put_ends<const COUNT: usize>(bytes: &[u8], line: &mut [u8], at: usize) -> usi
     if !(are_plain(first) & are_plain(last)) {
         return put_each(bytes, line, at);
     }
-    put_bytes(first, line, at);
-    put_bytes(last, line, at + begin)
+    put_both_ends::<COUNT>(bytes, line, at)
 }
 
 /// Whether all of some bytes are shown as they are. It looks at each of them, so that several are looked at

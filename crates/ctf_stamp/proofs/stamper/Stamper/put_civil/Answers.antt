@@ -6,16 +6,15 @@ use Rattle.ctf_stamp.proofs.Kept.{made_stamp, kept_stamp, put_first, same_head}
 use Rattle.ctf_stamp.specs.Civil.{second_of, within_second}
 use Rattle.ctf_stamp.proofs.stamper.Stamper.put_civil.Goals as goal
 
-pub returns-then-nanos-ne-LAST_NANO-clause-put : goal.returns-then-nanos-ne-LAST_NANO-clause-put
-returns-then-nanos-ne-LAST_NANO-clause-put c =
+pub returns-in-Some-clause-put : goal.returns-in-Some-clause-put
+returns-in-Some-clause-put c =
     let fits : FitsSigned w64 c.args.time = c.ranges.time in
-    let nanos : c.split-second.result.1 ≡ within_second c.args.time = simp to_z-of_z at c.split-second.ensures.nanos in
-    let second : c.split-second.result.0 ≡ second_of c.args.time = simp to_z-of_z at c.split-second.ensures.second in
-    let same : second_of c.args.time ≡ c.self.inside.second = omega (arith, ints) in
-    let early : c.split-second.result.1 < 999999999 = omega arith in
+    let fits_kept : FitsSigned w64 c.self.inside.second = search rules in
+    let second = simp to_z-of_z at c.in-Some.ensures.second in
+    let nanos = simp to_z-of_z at c.in-Some.ensures.nanos in
     let kept : IsTrue c.self.inside.kept = search rules in
     put_as c.put_second.ensures.put
-    (kept_stamp _ _ c.args.time _ _ _ c.self.view_is (c.self.invariant.1 kept) same nanos early)
+    (kept_stamp _ _ c.args.time _ _ _ c.self.view_is (c.self.invariant.1 kept) second nanos c.in-Some.ensures.early)
 
 pub returns-clause-put : goal.returns-clause-put
 returns-clause-put c =
