@@ -1,6 +1,6 @@
 #!/usr/bin/env python3
 """Writes a trace of STREAMS streams, one where the number is left out, of COUNT packets of SIZE bytes each, in the manner
-of LTTng, and prints what `bench_stream` prints of it: packets.py COUNT SIZE FOLDER [STREAMS]."""
+of LTTng, and prints what `bench` prints of its stream: packets.py COUNT SIZE FOLDER [STREAMS]."""
 
 import pathlib
 import random

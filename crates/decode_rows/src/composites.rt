@@ -4,13 +4,13 @@ use crate::classes::{
     array, enumeration, integer, member, pair, sequence, string, structure, variant,
 };
 use crate::found::Found::{
-    Choice, Fault, Group, Label, List as Elements, NotAsked, Signed, Text, Unsigned,
+    Choice, Fault, Group, Label, List as Elements, Need, NotAsked, Signed, Text, Unsigned,
 };
-use crate::found::{all_stand, parts, second};
+use crate::found::{Found, Whole, all_stand, whole_at, whole_in_front, whole_instead_of};
 use ctf_bits::Order::{Be, Le};
 use ctf_class::Class;
 use ctf_decode::DecodeFault::{ContentEnds, NoOption};
-use ctf_decode::{Front, Scopes, Value, decode, decode_front, decode_into};
+use ctf_decode::Value;
 use std::alloc::Global;
 use std::test::Fail;
 
@@ -23,15 +23,22 @@ fn bits(alloc: Global) -> Result<Class, Fail> {
     structure(1, members)
 }
 
+/// What is said of a value whose second member has no parts.
+fn flat(parts: [Found; 3], end: u64, spent: u64) -> Result<Whole, Found> {
+    Ok(Whole {
+        parts,
+        second: [NotAsked; 3],
+        end,
+        spent,
+    })
+}
+
 #[test]
 fn numbers_in_a_byte(rt: HostRuntime) -> Result<(), Fail> {
     let alloc = rt.alloc();
-    let found = decode(alloc, &bits(alloc)?, &[0x3F], 0, 8, &Scopes::new())?;
-    assert_eq!(rt;
-        parts(&found.value),
-        [Signed(-1, 0), Signed(-1, 0), Unsigned(0, 0)]
-    );
-    assert_eq!(rt; (found.end, found.spent), (8, 4));
+    let found = whole_at(alloc, &bits(alloc)?, &[0x3F], 0, 8);
+    let want = flat([Signed(-1, 0), Signed(-1, 0), Unsigned(0, 0)], 8, 4);
+    assert_eq!(rt; found, want);
     Ok(())
 }
 
@@ -78,16 +85,14 @@ fn counted(alloc: Global) -> Result<Class, Fail> {
 fn sequences(rt: HostRuntime) -> Result<(), Fail> {
     let alloc = rt.alloc();
     let packet = [1, 0xFF, 0xFF, 0xFF, 2, 0, 0, 0, 9];
-    let found = decode(alloc, &counted(alloc)?, &packet, 0, 72, &Scopes::new())?;
-    assert_eq!(rt;
-        parts(&found.value),
-        [Unsigned(1, 0), Elements(1, 0), Unsigned(9, 0)]
-    );
-    assert_eq!(rt;
-        parts(second(&found.value)),
-        [Unsigned(2, 0), NotAsked, NotAsked]
-    );
-    assert_eq!(rt; found.end, 72);
+    let found = whole_at(alloc, &counted(alloc)?, &packet, 0, 72);
+    let want = Whole {
+        parts: [Unsigned(1, 0), Elements(1, 0), Unsigned(9, 0)],
+        second: [Unsigned(2, 0), NotAsked, NotAsked],
+        end: 72,
+        spent: 5,
+    };
+    assert_eq!(rt; found, Ok(want));
     Ok(())
 }
 
@@ -96,15 +101,9 @@ fn sequences(rt: HostRuntime) -> Result<(), Fail> {
 fn empty_sequences(rt: HostRuntime) -> Result<(), Fail> {
     let alloc = rt.alloc();
     let packet = [0, 0xFF, 0xFF, 0xFF, 9];
-    let class = counted(alloc)?;
-    let scopes = Scopes::new();
-    let mut value = Value::Signed(1);
-    let reached = decode_into(alloc, &class, &packet, 0, 40, &scopes, &mut value)?;
-    assert_eq!(rt;
-        parts(&value),
-        [Unsigned(0, 0), Elements(0, 0), Unsigned(9, 0)]
-    );
-    assert_eq!(rt; reached.end, 40);
+    let found = whole_instead_of(alloc, Value::Signed(1), &counted(alloc)?, &packet);
+    let want = flat([Unsigned(0, 0), Elements(0, 0), Unsigned(9, 0)], 40, 4);
+    assert_eq!(rt; found, want);
     Ok(())
 }
 
@@ -112,8 +111,8 @@ fn empty_sequences(rt: HostRuntime) -> Result<(), Fail> {
 #[test]
 fn needs(rt: HostRuntime) -> Result<(), Fail> {
     let alloc = rt.alloc();
-    let front = decode_front(alloc, &counted(alloc)?, &[0, 0xFF], 0, &Scopes::new())?;
-    assert!(rt; front == Front::Need(32));
+    let found = whole_in_front(alloc, &counted(alloc)?, &[0, 0xFF]);
+    assert_eq!(rt; found, Err(Need(32)));
     Ok(())
 }
 
@@ -121,16 +120,9 @@ fn needs(rt: HostRuntime) -> Result<(), Fail> {
 #[test]
 fn enough(rt: HostRuntime) -> Result<(), Fail> {
     let alloc = rt.alloc();
-    let packet = [0, 0xFF, 0xFF, 0xFF, 9, 7];
-    let front = decode_front(alloc, &counted(alloc)?, &packet, 0, &Scopes::new())?;
-    let Front::Done(found) = front else {
-        return Err(Fail::from("more bits are needed"));
-    };
-    assert_eq!(rt;
-        parts(&found.value),
-        [Unsigned(0, 0), Elements(0, 0), Unsigned(9, 0)]
-    );
-    assert_eq!(rt; (found.end, found.spent), (40, 4));
+    let found = whole_in_front(alloc, &counted(alloc)?, &[0, 0xFF, 0xFF, 0xFF, 9, 7]);
+    let want = flat([Unsigned(0, 0), Elements(0, 0), Unsigned(9, 0)], 40, 4);
+    assert_eq!(rt; found, want);
     Ok(())
 }
 
@@ -149,13 +141,14 @@ fn tagged(alloc: Global) -> Result<Class, Fail> {
 fn options(rt: HostRuntime) -> Result<(), Fail> {
     let alloc = rt.alloc();
     let packet = [1, 0x68, 0x69, 0, 2, 5, 0];
-    let found = decode(alloc, &tagged(alloc)?, &packet, 0, 56, &Scopes::new())?;
-    assert_eq!(rt; parts(&found.value), [Label(1, 0), Choice(0, 0), NotAsked]);
-    assert_eq!(rt;
-        parts(second(&found.value)),
-        [Text(2, 0), NotAsked, NotAsked]
-    );
-    assert_eq!(rt; (found.end, found.spent), (32, 4));
+    let found = whole_at(alloc, &tagged(alloc)?, &packet, 0, 56);
+    let want = Whole {
+        parts: [Label(1, 0), Choice(0, 0), NotAsked],
+        second: [Text(2, 0), NotAsked, NotAsked],
+        end: 32,
+        spent: 4,
+    };
+    assert_eq!(rt; found, Ok(want));
     Ok(())
 }
 
@@ -163,13 +156,14 @@ fn options(rt: HostRuntime) -> Result<(), Fail> {
 fn other_options(rt: HostRuntime) -> Result<(), Fail> {
     let alloc = rt.alloc();
     let packet = [1, 0x68, 0x69, 0, 2, 5, 0];
-    let found = decode(alloc, &tagged(alloc)?, &packet, 32, 56, &Scopes::new())?;
-    assert_eq!(rt; parts(&found.value), [Label(2, 0), Choice(1, 0), NotAsked]);
-    assert_eq!(rt;
-        parts(second(&found.value)),
-        [Unsigned(5, 0), NotAsked, NotAsked]
-    );
-    assert_eq!(rt; (found.end, found.spent), (48, 4));
+    let found = whole_at(alloc, &tagged(alloc)?, &packet, 32, 56);
+    let want = Whole {
+        parts: [Label(2, 0), Choice(1, 0), NotAsked],
+        second: [Unsigned(5, 0), NotAsked, NotAsked],
+        end: 48,
+        spent: 4,
+    };
+    assert_eq!(rt; found, Ok(want));
     Ok(())
 }
 

@@ -1,7 +1,7 @@
 //! What a place holds, as far as a row of a table says it.
 
 use ctf_class::Class;
-use ctf_decode::{DecodeFault, Scopes, Value, decode};
+use ctf_decode::{DecodeFault, Front, Scopes, Value, decode, decode_front, decode_into};
 use std::alloc::Global;
 use std::test::Fail;
 
@@ -17,7 +17,9 @@ pub enum Found {
     List(usize, u64),
     Choice(usize, u64),
     Fault(DecodeFault),
-    /// The row does not keep to the conditions of `decode`.
+    /// A beginning of a packet needs so many bits.
+    Need(u128),
+    /// The row does not keep to the conditions of `decode`, or nothing is there.
     NotAsked,
 }
 
@@ -74,7 +76,7 @@ fn said(value: &Value, end: u64) -> Found {
 
 /// What is said of the first three parts of a value, whose places are 0. Of a variant it is the option's
 /// value alone.
-pub fn parts(value: &Value) -> [Found; 3] {
+fn parts(value: &Value) -> [Found; 3] {
     match value {
         Value::Group(members) => first_three(members.as_slice()),
         Value::List(elements) => first_three(elements.as_slice()),
@@ -84,21 +86,84 @@ pub fn parts(value: &Value) -> [Found; 3] {
 }
 
 fn first_three(values: &[Value]) -> [Found; 3] {
-    [said_at(values, 0), said_at(values, 1), said_at(values, 2)]
-}
-
-fn said_at(values: &[Value], i: usize) -> Found {
-    match values.get(i) {
-        Some(value) => said(value, 0),
-        None => Found::NotAsked,
+    let mut found = [Found::NotAsked; 3];
+    for (place, value) in found.iter_mut().zip(values) {
+        *place = said(value, 0);
     }
+    found
 }
 
 /// The second member of a structure, or the value itself.
-pub fn second(value: &Value) -> &Value {
+fn second(value: &Value) -> &Value {
     match value {
         Value::Group(members) if members.len() > 1 => &members.as_slice()[1],
         _ => value,
+    }
+}
+
+/// What is said of a value: of its first three parts, of those of its second member, where it ends, and how
+/// many values were begun up to there.
+#[derive(Clone, Copy, Debug, PartialEq, Eq)]
+pub struct Whole {
+    pub parts: [Found; 3],
+    pub second: [Found; 3],
+    pub end: u64,
+    pub spent: u64,
+}
+
+fn told(value: &Value, end: u64, spent: u64) -> Whole {
+    Whole {
+        parts: parts(value),
+        second: parts(second(value)),
+        end,
+        spent,
+    }
+}
+
+/// What stands at a place of a packet where nothing was decoded before.
+pub fn whole_at(
+    alloc: Global,
+    class: &Class,
+    packet: &[u8],
+    start: u64,
+    content: u64,
+) -> Result<Whole, Found> {
+    let held = packet.len() as u128 * 8;
+    if start > content || content > 1 << 62 || u128::from(content) > held {
+        return Err(Found::NotAsked);
+    }
+    match decode(alloc, class, packet, start, content, &Scopes::new()) {
+        Err(fault) => Err(Found::Fault(fault)),
+        Ok(found) => Ok(told(&found.value, found.end, found.spent)),
+    }
+}
+
+/// What stands at the start of a packet, decoded in the place of another value.
+pub fn whole_instead_of(
+    alloc: Global,
+    mut value: Value,
+    class: &Class,
+    packet: &[u8],
+) -> Result<Whole, Found> {
+    if packet.len() > 1 << 58 {
+        return Err(Found::NotAsked);
+    }
+    let content = packet.len() as u64 * 8;
+    match decode_into(alloc, class, packet, 0, content, &Scopes::new(), &mut value) {
+        Err(fault) => Err(Found::Fault(fault)),
+        Ok(reached) => Ok(told(&value, reached.end, reached.spent)),
+    }
+}
+
+/// What stands in the beginning of a packet, or how many bits are needed.
+pub fn whole_in_front(alloc: Global, class: &Class, front: &[u8]) -> Result<Whole, Found> {
+    if front.len() > 1 << 58 {
+        return Err(Found::NotAsked);
+    }
+    match decode_front(alloc, class, front, 0, &Scopes::new()) {
+        Err(fault) => Err(Found::Fault(fault)),
+        Ok(Front::Need(bits)) => Err(Found::Need(bits)),
+        Ok(Front::Done(found)) => Ok(told(&found.value, found.end, found.spent)),
     }
 }
 

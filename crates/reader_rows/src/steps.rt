@@ -5,6 +5,7 @@ use crate::texts::PACKETS;
 use crate::told::{NAME, NO_SHIFT, reader};
 use ctf_bits::PieceSource;
 use ctf_class::TraceClass;
+use ctf_stream::StreamReader;
 use std::alloc::Global;
 use std::process::Abort;
 
@@ -21,12 +22,16 @@ fn compare(
     let source = PieceSource::new(bytes, piece);
     let mut reader = reader(alloc, trace, source, NO_SHIFT).expect(rt, "memory");
     assert!(rt; reader.name() == NAME);
-    assert!(rt; reader.source().given() == 0);
+    assert_eq!(rt; counts(&reader), (0, 0));
     for (given, held) in steps {
         reader.go_on();
-        assert_eq!(rt; reader.source().given(), *given);
-        assert_eq!(rt; reader.held(), *held);
+        assert_eq!(rt; counts(&reader), (*given, *held));
     }
+}
+
+/// How many bytes a reader's source has given, and how many the reader holds.
+fn counts(reader: &StreamReader<'_, PieceSource<'_>>) -> (u64, usize) {
+    (reader.source().given(), reader.held())
 }
 
 /// The bytes of a packet are taken when its first item is asked for, and held until the item behind its last.

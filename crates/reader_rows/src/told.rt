@@ -4,7 +4,6 @@ use ctf_bits::Source;
 use ctf_class::TraceClass;
 use ctf_clock::{Moment, Shift};
 use ctf_list::Text;
-use ctf_packet::StreamFault;
 use ctf_stream::{Gap, Item, StreamReader};
 use std::alloc::{AllocError, Global};
 
@@ -28,13 +27,6 @@ pub enum Told {
     Misnamed,
 }
 
-/// The items of a stream, and the fault behind them.
-#[derive(Debug, Drop)]
-pub struct Stream {
-    pub items: Vec<Told>,
-    pub fault: Option<StreamFault>,
-}
-
 /// A reader of a stream.
 pub fn reader<'a, S: Source + Drop>(
     alloc: Global,
@@ -48,14 +40,15 @@ pub fn reader<'a, S: Source + Drop>(
 
 /// What is told of the item in front.
 pub fn front<S: Source + Drop>(reader: &StreamReader<'_, S>) -> Option<Told> {
-    match reader.head() {
-        None => None,
-        Some(Item::Event(event)) => Some(Told::Event(event.class.id, event.moment)),
-        Some(Item::Discarded(gap)) => Some(told_gap(
-            &gap,
-            Told::Discarded(gap.count, moments(&gap)),
-        )),
-        Some(Item::Lost(gap)) => Some(told_gap(&gap, Told::Lost(gap.count, moments(&gap)))),
+    let item = reader.head()?;
+    Some(told_item(&item))
+}
+
+fn told_item(item: &Item<'_>) -> Told {
+    match item {
+        Item::Event(event) => Told::Event(event.class.id, event.moment),
+        Item::Discarded(gap) => told_gap(gap, Told::Discarded(gap.count, moments(gap))),
+        Item::Lost(gap) => told_gap(gap, Told::Lost(gap.count, moments(gap))),
     }
 }
 
@@ -71,11 +64,11 @@ fn moments(gap: &Gap<'_>) -> [Option<Moment>; 3] {
     [gap.moment, gap.from, gap.to]
 }
 
-/// Reads a stream to its end or its fault.
+/// The items of a stream, to its end or its fault.
 pub fn all<S: Source + Drop>(
     alloc: Global,
     reader: &mut StreamReader<'_, S>,
-) -> Result<Stream, AllocError> {
+) -> Result<Vec<Told>, AllocError> {
     let mut items = Vec::new(alloc);
     for _ in 0..100 {
         reader.go_on();
@@ -84,8 +77,5 @@ pub fn all<S: Source + Drop>(
             Some(told) => items.push(told)?,
         }
     }
-    Ok(Stream {
-        items,
-        fault: reader.fault(),
-    })
+    Ok(items)
 }

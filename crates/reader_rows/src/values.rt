@@ -10,7 +10,7 @@ use ctf_class::{Scope, TraceClass};
 use ctf_decode::Value;
 use ctf_packet::StreamFault;
 use ctf_packet::StreamFault::NoOption;
-use ctf_stream::Item;
+use ctf_stream::{Item, StreamReader};
 use std::alloc::{AllocError, Global};
 use std::process::Abort;
 
@@ -68,6 +68,30 @@ fn parts(alloc: Global, structure: &Value) -> Result<Vec<Part<'_>>, AllocError> 
     Ok(parts)
 }
 
+/// Whether a structure has these parts.
+fn has_parts(alloc: Global, structure: &Value, want: &[Part<'_>]) -> bool {
+    match parts(alloc, structure) {
+        Ok(parts) => parts.as_slice() == want,
+        Err(_) => false,
+    }
+}
+
+/// Whether an event record stands in front whose value in a scope has these parts.
+fn has_in_front(
+    alloc: Global,
+    reader: &StreamReader<'_, SliceSource<'_>>,
+    scope: Scope,
+    want: &[Part<'_>],
+) -> bool {
+    let Some(Item::Event(event)) = reader.head() else {
+        return false;
+    };
+    match event.value(scope) {
+        Some(value) => has_parts(alloc, value, want),
+        None => false,
+    }
+}
+
 /// A stream has event records of these values in a scope, and then this fault.
 fn compare(
     rt: &impl Abort,
@@ -82,13 +106,7 @@ fn compare(
     let mut reader = reader(alloc, trace, source, NO_SHIFT).expect(rt, "memory");
     for record in records {
         reader.go_on();
-        let Some(Item::Event(event)) = reader.head() else {
-            assert!(rt; false, "no event record: {record:?}");
-            return;
-        };
-        let value = event.value(scope).expect(rt, "a value");
-        let parts = parts(alloc, value).expect(rt, "memory");
-        assert_eq!(rt; parts.as_slice(), *record);
+        assert!(rt; has_in_front(alloc, &reader, scope, record), "{record:?}");
     }
     reader.go_on();
     assert!(rt; reader.head().is_none());

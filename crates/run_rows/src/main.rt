@@ -1,4 +1,4 @@
-//! Prints what runs over small traces write, and how they end.
+//! Prints what runs over small traces write, and how they end; and then what sessions do, step by step (`session.rt`).
 //!
 //! In `data/`, `rows` is a table of runs, and the other files are metadata and streams. A line that begins with `#` is
 //! a comment, each other line is a row, words with one space between them:
@@ -25,26 +25,33 @@ mod bytes;
 mod manner;
 mod printing;
 mod row;
+mod session;
 mod sink;
 mod source;
 mod told;
 
 use anyhow::{Result, bail};
-use printing::print_row;
 use std::{env, fs};
 
 fn main(rt: HostRuntime) -> Result<()> {
     let mut words = env::args(&rt)?.skip(1);
-    let Some(path) = words.next() else {
-        bail!("usage: run_rows TABLE");
+    let (Some(runs), Some(sessions)) = (words.next(), words.next()) else {
+        bail!("usage: run_rows RUNS SESSIONS");
     };
-    let table = fs::read_to_string(&rt, path.as_str())?;
-    for line in table.lines() {
-        if line.is_empty() || line.starts_with('#') {
-            continue;
-        }
+    let runs = fs::read_to_string(&rt, runs.as_str())?;
+    for line in runs.lines().filter(|line| is_row(line)) {
         println!(rt; "> {line}")?;
-        print_row(&rt, line)?;
+        printing::print_row(&rt, line)?;
+    }
+    let sessions = fs::read_to_string(&rt, sessions.as_str())?;
+    for line in sessions.lines().filter(|line| is_row(line)) {
+        println!(rt; "> {line}")?;
+        session::print_row(&rt, line)?;
     }
     Ok(())
+}
+
+/// Whether a line of a table is a row.
+fn is_row(line: &str) -> bool {
+    !line.is_empty() && !line.starts_with('#')
 }

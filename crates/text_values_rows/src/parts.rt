@@ -60,20 +60,31 @@ fn options(alloc: Global) -> Result<Class, Fail> {
     variant(alloc, options)
 }
 
+/// Whether an option's value is shown so.
+fn shows_option(alloc: Global, option: usize, value: Value, want: &[u8]) -> Result<(), Fail> {
+    shows(
+        alloc,
+        &options(alloc)?,
+        &choice(alloc, option, value)?,
+        want,
+    )
+}
+
 #[test]
 fn variants(rt: HostRuntime) -> Result<(), Fail> {
     let alloc = rt.alloc();
-    let class = options(alloc)?;
-    let first = choice(alloc, 0, text(alloc, b"hi")?)?;
-    shows(alloc, &class, &first, b"{ A = \"hi\" }")?;
+    shows_option(alloc, 0, text(alloc, b"hi")?, b"{ A = \"hi\" }")?;
+    shows_option(alloc, 2, Value::Unsigned(0), b"")
+}
+
+#[test]
+fn variants_of_structures(rt: HostRuntime) -> Result<(), Fail> {
+    let alloc = rt.alloc();
     let mut empty = Vec::new(alloc);
     empty.push(group(Vec::new(alloc)))?;
     let mut members = Vec::new(alloc);
     members.push(list(empty))?;
-    let second = choice(alloc, 1, group(members))?;
-    shows(alloc, &class, &second, b"{ B = { s = [ [0] = { } ] } }")?;
-    let third = choice(alloc, 2, Value::Unsigned(0))?;
-    shows(alloc, &class, &third, b"")
+    shows_option(alloc, 1, group(members), b"{ B = { s = [ [0] = { } ] } }")
 }
 
 /// A value of another class gives nothing.

@@ -107,6 +107,17 @@ fn shows_fields(
     Err(Fail::from("another line"))
 }
 
+/// An event of such fields.
+fn shows_cells(
+    alloc: Global,
+    name: &[u8],
+    cells: &[(&[u8], Cell)],
+    want: &[u8],
+) -> Result<(), Fail> {
+    let event = event(alloc, None, name, None, class_of(alloc, cells)?)?;
+    shows_fields(alloc, b"", &event, &value_of(alloc, cells)?, want)
+}
+
 #[test]
 fn fields(rt: HostRuntime) -> Result<(), Fail> {
     let alloc = rt.alloc();
@@ -131,8 +142,7 @@ fn fields(rt: HostRuntime) -> Result<(), Fail> {
         (b"a\n", &[], b"a\\n: { }"),
     ];
     for (name, cells, want) in rows {
-        let event = event(alloc, None, name, None, class_of(alloc, cells)?)?;
-        shows_fields(alloc, b"", &event, &value_of(alloc, cells)?, want)?;
+        shows_cells(alloc, name, cells, want)?;
     }
     Ok(())
 }

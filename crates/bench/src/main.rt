@@ -1,0 +1,57 @@
+//! Reads a trace's metadata, and then a stream of it item by item: what the measurements of the layers run.
+//!
+//! With more than one round it also prints how fast the fastest round of each step was.
+#![tactic(auto)]
+
+mod items;
+mod metadata;
+
+use anyhow::{Result, bail};
+use ctf_types::resolve;
+use std::rt::Env;
+use std::{env, fs};
+use tsdl_parse::parse;
+use tsdl_text::{metadata_text, tokens};
+
+/// What the words of the command line ask for.
+#[derive(Debug, Drop)]
+struct Asked {
+    rounds: u32,
+    metadata: String,
+    stream: Option<String>,
+}
+
+fn read_words<R: Env + AllocGlobal>(rt: &R) -> Result<Asked> {
+    let mut words = env::args(rt)?.skip(1);
+    let (Some(rounds), Some(metadata)) = (words.next(), words.next()) else {
+        bail!("usage: bench ROUNDS METADATA [STREAM]");
+    };
+    Ok(Asked {
+        rounds: rounds.as_str().parse::<u32>()?,
+        metadata,
+        stream: words.next(),
+    })
+}
+
+fn main(rt: HostRuntime) -> Result<()> {
+    let alloc = rt.alloc();
+    let Asked {
+        rounds,
+        metadata,
+        stream,
+    } = read_words(&rt)?;
+    let text = metadata_text(alloc, &fs::read(&rt, metadata.as_str())?)?;
+    let tokens = tokens(alloc, &text)?;
+    let tree = parse(alloc, &tokens)?;
+    let trace = resolve(alloc, &tree)?;
+    println!(rt; "tokens {}", tokens.len())?;
+    println!(rt; "declarations {}", tree.declarations.len())?;
+    metadata::print_counts(&rt, &trace)?;
+    if rounds > 1 {
+        metadata::print_rounds(&rt, alloc, &text, rounds)?;
+    }
+    match stream {
+        Some(path) => items::print_items(&rt, &trace, path.as_str(), rounds),
+        None => Ok(()),
+    }
+}
