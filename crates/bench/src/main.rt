@@ -7,11 +7,8 @@ mod items;
 mod metadata;
 
 use anyhow::{Result, bail};
-use ctf_types::resolve;
+use std::env;
 use std::rt::Env;
-use std::{env, fs};
-use tsdl_parse::parse;
-use tsdl_text::{metadata_text, tokens};
 
 /// What the words of the command line ask for.
 #[derive(Debug, Drop)]
@@ -34,22 +31,12 @@ fn read_words<R: Env + AllocGlobal>(rt: &R) -> Result<Asked> {
 }
 
 fn main(rt: HostRuntime) -> Result<()> {
-    let alloc = rt.alloc();
     let Asked {
         rounds,
         metadata,
         stream,
     } = read_words(&rt)?;
-    let text = metadata_text(alloc, &fs::read(&rt, metadata.as_str())?)?;
-    let tokens = tokens(alloc, &text)?;
-    let tree = parse(alloc, &tokens)?;
-    let trace = resolve(alloc, &tree)?;
-    println!(rt; "tokens {}", tokens.len())?;
-    println!(rt; "declarations {}", tree.declarations.len())?;
-    metadata::print_counts(&rt, &trace)?;
-    if rounds > 1 {
-        metadata::print_rounds(&rt, alloc, &text, rounds)?;
-    }
+    let trace = metadata::print_metadata(&rt, metadata.as_str(), rounds)?;
     match stream {
         Some(path) => items::print_items(&rt, &trace, path.as_str(), rounds),
         None => Ok(()),

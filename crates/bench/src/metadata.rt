@@ -4,10 +4,12 @@ use anyhow::Result;
 use ctf_class::TraceClass;
 use ctf_types::resolve;
 use std::alloc::Global;
-use std::rt::Clock;
+use std::fs;
+use std::rt::{Clock, Files};
 use std::time::Instant;
 use tsdl_parse::parse;
-use tsdl_text::tokens;
+use tsdl_text::{metadata_text, tokens};
+use tsdl_tree::Tree;
 
 /// The nanoseconds of the fastest round of each step.
 #[derive(Clone, Copy)]
@@ -17,8 +19,45 @@ struct Nanoseconds {
     resolve: u128,
 }
 
+/// Prints what stands in a metadata text, and with more than one round how long each step takes.
+pub fn print_metadata<R>(rt: &R, path: &str, rounds: u32) -> Result<TraceClass>
+where
+    R: Files + Clock + Print + AllocGlobal,
+{
+    let text = metadata_text(rt.alloc(), &fs::read(rt, path)?)?;
+    if rounds > 1 {
+        let least = measured(rt, rt.alloc(), &text, rounds)?;
+        print_least(rt, least)?;
+    }
+    print_classes(rt, &text)
+}
+
+fn print_least(rt: &impl Print, least: Nanoseconds) -> Result<()> {
+    println!(rt;
+        "ns of tokens {}, parse {}, resolve {}",
+        least.tokens, least.parse, least.resolve
+    )?;
+    Ok(())
+}
+
+/// Prints how many classes there are, and how much of each step before them.
+fn print_classes<R: Print + AllocGlobal>(rt: &R, text: &[u8]) -> Result<TraceClass> {
+    let tree = print_tree(rt, text)?;
+    let trace = resolve(rt.alloc(), &tree)?;
+    print_counts(rt, &trace)?;
+    Ok(trace)
+}
+
+fn print_tree<R: Print + AllocGlobal>(rt: &R, text: &[u8]) -> Result<Tree> {
+    let tokens = tokens(rt.alloc(), text)?;
+    println!(rt; "tokens {}", tokens.len())?;
+    let tree = parse(rt.alloc(), &tokens)?;
+    println!(rt; "declarations {}", tree.declarations.len())?;
+    Ok(tree)
+}
+
 /// Prints how many stream classes there are, and event classes of all.
-pub fn print_counts(rt: &impl Print, trace: &TraceClass) -> Result<()> {
+fn print_counts(rt: &impl Print, trace: &TraceClass) -> Result<()> {
     let streams = trace.streams.as_slice();
     let mut events = 0usize;
     for stream in streams {
@@ -26,19 +65,6 @@ pub fn print_counts(rt: &impl Print, trace: &TraceClass) -> Result<()> {
     }
     println!(rt; "stream classes {}", streams.len())?;
     println!(rt; "event classes {events}")?;
-    Ok(())
-}
-
-/// Measures so many rounds, and prints the fastest.
-pub fn print_rounds<R>(rt: &R, alloc: Global, text: &[u8], rounds: u32) -> Result<()>
-where
-    R: Clock + Print,
-{
-    let least = measured(rt, alloc, text, rounds)?;
-    println!(rt;
-        "ns of tokens {}, parse {}, resolve {}",
-        least.tokens, least.parse, least.resolve
-    )?;
     Ok(())
 }
 
