@@ -1,11 +1,9 @@
 //! What stands in a line behind the stamp.
 
-use crate::classes::{
-    array, decimal, enumeration, integer, member, numbers, string, structure, text, variant,
-};
+use crate::classes::{array, decimal, integer, member, numbers, structure, text};
 use crate::values;
-use crate::values::{choice, group, integers};
-use ctf_class::Base::{Binary, Decimal, Hexadecimal};
+use crate::values::{group, integers};
+use ctf_class::Base::{Decimal, Hexadecimal};
 use ctf_class::{Base, Class, EventClass, Heading, Indexed, StreamClass};
 use ctf_decode::Value;
 use ctf_list::List;
@@ -145,76 +143,6 @@ fn fields(rt: HostRuntime) -> Result<(), Fail> {
         shows_cells(alloc, name, cells, want)?;
     }
     Ok(())
-}
-
-/// An enumeration, and a variant that it is the tag of.
-fn tagged(alloc: Global) -> Result<Class, Fail> {
-    let labels: [(&[u8], i128, i128); 3] = [(b"A", 1, 1), (b"B", 2, 2), (b"LOW", 0, 2)];
-    let mut options = Vec::new(alloc);
-    options.push(member(alloc, b"A", string()?)?)?;
-    options.push(member(alloc, b"B", integer(8, false, Binary)?)?)?;
-    let mut members = Vec::new(alloc);
-    members.push(member(alloc, b"t", enumeration(alloc, Decimal, &labels)?)?)?;
-    members.push(member(alloc, b"u", variant(alloc, options)?)?)?;
-    structure(members)
-}
-
-#[test]
-fn labels_and_options(rt: HostRuntime) -> Result<(), Fail> {
-    let alloc = rt.alloc();
-    let event = event(alloc, None, b"v", None, tagged(alloc)?)?;
-    let rows: [(i128, usize, Cell, &[u8]); 2] = [
-        (
-            1,
-            0,
-            Text(b"hi"),
-            b"v: { t = ( { \"A\", \"LOW\" } : container = 1 ), u = { A = \"hi\" } }",
-        ),
-        (
-            2,
-            1,
-            Number(8, Binary, 5),
-            b"v: { t = ( { \"B\", \"LOW\" } : container = 2 ), u = { B = 0b00000101 } }",
-        ),
-    ];
-    for (label, option, cell, want) in rows {
-        let mut parts = Vec::new(alloc);
-        parts.push(Value::Label(label))?;
-        parts.push(choice(alloc, option, cell.value(alloc)?)?)?;
-        shows_fields(alloc, b"", &event, &group(parts), want)?;
-    }
-    Ok(())
-}
-
-#[test]
-fn host_and_processor(rt: HostRuntime) -> Result<(), Fail> {
-    let alloc = rt.alloc();
-    let cells: [(&[u8], Cell); 7] = [
-        (b"_prev_comm", Text(b"swapper/1")),
-        (b"_prev_tid", Number(32, Decimal, 0)),
-        (b"_prev_prio", Number(32, Decimal, 20)),
-        (b"_prev_state", Number(64, Decimal, 0)),
-        (b"_next_comm", Text(b"bash")),
-        (b"_next_tid", Number(32, Decimal, 4242)),
-        (b"_next_prio", Number(32, Decimal, 20)),
-    ];
-    let context: [&[u8]; 7] = [
-        b"timestamp_begin",
-        b"timestamp_end",
-        b"content_size",
-        b"packet_size",
-        b"packet_seq_num",
-        b"events_discarded",
-        b"cpu_id",
-    ];
-    let class = numbers(alloc, &context)?;
-    let packet = group(integers(alloc, &[1, 2, 3, 4, 5, 6, 1])?);
-    let part = packet_part(alloc, Some(&class), Some(&packet))?;
-    let host = Some(List::from_slice(alloc, b"host1")?);
-    let event = event(alloc, host, b"sched_switch", None, class_of(alloc, &cells)?)?;
-    let want =
-        b"host1 sched_switch: { cpu_id = 1 }, { prev_comm = \"swapper/1\", prev_tid = 0, prev_prio = 20, prev_state = 0, next_comm = \"bash\", next_tid = 4242, next_prio = 20 }".as_slice();
-    shows_fields(alloc, &part, &event, &value_of(alloc, &cells)?, want)
 }
 
 /// Packet contexts of which nothing is shown.
