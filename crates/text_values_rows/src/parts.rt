@@ -7,6 +7,12 @@ use ctf_decode::Value;
 use std::alloc::Global;
 use std::test::Fail;
 
+/// Whether a structure of numbers of these names is shown so.
+fn shows_numbers(alloc: Global, names: &[&[u8]], members: &[i64], want: &[u8]) -> Result<(), Fail> {
+    let value = group(integers(alloc, members)?);
+    shows(alloc, &numbers(alloc, names)?, &value, want)
+}
+
 #[test]
 fn structures(rt: HostRuntime) -> Result<(), Fail> {
     let alloc = rt.alloc();
@@ -24,8 +30,7 @@ fn structures(rt: HostRuntime) -> Result<(), Fail> {
         (&[b"a"], &[1, 2], b"{ a = 1 }"),
     ];
     for (names, members, want) in rows {
-        let value = group(integers(alloc, members)?);
-        shows(alloc, &numbers(alloc, names)?, &value, want)?;
+        shows_numbers(alloc, names, members, want)?;
     }
     Ok(())
 }
@@ -87,13 +92,23 @@ fn variants_of_structures(rt: HostRuntime) -> Result<(), Fail> {
     shows_option(alloc, 1, group(members), b"{ B = { s = [ [0] = { } ] } }")
 }
 
+fn text_for_a_number(alloc: Global) -> Result<(), Fail> {
+    let value = text(alloc, b"x")?;
+    shows(alloc, &decimal()?, &value, b"")
+}
+
+/// What is shown of a number for this class.
+fn number_for(alloc: Global, class: Class, want: &[u8]) -> Result<(), Fail> {
+    shows(alloc, &class, &Value::Unsigned(1), want)
+}
+
 /// A value of another class gives nothing.
 #[test]
 fn other_values(rt: HostRuntime) -> Result<(), Fail> {
     let alloc = rt.alloc();
-    shows(alloc, &decimal()?, &text(alloc, b"x")?, b"")?;
-    shows(alloc, &string()?, &Value::Unsigned(1), b"")?;
-    shows(alloc, &options(alloc)?, &Value::Unsigned(1), b"")?;
-    let empty: [&[u8]; 1] = [b"a"];
-    shows(alloc, &numbers(alloc, &empty)?, &Value::Unsigned(1), b"{ }")
+    text_for_a_number(alloc)?;
+    number_for(alloc, string()?, b"")?;
+    number_for(alloc, options(alloc)?, b"")?;
+    let names: [&[u8]; 1] = [b"a"];
+    number_for(alloc, numbers(alloc, &names)?, b"{ }")
 }

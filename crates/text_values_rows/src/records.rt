@@ -6,7 +6,7 @@ use crate::values::{group, integers};
 use ctf_class::Base::{Decimal, Hexadecimal};
 use ctf_class::{Base, Class, EventClass, Heading, Indexed, StreamClass};
 use ctf_decode::Value;
-use ctf_list::List;
+use ctf_list::{List, NoMemory};
 use ctf_text::{packet_part, put_record, record_text};
 use std::alloc::Global;
 use std::test::Fail;
@@ -89,20 +89,64 @@ fn stream(
     })
 }
 
-/// An event of which only fields are shown.
-fn shows_fields(
+/// What `record_text` gives, without its contract: a contract that is carried on makes each function that does so minutes
+/// longer to prove.
+fn shown(
     alloc: Global,
     packet: &[u8],
+    stream: &StreamClass,
     event: &EventClass,
-    value: &Value,
+    contexts: [Option<&Value>; 2],
+    fields: &Value,
+) -> Result<Vec<u8>, NoMemory> {
+    let [shared, own] = contexts;
+    record_text(alloc, packet, stream, event, shared, own, fields)
+}
+
+/// Whether an event is shown so.
+fn is_shown(
+    alloc: Global,
+    packet: &[u8],
+    stream: &StreamClass,
+    event: &EventClass,
+    contexts: [Option<&Value>; 2],
+    fields: &Value,
     want: &[u8],
 ) -> Result<(), Fail> {
-    let stream = stream(alloc, None, None)?;
-    let text = record_text(alloc, packet, &stream, event, None, None, value)?;
+    let text = shown(alloc, packet, stream, event, contexts, fields)?;
     if text.as_slice() == want {
         return Ok(());
     }
     Err(Fail::from("another line"))
+}
+
+/// An event of which only fields are shown.
+fn shows_fields(alloc: Global, event: &EventClass, value: &Value, want: &[u8]) -> Result<(), Fail> {
+    let stream = stream(alloc, None, None)?;
+    is_shown(alloc, b"", &stream, event, [None, None], value, want)
+}
+
+/// An event of a class of such fields.
+fn shows_class(
+    alloc: Global,
+    name: &[u8],
+    class: Class,
+    value: &Value,
+    want: &[u8],
+) -> Result<(), Fail> {
+    let event = event(alloc, None, name, None, class)?;
+    shows_fields(alloc, &event, value, want)
+}
+
+/// An event of such fields, which have a value.
+fn shows_value(
+    alloc: Global,
+    name: &[u8],
+    cells: &[(&[u8], Cell)],
+    value: &Value,
+    want: &[u8],
+) -> Result<(), Fail> {
+    shows_class(alloc, name, class_of(alloc, cells)?, value, want)
 }
 
 /// An event of such fields.
@@ -112,8 +156,8 @@ fn shows_cells(
     cells: &[(&[u8], Cell)],
     want: &[u8],
 ) -> Result<(), Fail> {
-    let event = event(alloc, None, name, None, class_of(alloc, cells)?)?;
-    shows_fields(alloc, b"", &event, &value_of(alloc, cells)?, want)
+    let value = value_of(alloc, cells)?;
+    shows_value(alloc, name, cells, &value, want)
 }
 
 #[test]
@@ -145,46 +189,112 @@ fn fields(rt: HostRuntime) -> Result<(), Fail> {
     Ok(())
 }
 
+/// What `packet_part` gives, without its contract.
+fn part_of(
+    alloc: Global,
+    class: Option<&Class>,
+    value: Option<&Value>,
+) -> Result<Vec<u8>, NoMemory> {
+    packet_part(alloc, class, value)
+}
+
+/// Whether nothing is shown of a packet context.
+fn shows_no_part(alloc: Global, class: Option<&Class>, value: Option<&Value>) -> Result<(), Fail> {
+    let part = part_of(alloc, class, value)?;
+    if part.is_empty() {
+        return Ok(());
+    }
+    Err(Fail::from("a part"))
+}
+
+/// Nothing is shown of a packet's size, nor where the class or the value is missing.
+fn shows_no_size(alloc: Global, value: &Value) -> Result<(), Fail> {
+    let names: [&[u8]; 1] = [b"packet_size"];
+    let class = numbers(alloc, &names)?;
+    shows_no_part(alloc, Some(&class), Some(value))?;
+    shows_no_part(alloc, Some(&class), None)?;
+    shows_no_part(alloc, None, Some(value))
+}
+
+fn shows_nothing_of_none(alloc: Global, value: &Value) -> Result<(), Fail> {
+    let none = structure(Vec::new(alloc))?;
+    shows_no_part(alloc, Some(&none), Some(value))
+}
+
 /// Packet contexts of which nothing is shown.
 #[test]
 fn no_packet_part(rt: HostRuntime) -> Result<(), Fail> {
     let alloc = rt.alloc();
-    let names: [&[u8]; 1] = [b"packet_size"];
     let value = group(integers(alloc, &[1])?);
-    let class = numbers(alloc, &names)?;
-    assert_eq!(rt; packet_part(alloc, Some(&class), Some(&value))?.len(), 0);
-    assert_eq!(rt; packet_part(alloc, Some(&class), None)?.len(), 0);
-    assert_eq!(rt; packet_part(alloc, None, Some(&value))?.len(), 0);
-    let none = structure(Vec::new(alloc))?;
-    assert_eq!(rt; packet_part(alloc, Some(&none), Some(&value))?.len(), 0);
-    Ok(())
+    shows_no_size(alloc, &value)?;
+    shows_nothing_of_none(alloc, &value)
+}
+
+/// An event `e` with a context of a packet's size and without fields.
+fn event_of_contexts(alloc: Global) -> Result<EventClass, Fail> {
+    let names: [&[u8]; 1] = [b"packet_size"];
+    let own = numbers(alloc, &names)?;
+    let fields = structure(Vec::new(alloc))?;
+    event(alloc, None, b"e", Some(own), fields)
+}
+
+fn shows_contexts(
+    alloc: Global,
+    stream: &StreamClass,
+    event: &EventClass,
+    none: &Value,
+) -> Result<(), Fail> {
+    let one = group(integers(alloc, &[3])?);
+    let contexts = [Some(none), Some(&one)];
+    let want = b"e: { x = 1 }, { }, { packet_size = 3 }, { }";
+    is_shown(alloc, b"{ x = 1 }", stream, event, contexts, none, want)
+}
+
+/// What `put_record` gives behind four bytes, without its contract.
+fn put_behind(
+    stream: &StreamClass,
+    event: &EventClass,
+    none: &Value,
+    line: &mut Vec<u8>,
+) -> Result<usize, NoMemory> {
+    if line.len() < 5 {
+        return Ok(0);
+    }
+    put_record(b"", stream, event, None, None, none, line, 5)
+}
+
+/// What stands before the index stays, and a context without a value is not shown.
+fn shows_behind(
+    alloc: Global,
+    stream: &StreamClass,
+    event: &EventClass,
+    none: &Value,
+) -> Result<(), Fail> {
+    let mut line = Vec::from_slice(alloc, b"[12] and what was there")?;
+    let end = put_behind(stream, event, none, &mut line)?;
+    line.truncate(end);
+    if line.as_slice() == b"[12] e: { }".as_slice() {
+        return Ok(());
+    }
+    Err(Fail::from("another line"))
+}
+
+fn shows_both(alloc: Global, stream: &StreamClass, event: &EventClass) -> Result<(), Fail> {
+    let none = group(Vec::new(alloc));
+    shows_contexts(alloc, stream, event, &none)?;
+    shows_behind(alloc, stream, event, &none)
+}
+
+fn shows_event(alloc: Global, event: &EventClass) -> Result<(), Fail> {
+    let empty = structure(Vec::new(alloc))?;
+    let stream = stream(alloc, None, Some(empty))?;
+    shows_both(alloc, &stream, event)
 }
 
 /// Each context is shown where it has a class, also an empty one; names below the top are all shown.
 #[test]
 fn contexts(rt: HostRuntime) -> Result<(), Fail> {
     let alloc = rt.alloc();
-    let names: [&[u8]; 1] = [b"packet_size"];
-    let own = numbers(alloc, &names)?;
-    let empty = structure(Vec::new(alloc))?;
-    let event = event(alloc, None, b"e", Some(own), structure(Vec::new(alloc))?)?;
-    let stream = stream(alloc, None, Some(empty))?;
-    let none = group(Vec::new(alloc));
-    let one = group(integers(alloc, &[3])?);
-    let text = record_text(
-        alloc,
-        b"{ x = 1 }",
-        &stream,
-        &event,
-        Some(&none),
-        Some(&one),
-        &none,
-    )?;
-    let want = b"e: { x = 1 }, { }, { packet_size = 3 }, { }".as_slice();
-    assert_eq!(rt; text.as_slice(), want);
-    let mut line = Vec::from_slice(alloc, b"[12] and what was there")?;
-    let end = put_record(b"", &stream, &event, None, None, &none, &mut line, 5)?;
-    line.truncate(end);
-    assert_eq!(rt; line.as_slice(), b"[12] e: { }".as_slice());
-    Ok(())
+    let event = event_of_contexts(alloc)?;
+    shows_event(alloc, &event)
 }

@@ -6,6 +6,13 @@ use crate::values::shows;
 use std::alloc::Global;
 use std::test::Fail;
 
+/// Whether a text is shown so, as a string and as an array of characters.
+fn shows_text(alloc: Global, bytes: &[u8], want: &[u8]) -> Result<(), Fail> {
+    let value = values::text(alloc, bytes)?;
+    shows(alloc, &string()?, &value, want)?;
+    shows(alloc, &text()?, &value, want)
+}
+
 #[test]
 fn escapes(rt: HostRuntime) -> Result<(), Fail> {
     let alloc = rt.alloc();
@@ -25,9 +32,7 @@ fn escapes(rt: HostRuntime) -> Result<(), Fail> {
         ),
     ];
     for (bytes, want) in rows {
-        let value = values::text(alloc, bytes)?;
-        shows(alloc, &string()?, &value, want)?;
-        shows(alloc, &text()?, &value, want)?;
+        shows_text(alloc, bytes, want)?;
     }
     Ok(())
 }
