@@ -1,7 +1,8 @@
 //! What a place holds, as far as a row of a table says it.
 
+use crate::plain::{decoded_at, decoded_first, decoded_instead_of, front_at};
 use ctf_class::Class;
-use ctf_decode::{DecodeFault, Front, Scopes, Value, decode, decode_front, decode_into};
+use ctf_decode::{DecodeFault, Front, Scopes, Value};
 use std::alloc::Global;
 use std::test::Fail;
 
@@ -52,13 +53,10 @@ pub fn stands_behind(
     content: u64,
     scopes: &Scopes,
 ) -> Found {
-    let held = packet.len() as u128 * 8;
-    if start > content || content > 1 << 62 || u128::from(content) > held {
-        return Found::NotAsked;
-    }
-    match decode(alloc, class, packet, start, content, scopes) {
-        Err(fault) => Found::Fault(fault),
-        Ok(decoded) => said(&decoded.value, decoded.end),
+    match decoded_at(alloc, class, packet, start, content, scopes) {
+        None => Found::NotAsked,
+        Some(Err(fault)) => Found::Fault(fault),
+        Some(Ok(decoded)) => said(&decoded.value, decoded.end),
     }
 }
 
@@ -128,13 +126,10 @@ pub fn whole_at(
     start: u64,
     content: u64,
 ) -> Result<Whole, Found> {
-    let held = packet.len() as u128 * 8;
-    if start > content || content > 1 << 62 || u128::from(content) > held {
-        return Err(Found::NotAsked);
-    }
-    match decode(alloc, class, packet, start, content, &Scopes::new()) {
-        Err(fault) => Err(Found::Fault(fault)),
-        Ok(found) => Ok(told(&found.value, found.end, found.spent)),
+    match decoded_first(alloc, class, packet, start, content) {
+        None => Err(Found::NotAsked),
+        Some(Err(fault)) => Err(Found::Fault(fault)),
+        Some(Ok(found)) => Ok(told(&found.value, found.end, found.spent)),
     }
 }
 
@@ -145,25 +140,20 @@ pub fn whole_instead_of(
     class: &Class,
     packet: &[u8],
 ) -> Result<Whole, Found> {
-    if packet.len() > 1 << 58 {
-        return Err(Found::NotAsked);
-    }
-    let content = packet.len() as u64 * 8;
-    match decode_into(alloc, class, packet, 0, content, &Scopes::new(), &mut value) {
-        Err(fault) => Err(Found::Fault(fault)),
-        Ok(reached) => Ok(told(&value, reached.end, reached.spent)),
+    match decoded_instead_of(alloc, class, packet, &mut value) {
+        None => Err(Found::NotAsked),
+        Some(Err(fault)) => Err(Found::Fault(fault)),
+        Some(Ok(reached)) => Ok(told(&value, reached.end, reached.spent)),
     }
 }
 
 /// What stands in the beginning of a packet, or how many bits are needed.
 pub fn whole_in_front(alloc: Global, class: &Class, front: &[u8]) -> Result<Whole, Found> {
-    if front.len() > 1 << 58 {
-        return Err(Found::NotAsked);
-    }
-    match decode_front(alloc, class, front, 0, &Scopes::new()) {
-        Err(fault) => Err(Found::Fault(fault)),
-        Ok(Front::Need(bits)) => Err(Found::Need(bits)),
-        Ok(Front::Done(found)) => Ok(told(&found.value, found.end, found.spent)),
+    match front_at(alloc, class, front) {
+        None => Err(Found::NotAsked),
+        Some(Err(fault)) => Err(Found::Fault(fault)),
+        Some(Ok(Front::Need(bits))) => Err(Found::Need(bits)),
+        Some(Ok(Front::Done(found))) => Ok(told(&found.value, found.end, found.spent)),
     }
 }
 

@@ -1,10 +1,11 @@
 //! Class numbers and stamps of event records.
 
 use crate::classes::{enumeration, integer, member, pair, stamp, structure, variant};
+use crate::plain::{any_into, class_number, header_into, stamps};
 use ctf_bits::Order::Le;
 use ctf_class::Class;
 use ctf_decode::DecodeFault::{self, ContentEnds};
-use ctf_decode::{Scopes, Value, decode_header_into, decode_into, last_id, moving, moving_into};
+use ctf_decode::{Value, moving_into};
 use ctf_list::List;
 use std::alloc::Global;
 use std::test::Fail;
@@ -42,13 +43,8 @@ fn reached(
     value: &mut Value,
     other: &mut Value,
 ) -> Option<Result<u64, DecodeFault>> {
-    if content > 104 {
-        return None;
-    }
-    let bytes = packet.as_slice();
-    let scopes = Scopes::new();
-    let found = decode_header_into(alloc, class, bytes, 0, content, &scopes, value);
-    let wanted = decode_into(alloc, class, bytes, 0, content, &scopes, other);
+    let found = header_into(alloc, class, packet, content, value)?;
+    let wanted = any_into(alloc, class, packet, content, other)?;
     if found != wanted || (found.is_ok() && *value != *other) {
         return None;
     }
@@ -64,7 +60,11 @@ fn said_of(
     let mut stamps = Vec::new(alloc);
     stamps.push((1, 1))?;
     moving_into(class, value, &mut stamps)?;
-    Ok((last_id(class, value), stamps.last().copied(), stamps.len()))
+    Ok((
+        class_number(class, value),
+        stamps.last().copied(),
+        stamps.len(),
+    ))
 }
 
 /// The last `id` counts, and the stamp of the option that is there. Each header is decoded into the value of
@@ -120,8 +120,8 @@ fn signed_stamps(rt: HostRuntime) -> Result<(), Fail> {
     let mut members = List::new(alloc);
     members.push(Value::Signed(-1))?;
     let value = Value::Group(members);
-    assert!(rt; moving(alloc, &class, &value)?.as_slice() == [(8, 255)].as_slice());
-    assert_eq!(rt; last_id(&class, &value), None);
+    assert!(rt; stamps(alloc, &class, &value)?.as_slice() == [(8, 255)].as_slice());
+    assert_eq!(rt; class_number(&class, &value), None);
     Ok(())
 }
 
@@ -135,7 +135,7 @@ fn other_values(rt: HostRuntime) -> Result<(), Fail> {
     members.push(Value::Unsigned(770))?;
     members.push(Value::Unsigned(3))?;
     let value = Value::Group(members);
-    assert!(rt; moving(alloc, &class, &value)?.as_slice() == [(16, 770)].as_slice());
-    assert_eq!(rt; last_id(&class, &value), Some(770));
+    assert!(rt; stamps(alloc, &class, &value)?.as_slice() == [(16, 770)].as_slice());
+    assert_eq!(rt; class_number(&class, &value), Some(770));
     Ok(())
 }

@@ -3,10 +3,11 @@
 use crate::classes::{enumeration, integer, string, text};
 use crate::found::Found::{Fault, Signed, Text, Unsigned};
 use crate::found::{Found, all_stand, as_label, stands};
+use crate::plain::decoded_first;
 use ctf_bits::Order;
 use ctf_bits::Order::{Be, Le};
 use ctf_decode::DecodeFault::ContentEnds;
-use ctf_decode::{Scopes, Value, decode};
+use ctf_decode::{DecodeFault, Decoded, Value};
 use std::test::Fail;
 
 /// Size, alignment, sign, byte order, the place to start at, the content's end, and what stands there: at
@@ -72,16 +73,21 @@ fn strings(rt: HostRuntime) -> Result<(), Fail> {
 /// A string is the bytes before the zero byte.
 #[test]
 fn bytes_of_a_string(rt: HostRuntime) -> Result<(), Fail> {
-    let found = decode(
-        rt.alloc(),
-        &string()?,
-        &[0x68, 0x69, 0],
-        0,
-        24,
-        &Scopes::new(),
-    )?;
-    assert!(rt; matches!(&found.value, Value::Text(bytes) if bytes.as_slice() == b"hi".as_slice()));
+    let bytes = [0x68, 0x69, 0];
+    let found = decoded_first(rt.alloc(), &string()?, &bytes, 0, 24);
+    assert!(rt; is_text(&found, b"hi"));
     Ok(())
+}
+
+/// Whether a text of these bytes was decoded.
+fn is_text(found: &Option<Result<Decoded, DecodeFault>>, want: &[u8]) -> bool {
+    match found {
+        Some(Ok(decoded)) => match &decoded.value {
+            Value::Text(bytes) => bytes.as_slice() == want,
+            _ => false,
+        },
+        _ => false,
+    }
 }
 
 /// Arrays of characters: all of their length is used, and their text ends at a zero byte.

@@ -13,3 +13,5 @@ mod headers;
 mod leaves;
 #[cfg(test)]
 mod limits;
+#[cfg(test)]
+mod plain;
