@@ -73,21 +73,39 @@ fn events(rt: HostRuntime) -> Result<(), Fail> {
         return Ok(());
     };
     let event = event(alloc, 7, structure(alloc, fields)?)?;
-    assert_eq!(rt; event.name(), b"tick".as_slice());
-    assert!(rt; event.context() == integer_of(16).as_ref());
-    assert_eq!(rt; event.fields().nodes, 2);
+    assert!(rt; is_tick(&event));
     Ok(())
+}
+
+/// Whether a class is an unsigned integer of so many bits.
+fn is_integer(class: Option<&Class>, bits: u32) -> bool {
+    class == integer_of(bits).as_ref()
+}
+
+fn is_tick(event: &EventClass) -> bool {
+    event.name() == b"tick".as_slice()
+        && is_integer(event.context(), 16)
+        && event.fields().nodes == 2
 }
 
 #[test]
 fn streams(rt: HostRuntime) -> Result<(), Fail> {
     let alloc = rt.alloc();
     let stream = stream(alloc, Vec::new(alloc))?;
-    assert!(rt; stream.packet_context() == integer_of(32).as_ref());
-    assert!(rt; stream.event_header() == integer_of(64).as_ref());
-    assert!(rt; stream.event_context().is_none() && stream.clock().is_none());
-    assert!(rt; stream.only().is_none() && stream.event(7).is_none());
+    assert!(rt; has_both_scopes(&stream));
+    assert!(rt; has_nothing_else(&stream));
     Ok(())
+}
+
+fn has_both_scopes(stream: &StreamClass) -> bool {
+    is_integer(stream.packet_context(), 32) && is_integer(stream.event_header(), 64)
+}
+
+fn has_nothing_else(stream: &StreamClass) -> bool {
+    stream.event_context().is_none()
+        && stream.clock().is_none()
+        && stream.only().is_none()
+        && stream.event(7).is_none()
 }
 
 #[test]
@@ -101,9 +119,15 @@ fn traces(rt: HostRuntime) -> Result<(), Fail> {
         packet_header: integer_of(8),
         streams: Indexed::new(alloc, List::from_vec(streams))?,
     };
-    assert!(rt; trace.host() == Some(b"host".as_slice()));
-    assert!(rt; trace.packet_header() == integer_of(8).as_ref());
-    assert!(rt; trace.only().is_some());
-    assert!(rt; trace.stream(4).is_some() && trace.stream(0).is_none());
+    assert!(rt; is_of_host(&trace));
+    assert!(rt; has_one_stream(&trace));
     Ok(())
+}
+
+fn is_of_host(trace: &TraceClass) -> bool {
+    trace.host() == Some(b"host".as_slice()) && is_integer(trace.packet_header(), 8)
+}
+
+fn has_one_stream(trace: &TraceClass) -> bool {
+    trace.only().is_some() && trace.stream(4).is_some() && trace.stream(0).is_none()
 }
