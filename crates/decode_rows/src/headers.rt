@@ -1,11 +1,11 @@
 //! Class numbers and stamps of event records.
 
 use crate::classes::{enumeration, integer, member, pair, stamp, structure, variant};
-use crate::plain::{any_into, class_number, header_into, stamps};
+use crate::plain::{any_into, header_into};
 use ctf_bits::Order::Le;
 use ctf_class::Class;
 use ctf_decode::DecodeFault::{self, ContentEnds};
-use ctf_decode::{Value, moving_into};
+use ctf_decode::{Value, last_id, moving, moving_into};
 use ctf_list::List;
 use std::alloc::Global;
 use std::test::Fail;
@@ -60,11 +60,7 @@ fn said_of(
     let mut stamps = Vec::new(alloc);
     stamps.push((1, 1))?;
     moving_into(class, value, &mut stamps)?;
-    Ok((
-        class_number(class, value),
-        stamps.last().copied(),
-        stamps.len(),
-    ))
+    Ok((last_id(class, value), stamps.last().copied(), stamps.len()))
 }
 
 /// The last `id` counts, and the stamp of the option that is there. Each header is decoded into the value of
@@ -120,8 +116,8 @@ fn signed_stamps(rt: HostRuntime) -> Result<(), Fail> {
     let mut members = List::new(alloc);
     members.push(Value::Signed(-1))?;
     let value = Value::Group(members);
-    assert!(rt; stamps(alloc, &class, &value)?.as_slice() == [(8, 255)].as_slice());
-    assert_eq!(rt; class_number(&class, &value), None);
+    assert!(rt; moving(alloc, &class, &value)?.as_slice() == [(8, 255)].as_slice());
+    assert_eq!(rt; last_id(&class, &value), None);
     Ok(())
 }
 
@@ -135,7 +131,7 @@ fn other_values(rt: HostRuntime) -> Result<(), Fail> {
     members.push(Value::Unsigned(770))?;
     members.push(Value::Unsigned(3))?;
     let value = Value::Group(members);
-    assert!(rt; stamps(alloc, &class, &value)?.as_slice() == [(16, 770)].as_slice());
-    assert_eq!(rt; class_number(&class, &value), Some(770));
+    assert!(rt; moving(alloc, &class, &value)?.as_slice() == [(16, 770)].as_slice());
+    assert_eq!(rt; last_id(&class, &value), Some(770));
     Ok(())
 }

@@ -1,12 +1,11 @@
-//! The calls under test without their contracts: a test looks at what they gave, and a contract that is carried on makes
-//! each function that does so minutes longer to prove. `None` where a call's conditions are not kept.
+//! The calls under test. The empty scopes in front of a record are owned here, where each function has few ways out:
+//! beside a `match` they make a function minutes longer to prove. `None` where a call's conditions are not kept.
 
 use ctf_class::Class;
 use ctf_decode::{
     DecodeFault, Decoded, Front, Reached, Scopes, Value, decode, decode_front, decode_header_into,
-    decode_into, last_id, moving,
+    decode_into,
 };
-use ctf_list::NoMemory;
 use std::alloc::Global;
 
 /// What `decode` gives at a place.
@@ -86,14 +85,4 @@ pub fn any_into(
     }
     let bytes = packet.as_slice();
     Some(decode_into(alloc, class, bytes, 0, content, &Scopes::new(), value))
-}
-
-/// The stamps of a value.
-pub fn stamps(alloc: Global, class: &Class, value: &Value) -> Result<Vec<(u32, u64)>, NoMemory> {
-    moving(alloc, class, value)
-}
-
-/// The last class number of a value.
-pub fn class_number(class: &Class, value: &Value) -> Option<i128> {
-    last_id(class, value)
 }

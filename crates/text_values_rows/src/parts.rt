@@ -97,7 +97,7 @@ fn text_for_a_number(alloc: Global) -> Result<(), Fail> {
     shows(alloc, &decimal()?, &value, b"")
 }
 
-/// What is shown of a number for this class.
+/// Whether this is shown of a number for a class.
 fn number_for(alloc: Global, class: Class, want: &[u8]) -> Result<(), Fail> {
     shows(alloc, &class, &Value::Unsigned(1), want)
 }

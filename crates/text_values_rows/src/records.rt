@@ -6,7 +6,7 @@ use crate::values::{group, integers};
 use ctf_class::Base::{Decimal, Hexadecimal};
 use ctf_class::{Base, Class, EventClass, Heading, Indexed, StreamClass};
 use ctf_decode::Value;
-use ctf_list::{List, NoMemory};
+use ctf_list::List;
 use ctf_text::{packet_part, put_record, record_text};
 use std::alloc::Global;
 use std::test::Fail;
@@ -89,20 +89,6 @@ fn stream(
     })
 }
 
-/// What `record_text` gives, without its contract: a contract that is carried on makes each function that does so minutes
-/// longer to prove.
-fn shown(
-    alloc: Global,
-    packet: &[u8],
-    stream: &StreamClass,
-    event: &EventClass,
-    contexts: [Option<&Value>; 2],
-    fields: &Value,
-) -> Result<Vec<u8>, NoMemory> {
-    let [shared, own] = contexts;
-    record_text(alloc, packet, stream, event, shared, own, fields)
-}
-
 /// Whether an event is shown so.
 fn is_shown(
     alloc: Global,
@@ -113,7 +99,8 @@ fn is_shown(
     fields: &Value,
     want: &[u8],
 ) -> Result<(), Fail> {
-    let text = shown(alloc, packet, stream, event, contexts, fields)?;
+    let [shared, own] = contexts;
+    let text = record_text(alloc, packet, stream, event, shared, own, fields)?;
     if text.as_slice() == want {
         return Ok(());
     }
@@ -189,18 +176,9 @@ fn fields(rt: HostRuntime) -> Result<(), Fail> {
     Ok(())
 }
 
-/// What `packet_part` gives, without its contract.
-fn part_of(
-    alloc: Global,
-    class: Option<&Class>,
-    value: Option<&Value>,
-) -> Result<Vec<u8>, NoMemory> {
-    packet_part(alloc, class, value)
-}
-
 /// Whether nothing is shown of a packet context.
 fn shows_no_part(alloc: Global, class: Option<&Class>, value: Option<&Value>) -> Result<(), Fail> {
-    let part = part_of(alloc, class, value)?;
+    let part = packet_part(alloc, class, value)?;
     if part.is_empty() {
         return Ok(());
     }
@@ -250,19 +228,6 @@ fn shows_contexts(
     is_shown(alloc, b"{ x = 1 }", stream, event, contexts, none, want)
 }
 
-/// What `put_record` gives behind four bytes, without its contract.
-fn put_behind(
-    stream: &StreamClass,
-    event: &EventClass,
-    none: &Value,
-    line: &mut Vec<u8>,
-) -> Result<usize, NoMemory> {
-    if line.len() < 5 {
-        return Ok(0);
-    }
-    put_record(b"", stream, event, None, None, none, line, 5)
-}
-
 /// What stands before the index stays, and a context without a value is not shown.
 fn shows_behind(
     alloc: Global,
@@ -271,7 +236,7 @@ fn shows_behind(
     none: &Value,
 ) -> Result<(), Fail> {
     let mut line = Vec::from_slice(alloc, b"[12] and what was there")?;
-    let end = put_behind(stream, event, none, &mut line)?;
+    let end = put_record(b"", stream, event, None, None, none, &mut line, 5)?;
     line.truncate(end);
     if line.as_slice() == b"[12] e: { }".as_slice() {
         return Ok(());

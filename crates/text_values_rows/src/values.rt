@@ -2,7 +2,7 @@
 
 use ctf_class::Class;
 use ctf_decode::Value;
-use ctf_list::{Boxed, List, NoMemory};
+use ctf_list::{Boxed, List};
 use ctf_text::value_text;
 use std::alloc::Global;
 use std::test::Fail;
@@ -32,15 +32,9 @@ pub fn choice(alloc: Global, option: usize, value: Value) -> Result<Value, Fail>
     Ok(Value::Choice(option, Boxed::new(alloc, value)?))
 }
 
-/// What `value_text` gives, without its contract: a contract that is carried on makes each function that does so longer to
-/// prove.
-fn shown(alloc: Global, class: &Class, value: &Value) -> Result<Vec<u8>, NoMemory> {
-    value_text(alloc, class, value)
-}
-
 /// Whether a value of a class is shown so.
 pub fn shows(alloc: Global, class: &Class, value: &Value, want: &[u8]) -> Result<(), Fail> {
-    let text = shown(alloc, class, value)?;
+    let text = value_text(alloc, class, value)?;
     if text.as_slice() == want {
         return Ok(());
     }
