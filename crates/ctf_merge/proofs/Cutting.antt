@@ -10,9 +10,8 @@ use Rattle.ctf_stream.specs.Ahead.{time_of, told}
 use Rattle.ctf_stream.specs.Reader as reader
 use Rattle.stream_laws.specs.Times.{is_before, Rises}
 use Rattle.ctf_merge.specs.Merged.{Merged, Placed, First, item, broken, nothing, later, least, with_first, first_of, head_of, head_by, run_at, of_stream, advance, behind_first, count, ends, then, merged, InOrder, IsPlacedBefore, IsMerged, IsCut, whole, at_once, after}
-use Rattle.ctf_merge.specs.Turns.{turn_cmp, turns_from, fault_at}
+use Rattle.ctf_merge.specs.Turns.{Turn, turn_cmp, turns_from, fault_at}
 use Rattle.ctf_merge.specs.declared.fault.MergeFault.TheVariants.{Stream}
-use Rattle.ctf_merge.specs.declared.turn.Turn.{Turn}
 use Rattle.ctf_merge.proofs.Merging.{item-count, merged-item, merged-broken, merged-nothing}
 use Rattle.ctf_merge.proofs.Going.{front_by, next_by}
 use Rattle.ctf_merge.proofs.Turning.{lows, turn_of, IsLow, not_before, not_less_along, later_number, tied}

@@ -1,6 +1,7 @@
 pub mod Merging
 pub mod Going
 pub mod Pushed
+pub mod Keys
 pub mod Turning
 pub mod Lining
 pub mod Rising

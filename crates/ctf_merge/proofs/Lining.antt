@@ -13,12 +13,11 @@ use Rattle.ctf_stream.specs.Reader as reader
 use Rattle.ctf_stream.specs.Reader.{Reader, coming}
 use Rattle.stream_laws.specs.Times.{is_before}
 use Rattle.ctf_merge.specs.Merged.{First, item, broken, nothing, later, least, with_first, first_of, ends, merged, advance}
-use Rattle.ctf_merge.specs.Turns.{turn_cmp, last_cmp, turn_at, turns_from, fault_at, Joins, LinedUp}
+use Rattle.ctf_merge.specs.Turns.{Turn, turn_cmp, last_cmp, turn_at, turns_from, fault_at, Joins, LinedUp}
 use Rattle.ctf_merge.specs.Merges.{Merge, first_now, coming_of, EachFetched, EachNotBefore, AheadNotBefore, IsNext}
 use Rattle.ctf_merge.specs.Stages.{is_over, stage_of, Stands}
 use Rattle.ctf_merge.specs.declared.merge.Stage.{Stage}
 use Rattle.ctf_merge.specs.declared.merge.Stage.TheVariants as stages
-use Rattle.ctf_merge.specs.declared.turn.Turn.{Turn}
 use Rattle.ctf_merge.proofs.Going.{front_by, next_by, map-set, InFront, in_front, open_item, front, coming-item}
 use Rattle.ctf_merge.proofs.Pushed.{first_and_rest}
 use Rattle.ctf_merge.proofs.Turning.{same_turn, not_before, indicator, none_sum, not_indicated, turn_of, sum_turns, at_least, no_turns, IsLow, lows, all_append}
@@ -230,20 +229,28 @@ pub open_coming : (readers : List Reader) (stage : Stage) → is_over stage ≡ 
 open_coming readers stage open_ = ap (λ (b : Bool). cond b (ends None) (merged (map coming readers))) open_
 
 -- the first turn is that of the first item
-pub turn_front : (readers : List Reader) (stage : Stage) (heap : List (Reverse Turn)) (t : Reverse Turn) (n : ℕ) → stage ≡ stages.Going → Stands stage (heads_of readers) heap
+front_of : (readers : List Reader) (stage : Stage) (heap : List (Reverse Turn)) (t : Reverse Turn) (n : ℕ) → stage ≡ stages.Going → Stands stage (heads_of readers) heap
     → n ≡ length heap → 0 < n → t ≡ get_or heap 0 t → (IsHeap last_cmp heap → IsUpperBound last_cmp t heap)
     → (x : Item Classes) × InFront (record { readers = readers; over = is_over stage }) t.0.number x × (t.0 ≡ turn_of t.0.number x)
-turn_front readers stage heap t n going stands len filled top greatest =
+front_of readers stage heap t n going stands len filled top greatest =
     let lined = lined_going stage (heads_of readers) heap going stands in
     let at = top_turn (heads_of readers) heap t lined (omega (arith, len, filled)) top (greatest lined.heap_order) in
     (at.0, in_front (record { readers = readers; over = is_over stage }) t.0.number at.0 (ap is_over going) at.1, at.2)
 
+-- the same of a number that is the turn's
+pub turn_front : (readers : List Reader) (stage : Stage) (heap : List (Reverse Turn)) (t : Reverse Turn) (n k : ℕ) → k ≡ t.0.number → stage ≡ stages.Going
+    → Stands stage (heads_of readers) heap → n ≡ length heap → 0 < n → t ≡ get_or heap 0 t → (IsHeap last_cmp heap → IsUpperBound last_cmp t heap)
+    → (x : Item Classes) × InFront (record { readers = readers; over = is_over stage }) k x × (t.0 ≡ turn_of k x)
+turn_front readers stage heap t n k e going stands len filled top greatest =
+    subst (λ (j : ℕ). (x : Item Classes) × InFront (record { readers = readers; over = is_over stage }) j x × (t.0 ≡ turn_of j x)) (sym e)
+    (front_of readers stage heap t n going stands len filled top greatest)
+
 -- the streams once its stream went on
-pub stands_again : (readers : List Reader) (stage next : Stage) (heap new : List (Reverse Turn)) (t : Reverse Turn) (n : ℕ) (x : Item Classes) (r : Reader) → stage ≡ stages.Going
+stands_by : (readers : List Reader) (stage next : Stage) (heap new : List (Reverse Turn)) (t : Reverse Turn) (n : ℕ) (x : Item Classes) (r : Reader) → stage ≡ stages.Going
     → Stands stage (heads_of readers) heap → InFront (record { readers = readers; over = is_over stage }) t.0.number x → t.0 ≡ turn_of t.0.number x
     → n ≡ length heap → 0 < n → t ≡ get_or heap 0 t → Joins (turn_at t.0.number (told r.ahead)) (drop 1 heap) new → KeepsHeap last_cmp heap new
     → next ≡ stage_of t.0.number (fault_at (told r.ahead)) → Stands next (heads_of (set readers t.0.number r)) new
-stands_again readers stage next heap new t n x r going stands at is len filled top joins keeps next_is =
+stands_by readers stage next heap new t n x r going stands at is len filled top joins keeps next_is =
     subst (λ (s : Stage). Stands s (heads_of (set readers t.0.number r)) new) (sym next_is)
     (subst (λ (hs : List reader.Ahead). Stands (stage_of t.0.number (fault_at (told r.ahead))) hs new) (sym (map-set (λ (q : Reader). q.ahead) readers t.0.number r))
     (by_fault (fault_at (told r.ahead)) refl))
@@ -254,6 +261,17 @@ stands_again readers stage next heap new t n x r going stands at is len filled t
     by_fault : (f : Option StreamFault) → fault_at (told r.ahead) ≡ f → Stands (stage_of t.0.number f) (set (heads_of readers) t.0.number r.ahead) new
     by_fault None e = lined_again (heads_of readers) heap new t t.0.number x r.ahead lined at.heads is (omega (arith, len, filled)) top joins keeps e
     by_fault (Some f) e = broken_again (heads_of readers) t.0.number r.ahead f lined.sound (let lt = at.within in let len = length-heads readers in omega (arith, lt, len)) e
+
+pub stands_again : (readers : List Reader) (stage next : Stage) (heap new : List (Reverse Turn)) (t : Reverse Turn) (n k : ℕ) (x : Item Classes) (r : Reader) → k ≡ t.0.number
+    → stage ≡ stages.Going → Stands stage (heads_of readers) heap → InFront (record { readers = readers; over = is_over stage }) k x → t.0 ≡ turn_of k x
+    → n ≡ length heap → 0 < n → t ≡ get_or heap 0 t → Joins (turn_at k (told r.ahead)) (drop 1 heap) new → KeepsHeap last_cmp heap new
+    → next ≡ stage_of k (fault_at (told r.ahead)) → Stands next (heads_of (set readers k r)) new
+stands_again readers stage next heap new t n k x r e going stands at is len filled top joins keeps next_is =
+    subst (λ (j : ℕ). Stands next (heads_of (set readers j r)) new) (sym e)
+    (stands_by readers stage next heap new t n x r going stands
+    (subst (λ (j : ℕ). InFront (record { readers = readers; over = is_over stage }) j x) e at) (subst (λ (j : ℕ). t.0 ≡ turn_of j x) e is)
+    len filled top (subst (λ (j : ℕ). Joins (turn_at j (told r.ahead)) (drop 1 heap) new) e joins) keeps
+    (subst (λ (j : ℕ). next ≡ stage_of j (fault_at (told r.ahead))) e next_is))
 
 pub stage_open : (n : ℕ) (f : Option StreamFault) → is_over (stage_of n f) ≡ false
 stage_open n None = refl

@@ -5,7 +5,7 @@ use Rattle.std.specs.List.Sorted.{IsPermutation}
 use Rattle.std.specs.declared.cmp.Reverse.{Reverse}
 use Rattle.std.proofs.lemmas.List.Sums.{sum_by-cons}
 use Rattle.std.proofs.lemmas.List.Sorted.{sum_by_pushed, sum_by_popped}
-use Rattle.ctf_merge.specs.declared.turn.Turn.{Turn}
+use Rattle.ctf_merge.specs.Turns.{Turn}
 
 pub pushed : (f : Turn → ℕ) (t : Turn) (old new : List (Reverse Turn)) → IsPermutation (record { 0 = t } ∷ old) new
     → sum_by (λ u. f u.0) new ≡ sum_by f (t ∷ []) + sum_by (λ u. f u.0) old

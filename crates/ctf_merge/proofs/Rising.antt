@@ -11,8 +11,7 @@ use Rattle.stream_laws.specs.Times.{NotBefore, Rises}
 use Rattle.stream_laws.proofs.Later.{not_before_none, not_before_through}
 use Rattle.ctf_merge.specs.Merged.{Merged, Placed, First, item, broken, nothing, first_of, head_of, head_by, advance, without_first, count, merged, PlacedRise}
 use Rattle.ctf_merge.specs.Merges.{AheadNotBefore, EachRises, GoesOn, MergedOrRefused}
-use Rattle.ctf_merge.specs.Turns.{turns_from}
-use Rattle.ctf_merge.specs.declared.turn.Turn.{Turn}
+use Rattle.ctf_merge.specs.Turns.{Turn, turns_from}
 use Rattle.ctf_merge.proofs.Merging.{item-count, merged-item, merged-broken, merged-nothing}
 use Rattle.ctf_merge.proofs.Going.{front_by, next_by}
 use Rattle.ctf_merge.proofs.Turning.{not_before, lows, turn_of, IsLow}

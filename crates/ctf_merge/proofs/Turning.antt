@@ -2,12 +2,11 @@
 use Rattle.std.proofs.Common.{◌≡◌, ℤ, ℕ, zero, suc, ◌+◌, ◌≤◌, ◌<◌, Bool, true, false, cond, int_lt, ◌<ℤ◌, List, [], ◌∷◌, ◌++◌, Option, Some, None, refl, sym, ap, ◌∙◌, subst, arith}
 use Rattle.std.specs.Ordering.{int_cmp, nat_cmp, ordering_then, ordering_reverse, is_lt, is_gt, MatchOrdering}
 use Rattle.std.specs.Option.{option_cmp}
-use Rattle.std.specs.Cmp.{IsTotalOrder}
 use Rattle.std.specs.Cmp.Lexicographic.{options_total}
 use Rattle.std.specs.List.{AllByRecursion, sum_by}
 use Rattle.std.specs.declared.cmp.Ordering.{Ordering}
 use Rattle.std.specs.declared.cmp.Ordering.TheVariants.{Less, Equal, Greater}
-use Rattle.std.proofs.lemmas.Cmp.{int_cmp_total, nat_cmp_total, then_total, on_total, upto, tied_itself, ranked, int_ranked}
+use Rattle.std.proofs.lemmas.Cmp.{int_cmp_total, upto, tied_itself, ranked, int_ranked}
 use Rattle.std.proofs.lemmas.List.Sums.{sum_by-append, sum_by-cons}
 use Rattle.ctf_packet.specs.Classes.{Classes}
 use Rattle.ctf_packet.specs.Items.{Item}
@@ -15,15 +14,11 @@ use Rattle.ctf_stream.specs.Ahead.{time_of, told}
 use Rattle.ctf_stream.specs.Reader as reader
 use Rattle.stream_laws.specs.Times.{is_before}
 use Rattle.ctf_merge.specs.Merged.{First, item, broken, nothing, later, least, with_first, first_of}
-use Rattle.ctf_merge.specs.Turns.{turn_cmp, turn_at, turns_from}
-use Rattle.ctf_merge.specs.declared.turn.Turn.{Turn}
+use Rattle.ctf_merge.specs.Turns.{Turn, turn_cmp, turns_total, turn_at, turns_from}
 use Rattle.ctf_merge.proofs.Merging.{later_item}
 use Rattle.ctf_merge.proofs.Going.{front_by, next_by}
 
 -- ---- the order of turns
-
-pub turns_total : IsTotalOrder turn_cmp
-turns_total = then_total (on_total (λ (t : Turn). t.time) (options_total int_cmp_total)) (on_total (λ (t : Turn). t.number) nat_cmp_total)
 
 pub both_equal : (o p : Ordering) → ordering_then o p ≡ Equal → (o ≡ Equal) × (p ≡ Equal)
 both_equal Less p e = absurd cc

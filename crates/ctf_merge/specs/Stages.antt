@@ -6,8 +6,7 @@ use Rattle.ctf_stream.specs.Reader as reader
 use Rattle.ctf_stream.specs.Reader.{Reader}
 use Rattle.ctf_merge.specs.Merged.{first_of, broken}
 use Rattle.ctf_merge.specs.Merges.{EachFetched}
-use Rattle.ctf_merge.specs.Turns.{LinedUp}
-use Rattle.ctf_merge.specs.declared.turn.Turn.{Turn}
+use Rattle.ctf_merge.specs.Turns.{Turn, LinedUp}
 use Rattle.ctf_merge.specs.declared.merge.Stage.{Stage}
 use Rattle.ctf_merge.specs.declared.merge.Stage.TheVariants as stages
 

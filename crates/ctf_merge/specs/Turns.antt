@@ -1,7 +1,9 @@
 -- The turns of streams: which of their first items comes next.
-use Rattle.std.specs.Prelude.{◌≡◌, ℕ, suc, ◌+◌, List, [], ◌∷◌, ◌++◌, Option, Some, None}
+use Rattle.std.specs.Prelude.{◌≡◌, ℕ, suc, ◌+◌, ℤ, List, [], ◌∷◌, ◌++◌, Option, Some, None}
 use Rattle.std.specs.Ordering.{int_cmp, nat_cmp, ordering_then}
 use Rattle.std.specs.Option.{option_cmp}
+use Rattle.std.specs.Cmp.{IsTotalOrder, then_total, on_total, int_cmp_total, nat_cmp_total}
+use Rattle.std.specs.Cmp.Lexicographic.{options_total}
 use Rattle.std.specs.List.{AllByRecursion, sum_by}
 use Rattle.std.specs.BinaryHeap.{IsHeap}
 use Rattle.std.specs.declared.cmp.Ordering.{Ordering}
@@ -11,11 +13,20 @@ use Rattle.ctf_stream.specs.Ahead.{told}
 use Rattle.ctf_stream.specs.Reader as reader
 use Rattle.ctf_stream.specs.declared.ahead.Ahead.{Ahead}
 use Rattle.ctf_stream.specs.declared.ahead.Ahead.TheVariants as aheads
-use Rattle.ctf_merge.specs.declared.turn.Turn.{Turn}
+
+-- the turn of a stream whose item stands in front
+pub record Turn : Type 0 where
+  -- the item's time, in nanoseconds since the epoch, where its stream has a clock
+  pub time : Option ℤ
+  -- the stream's number, from 0
+  pub number : ℕ
 
 -- by time, none first, and then by stream
 abbrev pub turn_cmp : Turn → Turn → Ordering
 turn_cmp x y = ordering_then (option_cmp int_cmp x.time y.time) (nat_cmp x.number y.number)
+
+pub turns_total : IsTotalOrder turn_cmp
+turns_total = then_total (on_total (λ (t : Turn). t.time) (options_total int_cmp_total)) (on_total (λ (t : Turn). t.number) nat_cmp_total)
 
 -- the last turn is the greatest
 abbrev pub last_cmp : Reverse Turn → Reverse Turn → Ordering

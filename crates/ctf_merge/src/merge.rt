@@ -1,12 +1,12 @@
 //! Several readers as one.
 
-ghost use Rattle.std.specs.Prelude.{◌≡◌, ◌+◌, ◌<◌, [], length, map, drop, IfOk, IsOk, OnOk, OnErr, IfSome, IfNone, IsTrue, MatchOption, slice_get, None, true, false};
+ghost use Rattle.std.specs.Prelude.{◌≡◌, ◌+◌, ◌^◌, ◌<◌, [], length, map, drop, IfOk, OnOk, OnErr, IfSome, IfNone, IsTrue, MatchOption, slice_get, None, true, false};
 ghost use Rattle.ctf_stream.specs.Owned as owned;
 ghost use Rattle.ctf_stream.specs.Reader.{coming, rest_of, HasItem, OrRefused, IsFetched, IsOnLine, IsAllTaken};
 ghost use Rattle.ctf_merge.specs.Merged.{merged};
 ghost use Rattle.ctf_merge.specs.Given.{Gives, GivesFirst, GivesFront, GivesRoom};
 ghost use Rattle.ctf_merge.specs.Merges.{coming_of, first_now, number_in, fault_in, names_of, traces_of, given_of, room_of, MergedOrRefused, ComingRises, EachRises, EachFetched, EachTells, EachOnLine, EachAllTaken, Fetched, EachIsFetched, GoesOn, IsNext, RoomLeft};
-ghost use Rattle.std.specs.BinaryHeap.{heap_items, heap_len, heap_capacity, KeepsHeap};
+ghost use Rattle.std.specs.BinaryHeap.{heap_items, heap_len, KeepsHeap};
 ghost use Rattle.ctf_merge.specs.Finding.{Finds};
 ghost use Rattle.ctf_merge.specs.Stages.{is_over, stage_of, Stands};
 ghost use Rattle.ctf_merge.specs.Turns.{last_cmp, turn_at, fault_at, Joins};
@@ -139,14 +139,14 @@ fn line_up(
     number: usize,
     ahead: Ahead,
 ) -> Result<Option<StreamFault>, NoMemory>
+    requires { number < 2 ^ 63 }
     ensures fault { IfOk result (λ f. f ≡ fault_at ahead) }
     ensures joins { OnOk result (Joins (turn_at number ahead) (heap_items turns.old) (heap_items turns.new)) }
     ensures heap_order { OnOk result (KeepsHeap last_cmp (heap_items turns.old) (heap_items turns.new)) }
-    ensures room { heap_len turns.old < heap_capacity turns.old → IsOk result }
 {
     match ahead {
         Ahead::Item(time) => {
-            turns.push(Reverse(Turn { time, number }))?;
+            turns.push(Reverse(Turn::new(time, number)))?;
             Ok(None)
         }
         Ahead::Fault(fault) => Ok(Some(fault)),
@@ -162,7 +162,8 @@ fn replace_first(
     number: usize,
     ahead: Ahead,
 ) -> Option<StreamFault>
-    requires { 0 < heap_len turns.old }
+    requires some { 0 < heap_len turns.old }
+    requires number { number < 2 ^ 63 }
     ensures fault { result ≡ fault_at ahead }
     ensures joins { Joins (turn_at number ahead) (drop 1 (heap_items turns.old)) (heap_items turns.new) }
     ensures heap_order { KeepsHeap last_cmp (heap_items turns.old) (heap_items turns.new) }
@@ -170,7 +171,7 @@ fn replace_first(
     let fault = match ahead {
         Ahead::Item(time) => {
             let mut first = turns.peek_mut().unwrap();
-            *first = Reverse(Turn { time, number });
+            *first = Reverse(Turn::new(time, number));
             return None;
         }
         Ahead::Fault(fault) => Some(fault),
@@ -231,7 +232,7 @@ impl<'a, S: Source + Drop> Merge<'a, S> {
     {
         match self.stage {
             Stage::Going => match self.turns.peek() {
-                Some(turn) => First::Item(turn.0.number),
+                Some(turn) => First::Item(turn.0.number()),
                 None => First::Nothing,
             },
             Stage::Broken(number, fault) => First::Fault(number, fault),
@@ -284,7 +285,7 @@ impl<'a, S: Source + Drop> Merge<'a, S> {
         match self.stage {
             Stage::Going => {
                 if let Some(turn) = self.turns.peek() {
-                    let number = turn.0.number;
+                    let number = turn.0.number();
                     let reader = &mut self.readers[number];
                     reader.go_on();
                     let ahead = reader.ahead();
@@ -324,7 +325,7 @@ impl<'a, S: Source + Drop> Merge<'a, S> {
         match self.stage {
             Stage::Going => match self.turns.peek() {
                 Some(turn) => {
-                    let number = turn.0.number;
+                    let number = turn.0.number();
                     let reader = &mut self.readers[number];
                     match give(reader) {
                         Ok(item) => {

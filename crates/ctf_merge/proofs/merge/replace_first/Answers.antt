@@ -1,7 +1,7 @@
 use Rattle.std.proofs.Common.{ℕ, rules}
 use Rattle.std.proofs.lemmas.List.Sorted.{IsPermutation-trans, IsPermutation-cons}
 use Rattle.std.proofs.lemmas.Option.{MatchOption-at_some}
-use Rattle.ctf_merge.specs.declared.turn.Turn.{Turn}
+use Rattle.ctf_merge.specs.Turns.{Turn}
 use Rattle.ctf_merge.proofs.Pushed.{pushed, popped}
 use Rattle.ctf_merge.proofs.merge.replace_first.Goals as goal
 use Rattle.ctf_merge.proofs.merge.replace_first.Goals.{in-Fault, in-Start, in-Ended}
@@ -16,5 +16,5 @@ returns-in-Item-clause-joins c =
 
 pub returns-clause-joins : goal.returns-clause-joins
 returns-clause-joins c =
-    let taken = λ (f : Turn → ℕ). popped f c.pop.result _ _ _ c.args.turns.now.data.ok.0 c.requires c.pop.ensures.none c.pop.ensures.top c.pop.ensures.permutation in
+    let taken = λ (f : Turn → ℕ). popped f c.pop.result _ _ _ c.args.turns.now.data.ok.0 c.requires.some c.pop.ensures.none c.pop.ensures.top c.pop.ensures.permutation in
     elim c.match-ahead.branch [ in-Fault w ↦ rw w.in-Fault.is taken | in-Start w ↦ rw w.in-Start.is taken | in-Ended w ↦ rw w.in-Ended.is taken ]

@@ -13,7 +13,7 @@ returns-in-Some-clause-finds g c =
     let filled : 0 < length heap = (let some = c.in-Some.ensures.variant.0 refl in let len = c.self.inside.turns.data.ok.0 in omega (arith, some, len)) in
     let top = top_turn _ heap c.in-Some.turn.now lined filled c.in-Some.ensures.lookup (c.in-Some.ensures.greatest lined.heap_order) in
     let is = first_going c.args.self.now c.self.inside.readers.items c.self.inside.stage _ c.self.view_is c.in-Going.is top.1 in
-    subst (λ (f : merges.First). Finds f (firsts.Item c.in-Some.turn.now.0.number)) (sym is) refl
+    subst (λ (f : merges.First). Finds f (firsts.Item c.number.result)) (sym is) c.number.ensures.value
 
 pub returns-in-None-clause-finds : goal.returns-in-None-clause-finds
 returns-in-None-clause-finds g c =

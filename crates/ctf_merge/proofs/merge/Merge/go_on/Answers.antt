@@ -15,68 +15,68 @@ use Rattle.ctf_merge.proofs.merge.Merge.go_on.Goals as goal
 
 pub index_mut-reader-requires : goal.index_mut-reader-requires
 index_mut-reader-requires g c =
-    let at = turn_front c.self.inside.readers.items c.self.inside.stage (heap_items c.self.inside.turns) c.in-Some.turn.now _ c.in-Going.is c.self.invariant.stands
+    let at = turn_front c.self.inside.readers.items c.self.inside.stage (heap_items c.self.inside.turns) c.in-Some.turn.now _ c.number-number.result c.number-number.ensures.value c.in-Going.is c.self.invariant.stands
     c.self.inside.turns.data.ok.0 (c.in-Some.ensures.variant.0 refl) c.in-Some.ensures.lookup c.in-Some.ensures.greatest in
-    let within : c.in-Some.turn.now.0.number < length c.self.inside.readers.items = at.1.within in
+    let within : c.number-number.result < length c.self.inside.readers.items = at.1.within in
     let len = c.self.inside.readers.ok.0 in
     omega (arith, within, len)
 
 pub invariant_of-self : goal.invariant_of-self
 invariant_of-self g c =
-    let at = turn_front c.self.inside.readers.items c.self.inside.stage (heap_items c.self.inside.turns) c.in-Some.turn.now _ c.in-Going.is c.self.invariant.stands
+    let at = turn_front c.self.inside.readers.items c.self.inside.stage (heap_items c.self.inside.turns) c.in-Some.turn.now _ c.number-number.result c.number-number.ensures.value c.in-Going.is c.self.invariant.stands
     c.self.inside.turns.data.ok.0 (c.in-Some.ensures.variant.0 refl) c.in-Some.ensures.lookup c.in-Some.ensures.greatest in
     let told_is = c.ahead-ahead.ensures in
-    let joins : Joins (turn_at c.in-Some.turn.now.0.number (told c.go_on.new.self.ahead)) (drop 1 (heap_items c.self.inside.turns)) (heap_items c.replace_first-fault.new.turns) =
-    subst (λ (a : Ahead). Joins (turn_at c.in-Some.turn.now.0.number a) (drop 1 (heap_items c.self.inside.turns)) (heap_items c.replace_first-fault.new.turns)) told_is c.replace_first-fault.ensures.joins in
-    let next = c.of-self-inside.ensures ∙ ap (λ (f : Option StreamFault). stage_of c.in-Some.turn.now.0.number f) (c.replace_first-fault.ensures.fault ∙ ap fault_at told_is) in
+    let joins : Joins (turn_at c.number-number.result (told c.go_on.new.self.ahead)) (drop 1 (heap_items c.self.inside.turns)) (heap_items c.replace_first-fault.new.turns) =
+    subst (λ (a : Ahead). Joins (turn_at c.number-number.result a) (drop 1 (heap_items c.self.inside.turns)) (heap_items c.replace_first-fault.new.turns)) told_is c.replace_first-fault.ensures.joins in
+    let next = c.of-self-inside.ensures ∙ ap (λ (f : Option StreamFault). stage_of c.number-number.result f) (c.replace_first-fault.ensures.fault ∙ ap fault_at told_is) in
     record {
-      fetched = each_set (λ r. IsFetched r.ahead) c.self.inside.readers.items c.in-Some.turn.now.0.number c.go_on.new.self c.self.invariant.fetched c.go_on.ensures.fetched;
+      fetched = each_set (λ r. IsFetched r.ahead) c.self.inside.readers.items c.number-number.result c.go_on.new.self c.self.invariant.fetched c.go_on.ensures.fetched;
       stands = stands_again c.self.inside.readers.items c.self.inside.stage c.of-self-inside.result (heap_items c.self.inside.turns) (heap_items c.replace_first-fault.new.turns)
-          c.in-Some.turn.now _ at.0 c.go_on.new.self c.in-Going.is c.self.invariant.stands at.1 at.2 c.self.inside.turns.data.ok.0 (c.in-Some.ensures.variant.0 refl) c.in-Some.ensures.lookup joins c.replace_first-fault.ensures.heap_order next;
+          c.in-Some.turn.now _ c.number-number.result at.0 c.go_on.new.self c.number-number.ensures.value c.in-Going.is c.self.invariant.stands at.1 at.2 c.self.inside.turns.data.ok.0 (c.in-Some.ensures.variant.0 refl) c.in-Some.ensures.lookup joins c.replace_first-fault.ensures.heap_order next;
     }
 
 pub returns-in-Some-clause-goes_on : goal.returns-in-Some-clause-goes_on
 returns-in-Some-clause-goes_on g c =
-    let at = turn_front c.self.inside.readers.items c.self.inside.stage (heap_items c.self.inside.turns) c.in-Some.turn.now _ c.in-Going.is c.self.invariant.stands
+    let at = turn_front c.self.inside.readers.items c.self.inside.stage (heap_items c.self.inside.turns) c.in-Some.turn.now _ c.number-number.result c.number-number.ensures.value c.in-Going.is c.self.invariant.stands
     c.self.inside.turns.data.ok.0 (c.in-Some.ensures.variant.0 refl) c.in-Some.ensures.lookup c.in-Some.ensures.greatest in
     let is = c.index_mut-reader.ensures.value in
-    let open_ = ap is_over c.of-self-inside.ensures ∙ stage_open c.in-Some.turn.now.0.number c.replace_first-fault.result in
+    let open_ = ap is_over c.of-self-inside.ensures ∙ stage_open c.number-number.result c.replace_first-fault.result in
     rw (← c.self.view_is) (λ tells.
-    goes-item _ c.in-Some.turn.now.0.number at.0 c.index_mut-reader.result.now c.go_on.new.self (is_over c.of-self-inside.result) open_ c.self.invariant.fetched at.1.first is
-    (c.go_on.ensures.goes_on (each_at (λ r. IsTrue r.tells) c.self.inside.readers.items c.in-Some.turn.now.0.number c.index_mut-reader.result.now at.1.within is tells)))
+    goes-item _ c.number-number.result at.0 c.index_mut-reader.result.now c.go_on.new.self (is_over c.of-self-inside.result) open_ c.self.invariant.fetched at.1.first is
+    (c.go_on.ensures.goes_on (each_at (λ r. IsTrue r.tells) c.self.inside.readers.items c.number-number.result c.index_mut-reader.result.now at.1.within is tells)))
 
 pub returns-in-Some-clause-rises : goal.returns-in-Some-clause-rises
 returns-in-Some-clause-rises g c = λ tells rises. rises_on _ _ (returns-in-Some-clause-goes_on g c tells) rises
 
 pub returns-in-Some-clause-names : goal.returns-in-Some-clause-names
 returns-in-Some-clause-names g c =
-    let at = turn_front c.self.inside.readers.items c.self.inside.stage (heap_items c.self.inside.turns) c.in-Some.turn.now _ c.in-Going.is c.self.invariant.stands
+    let at = turn_front c.self.inside.readers.items c.self.inside.stage (heap_items c.self.inside.turns) c.in-Some.turn.now _ c.number-number.result c.number-number.ensures.value c.in-Going.is c.self.invariant.stands
     c.self.inside.turns.data.ok.0 (c.in-Some.ensures.variant.0 refl) c.in-Some.ensures.lookup c.in-Some.ensures.greatest in
     rw (← c.self.view_is)
-    (map-kept (λ r. r.name) c.self.inside.readers.items c.in-Some.turn.now.0.number c.index_mut-reader.result.now c.go_on.new.self at.1.within c.index_mut-reader.ensures.value c.go_on.ensures.name)
+    (map-kept (λ r. r.name) c.self.inside.readers.items c.number-number.result c.index_mut-reader.result.now c.go_on.new.self at.1.within c.index_mut-reader.ensures.value c.go_on.ensures.name)
 
 pub returns-in-Some-clause-traces : goal.returns-in-Some-clause-traces
 returns-in-Some-clause-traces g c =
-    let at = turn_front c.self.inside.readers.items c.self.inside.stage (heap_items c.self.inside.turns) c.in-Some.turn.now _ c.in-Going.is c.self.invariant.stands
+    let at = turn_front c.self.inside.readers.items c.self.inside.stage (heap_items c.self.inside.turns) c.in-Some.turn.now _ c.number-number.result c.number-number.ensures.value c.in-Going.is c.self.invariant.stands
     c.self.inside.turns.data.ok.0 (c.in-Some.ensures.variant.0 refl) c.in-Some.ensures.lookup c.in-Some.ensures.greatest in
     rw (← c.self.view_is)
-    (map-kept (λ r. r.trace) c.self.inside.readers.items c.in-Some.turn.now.0.number c.index_mut-reader.result.now c.go_on.new.self at.1.within c.index_mut-reader.ensures.value c.go_on.ensures.trace)
+    (map-kept (λ r. r.trace) c.self.inside.readers.items c.number-number.result c.index_mut-reader.result.now c.go_on.new.self at.1.within c.index_mut-reader.ensures.value c.go_on.ensures.trace)
 
 pub returns-in-Some-clause-room : goal.returns-in-Some-clause-room
 returns-in-Some-clause-room g c =
-    let at = turn_front c.self.inside.readers.items c.self.inside.stage (heap_items c.self.inside.turns) c.in-Some.turn.now _ c.in-Going.is c.self.invariant.stands
+    let at = turn_front c.self.inside.readers.items c.self.inside.stage (heap_items c.self.inside.turns) c.in-Some.turn.now _ c.number-number.result c.number-number.ensures.value c.in-Going.is c.self.invariant.stands
     c.self.inside.turns.data.ok.0 (c.in-Some.ensures.variant.0 refl) c.in-Some.ensures.lookup c.in-Some.ensures.greatest in
     rw (← c.self.view_is)
-    (room-front _ c.in-Some.turn.now.0.number at.0 c.index_mut-reader.result.now c.go_on.new.self at.1 c.index_mut-reader.ensures.value c.go_on.ensures.room)
+    (room-front _ c.number-number.result at.0 c.index_mut-reader.result.now c.go_on.new.self at.1 c.index_mut-reader.ensures.value c.go_on.ensures.room)
 
 pub returns-in-Some-clause-counted : goal.returns-in-Some-clause-counted
 returns-in-Some-clause-counted g c =
-    let at = turn_front c.self.inside.readers.items c.self.inside.stage (heap_items c.self.inside.turns) c.in-Some.turn.now _ c.in-Going.is c.self.invariant.stands
+    let at = turn_front c.self.inside.readers.items c.self.inside.stage (heap_items c.self.inside.turns) c.in-Some.turn.now _ c.number-number.result c.number-number.ensures.value c.in-Going.is c.self.invariant.stands
     c.self.inside.turns.data.ok.0 (c.in-Some.ensures.variant.0 refl) c.in-Some.ensures.lookup c.in-Some.ensures.greatest in
     let is = c.index_mut-reader.ensures.value in
     rw (← c.self.view_is) (λ tells.
-    map-kept (λ r. r.taken + length r.left) c.self.inside.readers.items c.in-Some.turn.now.0.number c.index_mut-reader.result.now c.go_on.new.self at.1.within is
-    (c.go_on.ensures.counted (each_at (λ r. IsTrue r.tells) c.self.inside.readers.items c.in-Some.turn.now.0.number c.index_mut-reader.result.now at.1.within is tells)))
+    map-kept (λ r. r.taken + length r.left) c.self.inside.readers.items c.number-number.result c.index_mut-reader.result.now c.go_on.new.self at.1.within is
+    (c.go_on.ensures.counted (each_at (λ r. IsTrue r.tells) c.self.inside.readers.items c.number-number.result c.index_mut-reader.result.now at.1.within is tells)))
 
 pub returns-in_default-clause-goes_on : goal.returns-in_default-clause-goes_on
 returns-in_default-clause-goes_on g c =
