@@ -1,7 +1,13 @@
 -- How long numbers are in decimal.
-use Rattle.std.proofs.Common.{◌≡◌, ℕ, ◌+◌, ◌/◌, ◌%◌, ◌^◌, ◌<◌, ◌≤◌, List, [], ◌∷◌, ◌++◌, length, take, drop, ap, ◌∙◌, arith, length-append}
-use Rattle.std.proofs.Math.Seq.{take-add, take-append_seam}
+use Rattle.std.proofs.Common.{◌≡◌, ℕ, ◌+◌, ◌-◌, ◌*◌, ◌/◌, ◌%◌, ◌^◌, ◌<◌, ◌≤◌, Bool, true, false, nat_lt, bit_and, w32, List, [], ◌∷◌, ◌++◌, length, take, drop, refl, sym, ap, ◌∙◌, subst, arith, length-append}
+use Rattle.std.proofs.Math.Seq.{take-add, take-append-add, take-append_seam}
+use Rattle.std.proofs.lemmas.List.{take-take, length-take-le}
 use Rattle.std.specs.Fmt.{decimal}
+use mir.Val.{bool_byte}
+use Rattle.std.specs.Int.{to_le_bytes}
+use Rattle.std.proofs.lemmas.Bool.{ltb-true, ltb-false}
+use Rattle.std.proofs.lemmas.Nat.{and_mask, and_block}
+use Rattle.ctf_text.specs.Digits.{four_digits}
 use Rattle.std.proofs.lemmas.Fmt.{decimal_digit, decimal_step, length-decimal-le}
 
 pub length_one : (n : ℕ) → n < 10 → length (decimal n) ≡ 1
@@ -30,3 +36,107 @@ written_at line before text after at end ends within written kept =
     let split = take-add at (length text) line in
     let seam = ap (take (length text)) written ∙ take-append_seam text after in
     cc
+
+-- ---- four digits in a word
+
+-- the masked bits of two numbers of 16 bits in one word
+masked : (low high : ℕ) → low < 2 ^ 16 → bit_and (high * 2 ^ 16 + low) (15 * 2 ^ 16 + 15) ≡ high % 16 * 2 ^ 16 + low % 16
+masked low high fits =
+    let upper = and_mask high 4 in
+    let lower = and_mask low 4 in
+    and_block 16 high 15 low 15 fits (omega arith) ∙ (λ i. upper i * 2 ^ 16 + lower i)
+
+-- the tens of two numbers of two digits
+pub tens_masked : (low high : ℕ) → low < 100 → high < 100 → bit_and ((low + high * 2 ^ 16) * 103 / 2 ^ 10) 983055 ≡ low / 10 + high / 10 * 2 ^ 16
+tens_masked low high few many =
+    let s = (low + high * 2 ^ 16) * 103 / 2 ^ 10 in
+    let split : s ≡ s / 2 ^ 16 * 2 ^ 16 + s % 2 ^ 16 = omega arith in
+    let first : s % 2 ^ 16 % 16 ≡ low / 10 = omega (arith, few, many) in
+    let second : s / 2 ^ 16 % 16 ≡ high / 10 = omega (arith, few, many) in
+    ap (λ n. bit_and n 983055) split ∙ (masked (s % 2 ^ 16) (s / 2 ^ 16) (omega arith) ∙ (let sum : s / 2 ^ 16 % 16 * 2 ^ 16 + s % 2 ^ 16 % 16 ≡ low / 10 + high / 10 * 2 ^ 16 = omega (arith, first, second) in sum))
+
+-- the bytes of a word of four
+bytes_are : (a b c d : ℕ) → a < 256 → b < 256 → c < 256 → d < 256 → to_le_bytes w32 (a + b * 2 ^ 8 + c * 2 ^ 16 + d * 2 ^ 24) ≡ a ∷ b ∷ c ∷ d ∷ []
+bytes_are a b c d p q r s =
+    let word = a + b * 2 ^ 8 + c * 2 ^ 16 + d * 2 ^ 24 in
+    let first : word % 256 ≡ a = omega (arith, p, q, r, s) in
+    let second : word / 256 % 256 ≡ b = omega (arith, p, q, r, s) in
+    let third : word / 65536 % 256 ≡ c = omega (arith, p, q, r, s) in
+    let fourth : word / 16777216 % 256 ≡ d = omega (arith, p, q, r, s) in
+    λ i. first i ∷ second i ∷ third i ∷ fourth i ∷ []
+
+-- the digits of a number, by how many of four it does not have
+abbrev pub Shown : ℕ → ℕ → Type 0
+Shown n m = (take (4 - m) (to_le_bytes w32 (four_digits n / 2 ^ (8 * m))) ≡ decimal n) × (length (decimal n) + m ≡ 4)
+
+one_digit : (n : ℕ) → n < 10 → Shown n 3
+one_digit n low =
+    let word : four_digits n / 2 ^ 24 ≡ 48 + n + 0 * 2 ^ 8 + 0 * 2 ^ 16 + 0 * 2 ^ 24 = omega (arith, low) in
+    let is = decimal_digit n low in (
+      ap (λ w. take 1 (to_le_bytes w32 w)) word ∙ (ap (take 1) (bytes_are (48 + n) 0 0 0 (omega (arith, low)) (omega arith) (omega arith) (omega arith)) ∙ sym is),
+      ap (λ (d : List ℕ). length d + 3) is,
+    )
+
+two_digits : (n : ℕ) → 10 ≤ n → n < 100 → Shown n 2
+two_digits n high low =
+    let word : four_digits n / 2 ^ 16 ≡ 48 + n / 10 + (48 + n % 10) * 2 ^ 8 + 0 * 2 ^ 16 + 0 * 2 ^ 24 = omega (arith, high, low) in
+    let is : decimal n ≡ (48 + n / 10) ∷ (48 + n % 10) ∷ [] = decimal_step n high (omega arith) ∙ ap (λ (d : List ℕ). d ++ (48 + n % 10) ∷ []) (decimal_digit (n / 10) (omega (arith, low))) in (
+      ap (λ w. take 2 (to_le_bytes w32 w)) word ∙ (ap (take 2) (bytes_are (48 + n / 10) (48 + n % 10) 0 0 (omega (arith, low)) (omega arith) (omega arith) (omega arith)) ∙ sym is),
+      ap (λ (d : List ℕ). length d + 2) is,
+    )
+
+three_digits : (n : ℕ) → 100 ≤ n → n < 1000 → Shown n 1
+three_digits n high low =
+    let word : four_digits n / 2 ^ 8 ≡ 48 + n / 100 + (48 + n / 10 % 10) * 2 ^ 8 + (48 + n % 10) * 2 ^ 16 + 0 * 2 ^ 24 = omega (arith, high, low) in
+    let hundreds : n / 10 / 10 ≡ n / 100 = omega arith in
+    let front : decimal (n / 10) ≡ (48 + n / 100) ∷ (48 + n / 10 % 10) ∷ [] = decimal_step (n / 10) (omega (arith, high)) (omega (arith, low))
+    ∙ ap (λ (d : List ℕ). d ++ (48 + n / 10 % 10) ∷ []) (decimal_digit (n / 10 / 10) (omega (arith, low)) ∙ ap (λ m. (48 + m) ∷ []) hundreds) in
+    let is : decimal n ≡ (48 + n / 100) ∷ (48 + n / 10 % 10) ∷ (48 + n % 10) ∷ [] = decimal_step n (omega (arith, high)) (omega (arith, low)) ∙ ap (λ (d : List ℕ). d ++ (48 + n % 10) ∷ []) front in (
+      ap (λ w. take 3 (to_le_bytes w32 w)) word ∙ (ap (take 3) (bytes_are (48 + n / 100) (48 + n / 10 % 10) (48 + n % 10) 0 (omega (arith, low)) (omega arith) (omega arith) (omega arith)) ∙ sym is),
+      ap (λ (d : List ℕ). length d + 1) is,
+    )
+
+all_digits : (n : ℕ) → 1000 ≤ n → n < 10000 → Shown n 0
+all_digits n high low =
+    let word : four_digits n / 2 ^ 0 ≡ 48 + n / 1000 + (48 + n / 100 % 10) * 2 ^ 8 + (48 + n / 10 % 10) * 2 ^ 16 + (48 + n % 10) * 2 ^ 24 = omega arith in
+    let hundreds : n / 10 / 10 ≡ n / 100 = omega arith in
+    let thousands : n / 100 / 10 ≡ n / 1000 = omega arith in
+    let first : decimal (n / 100) ≡ (48 + n / 1000) ∷ (48 + n / 100 % 10) ∷ [] = decimal_step (n / 100) (omega (arith, high)) (omega (arith, low))
+    ∙ ap (λ (d : List ℕ). d ++ (48 + n / 100 % 10) ∷ []) (decimal_digit (n / 100 / 10) (omega (arith, low)) ∙ ap (λ m. (48 + m) ∷ []) thousands) in
+    let front : decimal (n / 10) ≡ (48 + n / 1000) ∷ (48 + n / 100 % 10) ∷ (48 + n / 10 % 10) ∷ [] = decimal_step (n / 10) (omega (arith, high)) (omega (arith, low))
+    ∙ ap (λ (d : List ℕ). d ++ (48 + n / 10 % 10) ∷ []) (ap decimal hundreds ∙ first) in
+    let is : decimal n ≡ (48 + n / 1000) ∷ (48 + n / 100 % 10) ∷ (48 + n / 10 % 10) ∷ (48 + n % 10) ∷ [] = decimal_step n (omega (arith, high)) (omega (arith, low)) ∙ ap (λ (d : List ℕ). d ++ (48 + n % 10) ∷ []) front in (
+      ap (λ w. take 4 (to_le_bytes w32 w)) word
+          ∙ (ap (take 4) (bytes_are (48 + n / 1000) (48 + n / 100 % 10) (48 + n / 10 % 10) (48 + n % 10) (omega (arith, low)) (omega arith) (omega arith) (omega arith)) ∙ sym is),
+      ap (λ (d : List ℕ). length d + 0) is,
+    )
+
+-- how many of four digits a number does not have
+abbrev pub missing : ℕ → ℕ
+missing n = bool_byte (nat_lt n 10) + bool_byte (nat_lt n 100) + bool_byte (nat_lt n 1000)
+
+pub few_digits : (n : ℕ) → n < 10000 → Shown n (missing n)
+few_digits n low = by_tests (nat_lt n 10) (nat_lt n 100) (nat_lt n 1000) refl refl refl
+  where
+    by_tests : (a b c : Bool) → nat_lt n 10 ≡ a → nat_lt n 100 ≡ b → nat_lt n 1000 ≡ c → Shown n (bool_byte a + bool_byte b + bool_byte c)
+    by_tests true true true p q r = one_digit n (ltb-true n 10 p)
+    by_tests true true false p q r = absurd (let l = ltb-true n 10 p in let m = ltb-false n 1000 r in omega (arith, l, m))
+    by_tests true false c p q r = absurd (let l = ltb-true n 10 p in let m = ltb-false n 100 q in omega (arith, l, m))
+    by_tests false true true p q r = two_digits n (ltb-false n 10 p) (ltb-true n 100 q)
+    by_tests false true false p q r = absurd (let l = ltb-true n 100 q in let m = ltb-false n 1000 r in omega (arith, l, m))
+    by_tests false false true p q r = three_digits n (ltb-false n 100 q) (ltb-true n 1000 r)
+    by_tests false false false p q r = all_digits n (ltb-false n 1000 r) low
+
+-- a number of up to four digits that is written at an index
+pub few_written : (before line : List ℕ) (at n m : ℕ) → m ≡ missing n → n < 10000 → at + 4 ≤ length before
+    → take (at + 4) line ≡ take at before ++ to_le_bytes w32 (four_digits n / 2 ^ (8 * m)) → take (at + 4 - m) line ≡ take at before ++ decimal n
+few_written before line at n m is few room written =
+    let shown = subst (λ k. Shown n k) (sym is) (few_digits n few) in
+    let most : m ≤ 4 = (let sum = shown.1 in omega (arith, sum)) in
+    let front = length-take-le at before (omega (arith, room)) in
+    let ends : at + 4 - m ≡ length (take at before) + (4 - m) = omega (arith, front, most) in
+    sym (take-take (at + 4 - m) (at + 4) line (omega arith))
+    ∙ (ap (take (at + 4 - m)) written
+    ∙ (ap (λ e. take e (take at before ++ to_le_bytes w32 (four_digits n / 2 ^ (8 * m)))) ends
+    ∙ (take-append-add (take at before) (to_le_bytes w32 (four_digits n / 2 ^ (8 * m))) (4 - m)
+    ∙ ap (λ t. take at before ++ t) shown.0)))

@@ -1,3 +1,4 @@
+pub mod Digits
 pub mod Labels
 pub mod Lines
 pub mod Numbers

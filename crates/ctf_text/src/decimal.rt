@@ -1,7 +1,9 @@
 //! Numbers in decimal.
 
-ghost use Rattle.std.specs.Prelude.{◌≡◌, ◌+◌, ◌++◌, ◌≤◌, length, take};
+ghost use Rattle.std.specs.Prelude.{◌≡◌, ◌+◌, ◌*◌, ◌/◌, ◌^◌, ◌++◌, ◌<◌, ◌≤◌, length, take};
 ghost use Rattle.std.specs.Fmt.{decimal, signed_decimal};
+ghost use Rattle.std.specs.Int.{w32, to_le_bytes};
+ghost use Rattle.ctf_text.specs.Digits.{four_digits};
 
 use itoa::{Buffer, write_digits};
 
@@ -29,9 +31,22 @@ fn count_digits(number: u64) -> usize
 }
 
 /// Writes a number in decimal at an index of a line that has room for 20 bytes there, and gives the index
-/// behind it.
-#[tactic(auto, using(crate::proofs::DecimalLemmas::written_at))]
+/// behind it. Mostly it has up to four digits.
 pub fn put_unsigned(number: u64, line: &mut [u8], at: usize) -> usize
+    requires room { at + 20 ≤ length line.old }
+    ensures text { take result line.new ≡ take at line.old ++ decimal number }
+    ensures end { result ≡ at + length (decimal number) }
+    ensures near { result ≤ at + 20 }
+{
+    if number < 10_000 {
+        return put_few(number as u32, line, at);
+    }
+    put_many(number, line, at)
+}
+
+/// The same, by two digits at a time.
+#[tactic(auto, using(crate::proofs::DecimalLemmas::written_at))]
+fn put_many(number: u64, line: &mut [u8], at: usize) -> usize
     requires room { at + 20 ≤ length line.old }
     ensures text { take result line.new ≡ take at line.old ++ decimal number }
     ensures end { result ≡ at + length (decimal number) }
@@ -40,6 +55,57 @@ pub fn put_unsigned(number: u64, line: &mut [u8], at: usize) -> usize
     let end = at + count_digits(number);
     write_digits(number, line, end);
     end
+}
+
+/// The same of a number of up to four digits. They are made in one word, so that no jump depends on how many there are:
+/// a processor foresees that badly.
+#[inline(always)]
+fn put_few(number: u32, line: &mut [u8], at: usize) -> usize
+    requires few { number < 10_000 }
+    requires room { at + 20 ≤ length line.old }
+    ensures text { take result line.new ≡ take at line.old ++ decimal number }
+    ensures end { result ≡ at + length (decimal number) }
+    ensures near { result ≤ at + 20 }
+{
+    let missing = u32::from(number < 10) + u32::from(number < 100) + u32::from(number < 1000);
+    put_word(four_digits(number) >> (8 * missing), line, at);
+    at + 4 - missing as usize
+}
+
+/// Writes the bytes of a word, the lowest first.
+#[inline(always)]
+fn put_word(word: u32, line: &mut [u8], at: usize)
+    requires { at + 4 ≤ length line.old }
+    ensures { take (at + 4) line.new ≡ take at line.old ++ to_le_bytes w32 word }
+{
+    let bytes = word.to_le_bytes();
+    line[at] = bytes[0];
+    line[at + 1] = bytes[1];
+    line[at + 2] = bytes[2];
+    line[at + 3] = bytes[3];
+}
+
+/// Four digits of a number as they are printed, the first in the lowest byte.
+#[inline(always)]
+fn four_digits(number: u32) -> u32
+    requires { number < 10_000 }
+    ensures { result ≡ four_digits number }
+{
+    let low = number / 100;
+    let high = number % 100;
+    let tens = tens_of(low, high);
+    tens + ((low + (high << 16) - 10 * tens) << 8) + 0x3030_3030
+}
+
+/// The tens of two numbers of two digits each, in the lower half of a word and in the upper one. 103 of 1024 parts are
+/// close enough to a tenth of such a number, and what the lower half gives never reaches the upper one.
+#[inline(always)]
+fn tens_of(low: u32, high: u32) -> u32
+    requires low { low < 100 }
+    requires high { high < 100 }
+    ensures { result ≡ low / 10 + high / 10 * 2 ^ 16 }
+{
+    (((low + (high << 16)) * 103) >> 10) & 0x000F_000F
 }
 
 /// The same of a number of 64 bits that may be negative, with room for 21 bytes.
