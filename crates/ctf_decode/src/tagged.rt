@@ -19,7 +19,7 @@ use std::slice;
 
 /// Makes the structure of an enumeration and a variant on it, whose options are structures of integers, the
 /// value, where the value was one of these. Whether it did; else the value and the cursor are any.
-#[inline(never)]
+#[inline(always)]
 pub(crate) fn tagged_into(
     class: &Class,
     packet: &Packet<'_>,

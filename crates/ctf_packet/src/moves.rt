@@ -29,7 +29,7 @@ pub fn moved(line: &Timeline, class: &Class, value: &Value, clock: Moment) -> Op
     ensures { result ≡ advanced_by line.now clock (moved.moved (form class.now) (val value.now)) }
 {
     let mut told = Told { id: None, clock };
-    if tell(line, class, value, &mut told) {
+    if tell_scope(line, class, value, &mut told) {
         Some(told.clock)
     } else {
         None
@@ -42,7 +42,7 @@ pub fn moved(line: &Timeline, class: &Class, value: &Value, clock: Moment) -> Op
 /// Few classes are told apart at once, here and in a structure: comparisons are foreseen better than a table of jumps.
 #[cycle(told)]
 #[inline(never)]
-pub(crate) fn tell(line: &Timeline, class: &Class, value: &Value, told: &mut Told) -> bool
+fn tell(line: &Timeline, class: &Class, value: &Value, told: &mut Told) -> bool
     ensures clock { behind result told.new ≡ advanced_by line.now told.old.clock (moved.moved (form class.now) (val value.now)) }
     ensures id { IsTrue result → told.new.id ≡ last_or told.old.id (fields.ids (form class.now) (val value.now)) }
 {
@@ -53,6 +53,18 @@ pub(crate) fn tell(line: &Timeline, class: &Class, value: &Value, told: &mut Tol
         return set_by(line, integer, value, told);
     }
     tell_any(line, class, value, told)
+}
+
+/// The same of a scope. Mostly it is a structure, whose members are told without a call.
+#[inline(always)]
+pub(crate) fn tell_scope(line: &Timeline, class: &Class, value: &Value, told: &mut Told) -> bool
+    ensures clock { behind result told.new ≡ advanced_by line.now told.old.clock (moved.moved (form class.now) (val value.now)) }
+    ensures id { IsTrue result → told.new.id ≡ last_or told.old.id (fields.ids (form class.now) (val value.now)) }
+{
+    if let Kind::Structure { members } = &class.kind {
+        return tell_members(line, members.as_slice(), members_in(value), told);
+    }
+    tell(line, class, value, told)
 }
 
 /// The same, where it is seldom a structure or an integer.
@@ -83,6 +95,7 @@ fn tell_any(line: &Timeline, class: &Class, value: &Value, told: &mut Told) -> b
 
 /// The same of members.
 #[cycle(told)]
+#[inline(always)]
 fn tell_members(line: &Timeline, members: &[Member], values: &[Value], told: &mut Told) -> bool
     ensures clock { behind result told.new ≡ advanced_by line.now told.old.clock (moved.member_moved (parts_of (map member_part members.now)) (vals_of (map val values.now))) }
     ensures id { IsTrue result → told.new.id ≡ last_or told.old.id (fields.member_ids (parts_of (map member_part members.now)) (vals_of (map val values.now))) }
@@ -140,6 +153,7 @@ fn tell_elements(line: &Timeline, element: &Class, values: &[Value], told: &mut 
 
 /// The same of an option.
 #[cycle(told)]
+#[inline(always)]
 fn tell_option(line: &Timeline, options: &[Member], value: &Value, told: &mut Told) -> bool
     ensures clock { behind result told.new ≡ advanced_by line.now told.old.clock (moved.of_choice (fields.choice_in (val value.now)) (λ i v. moved.option_moved (parts_of (map member_part options.now)) i v)) }
     ensures id { IsTrue result → told.new.id ≡ last_or told.old.id (fields.of_choice (fields.choice_in (val value.now)) (λ i v. fields.option_ids (parts_of (map member_part options.now)) i v)) }
@@ -152,6 +166,7 @@ fn tell_option(line: &Timeline, options: &[Member], value: &Value, told: &mut To
 
 /// The same of the value of option i.
 #[cycle(told)]
+#[inline(always)]
 fn tell_chosen(
     line: &Timeline,
     options: &[Member],

@@ -6,7 +6,7 @@ ghost use Rattle.ctf_packet.specs.Packets as packets;
 ghost use Rattle.ctf_packet.specs.Telling.{TellsHeader};
 
 use crate::fault::StreamFault;
-use crate::moves::{Told, tell};
+use crate::moves::{Told, tell_scope};
 use ctf_class::Class;
 use ctf_clock::{Moment, Timeline};
 use ctf_decode::{Value, last_id};
@@ -90,7 +90,7 @@ fn told_on(
     ensures { TellsHeader (Some line.now) (Some clock) (Some (form class.now)) (Some (val header.now)) result }
 {
     let mut told = Told { id: None, clock };
-    if tell(line, class, header, &mut told) {
+    if tell_scope(line, class, header, &mut told) {
         Ok(HeaderTold {
             id: told.id,
             clock: Some(told.clock),

@@ -104,6 +104,7 @@ fn put_decimal(number: u64, line: &mut [u8], at: usize) -> usize
 
 /// Nanoseconds in seconds, with nine digits behind the dot: at most 30 bytes.
 #[tactic(auto, using(crate::proofs::Groups::digits_long))]
+#[inline(always)]
 pub(crate) fn put_seconds(nanos: u64, line: &mut [u8], at: usize) -> usize
     requires { at + 30 ≤ length line.old }
     ensures put { IsPut line.old line.new at result (seconds_text nanos) }

@@ -83,6 +83,7 @@ impl Stamper {
     }
 
     /// The stamp of a time in a civil style.
+    #[inline(always)]
     fn put_civil(&mut self, time: i64, line: &mut [u8], at: usize) -> usize
         requires { at + MOST_STAMP ≤ length line.old }
         ensures put { IsPut line.old line.new at result

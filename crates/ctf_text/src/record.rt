@@ -20,6 +20,7 @@ use ctf_list::NoMemory;
 /// room.
 ///
 /// It fails where memory is refused, and the buffer is then any buffer.
+#[inline(always)]
 pub fn put_record(
     packet: &[u8],
     stream: &StreamClass,

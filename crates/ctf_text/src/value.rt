@@ -26,6 +26,7 @@ use ctf_list::NoMemory;
 /// value of another class, or a part of one, gives no text.
 ///
 /// It fails where memory is refused, and the buffer is then any buffer.
+#[inline(always)]
 pub fn put_value(
     class: &Class,
     value: &Value,
