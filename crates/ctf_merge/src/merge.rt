@@ -1,12 +1,12 @@
 //! Several readers as one.
 
-ghost use Rattle.std.specs.Prelude.{◌≡◌, ◌+◌, ◌^◌, ◌<◌, [], length, map, drop, IfOk, OnOk, OnErr, IfSome, IfNone, IsTrue, MatchOption, slice_get, None, true, false};
+ghost use Rattle.std.specs.Prelude.{◌≡◌, ◌+◌, ◌^◌, ◌<◌, [], length, map, drop, IfOk, IsOk, OnOk, OnErr, IfSome, IfNone, IsTrue, MatchOption, slice_get, None, true, false};
 ghost use Rattle.ctf_stream.specs.Owned as owned;
 ghost use Rattle.ctf_stream.specs.Reader.{coming, rest_of, HasItem, OrRefused, IsFetched, IsOnLine, IsAllTaken};
 ghost use Rattle.ctf_merge.specs.Merged.{merged};
 ghost use Rattle.ctf_merge.specs.Given.{Gives, GivesFirst, GivesFront, GivesRoom};
 ghost use Rattle.ctf_merge.specs.Merges.{coming_of, first_now, number_in, fault_in, names_of, traces_of, given_of, room_of, MergedOrRefused, ComingRises, EachRises, EachFetched, EachTells, EachOnLine, EachAllTaken, Fetched, EachIsFetched, GoesOn, IsNext, RoomLeft};
-ghost use Rattle.std.specs.BinaryHeap.{heap_items, heap_len, KeepsHeap};
+ghost use Rattle.std.specs.BinaryHeap.{heap_items, heap_len, heap_capacity, KeepsHeap};
 ghost use Rattle.ctf_merge.specs.Finding.{Finds};
 ghost use Rattle.ctf_merge.specs.Stages.{is_over, stage_of, Stands};
 ghost use Rattle.ctf_merge.specs.Turns.{last_cmp, turn_at, fault_at, Joins};
@@ -143,6 +143,7 @@ fn line_up(
     ensures fault { IfOk result (λ f. f ≡ fault_at ahead) }
     ensures joins { OnOk result (Joins (turn_at number ahead) (heap_items turns.old) (heap_items turns.new)) }
     ensures heap_order { OnOk result (KeepsHeap last_cmp (heap_items turns.old) (heap_items turns.new)) }
+    ensures room { heap_len turns.old < heap_capacity turns.old → IsOk result }
 {
     match ahead {
         Ahead::Item(time) => {
