@@ -27,4 +27,5 @@ pub use moves::{moving, moving_into};
 pub use parts::{choice_in, elements_in, members_in};
 pub use place::Reached;
 pub use scopes::{MOST_VALUES, Scopes};
+pub use text::{before_zero, bytes_at, bytes_from, zero_in};
 pub use value::Value;

@@ -4,7 +4,6 @@ ghost use Rattle.std.specs.Prelude.{◌≡◌, ◌+◌, ◌-◌, ◌*◌, ◌/�
 ghost use Rattle.std.specs.Int.{next_multiple_of};
 ghost use Rattle.std.specs.List.{take_while};
 ghost use Rattle.ctf_decode.specs.Values.{text};
-ghost use Rattle.ctf_decode.specs.Input as inputs;
 ghost use Rattle.ctf_decode.specs.Stands.{text_in};
 ghost use Rattle.ctf_decode.specs.Views.{val, input};
 ghost use Rattle.ctf_decode.specs.Walk.{begin, leaf, string_at};
@@ -30,18 +29,21 @@ fn text_into(alloc: Global, bytes: &[u8], value: &mut Value) -> Result<(), Alloc
     Ok(())
 }
 
-/// The whole bytes from a place to the content's end.
-fn bytes_from<'a>(packet: &Packet<'a>, begin: u64) -> &'a [u8]
-    requires { begin ≤ packet.now.content }
-    ensures { result.now ≡ inputs.bytes_from (input packet.now) begin }
+/// The whole bytes of a packet from a place to its content's end, both in bits from its first one.
+#[inline(always)]
+pub fn bytes_from(packet: &[u8], content: u64, begin: u64) -> &[u8]
+    requires begin { begin ≤ content }
+    requires held { content ≤ 8 * length packet.now }
+    ensures { result.now ≡ take ((content - begin) / 8) (drop (begin / 8) packet.now) }
 {
     let from = (begin / 8) as usize;
-    let count = ((packet.content - begin) / 8) as usize;
-    &packet.bytes[from..from + count]
+    let count = ((content - begin) / 8) as usize;
+    &packet[from..from + count]
 }
 
-/// The place of the first zero byte.
-fn zero_in(bytes: &[u8]) -> Option<usize>
+/// The index of the first zero byte.
+#[inline(always)]
+pub fn zero_in(bytes: &[u8]) -> Option<usize>
     ensures first { result ≡ position (λ x. nat_eq x 0) bytes.now }
     ensures within { IfSome result (λ n. n < length bytes.now) }
 {
@@ -67,7 +69,7 @@ pub fn string_into(
     if begin > packet.content {
         return Err(at.stop_beyond(begin + 8));
     }
-    let bytes = bytes_from(packet, begin);
+    let bytes = bytes_from(packet.bytes, packet.content, begin);
     let Some(n) = zero_in(bytes) else {
         let end = begin + 8 * (bytes.len() as u64 + 1);
         return Err(at.stop_beyond(end));
@@ -81,7 +83,8 @@ pub fn string_into(
 }
 
 /// The bytes before the first zero byte, or all of them.
-fn before_zero(bytes: &[u8]) -> &[u8]
+#[inline(always)]
+pub fn before_zero(bytes: &[u8]) -> &[u8]
     ensures { result.now ≡ take_while (λ x. not (nat_eq x 0)) bytes.now }
 {
     match zero_in(bytes) {
@@ -90,13 +93,14 @@ fn before_zero(bytes: &[u8]) -> &[u8]
     }
 }
 
-/// So many bytes from a place on.
-fn bytes_at<'a>(packet: &Packet<'a>, begin: u64, count: u64) -> &'a [u8]
-    requires { begin + 8 * count ≤ packet.now.content }
-    ensures { result.now ≡ take count (drop (begin / 8) packet.now.bytes.now) }
+/// So many bytes of a packet from a place on, in bits from its first one.
+#[inline(always)]
+pub fn bytes_at(packet: &[u8], begin: u64, count: u64) -> &[u8]
+    requires { begin + 8 * count ≤ 8 * length packet.now }
+    ensures { result.now ≡ take count (drop (begin / 8) packet.now) }
 {
     let from = (begin / 8) as usize;
-    &packet.bytes[from..from + count as usize]
+    &packet[from..from + count as usize]
 }
 
 /// Makes the text of so many bytes at a place the value.
@@ -120,7 +124,7 @@ pub fn characters_into(
     if end > u128::from(packet.content) {
         return Err(at.stop(DecodeFault::ContentEnds(end)));
     }
-    let text = before_zero(bytes_at(packet, begin, count));
+    let text = before_zero(bytes_at(packet.bytes, begin, count));
     let Ok(()) = text_into(alloc, text, value) else {
         return Err(at.stop_refused());
     };

@@ -3,27 +3,14 @@ use Rattle.std.specs.Prelude.{ℕ, ℤ, List, [], ◌++◌, codes, Option, Some,
 use Rattle.std.specs.Fmt.{decimal}
 use Rattle.ctf_class.specs.Escapes.{escaped}
 use Rattle.ctf_clock.specs.declared.moment.Moment.{Moment}
-use Rattle.ctf_decode.specs.Values.{Val, unsigned}
+use Rattle.ctf_line.specs.Texts.{event_text}
 use Rattle.ctf_packet.specs.Classes.{Classes}
 use Rattle.ctf_packet.specs.Items.{Event, Gap, Item, event, discarded, lost}
 use Rattle.ctf_stamp.specs.declared.style.Style.{Style}
 use Rattle.ctf_stamp.specs.Stamps.{stamp, stamp_part}
-use Rattle.ctf_text.specs.Lines.{packet_part, record_text}
 
 abbrev pub newline : List ℕ
 newline = codes "\n"
-
--- the value of the event fields, which each event record has
-abbrev pub or_nothing : Option Val → Val
-or_nothing (Some v) = v
-or_nothing None = unsigned 0
-
--- the host, the name and the scopes of an event record, with the text of the packet's part
-abbrev pub body_text : List ℕ → Event Classes → List ℕ
-body_text packet e = record_text packet e.class.stream e.class.event e.values.stream_event_context e.values.event_context (or_nothing e.values.event_fields)
-
-abbrev pub event_text : Event Classes → List ℕ
-event_text e = body_text (packet_part e.class.stream.packet_context e.values.packet_context) e
 
 -- the line of an event record, where an event record at a time was printed before, or none
 abbrev pub event_line : Style → Option ℤ → Event Classes → List ℕ

@@ -1,8 +1,12 @@
 //! Lines of items.
 
-ghost use Rattle.std.specs.Prelude.{◌≡◌, ◌++◌, ◌≤◌, ℕ, List, [], take, vec_len, IfOk, OnOk, OnErr};
+ghost use Rattle.std.specs.Prelude.{◌≡◌, ◌+◌, ◌++◌, ◌≤◌, ℕ, List, [], length, take, vec_len, IfOk, OnOk, OnErr};
 ghost use Rattle.ctf_class.specs.declared.trace.TraceClass.{TraceClass};
+ghost use Rattle.ctf_line.specs.Texts.{body_text, event_text};
 ghost use Rattle.ctf_log.specs.Lines as lines;
+ghost use Rattle.ctf_packet.specs.Classes.{Classes};
+ghost use Rattle.ctf_packet.specs.Items as items;
+ghost use Rattle.ctf_stamp.specs.Stamps.{stamp_part};
 ghost use Rattle.ctf_stream.specs.Shown.{event_of, gap_of, item_of, PartIsRight, IsOf};
 
 use crate::gap::append_gap;
@@ -10,7 +14,7 @@ use ctf_class::Scope;
 use ctf_decode::Value;
 use ctf_list::NoMemory;
 use ctf_stamp::{MOST_PART, Stamper, Style};
-use ctf_stream::{Event, Gap, Item};
+use ctf_stream::{Event, EventText, Gap, Item};
 use ctf_text::{put_packet_part, put_record, with_room};
 use std::alloc::Global;
 use std::marker::Model;
@@ -65,6 +69,19 @@ impl Printer {
             Item::Discarded(gap) => self.print_gap(b"discarded ", b" events", gap),
             Item::Lost(gap) => self.print_gap(b"lost ", b" packets", gap),
         }
+    }
+
+    /// Makes the line of an event record, with its newline, out of the text of the event record. At an error there is no
+    /// text.
+    pub fn print_text(&mut self, event: &EventText<'_>, last: Option<i64>) -> Result<(), NoMemory>
+        ensures line { (e : items.Event Classes) → event.now.moment ≡ e.clock → event.now.text.now ≡ event_text e → OnOk result (self.new.text ≡ lines.event_line self.old.style last e) }
+        ensures refused { OnErr result (self.new.text ≡ []) }
+        ensures style { self.new.style ≡ self.old.style }
+    {
+        let stamper = &mut self.stamper;
+        self.end = 0;
+        self.end = put_text(stamper, event, last, &mut self.line)?;
+        Ok(())
     }
 
     /// The text of the last line.
@@ -128,6 +145,40 @@ fn put_event(
     Ok(end + 1)
 }
 
+/// Writes the line of an event record at the front of a buffer, out of its text, and gives its length.
+fn put_text(
+    stamper: &mut Stamper,
+    event: &EventText<'_>,
+    last: Option<i64>,
+    line: &mut Vec<u8>,
+) -> Result<usize, NoMemory>
+    ensures line { IfOk result (λ end. take end line.new.items ≡ stamp_part stamper.old event.now.moment last ++ (event.now.text.now ++ lines.newline)) }
+    ensures held { IfOk result (λ end. end ≤ vec_len line.new) }
+    ensures style { stamper.new ≡ stamper.old }
+{
+    with_room(MOST_PART, line, 0)?;
+    let begin = stamper.put_part(event.moment, last, line.as_mut_slice(), 0);
+    let Some(need) = event.text.len().checked_add(1) else {
+        return Err(NoMemory);
+    };
+    with_room(need, line, begin)?;
+    let behind = put_bytes(event.text, line.as_mut_slice(), begin);
+    line[behind] = b'\n';
+    Ok(behind + 1)
+}
+
+/// Writes bytes at an index of a line that has room for them, and gives the index behind them.
+#[inline(always)]
+fn put_bytes(bytes: &[u8], line: &mut [u8], at: usize) -> usize
+    requires { at + length bytes.now ≤ length line.old }
+    ensures text { take result line.new ≡ take at line.old ++ bytes.now }
+    ensures end { result ≡ at + length bytes.now }
+{
+    let end = at + bytes.len();
+    line[at..end].copy_from_slice(bytes);
+    end
+}
+
 /// Writes what stands behind the stamp of an event record. Mostly the text of its packet's part is there.
 #[inline(always)]
 fn put_behind_stamp(
@@ -137,7 +188,7 @@ fn put_behind_stamp(
     at: usize,
 ) -> Result<usize, NoMemory>
     requires { at ≤ vec_len line.old }
-    ensures text { PartIsRight event.now → IfOk result (λ end. take end line.new.items ≡ take at line.old.items ++ lines.event_text (event_of event.now 0 0)) }
+    ensures text { PartIsRight event.now → IfOk result (λ end. take end line.new.items ≡ take at line.old.items ++ event_text (event_of event.now 0 0)) }
     ensures held { IfOk result (λ end. end ≤ vec_len line.new) }
 {
     if let Some(part) = event.part {
@@ -155,7 +206,7 @@ fn put_with_part(
     at: usize,
 ) -> Result<usize, NoMemory>
     requires { at ≤ vec_len line.old }
-    ensures text { IfOk result (λ end. take end line.new.items ≡ take at line.old.items ++ lines.event_text (event_of event.now 0 0)) }
+    ensures text { IfOk result (λ end. take end line.new.items ≡ take at line.old.items ++ event_text (event_of event.now 0 0)) }
     ensures held { IfOk result (λ end. end ≤ vec_len line.new) }
 {
     let context = event.value(Scope::PacketContext);
@@ -172,7 +223,7 @@ fn put_body(
     at: usize,
 ) -> Result<usize, NoMemory>
     requires { at ≤ vec_len line.old }
-    ensures text { IfOk result (λ end. take end line.new.items ≡ take at line.old.items ++ lines.body_text packet.now (event_of event.now 0 0)) }
+    ensures text { IfOk result (λ end. take end line.new.items ≡ take at line.old.items ++ body_text packet.now (event_of event.now 0 0)) }
     ensures held { IfOk result (λ end. end ≤ vec_len line.new) }
 {
     let shared = event.value(Scope::StreamEventContext);

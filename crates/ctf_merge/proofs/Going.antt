@@ -10,7 +10,7 @@ use Rattle.ctf_stream.specs.Reader as reader
 use Rattle.ctf_stream.specs.Reader.{Reader, coming, rest_of, RoomTaken, with_ahead, behind_ahead, OrRefused, IsFetched}
 use Rattle.stream_laws.specs.Times.{is_before}
 use Rattle.ctf_merge.specs.Merged.{Merged, Placed, First, item, broken, nothing, later, least, with_first, first_of, head_of, run_at, advance, without_first, ends, then, merged}
-use Rattle.ctf_merge.specs.Merges.{Merge, coming_of, first_now, GoesOn, MergedOrRefused, EachFetched, EachTells, EachOnLine, EachAllTaken, Fetched, EachIsFetched, FetchedUpTo, room_of, RoomLeft, names_of, traces_of, given_of}
+use Rattle.ctf_merge.specs.Merges.{Merge, coming_of, first_now, GoesOn, MergedOrRefused, EachFetched, EachTells, EachOnLine, EachAllTaken, Fetched, EachIsFetched, FetchedUpTo, room_of, RoomLeft, names_of, traces_of, writes_of, given_of}
 use Rattle.ctf_merge.specs.declared.fault.MergeFault.{MergeFault}
 use Rattle.ctf_merge.specs.declared.fault.MergeFault.TheVariants.{Stream}
 use Rattle.ctf_merge.specs.Finding.{Finds}
@@ -230,6 +230,12 @@ traces_at_first [] [] each = refl
 traces_at_first [] (s ∷ ss) each = absurd each
 traces_at_first (r ∷ rs) [] each = absurd each
 traces_at_first (r ∷ rs) (s ∷ ss) each = λ i. each.0.trace i ∷ traces_at_first rs ss each.1 i
+
+pub writes_at_first : (old new : List Reader) → EachIsFetched old new → writes_of new ≡ writes_of old
+writes_at_first [] [] each = refl
+writes_at_first [] (s ∷ ss) each = absurd each
+writes_at_first (r ∷ rs) [] each = absurd each
+writes_at_first (r ∷ rs) (s ∷ ss) each = λ i. each.0.writes i ∷ writes_at_first rs ss each.1 i
 
 pub given_at_first : (old new : List Reader) → EachIsFetched old new → EachTells old → given_of new ≡ given_of old
 given_at_first [] [] each tells = refl

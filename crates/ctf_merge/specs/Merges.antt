@@ -59,6 +59,10 @@ names_of readers = map (λ r. r.name) readers
 abbrev pub traces_of : List Reader → List TraceClass
 traces_of readers = map (λ r. r.trace) readers
 
+-- whether event records of the streams are told as texts, where they can
+abbrev pub writes_of : List Reader → List Bool
+writes_of readers = map (λ r. r.writes) readers
+
 -- the bytes of each stream that were taken or are left
 abbrev pub given_of : List Reader → List ℕ
 given_of readers = map (λ r. r.taken + length r.left) readers
@@ -99,6 +103,7 @@ pub record Fetched (old new : Reader) : Type 0 where
   pub tells : IsTrue old.tells → IsTrue new.tells
   pub name : new.name ≡ old.name
   pub trace : new.trace ≡ old.trace
+  pub writes : new.writes ≡ old.writes
   pub counted : IsTrue old.tells → new.taken + length new.left ≡ old.taken + length old.left
   pub on_line : IsOnLine old → IsOnLine new
   pub all_taken : IsTrue old.tells → IsAllTaken old.ahead old.left → IsAllTaken new.ahead new.left

@@ -5,7 +5,7 @@ ghost use Rattle.ctf_stream.specs.Owned as owned;
 ghost use Rattle.ctf_stream.specs.Reader.{coming, rest_of, HasItem, OrRefused, IsFetched, IsOnLine, IsAllTaken};
 ghost use Rattle.ctf_merge.specs.Merged.{merged};
 ghost use Rattle.ctf_merge.specs.Given.{Gives, GivesFirst, GivesFront, GivesRoom};
-ghost use Rattle.ctf_merge.specs.Merges.{coming_of, first_now, number_in, fault_in, names_of, traces_of, given_of, room_of, MergedOrRefused, ComingRises, EachRises, EachFetched, EachTells, EachOnLine, EachAllTaken, Fetched, EachIsFetched, GoesOn, IsNext, RoomLeft};
+ghost use Rattle.ctf_merge.specs.Merges.{coming_of, first_now, number_in, fault_in, names_of, traces_of, writes_of, given_of, room_of, MergedOrRefused, ComingRises, EachRises, EachFetched, EachTells, EachOnLine, EachAllTaken, Fetched, EachIsFetched, GoesOn, IsNext, RoomLeft};
 ghost use Rattle.std.specs.BinaryHeap.{heap_items, heap_len, heap_capacity, KeepsHeap};
 ghost use Rattle.ctf_merge.specs.Finding.{Finds};
 ghost use Rattle.ctf_merge.specs.Stages.{is_over, stage_of, Stands};
@@ -117,6 +117,7 @@ fn give<'a, S: Source + Drop>(
     ensures fetched { IsFetched reader.new.ahead }
     ensures room { owned.GivesRoom reader.old.room reader.new.room result }
     ensures trace { reader.new.trace ≡ reader.old.trace }
+    ensures writes { reader.new.writes ≡ reader.old.writes }
     ensures name { reader.new.name ≡ reader.old.name }
     ensures tells { IsTrue reader.old.tells → IsTrue reader.new.tells }
     ensures counted { IsTrue reader.old.tells → reader.new.taken + length reader.new.left ≡ reader.old.taken + length reader.old.left }
@@ -209,6 +210,7 @@ impl<'a, S: Source + Drop> Merge<'a, S> {
         ensures open { IfOk result (λ m. m.over ≡ false) }
         ensures names { IfOk result (λ m. names_of m.readers ≡ names_of readers.entry.items) }
         ensures traces { IfOk result (λ m. traces_of m.readers ≡ traces_of readers.entry.items) }
+        ensures writes { IfOk result (λ m. writes_of m.readers ≡ writes_of readers.entry.items) }
 
         // The bytes taken are those that the sources gave, and no more than the items in front need.
         ensures tells { IfOk result (λ m. EachTells readers.entry.items → EachTells m.readers) }
@@ -273,6 +275,7 @@ impl<'a, S: Source + Drop> Merge<'a, S> {
         ensures rises { EachTells self.old.readers → ComingRises self.old → ComingRises self.new }
         ensures names { names_of self.new.readers ≡ names_of self.old.readers }
         ensures traces { traces_of self.new.readers ≡ traces_of self.old.readers }
+        ensures writes { writes_of self.new.readers ≡ writes_of self.old.readers }
 
         // Of any sources: an item that is left took room.
         ensures room { RoomLeft (first_now self.old) (room_of self.old.readers) (room_of self.new.readers) }
@@ -316,6 +319,7 @@ impl<'a, S: Source + Drop> Merge<'a, S> {
         ensures room { GivesRoom (room_of self.old.readers) (room_of self.new.readers) result }
         ensures names { names_of self.new.readers ≡ names_of self.old.readers }
         ensures traces { traces_of self.new.readers ≡ traces_of self.old.readers }
+        ensures writes { writes_of self.new.readers ≡ writes_of self.old.readers }
 
         // The bytes taken are those that the sources gave, and no more than the items in front need.
         ensures tells { EachTells self.old.readers → EachTells self.new.readers }

@@ -19,14 +19,14 @@ use ctf_clock::Moment;
 use ctf_decode::{Scopes, Value};
 use std::alloc::Global;
 
-/// The header of an event record.
-#[derive(Debug, Drop)]
-struct Head<'a> {
-    event: &'a EventClass,
+/// The header of an event record (CTF 1.8.3, section 6.1).
+#[derive(Clone, Copy, Debug)]
+pub struct Head<'a> {
+    pub event: &'a EventClass,
     /// The clock behind it.
-    clock: Option<Moment>,
+    pub clock: Option<Moment>,
     /// Where it ends, in bits from the packet's first one.
-    end: u64,
+    pub end: u64,
 }
 
 /// An event record.
@@ -57,9 +57,13 @@ fn event_named(stream: &StreamClass, id: Option<i128>) -> Option<&EventClass>
     }
 }
 
-/// Puts the scopes of an event record behind its header. The place where the last one ends.
+/// The scopes of an event record behind its header: the contexts and the fields, from a place of a packet on, whose
+/// content ends at the bit `content` (CTF 1.8.3, section 6.2). The place where the last one ends, in bits from the packet's
+/// first one. Their values are in `scopes` then, and the memory of `spares` is used.
+///
+/// An error is the first fault of these scopes: F6, F8, F11, or `NoMemory`.
 #[tactic(auto, unfolding(crate::specs::Records::bodied))]
-fn put_body(
+pub fn put_body(
     alloc: Global,
     stream: &StreamClass,
     event: &EventClass,
@@ -169,6 +173,41 @@ fn leave_record(spares: &mut Spares, scopes: &mut Scopes)
     scopes.leave_record();
 }
 
+/// The header of the event record at a place of a packet, in bits from its first one, where `bytes` are the packet's
+/// and its clock came so far. The values of the packet's header and context are in `scopes`, and so is that of the header
+/// then, but of no other scope of an event record. The memory of `spares` is used.
+///
+/// An error is the first fault of the header: F6 to F9, F11, or `NoMemory`.
+#[inline(always)]
+pub fn next_head<'a>(
+    alloc: Global,
+    packet: &OpenPacket<'a>,
+    bytes: &[u8],
+    clock: Option<Moment>,
+    place: u64,
+    spares: &mut Spares,
+    scopes: &mut Scopes,
+) -> Result<Head<'a>, StreamFault>
+    requires start { place ≤ packet.now.content }
+    requires content { packet.now.content ≤ 2 ^ 62 }
+    requires held { packet.now.content ≤ 8 * length bytes.now }
+    ensures puts { (shift : Shift) → packet.now.line ≡ (stream_form shift packet.now.stream.now).line → PutsHead packet.now.stream.now (packet_values (values_of scopes.old)) (records.headed (stream_form shift packet.now.stream.now) bytes.now packet.now.content (packet_values (values_of scopes.old)) clock place) result scopes.new }
+    ensures within { IfOk result (λ head. head.end ≤ packet.now.content) }
+    ensures forward { IfOk result (λ head. place ≤ head.end) }
+    ensures packet { OnOk result (packet_values (values_of scopes.new) ≡ packet_values (values_of scopes.old)) }
+{
+    leave_record(spares, scopes);
+    put_head(
+        alloc,
+        packet,
+        bytes,
+        clock,
+        place,
+        &mut spares.header,
+        scopes,
+    )
+}
+
 /// The event record at a place of a packet, in bits from its first one, where `bytes` are the packet's
 /// and its clock came so far. The values of the packet's header and context are in `scopes`, and so are
 /// those of the record then. The memory of `spares` is used.
@@ -192,16 +231,7 @@ pub fn next_record<'a>(
     ensures forward { IfOk result (λ r. place < r.end) }
     ensures packet { OnOk result (packet_values (values_of scopes.new) ≡ packet_values (values_of scopes.old)) }
 {
-    leave_record(spares, scopes);
-    let head = put_head(
-        alloc,
-        packet,
-        bytes,
-        clock,
-        place,
-        &mut spares.header,
-        scopes,
-    )?;
+    let head = next_head(alloc, packet, bytes, clock, place, spares, scopes)?;
     let stream = packet.stream;
     let content = packet.content;
     let event = head.event;

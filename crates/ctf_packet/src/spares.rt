@@ -50,8 +50,9 @@ impl Spares {
         }
     }
 
-    /// Keeps in mind how many bits and values the event record has whose values are lent.
-    pub(crate) fn note(&mut self, bits: u64, values: u64) {
+    /// Keeps in mind how many bits and values the event record has whose values are lent: of a long one the memory is
+    /// not kept.
+    pub fn note(&mut self, bits: u64, values: u64) {
         self.is_long = bits > LONGEST_KEPT || values > MOST_KEPT;
     }
 

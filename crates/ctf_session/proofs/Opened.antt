@@ -1,15 +1,13 @@
 -- Readers that were just opened, and what their merge gives.
-use Rattle.std.proofs.Common.{◌≡◌, ℕ, zero, suc, ◌+◌, List, [], ◌∷◌, ◌++◌, map, length, ℤ, Option, Some, None, IsTrue, String, refl, sym, ap, ◌∙◌, subst, append_assoc, arith}
+use Rattle.std.proofs.Common.{◌≡◌, ℕ, suc, ◌+◌, List, [], ◌∷◌, ◌++◌, map, length, None, String, refl, sym, ap, ◌∙◌, subst, append_assoc, arith}
 use Rattle.std.proofs.lemmas.List.{append-nil, map-append}
-use Rattle.std.specs.List.{AllByRecursion, AllZip}
 use Rattle.std.specs.declared.alloc.Global.{Global}
 use Rattle.ctf_class.specs.declared.trace.TraceClass.{TraceClass}
 use Rattle.ctf_clock.specs.declared.moment.Shift.{Shift}
-use Rattle.ctf_merge.specs.Merged.{Merged, merged, PlacedRise}
-use Rattle.ctf_merge.specs.Merges.{EachRises, EachTells, EachOnLine, EachAllTaken, names_of, given_of, MergedOrRefused}
+use Rattle.ctf_merge.specs.Merges.{EachRises, EachTells, EachOnLine, EachAllTaken, names_of, given_of}
 use Rattle.ctf_packet.specs.Classes.{Classes, trace_form}
 use Rattle.ctf_packet.specs.Items.{Run}
-use Rattle.ctf_stream.specs.Reader.{Reader, coming, IsAllTaken}
+use Rattle.ctf_stream.specs.Reader.{Reader, coming}
 use Rattle.stream_laws.specs.Times.{Rises}
 use Rattle.stream_laws.proofs.Rising.{run_rises}
 use Rattle.ctf_session.specs.Inputs.{Given, Input, input_of, inputs_from, run_in, AllTell}

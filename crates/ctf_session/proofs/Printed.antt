@@ -1,10 +1,10 @@
 -- Texts that were put to a sink.
-use Rattle.std.proofs.Common.{◌≡◌, ℕ, List, [], ◌++◌, Option, Some, None, Result, Ok, Err, OnOk, OnErr, refl, sym, ◌∙◌, subst}
+use Rattle.std.proofs.Common.{◌≡◌, ℕ, List, [], ◌++◌, Result, Ok, Err, OnOk, OnErr, sym, ◌∙◌}
 use Rattle.std.proofs.lemmas.List.{append-nil}
 use Rattle.ctf_bits.specs.declared.sink.SinkFault.{SinkFault}
 use Rattle.ctf_bits.specs.declared.sink.SinkFault.TheVariants as sink
 use Rattle.ctf_session.specs.Printing.{Prints, stop_of}
-use Rattle.ctf_session.specs.Writing.{Texts, Written, Writes, WritesPart, WritesParts}
+use Rattle.ctf_session.specs.Writing.{Texts, WritesPart, WritesParts}
 use Rattle.ctf_session.proofs.Pieces.{WritesPart-none}
 use Rattle.ctf_session.proofs.Reaching.{written}
 

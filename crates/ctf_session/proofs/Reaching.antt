@@ -1,5 +1,5 @@
 -- How far a run has come.
-use Rattle.std.proofs.Common.{◌≡◌, ℕ, ℤ, ◌⊎◌, inl, inr, List, [], ◌∷◌, ◌++◌, Option, Some, None, refl, sym, ap, ◌∙◌, subst, append_assoc}
+use Rattle.std.proofs.Common.{◌≡◌, ℕ, inl, inr, List, [], Some, refl, sym, ap, ◌∙◌, subst, append_assoc}
 use Rattle.std.proofs.lemmas.List.{append-nil}
 use Rattle.ctf_merge.specs.Merged.{Merged, Placed, then}
 use Rattle.ctf_merge.specs.Merges.{MergedOrRefused, IsRefusal}
@@ -9,10 +9,10 @@ use Rattle.ctf_outcome.specs.declared.outcome.Outcome.{Outcome}
 use Rattle.ctf_outcome.specs.declared.outcome.Outcome.TheVariants as outcomes
 use Rattle.ctf_outcome.specs.declared.outcome.RunFault.{RunFault}
 use Rattle.ctf_session.specs.Answers.{Setting, Answer, answer, verdict, fault_texts, fault_of, outcome_of}
-use Rattle.ctf_session.specs.Steps.{Session, Goes, Ends, EndsBy, told_by, next_texts_by, next_texts, shown_text, last_shown, Answered, IsNamed, IsWant, answer_of}
-use Rattle.ctf_session.specs.Writing.{Texts, no_texts, and_then, Written, Writes, WritesPart, WritesParts}
-use Rattle.ctf_session.proofs.Pieces.{WritesPart-none, WritesPart-after, WritesPart-longer}
-use Rattle.ctf_session.proofs.Runs.{add, answer-then, answer-end, and_then-assoc, and_then-none, next-first}
+use Rattle.ctf_session.specs.Steps.{Session, Goes, Ends, EndsBy, told_by, next_texts, shown_text, last_shown, Answered, IsNamed, IsWant, answer_of}
+use Rattle.ctf_session.specs.Writing.{Texts, no_texts, and_then, Written, Writes, WritesParts}
+use Rattle.ctf_session.proofs.Pieces.{WritesPart-after, WritesPart-longer}
+use Rattle.ctf_session.proofs.Runs.{add, answer-then, answer-end, and_then-assoc, next-first}
 
 -- a growth was refused, which is to be told
 abbrev pub IsRefused : Merged → Type 0

@@ -1,35 +1,30 @@
 -- A step of a session from the contract of its merge.
-use Rattle.std.proofs.Common.{◌≡◌, ℕ, ℤ, ◌≤ℤ◌, Bool, true, false, cond, int_lt, List, [], ◌∷◌, ◌++◌, map, inl, inr, Option, Some, None, Result, Ok, Err, OnOk, OnErr, refl, sym, ap, ◌∙◌, subst, arith}
+use Rattle.std.proofs.Common.{◌≡◌, ℕ, ℤ, ◌≤ℤ◌, Bool, true, false, cond, int_lt, List, [], ◌∷◌, inl, inr, Option, Some, None, refl, sym, ap, ◌∙◌, subst, arith}
 use Rattle.std.proofs.lemmas.List.{append-nil}
 use Rattle.std.proofs.lemmas.Int.{ints}
-use Rattle.ctf_bits.specs.declared.sink.SinkFault.{SinkFault}
-use Rattle.ctf_bits.specs.declared.sink.SinkFault.TheVariants as sink
-use Rattle.stream_laws.specs.Times.{is_before, NotBefore}
+use Rattle.stream_laws.specs.Times.{NotBefore}
 use Rattle.ctf_merge.specs.Merged.{Merged, Placed, ends, then, PlacedRise}
 use Rattle.ctf_merge.specs.Merges.{MergedOrRefused, GoesOn}
-use Rattle.ctf_merge.specs.declared.fault.MergeFault.{MergeFault}
 use Rattle.ctf_merge.specs.declared.fault.MergeFault.TheVariants.{Stream}
 use Rattle.ctf_outcome.specs.Lines.{stream_line}
 use Rattle.ctf_packet.specs.declared.fault.StreamFault.{StreamFault}
 use Rattle.ctf_packet.specs.declared.fault.StreamFault.TheVariants as streams
 use Rattle.ctf_outcome.specs.declared.outcome.Outcome.{Outcome}
 use Rattle.ctf_outcome.specs.declared.outcome.Outcome.TheVariants as outcomes
-use Rattle.ctf_outcome.specs.declared.outcome.RunFault.{RunFault}
 use Rattle.ctf_stamp.specs.Trims.{is_past, is_early, verdict_of}
 use Rattle.ctf_stamp.specs.declared.trim.Trim.{Trim}
 use Rattle.ctf_stamp.specs.declared.trim.Verdict.{Verdict}
 use Rattle.ctf_stamp.specs.declared.trim.Verdict.TheVariants.{Before, Within, After}
 use Rattle.ctf_stream.specs.Ahead.{time_of}
 use Rattle.stream_laws.proofs.Later.{not_less, at_most}
-use Rattle.ctf_session.specs.Answers.{Setting, verdict, is_after, text_of, fault_line, fault_texts, fault_of, outcome_of}
+use Rattle.ctf_session.specs.Answers.{Setting, verdict, is_after, text_of, fault_line}
 use Rattle.ctf_session.specs.Printing.{TellsFault}
 use Rattle.ctf_session.specs.Endings.{stop_outcome}
 use Rattle.ctf_session.specs.Sessions.{left_by}
-use Rattle.ctf_session.specs.Steps.{Session, Goes, Ends, EndsBy, EachAfter, told_by, shown_text, last_shown, next_texts, next_texts_by}
+use Rattle.ctf_session.specs.Steps.{Session, Goes, Ends, EndsBy, EachAfter, shown_text, last_shown, next_texts}
 use Rattle.ctf_session.specs.declared.step.Stop.{Stop}
 use Rattle.ctf_session.specs.declared.step.Stop.TheVariants as stops
-use Rattle.ctf_session.specs.Writing.{Texts, no_texts, Written, Writes, WritesPart, WritesParts}
-use Rattle.ctf_session.proofs.Pieces.{WritesPart-none}
+use Rattle.ctf_session.specs.Writing.{no_texts, Written, Writes, WritesParts}
 use Rattle.ctf_session.proofs.Reaching.{written}
 
 -- ---- behind an item after the end all are after it

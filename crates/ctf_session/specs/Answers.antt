@@ -1,5 +1,5 @@
 -- What is written and answered for a list of items (own, after babeltrace2's filter.utils.trimmer and sink.text.pretty).
-use Rattle.std.specs.Prelude.{ℕ, ℤ, Bool, true, false, cond, List, [], ◌∷◌, ◌++◌, Option, Some, None, get_or}
+use Rattle.std.specs.Prelude.{ℕ, ℤ, Bool, true, false, cond, List, [], ◌∷◌, Option, Some, None, get_or}
 use Rattle.ctf_packet.specs.Classes.{Classes}
 use Rattle.ctf_packet.specs.Items.{Item, event, discarded, lost}
 use Rattle.ctf_packet.specs.declared.fault.StreamFault.{StreamFault}

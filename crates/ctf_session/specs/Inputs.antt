@@ -1,5 +1,5 @@
 -- The streams of a run.
-use Rattle.std.specs.Prelude.{◌≡◌, ℕ, suc, Bool, IsTrue, List, [], ◌∷◌, ◌++◌, map, String, string_bytes}
+use Rattle.std.specs.Prelude.{ℕ, suc, Bool, IsTrue, List, [], ◌∷◌, ◌++◌, map, String, string_bytes}
 use Rattle.std.specs.List.{AllByRecursion}
 use Rattle.std.specs.declared.alloc.Global.{Global}
 use Rattle.ctf_bits.specs.declared.source.Ending.{Ending}

@@ -1,5 +1,5 @@
 -- Readers of streams that have fetched nothing.
-use Rattle.std.specs.Prelude.{◌≡◌, ℕ, List, IsTrue}
+use Rattle.std.specs.Prelude.{◌≡◌, List, IsTrue}
 use Rattle.std.specs.List.{AllZip}
 use Rattle.ctf_clock.specs.declared.moment.Shift.{Shift}
 use Rattle.ctf_stream.specs.Reader.{Reader, start, coming, IsOnLine}

@@ -1,11 +1,9 @@
 -- What the printing of a text does.
-use Rattle.std.specs.Prelude.{◌≡◌, ℕ, ◌⊎◌, List, ◌++◌, Option, Some, None, Result, Ok, Err}
-use Rattle.ctf_bits.specs.Count.{one_more}
+use Rattle.std.specs.Prelude.{◌≡◌, ℕ, Option, Some, None, Result, Ok, Err}
 use Rattle.ctf_bits.specs.declared.sink.SinkFault.{SinkFault}
 use Rattle.ctf_bits.specs.declared.sink.SinkFault.TheVariants as sink
 use Rattle.ctf_outcome.specs.declared.outcome.Outcome.{Outcome}
 use Rattle.ctf_outcome.specs.declared.outcome.Outcome.TheVariants as outcomes
-use Rattle.ctf_outcome.specs.declared.outcome.RunFault.{RunFault}
 use Rattle.ctf_merge.specs.declared.fault.MergeFault.TheVariants.{Stream}
 use Rattle.ctf_packet.specs.declared.fault.StreamFault.{StreamFault}
 use Rattle.ctf_session.specs.Answers.{Setting, fault_of, fault_texts}

@@ -1,17 +1,14 @@
 -- What a step of a session does, and what a run of steps does.
-use Rattle.std.specs.Prelude.{◌≡◌, ℕ, ℤ, ◌<◌, ◌⊎◌, Bool, true, false, List, [], ◌∷◌, ◌++◌, Option, Some, None, Result, Ok, Err}
+use Rattle.std.specs.Prelude.{◌≡◌, ℕ, ℤ, ◌<◌, ◌⊎◌, true, false, List, [], ◌∷◌, Option, Some, None}
 use Rattle.ctf_bits.specs.Count.{one_more}
-use Rattle.ctf_bits.specs.declared.sink.SinkFault.{SinkFault}
-use Rattle.ctf_bits.specs.declared.sink.SinkFault.TheVariants as sink
 use Rattle.ctf_merge.specs.Merged.{Merged, Placed, then, PlacedRise}
-use Rattle.ctf_merge.specs.Merges.{MergedOrRefused, EachTells, IsRefusal}
+use Rattle.ctf_merge.specs.Merges.{MergedOrRefused, EachTells}
 use Rattle.ctf_merge.specs.declared.fault.MergeFault.{MergeFault}
 use Rattle.ctf_outcome.specs.Table as table
 use Rattle.ctf_outcome.specs.declared.outcome.Outcome.{Outcome}
 use Rattle.ctf_outcome.specs.declared.outcome.Outcome.TheVariants as outcomes
 use Rattle.ctf_outcome.specs.declared.outcome.RunFault.{RunFault}
 use Rattle.ctf_outcome.specs.declared.outcome.RunFault.TheVariants as faults
-use Rattle.ctf_packet.specs.declared.fault.StreamFault.{StreamFault}
 use Rattle.ctf_packet.specs.declared.fault.StreamFault.TheVariants as streams
 use Rattle.ctf_stamp.specs.declared.trim.Verdict.{Verdict}
 use Rattle.ctf_stamp.specs.declared.trim.Verdict.TheVariants.{Before, Within, After}

@@ -11,11 +11,12 @@ ghost use Rattle.ctf_session.specs.Printing.{Prints, CountsAfterPrint, stop_in};
 ghost use Rattle.ctf_stream.specs.Ahead as aheads;
 
 use crate::log::Log;
-use crate::printing::{last_after, print, time_of};
+use crate::printing::{last_after, last_behind, print, print_text};
 use crate::step::Stop;
 use ctf_bits::{Sink, Source};
 use ctf_log::Printer;
 use ctf_merge::Merge;
+use ctf_stream::{Ahead, Told};
 
 /// The time of the item in front, that of the stream of this number, in nanoseconds since the epoch.
 pub(crate) fn front_time<'a, S: Source + Drop>(merge: &Merge<'a, S>, number: usize) -> Option<i64>
@@ -25,10 +26,12 @@ pub(crate) fn front_time<'a, S: Source + Drop>(merge: &Merge<'a, S>, number: usi
     let Some(reader) = merge.reader(number) else {
         unreachable!()
     };
-    let Some(item) = reader.head() else {
-        unreachable!()
-    };
-    time_of(&item)
+    match reader.ahead() {
+        Ahead::Item(time) => time,
+        Ahead::Start => unreachable!(),
+        Ahead::Ended => unreachable!(),
+        Ahead::Fault(_) => unreachable!(),
+    }
 }
 
 /// Writes the line or the message of the item in front, that of the stream of this number. It gives the time of the last
@@ -57,11 +60,17 @@ pub(crate) fn print_front<'a, S: Source + Drop, W: Log, E: Sink>(
     let Some(reader) = merge.reader(number) else {
         unreachable!()
     };
-    let Some(item) = reader.head() else {
+    let Some(told) = reader.told() else {
         unreachable!()
     };
-    match print(printer, &item, last, out, err) {
-        None => Ok(last_after(last, &item)),
-        Some(stop) => Err(stop),
+    match told {
+        Told::Item(item) => match print(printer, &item, last, out, err) {
+            None => Ok(last_after(last, &item)),
+            Some(stop) => Err(stop),
+        },
+        Told::Text(event) => match print_text(printer, &event, last, out) {
+            None => Ok(last_behind(last, event.moment)),
+            Some(stop) => Err(stop),
+        },
     }
 }

@@ -1,6 +1,6 @@
 //! The readers of the streams of several traces.
 
-ghost use Rattle.std.specs.Prelude.{◌≡◌, ◌++◌, List, map, IfOk, OnOk};
+ghost use Rattle.std.specs.Prelude.{◌≡◌, ◌++◌, Bool, List, map, IfOk, OnOk};
 ghost use Rattle.ctf_session.specs.Inputs.{Input, input_of, inputs_from};
 ghost use Rattle.ctf_session.specs.Opening.{EachOpens};
 
@@ -12,11 +12,13 @@ use ctf_list::{NoMemory, Text};
 use ctf_stream::StreamReader;
 use std::alloc::Global;
 
-/// A reader of each stream, and the number of the trace of each.
+/// A reader of each stream, and the number of the trace of each. With `writes` the readers tell event records as texts,
+/// where they can.
 pub(crate) fn open_all<'a, S: Source + Drop>(
     alloc: Global,
     traces: Vec<Streams<'a, S>>,
     shift: Shift,
+    writes: bool,
 ) -> Result<(Vec<StreamReader<'a, S>>, Vec<usize>), NoMemory>
     ensures opened { IfOk result (λ r. EachOpens shift (inputs_from (λ s. record { tells = S.tells s; bytes = S.left s; ending = S.ending s }) 0 traces.entry.items) r.0.items) }
     ensures numbers { IfOk result (λ r. r.1.items ≡ map (λ i. i.trace) (inputs_from (λ s. record { tells = S.tells s; bytes = S.left s; ending = S.ending s }) 0 traces.entry.items)) }
@@ -32,6 +34,7 @@ pub(crate) fn open_all<'a, S: Source + Drop>(
             class,
             streams,
             shift,
+            writes,
             &mut readers,
             &mut numbers,
         )?;
@@ -47,6 +50,7 @@ fn open_streams<'a, S: Source + Drop>(
     class: &'a TraceClass,
     streams: Vec<(String, S)>,
     shift: Shift,
+    writes: bool,
     readers: &mut Vec<StreamReader<'a, S>>,
     numbers: &mut Vec<usize>,
 ) -> Result<(), NoMemory>
@@ -56,8 +60,16 @@ fn open_streams<'a, S: Source + Drop>(
 {
     for (name, source) in streams {
         let name = Text::from_string(name);
-        readers.push(StreamReader::new(alloc, class, name, source, shift))?;
+        let reader = StreamReader::new(alloc, class, name, source, shift);
+        readers.push(asked(reader, writes))?;
         numbers.push(number)?;
     }
     Ok(())
+}
+
+/// The same reader, which tells event records as texts where that is asked for.
+fn asked<'a, S: Source + Drop>(reader: StreamReader<'a, S>, writes: bool) -> StreamReader<'a, S>
+    ensures { (made : Bool) × (result ≡ record reader.entry { writes = made }) }
+{
+    if writes { reader.writing() } else { reader }
 }

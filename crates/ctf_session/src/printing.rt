@@ -1,9 +1,11 @@
 //! The texts of a step, on their way to two sinks.
 
-ghost use Rattle.std.specs.Prelude.{◌≡◌, ◌⊎◌, ℕ, ℤ, [], List, IsTrue, Option};
+ghost use Rattle.std.specs.Prelude.{◌≡◌, ◌⊎◌, ℕ, ℤ, [], List, IsTrue, Option, option_map};
 ghost use Rattle.ctf_class.specs.declared.trace.TraceClass.{TraceClass};
-ghost use Rattle.ctf_log.specs.Lines.{line_of};
-ghost use Rattle.ctf_stream.specs.Ahead as aheads;
+ghost use Rattle.ctf_line.specs.Texts.{event_text};
+ghost use Rattle.ctf_log.specs.Lines.{event_line, line_of};
+ghost use Rattle.ctf_packet.specs.Classes.{Classes};
+ghost use Rattle.ctf_packet.specs.Items.{Event};
 ghost use Rattle.ctf_stream.specs.Shown.{item_of, IsOf};
 ghost use Rattle.ctf_session.specs.Answers as answers;
 ghost use Rattle.ctf_session.specs.Printing.{Prints, CountsAfterPrint};
@@ -13,35 +15,50 @@ use crate::log::Log;
 use crate::step::Stop;
 use crate::writing::put_all;
 use ctf_bits::{Sink, SinkFault};
+use ctf_clock::Moment;
 use ctf_log::Printer;
-use ctf_stream::Item;
-
-/// The time of an item, in nanoseconds since the epoch, where its stream has a clock.
-pub(crate) fn time_of(item: &Item<'_>) -> Option<i64>
-    ensures { (end length : ℕ) → result ≡ aheads.time_of (item_of item.now end length) }
-{
-    let moment = match item {
-        Item::Event(event) => event.moment,
-        Item::Discarded(gap) => gap.moment,
-        Item::Lost(gap) => gap.moment,
-    };
-    match moment {
-        None => None,
-        Some(moment) => Some(moment.time),
-    }
-}
+use ctf_stream::{EventText, Item};
 
 /// The time of the last printed event record behind this item, in nanoseconds since the epoch.
 pub(crate) fn last_after(last: Option<i64>, item: &Item<'_>) -> Option<i64>
     ensures { (end length : ℕ) → result ≡ answers.last_after last (item_of item.now end length) }
 {
     match item {
-        Item::Event(event) => match event.moment {
-            None => last,
-            Some(moment) => Some(moment.time),
-        },
+        Item::Event(event) => last_behind(last, event.moment),
         Item::Discarded(_gap) => last,
         Item::Lost(_gap) => last,
+    }
+}
+
+/// The same behind an event record at this moment.
+pub(crate) fn last_behind(last: Option<i64>, moment: Option<Moment>) -> Option<i64>
+    ensures { result ≡ answers.or_last last (option_map (λ m. m.time) moment) }
+{
+    match moment {
+        None => last,
+        Some(moment) => Some(moment.time),
+    }
+}
+
+/// Writes the line of an event record to a sink, out of its text. It answers what stopped it.
+pub(crate) fn print_text<W: Log>(
+    printer: &mut Printer,
+    event: &EventText<'_>,
+    last: Option<i64>,
+    out: &mut W,
+) -> Option<Stop>
+    ensures prints { IsTrue (W.tells out.old) → (e : Event Classes) → event.now.moment ≡ e.clock → event.now.text.now ≡ event_text e → (messages : List ℕ)
+        → Prints (record { output = event_line printer.old.style last e; messages = [] }) result
+        (record { old_output = W.accepted out.old; new_output = W.accepted out.new; old_messages = messages; new_messages = messages }) }
+    ensures counts { (failures refusals : ℕ) → CountsAfterPrint result
+        (record { out_failures = W.failures out.old; out_refusals = W.refusals out.old; err_failures = failures; err_refusals = refusals })
+        (record { out_failures = W.failures out.new; out_refusals = W.refusals out.new; err_failures = failures; err_refusals = refusals }) }
+    ensures style { printer.new.style ≡ printer.old.style }
+    ensures tells { IsTrue (W.tells out.old) → IsTrue (W.tells out.new) }
+{
+    match printer.print_text(event, last) {
+        Ok(()) => stop_of(put_all(out, printer.text())),
+        Err(_refused) => Some(Stop::NoMemory),
     }
 }
 

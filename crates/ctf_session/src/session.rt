@@ -86,7 +86,9 @@ impl<'a, S: Source + Drop> Session<'a, S> {
         ensures on_line { IfOk result (λ s. EachOnLine s.readers) }
         ensures all_taken { AllTell (inputs_from (λ s. record { tells = S.tells s; bytes = S.left s; ending = S.ending s }) 0 traces.entry.items) → IfOk result (λ s. EachAllTaken s.readers) }
     {
-        let (readers, numbers) = open_all(alloc, traces, options.shift)?;
+        // What is before a beginning is shown nowhere, and its values are made faster than its text.
+        let writes = options.trim.begin.is_none();
+        let (readers, numbers) = open_all(alloc, traces, options.shift, writes)?;
         let merge = Merge::new(alloc, readers)?;
         Ok(Session {
             alloc,

@@ -34,11 +34,11 @@ module _ (cut : CutPoint) (ending : Ending) (left : List ℕ) (bytes : List ℕ)
   -- an item of the packet at hand
   pub takes_item : (held : Option Packet) (known after : Known) (given : List ℕ) (p q : Packet) (found : Option Front) (front : Front) → held ≡ Some p → q.opened ≡ p.opened → packet_values (values_of after) ≡ packet_values (values_of known) → given ≡ bytes → found ≡ Some front
       → TakesItem cut.shift (follows known p) (left_in cut.shift known given (follows known p) p) q after given (Ok found)
-      → coming_at cut ending left known bytes held ≡ before (item_in cut.shift after q front ∷ []) (coming_at cut ending left after bytes (Some q))
+      → coming_at cut ending left known bytes held ≡ before (item_in cut.shift after bytes q front ∷ []) (coming_at cut ending left after bytes (Some q))
   takes_item held known after given p q found front is same values bytes_are item takes =
       let taken = subst (λ b. TakesItem cut.shift (follows known p) (left_in cut.shift known b (follows known p) p) q after b (Ok (Some front))) bytes_are
       (subst (λ o. TakesItem cut.shift (follows known p) (left_in cut.shift known given (follows known p) p) q after given (Ok o)) item takes) in
-      ap (coming_at cut ending left known bytes) is ∙ taken ∙ ap (λ f. before (item_in cut.shift after q front ∷ []) (left_in cut.shift after bytes f q)) (same_follows known after p q same values)
+      ap (coming_at cut ending left known bytes) is ∙ taken ∙ ap (λ f. before (item_in cut.shift after bytes q front ∷ []) (left_in cut.shift after bytes f q)) (same_follows known after p q same values)
 
   -- the packet at hand is over
   pub is_over : (next : CutPoint) (held : Option Packet) (known after : Known) (given : List ℕ) (p q : Packet) (found : Option Front) (reached : Reached) → held ≡ Some p → q.opened ≡ p.opened → given ≡ bytes → found ≡ None
@@ -59,15 +59,15 @@ module _ (cut : CutPoint) (ending : Ending) (left : List ℕ) (bytes : List ℕ)
       ∙ ap (λ t. from_bytes t ending next.reached next.at left) forms
 
 -- an item behind steps that left what is to come
-pub advanced : (old middle new : Run Classes) (cut : CutPoint) (known : Known) (packet : Option Packet) (left : List ℕ) (found : Option Front) (front : Front) → old ≡ middle → found ≡ Some front
-    → StepsWithin middle new cut known packet (Ok found) → Advances old new cut known packet left (Ok (Some front))
-advanced old middle new cut known (Some p) left found front same is steps = same ∙ subst (λ o. StepsWithin middle new cut known (Some p) (Ok o)) is steps
-advanced old middle new cut known None left found front same is steps = absurd (subst (λ o. StepsWithin middle new cut known None (Ok o)) is steps)
+pub advanced : (old middle new : Run Classes) (cut : CutPoint) (known : Known) (bytes : List ℕ) (packet : Option Packet) (left : List ℕ) (found : Option Front) (front : Front) → old ≡ middle → found ≡ Some front
+    → StepsWithin middle new cut known bytes packet (Ok found) → Advances old new cut known bytes packet left (Ok (Some front))
+advanced old middle new cut known bytes (Some p) left found front same is steps = same ∙ subst (λ o. StepsWithin middle new cut known bytes (Some p) (Ok o)) is steps
+advanced old middle new cut known bytes None left found front same is steps = absurd (subst (λ o. StepsWithin middle new cut known bytes None (Ok o)) is steps)
 
 -- nothing was left of the packet at hand
-pub stepped : (old middle new : Run Classes) (cut : CutPoint) (known : Known) (packet : Option Packet) (found : Option Front) → old ≡ middle → found ≡ None → StepsWithin middle new cut known packet (Ok found) → (old ≡ new) × (packet ≡ None)
-stepped old middle new cut known packet found same is steps =
-    let took = subst (λ o. StepsWithin middle new cut known packet (Ok o)) is steps in (same ∙ took.0, took.1)
+pub stepped : (old middle new : Run Classes) (cut : CutPoint) (known : Known) (bytes : List ℕ) (packet : Option Packet) (found : Option Front) → old ≡ middle → found ≡ None → StepsWithin middle new cut known bytes packet (Ok found) → (old ≡ new) × (packet ≡ None)
+stepped old middle new cut known bytes packet found same is steps =
+    let took = subst (λ o. StepsWithin middle new cut known bytes packet (Ok o)) is steps in (same ∙ took.0, took.1)
 
 pub at_fault : (old middle : Run Classes) (at : ℕ) (fault : StreamFault) → old ≡ middle → OrNoMemory (λ f. middle ≡ stops (Some f) at) fault → OrNoMemory (λ f. old ≡ stops (Some f) at) fault
 at_fault old middle at fault same told = elim told [ inl refused ↦ inl refused | inr is ↦ inr (same ∙ is) ]

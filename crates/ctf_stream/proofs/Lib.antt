@@ -4,3 +4,4 @@ mod Asking
 mod Sizing
 mod Fetched
 mod Courses
+mod Written

@@ -28,6 +28,7 @@ told (reader.fault f) = aheads.Fault f
 -- the clock of the item in front, by the packet at hand
 abbrev pub clock_in : Front → Packet → Option Moment
 clock_in (fronts.Event r) p = r.clock
+clock_in (fronts.Written w) p = w.event.clock
 clock_in (fronts.Discarded count) p = p.opened.clock
 clock_in (fronts.Lost count) p = p.opened.clock
 

@@ -1,16 +1,23 @@
 -- What is to come of a stream, from any place on.
-use Rattle.std.specs.Prelude.{◌≡◌, ℕ, ◌+◌, ◌-◌, ◌*◌, ◌^◌, ◌≤◌, ◌<◌, ◌⊎◌, List, [], ◌∷◌, ◌++◌, length, Option, Some, None, Result, Ok, Err}
+use Rattle.std.specs.Prelude.{◌≡◌, ℕ, Bool, IsTrue, take, ◌+◌, ◌-◌, ◌*◌, ◌^◌, ◌≤◌, ◌<◌, ◌⊎◌, List, [], ◌∷◌, ◌++◌, length, Option, Some, None, Result, Ok, Err}
 use Rattle.ctf_clock.specs.declared.moment.Moment.{Moment}
 use Rattle.ctf_clock.specs.declared.moment.Shift.{Shift}
 use Rattle.ctf_decode.specs.Known.{Known}
+use Rattle.ctf_class.specs.declared.trace.StreamClass.{StreamClass}
+use Rattle.ctf_line.specs.Texts.{values_text}
+use Rattle.ctf_line.specs.declared.record.LineRecord.{LineRecord}
 use Rattle.ctf_packet.specs.Classes.{Classes}
 use Rattle.ctf_packet.specs.Packets.{Opened}
 use Rattle.ctf_packet.specs.Items.{Run, Item, stops, before, from_place, lost, discarded, lost_before, discarded_before, gap_of, item_of}
+use Rattle.ctf_packet.specs.Records.{Recorded, record_at}
+use Rattle.ctf_packet.specs.Scopes.{Values}
+use Rattle.ctf_packet.specs.declared.record.EventRecord.{EventRecord}
 use Rattle.ctf_packet.specs.Views.{values_of, packet_values, opened_of, recorded_of}
 use Rattle.ctf_packet.specs.declared.packet.OpenPacket.{OpenPacket}
 use Rattle.ctf_packet.specs.declared.fault.StreamFault.{StreamFault}
 use Rattle.ctf_packet.specs.declared.fault.StreamFault.TheVariants as faults
 use Rattle.ctf_stream.specs.declared.packet.Packet.{Packet}
+use Rattle.ctf_stream.specs.declared.packet.WrittenRecord.{WrittenRecord}
 use Rattle.ctf_stream.specs.declared.packet.Front.{Front}
 use Rattle.ctf_stream.specs.declared.packet.Front.TheVariants as fronts
 
@@ -24,11 +31,29 @@ left_in shift known bytes follows p =
     let packet = opened_in shift known p.opened in
     before (lost_before packet p.lost ++ discarded_before packet p.dropped) (from_place packet bytes p.clock p.place follows)
 
+-- the values of an event record that was found; those of its packet where none was
+abbrev pub values_in : Values → Result (Recorded Classes) StreamFault → Values
+values_in values (Ok r) = r.values
+values_in values (Err f) = values
+
+-- the values of the event record that stands where one was read
+abbrev pub values_at : Opened Classes → List ℕ → WrittenRecord → Values
+values_at packet bytes w = values_in packet.values (record_at packet bytes w.before w.begin)
+
+-- an event record in front, which was read from a place on, where its packet's clock came so far
+abbrev pub front_as : EventRecord → Option Moment → ℕ → Option ℕ → Front
+front_as r before begin None = fronts.Event r
+front_as r before begin (Some end) = fronts.Written (record { event = r; begin = begin; before = before; end = end })
+
+abbrev pub front_in : LineRecord → Option Moment → ℕ → Front
+front_in made before begin = front_as made.record before begin made.text
+
 -- the item in front
-abbrev pub item_in : Shift → Known → Packet → Front → Item Classes
-item_in shift known p (fronts.Event r) = item_of (opened_in shift known p.opened) (recorded_of p.opened.stream.now (values_of known) r)
-item_in shift known p (fronts.Lost count) = let packet = opened_in shift known p.opened in lost (gap_of packet count packet.clock)
-item_in shift known p (fronts.Discarded count) = let packet = opened_in shift known p.opened in discarded (gap_of packet count packet.until)
+abbrev pub item_in : Shift → Known → List ℕ → Packet → Front → Item Classes
+item_in shift known bytes p (fronts.Written w) = let packet = opened_in shift known p.opened in item_of packet (recorded_of p.opened.stream.now (values_at packet bytes w) w.event)
+item_in shift known bytes p (fronts.Event r) = item_of (opened_in shift known p.opened) (recorded_of p.opened.stream.now (values_of known) r)
+item_in shift known bytes p (fronts.Lost count) = let packet = opened_in shift known p.opened in lost (gap_of packet count packet.clock)
+item_in shift known bytes p (fronts.Discarded count) = let packet = opened_in shift known p.opened in discarded (gap_of packet count packet.until)
 
 -- how many gaps are to be told
 abbrev pub one_if_some : Option ℕ → ℕ
@@ -47,7 +72,7 @@ pub record Within (bytes : List ℕ) (p : Packet) : Type 0 where
 
 -- the next item of a packet, and what is left then; or its end; or its fault
 abbrev pub TakesItem : Shift → (Option Moment → Run Classes) → Run Classes → Packet → Known → List ℕ → Result (Option Front) StreamFault → Type 0
-TakesItem shift follows old p known bytes (Ok (Some front)) = old ≡ before (item_in shift known p front ∷ []) (left_in shift known bytes follows p)
+TakesItem shift follows old p known bytes (Ok (Some front)) = old ≡ before (item_in shift known bytes p front ∷ []) (left_in shift known bytes follows p)
 TakesItem shift follows old p known bytes (Ok None) = old ≡ follows p.clock
 TakesItem shift follows old p known bytes (Err fault) = (old ≡ stops (Some fault) p.opened.start) ⊎ (fault ≡ faults.NoMemory)
 
@@ -56,3 +81,19 @@ abbrev pub TakesRoom : ℕ → ℕ → Result (Option Front) StreamFault → Typ
 TakesRoom old new (Ok (Some front)) = new < old
 TakesRoom old new (Ok None) = new ≤ old
 TakesRoom old new (Err fault) = Unit {0}
+
+-- where texts are written, this one is that of the event record which stands where it was read
+pub record IsWritten (writes : Bool) (packet : Opened Classes) (stream : StreamClass) (bytes part line : List ℕ) (w : WrittenRecord) : Type 0 where
+  pub asked : IsTrue writes
+  pub stands : record_at packet bytes w.before w.begin ≡ Ok (recorded_of stream (values_at packet bytes w) w.event)
+  pub same : packet_values (values_at packet bytes w) ≡ packet.values
+  pub begins : w.begin ≤ packet.content
+  pub held : w.end ≤ length line
+  pub text : take w.end line ≡ values_text part stream w.event.event.now (values_at packet bytes w)
+
+-- an item that has no values in the scopes has its text in the line
+abbrev pub HoldsFront : Bool → Shift → Known → List ℕ → List ℕ → List ℕ → Packet → Front → Type 0
+HoldsFront writes shift known bytes part line p (fronts.Written w) = IsWritten writes (opened_in shift known p.opened) p.opened.stream.now bytes part line w
+HoldsFront writes shift known bytes part line p (fronts.Event r) = Unit {0}
+HoldsFront writes shift known bytes part line p (fronts.Lost count) = Unit {0}
+HoldsFront writes shift known bytes part line p (fronts.Discarded count) = Unit {0}

@@ -7,7 +7,7 @@ use Rattle.ctf_packet.specs.Items.{Run, stops, before, from_bytes}
 use Rattle.ctf_packet.specs.Scopes.{Values}
 use Rattle.ctf_packet.specs.Views.{values_of, packet_values}
 use Rattle.ctf_packet.specs.declared.fault.StreamFault.{StreamFault}
-use Rattle.ctf_stream.specs.Coming.{opened_in, left_in, item_in, room_in}
+use Rattle.ctf_stream.specs.Coming.{opened_in, left_in, item_in, room_in, HoldsFront}
 use Rattle.ctf_stream.specs.Fetching.{OrNoMemory, behind_packet, FetchedAt}
 use Rattle.ctf_stream.specs.declared.cut.CutPoint.{CutPoint}
 use Rattle.ctf_stream.specs.declared.packet.Packet.{Packet}
@@ -61,6 +61,15 @@ IsPartOf values text (Some p) = text ≡ packet_part p.opened.stream.now.packet_
 abbrev pub HasPart : Course → Type 0
 HasPart c = IsPartOf (packet_values (values_of c.scopes)) c.part c.packet
 
+-- the text of the event record in front was written, where that has no values
+abbrev pub HoldsIn : Course → Option Packet → Front → Type 0
+HoldsIn c (Some p) front = HoldsFront c.writes c.cut.shift c.scopes c.buffer c.part c.line.items p front
+HoldsIn c None front = Unit {0}
+
+abbrev pub HoldsFound : Course → Option Front → Type 0
+HoldsFound c (Some front) = HoldsIn c c.packet front
+HoldsFound c None = Unit {0}
+
 abbrev pub room_within : Option Packet → ℕ
 room_within None = 0
 room_within (Some p) = room_in p
@@ -71,11 +80,11 @@ room_of c = 11 * (most_taken - c.taken) + room_within c.packet
 
 -- the items of the packet at hand give the next one, and the rest is to come; or they are over, and what is to come
 -- stays; or a fault stands in the packet
-abbrev pub StepsWithin : Run Classes → Run Classes → CutPoint → Known → Option Packet → Result (Option Front) StreamFault → Type 0
-StepsWithin old new cut known (Some p) (Ok (Some front)) = old ≡ before (item_in cut.shift known p front ∷ []) new
-StepsWithin old new cut known None (Ok (Some front)) = ⊥
-StepsWithin old new cut known packet (Ok None) = (old ≡ new) × (packet ≡ None)
-StepsWithin old new cut known packet (Err fault) = OrNoMemory (λ f. old ≡ stops (Some f) cut.at) fault
+abbrev pub StepsWithin : Run Classes → Run Classes → CutPoint → Known → List ℕ → Option Packet → Result (Option Front) StreamFault → Type 0
+StepsWithin old new cut known bytes (Some p) (Ok (Some front)) = old ≡ before (item_in cut.shift known bytes p front ∷ []) new
+StepsWithin old new cut known bytes None (Ok (Some front)) = ⊥
+StepsWithin old new cut known bytes packet (Ok None) = (old ≡ new) × (packet ≡ None)
+StepsWithin old new cut known bytes packet (Err fault) = OrNoMemory (λ f. old ≡ stops (Some f) cut.at) fault
 
 -- the next packet is at hand, and what is to come stays; or the stream ends; or a fault stands at the cut point
 abbrev pub Enters : Run Classes → Run Classes → CutPoint → List ℕ → Result Bool StreamFault → Type 0
@@ -90,11 +99,11 @@ EntersRoom old new (Ok false) = new ≤ old
 EntersRoom old new (Err fault) = Unit {0}
 
 -- the next item, and the rest is to come; or the end; or a fault
-abbrev pub Advances : Run Classes → Run Classes → CutPoint → Known → Option Packet → List ℕ → Result (Option Front) StreamFault → Type 0
-Advances old new cut known (Some p) left (Ok (Some front)) = old ≡ before (item_in cut.shift known p front ∷ []) new
-Advances old new cut known None left (Ok (Some front)) = ⊥
-Advances old new cut known packet left (Ok None) = (old ≡ stops None cut.at) × (left ≡ [])
-Advances old new cut known packet left (Err fault) = OrNoMemory (λ f. old ≡ stops (Some f) cut.at) fault
+abbrev pub Advances : Run Classes → Run Classes → CutPoint → Known → List ℕ → Option Packet → List ℕ → Result (Option Front) StreamFault → Type 0
+Advances old new cut known bytes (Some p) left (Ok (Some front)) = old ≡ before (item_in cut.shift known bytes p front ∷ []) new
+Advances old new cut known bytes None left (Ok (Some front)) = ⊥
+Advances old new cut known bytes packet left (Ok None) = (old ≡ stops None cut.at) × (left ≡ [])
+Advances old new cut known bytes packet left (Err fault) = OrNoMemory (λ f. old ≡ stops (Some f) cut.at) fault
 
 -- an item is one of the packet at hand, and no packet is at hand at the end
 abbrev pub IsOfPacket : Option Packet → Option Front → Type 0

@@ -21,6 +21,8 @@ pub record Reader : Type 0 where
   pub name : List ℕ
   -- whether its source tells its bytes
   pub tells : Bool
+  -- whether event records are told as texts, where they can
+  pub writes : Bool
   pub ahead : Ahead
   -- what is to come behind that, where the source tells
   pub behind : Run Classes

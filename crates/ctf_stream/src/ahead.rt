@@ -25,6 +25,7 @@ fn time_of(front: &Front, packet: &Packet) -> Option<i64>
 {
     let clock = match front {
         Front::Event(record) => record.clock,
+        Front::Written(written) => written.event.clock,
         Front::Discarded(_) => packet.opened.clock,
         Front::Lost(_) => packet.opened.clock,
     };

@@ -7,14 +7,14 @@ ghost use Rattle.ctf_packet.specs.Packets as packets;
 ghost use Rattle.ctf_packet.specs.Scopes.{Values};
 ghost use Rattle.ctf_packet.specs.Views.{opened_of};
 ghost use Rattle.ctf_stream.specs.Coming.{TakesRoom};
-ghost use Rattle.ctf_stream.specs.Shown.{Shows, IsMade};
+ghost use Rattle.ctf_stream.specs.Shown.{Tells, IsMadeTold, IsAsked};
 ghost use Rattle.ctf_stream.specs.Standing.{item_at};
 ghost use Rattle.ctf_stream.specs.Fetching.{longest_bytes};
-ghost use Rattle.ctf_stream.specs.Course.{coming_of, most_taken, Stands, room_of, StepsWithin, Enters, EntersRoom, Advances, IsOfPacket, HasPart};
+ghost use Rattle.ctf_stream.specs.Course.{coming_of, most_taken, Stands, room_of, StepsWithin, Enters, EntersRoom, Advances, IsOfPacket, HasPart, HoldsIn, HoldsFound};
 
 use crate::buffer::Buffer;
 use crate::cut::CutPoint;
-use crate::item::{Event, Gap, Item};
+use crate::item::{Event, EventText, Gap, Item, Told};
 use crate::packet::{Front, Packet};
 use crate::part::PacketPart;
 use ctf_bits::Source;
@@ -36,7 +36,11 @@ pub(crate) struct Course<'a> {
     /// What the lines of its event records share.
     pub(crate) part: PacketPart,
     /// Memory for the next event records.
-    spares: Spares,
+    pub(crate) spares: Spares,
+    /// Whether event records are read as texts, where they can.
+    pub(crate) writes: bool,
+    /// The text of the event record in front, if it was read as that. Behind it stand any bytes.
+    pub(crate) line: Vec<u8>,
     /// How many bytes were taken from the source.
     pub(crate) taken: u64,
 }
@@ -48,6 +52,7 @@ impl<'a> Course<'a> {
         ensures packet { result.packet ≡ None }
         ensures buffer { result.buffer ≡ [] }
         ensures taken { result.taken ≡ cut.entry.at }
+        ensures writes { result.writes ≡ false }
     {
         Course {
             cut,
@@ -56,6 +61,8 @@ impl<'a> Course<'a> {
             scopes: Scopes::new(),
             part: PacketPart::new(alloc),
             spares: Spares::new(alloc),
+            writes: false,
+            line: Vec::new(alloc),
             taken: cut.at,
         }
     }
@@ -68,12 +75,14 @@ impl<'a> Course<'a> {
         ensures packet { self.new.packet ≡ None }
         ensures buffer { self.new.buffer ≡ [] }
         ensures taken { self.new.taken ≡ self.old.taken }
+        ensures writes { self.new.writes ≡ self.old.writes }
     {
         self.packet = None;
         self.buffer = Buffer::new(alloc);
         self.scopes = Scopes::new();
         self.part = PacketPart::new(alloc);
         self.spares = Spares::new(alloc);
+        self.line = Vec::new(alloc);
     }
 
     /// The next item, out of a source. `None` where the stream ends.
@@ -89,11 +98,13 @@ impl<'a> Course<'a> {
         ensures tells { IsTrue (S.tells source.old) → IsTrue (S.tells source.new) }
         ensures same_end { IsTrue (S.tells source.old) → S.ending source.new ≡ S.ending source.old }
         ensures advances { let ending = S.ending source.old in
-            IsTrue (S.tells source.old) → Advances (coming_of ending (S.left source.old) self.old) (coming_of ending (S.left source.new) self.new) self.new.cut self.new.scopes self.new.packet (S.left source.new) result }
+            IsTrue (S.tells source.old) → Advances (coming_of ending (S.left source.old) self.old) (coming_of ending (S.left source.new) self.new) self.new.cut self.new.scopes self.new.buffer self.new.packet (S.left source.new) result }
         ensures counted { IsTrue (S.tells source.old) → self.new.taken + length (S.left source.new) ≡ self.old.taken + length (S.left source.old) }
         ensures stands { OnOk result (Stands self.new) }
         ensures part { OnOk result (HasPart self.new) }
         ensures found { IfOk result (IsOfPacket self.new.packet) }
+        ensures holds { IfOk result (HoldsFound self.new) }
+        ensures writes { self.new.writes ≡ self.old.writes }
         ensures trace { self.new.cut.trace ≡ self.old.cut.trace }
         ensures room { TakesRoom (room_of self.old) (room_of self.new) result }
         ensures forward { self.old.taken ≤ self.new.taken }
@@ -129,6 +140,7 @@ impl<'a> Course<'a> {
         ensures part { OnOk result (HasPart self.new) }
         ensures none { IfOk result (λ found. found ≡ false → self.new.packet ≡ None) }
         ensures room { EntersRoom (room_of self.old) (room_of self.new) result }
+        ensures writes { self.new.writes ≡ self.old.writes }
         ensures cut { self.new.cut ≡ self.old.cut }
         ensures behind { self.old.taken ≤ self.new.taken }
         ensures near { self.new.taken ≤ self.old.taken + longest_bytes + 1 }
@@ -163,13 +175,15 @@ impl<'a> Course<'a> {
     fn step_within(&mut self, alloc: Global) -> Result<Option<Front<'a>>, StreamFault>
         requires stands { Stands self.old }
         requires part { HasPart self.old }
-        ensures steps { (ending : Ending) (left : List ℕ) → StepsWithin (coming_of ending left self.old) (coming_of ending left self.new) self.new.cut self.new.scopes self.new.packet result }
+        ensures steps { (ending : Ending) (left : List ℕ) → StepsWithin (coming_of ending left self.old) (coming_of ending left self.new) self.new.cut self.new.scopes self.new.buffer self.new.packet result }
         ensures stands { OnOk result (Stands self.new) }
         ensures part { OnOk result (HasPart self.new) }
         ensures taken { self.new.taken ≡ self.old.taken }
         ensures room { TakesRoom (room_of self.old) (room_of self.new) result }
         ensures cut { OnErr result (self.new.cut ≡ self.old.cut) }
         ensures found { IfOk result (IsOfPacket self.new.packet) }
+        ensures holds { IfOk result (HoldsFound self.new) }
+        ensures writes { self.new.writes ≡ self.old.writes }
         ensures trace { self.new.cut.trace ≡ self.old.cut.trace }
     {
         let packet = match &mut self.packet {
@@ -179,8 +193,11 @@ impl<'a> Course<'a> {
         match packet.next(
             alloc,
             self.buffer.as_slice(),
+            self.writes,
+            self.part.as_slice(),
             &mut self.spares,
             &mut self.scopes,
+            &mut self.line,
         ) {
             Err(fault) => Err(fault),
             Ok(Some(front)) => Ok(Some(front)),
@@ -193,10 +210,12 @@ impl<'a> Course<'a> {
     }
 
     /// The item in front, of the packet at hand. `name` is the stream's.
-    pub(crate) fn item<'r>(&'r self, front: &'r Front<'a>, name: &'r str) -> Option<Item<'r>>
-        requires { HasPart self.now }
-        ensures shows { Shows self.now.cut.trace.now name.now (item_at self.now self.now.packet front.now) result }
-        ensures made { IfSome result IsMade }
+    pub(crate) fn told<'r>(&'r self, front: &'r Front<'a>, name: &'r str) -> Option<Told<'r>>
+        requires part { HasPart self.now }
+        requires holds { HoldsIn self.now self.now.packet front.now }
+        ensures tells { Tells self.now.cut.trace.now name.now (item_at self.now self.now.packet front.now) result }
+        ensures made { IfSome result IsMadeTold }
+        ensures asked { IfSome result (IsAsked self.now.writes) }
     {
         let packet = match &self.packet {
             None => return None,
@@ -204,28 +223,32 @@ impl<'a> Course<'a> {
         };
         let opened = &packet.opened;
         match front {
-            Front::Event(record) => Some(Item::Event(Event {
+            Front::Event(record) => Some(Told::Item(Item::Event(Event {
                 trace: self.cut.trace,
                 stream: opened.stream,
                 class: record.event,
                 moment: record.clock,
                 scopes: &self.scopes,
                 part: Some(self.part.as_slice()),
+            }))),
+            Front::Written(written) => Some(Told::Text(EventText {
+                moment: written.event.clock,
+                text: &self.line[..written.end],
             })),
-            Front::Discarded(count) => Some(Item::Discarded(Gap {
+            Front::Discarded(count) => Some(Told::Item(Item::Discarded(Gap {
                 count: *count,
                 moment: opened.clock,
                 from: opened.before,
                 to: opened.until,
                 name,
-            })),
-            Front::Lost(count) => Some(Item::Lost(Gap {
+            }))),
+            Front::Lost(count) => Some(Told::Item(Item::Lost(Gap {
                 count: *count,
                 moment: opened.clock,
                 from: opened.before,
                 to: opened.clock,
                 name,
-            })),
+            }))),
         }
     }
 
@@ -240,6 +263,7 @@ impl<'a> Course<'a> {
         ensures empty { self.new.buffer ≡ [] }
         ensures scopes { self.new.scopes ≡ self.old.scopes }
         ensures taken { self.new.taken ≡ self.old.taken }
+        ensures writes { self.new.writes ≡ self.old.writes }
     {
         self.packet = None;
         self.cut.reached = Some(reached);

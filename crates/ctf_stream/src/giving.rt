@@ -1,9 +1,12 @@
 //! Items that are given away.
 
-ghost use Rattle.std.specs.Prelude.{◌≡◌, None, IsSome, length, IfOk, OnOk};
+ghost use Rattle.std.specs.Prelude.{◌≡◌, ◌≤◌, ◌*◌, ◌^◌, None, Ok, IsSome, length, IfOk, OnOk};
 ghost use Rattle.ctf_decode.specs.Known.{value_at, without_value};
-ghost use Rattle.ctf_packet.specs.Views.{values_of, packet_values};
-ghost use Rattle.ctf_stream.specs.Course.{Stands};
+ghost use Rattle.ctf_clock.specs.declared.moment.Shift.{Shift};
+ghost use Rattle.ctf_packet.specs.Classes.{stream_form};
+ghost use Rattle.ctf_packet.specs.Records.{record_at};
+ghost use Rattle.ctf_packet.specs.Views.{values_of, packet_values, opened_of, recorded_of};
+ghost use Rattle.ctf_stream.specs.Course.{Stands, HoldsIn};
 ghost use Rattle.ctf_stream.specs.Owned.{item_of, IsOf, with_scope};
 ghost use Rattle.ctf_stream.specs.Reader.{item};
 ghost use Rattle.ctf_stream.specs.Standing.{item_at};
@@ -11,10 +14,11 @@ ghost use Rattle.ctf_stream.specs.Standing.{item_at};
 use crate::copy::copy;
 use crate::course::Course;
 use crate::owned::{OwnedEvent, OwnedGap, OwnedItem};
-use crate::packet::Front;
+use crate::packet::{Front, WrittenRecord};
 use ctf_class::Scope;
 use ctf_decode::Scopes;
 use ctf_list::{NoMemory, Text};
+use ctf_packet::{EventRecord, OpenPacket, Spares, next_record};
 use std::alloc::Global;
 
 impl<'a> Course<'a> {
@@ -27,6 +31,7 @@ impl<'a> Course<'a> {
     ) -> Result<OwnedItem<'a>, NoMemory>
         requires stands { Stands self.old }
         requires within { IsSome self.old.packet }
+        requires holds { HoldsIn self.old self.old.packet front.now }
         ensures given { IfOk result (λ x. item_at self.old self.old.packet front.now ≡ item (item_of x self.old.taken (length self.old.buffer))) }
         ensures of { IfOk result (IsOf self.old.cut.trace.now name.now) }
         ensures cut { self.new.cut ≡ self.old.cut }
@@ -34,7 +39,8 @@ impl<'a> Course<'a> {
         ensures buffer { self.new.buffer ≡ self.old.buffer }
         ensures taken { self.new.taken ≡ self.old.taken }
         ensures part { self.new.part ≡ self.old.part }
-        ensures values { packet_values (values_of self.new.scopes) ≡ packet_values (values_of self.old.scopes) }
+        ensures writes { self.new.writes ≡ self.old.writes }
+        ensures values { OnOk result (packet_values (values_of self.new.scopes) ≡ packet_values (values_of self.old.scopes)) }
     {
         let packet = match &self.packet {
             None => unreachable!(),
@@ -49,6 +55,19 @@ impl<'a> Course<'a> {
                 moment: record.clock,
                 scopes: take_values(alloc, &mut self.scopes)?,
             })),
+            Front::Written(written) => {
+                let bytes = self.buffer.as_slice();
+                let spares = &mut self.spares;
+                let scopes = &mut self.scopes;
+                let record = read_again(alloc, opened, bytes, written, spares, scopes)?;
+                Ok(OwnedItem::Event(OwnedEvent {
+                    trace: self.cut.trace,
+                    stream: opened.stream,
+                    class: record.event,
+                    moment: record.clock,
+                    scopes: take_values(alloc, &mut self.scopes)?,
+                }))
+            }
             Front::Discarded(count) => Ok(OwnedItem::Discarded(OwnedGap {
                 count: *count,
                 moment: opened.clock,
@@ -64,6 +83,35 @@ impl<'a> Course<'a> {
                 name: name.clone()?,
             })),
         }
+    }
+}
+
+/// Reads an event record once more, for its values.
+fn read_again<'a>(
+    alloc: Global,
+    packet: &OpenPacket<'a>,
+    bytes: &[u8],
+    written: &WrittenRecord<'a>,
+    spares: &mut Spares,
+    scopes: &mut Scopes,
+) -> Result<EventRecord<'a>, NoMemory>
+    requires start { written.now.begin ≤ packet.now.content }
+    requires content { packet.now.content ≤ 2 ^ 62 }
+    requires held { packet.now.content ≤ 8 * length bytes.now }
+    ensures records { (shift : Shift) → packet.now.line ≡ (stream_form shift packet.now.stream.now).line → IfOk result (λ r. record_at (opened_of shift (packet_values (values_of scopes.old)) packet.now) bytes.now written.now.before written.now.begin ≡ Ok (recorded_of packet.now.stream.now (values_of scopes.new) r)) }
+    ensures packet { OnOk result (packet_values (values_of scopes.new) ≡ packet_values (values_of scopes.old)) }
+{
+    match next_record(
+        alloc,
+        packet,
+        bytes,
+        written.before,
+        written.begin,
+        spares,
+        scopes,
+    ) {
+        Ok(record) => Ok(record),
+        Err(_) => Err(NoMemory),
     }
 }
 

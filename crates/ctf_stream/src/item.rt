@@ -46,6 +46,24 @@ pub struct Gap<'r> {
     pub name: &'r str,
 }
 
+/// An event record (CTF 1.8.3, section 6), as the text that stands for it.
+#[derive(Clone, Copy, Debug)]
+pub struct EventText<'r> {
+    /// The clock behind its header, where the stream has one.
+    pub moment: Option<Moment>,
+    /// Its text in its line, behind the stamp: the host, the name and the scopes.
+    pub text: &'r [u8],
+}
+
+/// What a reader tells of the item in front of it.
+#[derive(Clone, Copy, Debug)]
+pub enum Told<'r> {
+    /// The item, with its values.
+    Item(Item<'r>),
+    /// An event record that was read as text.
+    Text(EventText<'r>),
+}
+
 impl<'r> Event<'r> {
     /// Its time, in nanoseconds since the epoch.
     pub fn time(&self) -> Option<i64>

@@ -14,6 +14,6 @@ mod part;
 mod reader;
 
 pub use ahead::Ahead;
-pub use item::{Event, Gap, Item};
+pub use item::{Event, EventText, Gap, Item, Told};
 pub use owned::{OwnedEvent, OwnedGap, OwnedItem};
 pub use reader::StreamReader;

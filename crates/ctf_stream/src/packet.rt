@@ -1,15 +1,18 @@
 //! The packet at hand.
 
-ghost use Rattle.std.specs.Prelude.{◌≡◌, ◌≤◌, Option, OnOk, IfOk};
+ghost use Rattle.std.specs.Prelude.{◌≡◌, ◌<◌, ◌≤◌, ◌*◌, ◌^◌, Option, OnOk, IfOk, IfSome, IsTrue, length};
 ghost use Rattle.ctf_clock.specs.declared.moment.Moment.{Moment};
 ghost use Rattle.ctf_clock.specs.declared.moment.Shift.{Shift};
+ghost use Rattle.ctf_line.specs.Making.{Makes};
 ghost use Rattle.ctf_packet.specs.Classes.{Classes, stream_form};
 ghost use Rattle.ctf_packet.specs.Items.{Run};
-ghost use Rattle.ctf_packet.specs.Views.{values_of, packet_values};
-ghost use Rattle.ctf_stream.specs.Coming.{left_in, room_in, Within, TakesItem, TakesRoom};
+ghost use Rattle.ctf_packet.specs.Records.{record_at};
+ghost use Rattle.ctf_packet.specs.Views.{values_of, packet_values, opened_of};
+ghost use Rattle.ctf_stream.specs.Coming.{front_in, left_in, room_in, HoldsFront, Within, TakesItem, TakesRoom};
 
 use ctf_clock::Moment;
 use ctf_decode::Scopes;
+use ctf_line::{LineRecord, next_line};
 use ctf_packet::{EventRecord, OpenPacket, Spares, StreamFault, next_record};
 use std::alloc::Global;
 
@@ -32,26 +35,45 @@ pub(crate) struct Packet<'a> {
 pub(crate) enum Front<'a> {
     /// An event record, whose values are those of the scopes.
     Event(EventRecord<'a>),
+    /// An event record, whose text was written.
+    Written(WrittenRecord<'a>),
     /// So many event records were discarded before the packet.
     Discarded(u64),
     /// So many packets were lost before the packet.
     Lost(u64),
 }
 
+/// An event record whose text stands in front of a line, and where it was read.
+#[derive(Clone, Copy, Debug)]
+pub(crate) struct WrittenRecord<'a> {
+    pub(crate) event: EventRecord<'a>,
+    /// Where it begins, in bits from the packet's first one.
+    pub(crate) begin: u64,
+    /// The clock before it.
+    pub(crate) before: Option<Moment>,
+    /// The index behind its text, in bytes.
+    pub(crate) end: usize,
+}
+
 impl<'a> Packet<'a> {
     /// The next item, out of the packet's bytes; `None` behind the last one. `scopes` has the values of the
-    /// packet, and of an event record then; the memory of `spares` is used for these.
+    /// packet, and of an event record then, unless `writes` asks for its text and this could be written at the front of
+    /// `line`; `part` is the text that the lines of the packet share. The memory of `spares` is used.
     ///
     /// An error is the fault of the next event record: F6 to F11, or `NoMemory`.
     pub(crate) fn next(
         &mut self,
         alloc: Global,
         bytes: &[u8],
+        writes: bool,
+        part: &[u8],
         spares: &mut Spares,
         scopes: &mut Scopes,
+        line: &mut Vec<u8>,
     ) -> Result<Option<Front<'a>>, StreamFault>
         requires { Within bytes.now self.old }
         ensures takes { (shift : Shift) (follows : Option Moment → Run Classes) → self.old.opened.line ≡ (stream_form shift self.old.opened.stream.now).line → TakesItem shift follows (left_in shift scopes.old bytes.now follows self.old) self.new scopes.new bytes.now result }
+        ensures written { (shift : Shift) → self.old.opened.line ≡ (stream_form shift self.old.opened.stream.now).line → IfOk result (λ front. IfSome front (HoldsFront writes shift scopes.new bytes.now part.now line.new.items self.new)) }
         ensures room { TakesRoom (room_in self.old) (room_in self.new) result }
         ensures opened { self.new.opened ≡ self.old.opened }
         ensures place { self.new.place ≤ self.new.opened.content }
@@ -68,17 +90,73 @@ impl<'a> Packet<'a> {
         if self.place >= self.opened.content {
             return Ok(None);
         }
-        let record = next_record(
+        let before = self.clock;
+        let begin = self.place;
+        let made = event_at(
             alloc,
             &self.opened,
             bytes,
-            self.clock,
-            self.place,
+            before,
+            begin,
+            writes,
+            part,
             spares,
             scopes,
+            line,
         )?;
-        self.clock = record.clock;
-        self.place = record.end;
-        Ok(Some(Front::Event(record)))
+        self.clock = made.record.clock;
+        self.place = made.record.end;
+        Ok(Some(front_of(made, before, begin)))
+    }
+}
+
+/// The event record at a place of a packet, in bits from its first one, where its clock came so far: with its text, where
+/// that is asked for and can be written, or with its values.
+///
+/// An error is the fault of the record: F6 to F11, or `NoMemory`.
+#[inline(always)]
+fn event_at<'a>(
+    alloc: Global,
+    packet: &OpenPacket<'a>,
+    bytes: &[u8],
+    clock: Option<Moment>,
+    place: u64,
+    writes: bool,
+    part: &[u8],
+    spares: &mut Spares,
+    scopes: &mut Scopes,
+    line: &mut Vec<u8>,
+) -> Result<LineRecord<'a>, StreamFault>
+    requires start { place ≤ packet.now.content }
+    requires content { packet.now.content ≤ 2 ^ 62 }
+    requires held { packet.now.content ≤ 8 * length bytes.now }
+    ensures makes { (shift : Shift) → packet.now.line ≡ (stream_form shift packet.now.stream.now).line → Makes packet.now.stream.now (record_at (opened_of shift (packet_values (values_of scopes.old)) packet.now) bytes.now clock place) part.now scopes.new line.new.items result }
+    ensures within { IfOk result (λ r. r.record.end ≤ packet.now.content) }
+    ensures forward { IfOk result (λ r. place < r.record.end) }
+    ensures packet { OnOk result (packet_values (values_of scopes.new) ≡ packet_values (values_of scopes.old)) }
+    ensures text { IfOk result (λ r. IfSome r.text (λ end. (end ≤ length line.new.items) × IsTrue writes)) }
+{
+    if writes {
+        return next_line(
+            alloc, packet, part, bytes, clock, place, spares, scopes, line,
+        );
+    }
+    let record = next_record(alloc, packet, bytes, clock, place, spares, scopes)?;
+    Ok(LineRecord { record, text: None })
+}
+
+/// An event record in front, which was read from a place on, where its packet's clock came so far.
+#[inline(always)]
+fn front_of(made: LineRecord<'_>, before: Option<Moment>, begin: u64) -> Front<'_>
+    ensures { result ≡ front_in made.entry before begin }
+{
+    match made.text {
+        None => Front::Event(made.record),
+        Some(end) => Front::Written(WrittenRecord {
+            event: made.record,
+            begin,
+            before,
+            end,
+        }),
     }
 }

@@ -1,16 +1,16 @@
 //! A reader of one stream, a packet at a time.
 
-ghost use Rattle.std.specs.Prelude.{◌≡◌, ◌+◌, ◌<◌, ◌≤◌, ◌⊎◌, IsTrue, IfSome, length};
+ghost use Rattle.std.specs.Prelude.{◌≡◌, true, false, ◌+◌, ◌<◌, ◌≤◌, ◌⊎◌, IsTrue, IfSome, length};
 ghost use Rattle.ctf_packet.specs.Classes.{trace_form};
 ghost use Rattle.ctf_packet.specs.Items.{run_of};
-ghost use Rattle.ctf_stream.specs.Shown.{Shows, IsMade};
+ghost use Rattle.ctf_stream.specs.Shown.{ShowsValues, Tells, IsMade, IsMadeTold, IsAsked};
 ghost use Rattle.ctf_stream.specs.Reader.{start, fault_ahead, coming, rest_of, OrRefused, IsFetched, IsLast, IsOnLine, IsAllTaken, RoomTaken};
 ghost use Rattle.ctf_stream.specs.Owned.{Gives, GivesAhead, GivesOf, GivesRoom, KeepsBehind, ahead_behind};
 
 use crate::buffer::Buffer;
 use crate::course::Course;
 use crate::cut::CutPoint;
-use crate::item::Item;
+use crate::item::{Item, Told};
 use crate::owned::OwnedItem;
 use crate::packet::Front;
 use ctf_bits::Source;
@@ -61,6 +61,7 @@ impl<'a, S: Source + Drop> Model for StreamReader<'a, S> {
       trace = r.course.cut.trace.now;
       name = r.name;
       tells = S.tells r.source;
+      writes = r.course.writes;
       ahead = ahead_of r.course r.head;
       behind = coming_of (S.ending r.source) (S.left r.source) r.course;
       left = S.left r.source;
@@ -92,6 +93,7 @@ impl<'a, S: Source + Drop> StreamReader<'a, S> {
         ensures taken { result.taken ≡ 0 }
         ensures held { result.held ≡ 0 }
         ensures on_line { IsOnLine result }
+        ensures writes { result.writes ≡ false }
     {
         let cut = CutPoint {
             trace,
@@ -109,6 +111,15 @@ impl<'a, S: Source + Drop> StreamReader<'a, S> {
         }
     }
 
+    /// The same reader. From now on it tells event records as texts, where these can be made without the values.
+    pub fn writing(self) -> StreamReader<'a, S>
+        ensures { result ≡ record self.entry { writes = true } }
+    {
+        let mut reader = self;
+        reader.course.writes = true;
+        reader
+    }
+
     /// Leaves the item in front behind and fetches the next. An end and a fault stay.
     pub fn go_on(&mut self)
         // What was behind comes now, unless a growth was refused.
@@ -119,6 +130,7 @@ impl<'a, S: Source + Drop> StreamReader<'a, S> {
         ensures stays { IsLast self.old.ahead → self.new ≡ self.old }
         ensures room { RoomTaken self.old.ahead self.old.room self.new.room }
         ensures trace { self.new.trace ≡ self.old.trace }
+        ensures writes { self.new.writes ≡ self.old.writes }
         ensures name { self.new.name ≡ self.old.name }
 
         // The bytes taken are those that the source gave, and no more than the next item needs.
@@ -162,6 +174,7 @@ impl<'a, S: Source + Drop> StreamReader<'a, S> {
         ensures stays { IsLast self.old.ahead → self.new ≡ self.old }
         ensures room { GivesRoom self.old.room self.new.room result }
         ensures trace { self.new.trace ≡ self.old.trace }
+        ensures writes { self.new.writes ≡ self.old.writes }
         ensures name { self.new.name ≡ self.old.name }
 
         // The bytes taken are those that the source gave, and no more than the item needs.
@@ -181,6 +194,7 @@ impl<'a, S: Source + Drop> StreamReader<'a, S> {
         ensures stays { IsFetched self.old.ahead → self.new ≡ self.old }
         ensures room { self.new.room ≤ self.old.room }
         ensures trace { self.new.trace ≡ self.old.trace }
+        ensures writes { self.new.writes ≡ self.old.writes }
         ensures name { self.new.name ≡ self.old.name }
         ensures tells { IsTrue self.old.tells → IsTrue self.new.tells }
         ensures counted { IsTrue self.old.tells → self.new.taken + length self.new.left ≡ self.old.taken + length self.old.left }
@@ -204,6 +218,7 @@ impl<'a, S: Source + Drop> StreamReader<'a, S> {
         ensures behind { KeepsBehind self.old.behind self.new.behind result }
         ensures room { GivesRoom self.old.room self.new.room result }
         ensures trace { self.new.trace ≡ self.old.trace }
+        ensures writes { self.new.writes ≡ self.old.writes }
         ensures name { self.new.name ≡ self.old.name }
         ensures tells { self.new.tells ≡ self.old.tells }
         ensures left { self.new.left ≡ self.old.left }
@@ -230,16 +245,30 @@ impl<'a, S: Source + Drop> StreamReader<'a, S> {
         }
     }
 
-    /// The item in front, if one stands there. No memory is taken.
-    pub fn head(&self) -> Option<Item<'_>>
-        ensures shows { Shows self.now.trace self.now.name self.now.ahead result }
-        ensures made { IfSome result IsMade }
+    /// The item in front, if one stands there: an event record as a text, if it was read as that. No memory is taken.
+    pub fn told(&self) -> Option<Told<'_>>
+        ensures tells { Tells self.now.trace self.now.name self.now.ahead result }
+        ensures made { IfSome result IsMadeTold }
+        ensures asked { IfSome result (IsAsked self.now.writes) }
     {
         match &self.head {
-            Head::Item(front) => self.course.item(front, self.name.as_str()),
+            Head::Item(front) => self.course.told(front, self.name.as_str()),
             Head::Start => None,
             Head::Ended => None,
             Head::Fault(_) => None,
+        }
+    }
+
+    /// The item in front, if one stands there, with its values; `None` also of an event record that was read as a text. No
+    /// memory is taken.
+    pub fn head(&self) -> Option<Item<'_>>
+        ensures shows { ShowsValues self.now.writes self.now.trace self.now.name self.now.ahead result }
+        ensures made { IfSome result IsMade }
+    {
+        match self.told() {
+            Some(Told::Item(item)) => Some(item),
+            Some(Told::Text(_)) => None,
+            None => None,
         }
     }
 

@@ -8,3 +8,4 @@ pub mod DecimalLemmas
 pub mod DigitsLemmas
 pub mod HexadecimalLemmas
 pub mod PatternLemmas
+pub mod StandingLemmas

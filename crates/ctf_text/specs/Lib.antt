@@ -3,4 +3,5 @@ pub mod Labels
 pub mod Lines
 pub mod Numbers
 pub mod Rows
+pub mod Standing
 pub mod Texts

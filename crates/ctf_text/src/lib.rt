@@ -13,13 +13,15 @@ mod packet;
 mod pattern;
 mod record;
 mod room;
+mod standing;
 mod text;
 mod value;
 mod whole;
 
 pub use ctf_class::escaped;
 pub use packet::put_packet_part;
-pub use record::put_record;
+pub use record::{put_comma, put_front, put_record};
 pub use room::with_room;
+pub use standing::{Standing, put_standing};
 pub use value::put_value;
 pub use whole::{packet_part, record_text, value_text};

@@ -35,11 +35,30 @@ pub fn put_record(
     ensures text { IfOk result (λ end. take end buffer.new.items ≡ take at buffer.old.items ++ lines.record_text packet.now stream.now event.now (option_map val (option_copied shared.entry)) (option_map val (option_copied own.entry)) (val fields.now)) }
     ensures held { IfOk result (λ end. end ≤ vec_len buffer.new) }
 {
-    let end = put_heading(&event.heading, buffer, at)?;
-    let end = put_shared_part(packet, buffer, end)?;
+    let end = put_front(&event.heading, packet, buffer, at)?;
     let end = put_scope(stream.event_context(), shared, buffer, end)?;
     let end = put_scope(event.context(), own, buffer, end)?;
     put_value(&event.fields, fields, buffer, end)
+}
+
+/// Writes what stands before the scopes of an event record at an index of a buffer, and gives the index behind it: the
+/// host, the name and, with a comma behind it, the part that the packet's event records share. What stands before the index
+/// is kept, and the buffer grows where it has no room.
+///
+/// It fails where memory is refused, and the buffer is then any buffer.
+#[inline(always)]
+pub fn put_front(
+    heading: &Heading,
+    packet: &[u8],
+    buffer: &mut Vec<u8>,
+    at: usize,
+) -> Result<usize, NoMemory>
+    requires { at ≤ vec_len buffer.old }
+    ensures text { IfOk result (λ end. take end buffer.new.items ≡ take at buffer.old.items ++ (heading_text heading.now ++ flat_map (λ text. text ++ codes ", ") (lines.if_shown packet.now))) }
+    ensures held { IfOk result (λ end. end ≤ vec_len buffer.new) }
+{
+    let end = put_heading(heading, buffer, at)?;
+    put_shared_part(packet, buffer, end)
 }
 
 /// Writes the host and the name.
@@ -102,6 +121,17 @@ fn put_followed(
     ensures held { IfOk result (λ end. end ≤ vec_len buffer.new) }
 {
     let end = put_value(class, value, buffer, at)?;
-    with_room(2, buffer, end)?;
-    Ok(put_lead(b',', buffer.as_mut_slice(), end))
+    put_comma(buffer, end)
+}
+
+/// Writes a comma and a space at an index of a buffer, and gives the index behind them. What stands before the index is
+/// kept, and the buffer grows where it has no room. It fails where memory is refused, and the buffer is then any buffer.
+#[inline(always)]
+pub fn put_comma(buffer: &mut Vec<u8>, at: usize) -> Result<usize, NoMemory>
+    requires { at ≤ vec_len buffer.old }
+    ensures text { IfOk result (λ end. take end buffer.new.items ≡ take at buffer.old.items ++ codes ", ") }
+    ensures held { IfOk result (λ end. end ≤ vec_len buffer.new) }
+{
+    with_room(2, buffer, at)?;
+    Ok(put_lead(b',', buffer.as_mut_slice(), at))
 }

@@ -18,3 +18,5 @@ mod texts;
 mod told;
 #[cfg(test)]
 mod values;
+#[cfg(test)]
+mod written;

@@ -1,6 +1,6 @@
-use Rattle.std.proofs.Common.{◌≡◌, ◌∷◌, ◌++◌, [], length, refl, sym, ap, ◌∙◌, arith}
+use Rattle.std.proofs.Common.{◌≡◌, ◌∷◌, [], length, refl, ap, arith}
 use Rattle.std.proofs.lemmas.List.{map-append, length-append}
-use Rattle.std.specs.Vec.Iter.{into_iter_items, into_iter_len}
+use Rattle.std.specs.Vec.Iter.{into_iter_items}
 use Rattle.ctf_session.specs.Inputs.{Given, inputs_from}
 use Rattle.ctf_session.proofs.Opened.{taken_more, inputs_at, same_trace}
 use Rattle.ctf_session.proofs.opening.open_all.Goals as goal

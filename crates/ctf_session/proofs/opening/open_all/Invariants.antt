@@ -1,6 +1,6 @@
-use Rattle.std.proofs.Common.{◌≡◌, ◌++◌, List, map, length}
+use Rattle.std.proofs.Common.{◌≡◌, ◌++◌, map, length}
 use Rattle.std.specs.Vec.Iter.{into_iter_items, into_iter_len}
-use Rattle.ctf_session.specs.Inputs.{Input, inputs_from}
+use Rattle.ctf_session.specs.Inputs.{inputs_from}
 use Rattle.ctf_session.specs.Opening.{EachOpens}
 use Rattle.ctf_session.proofs.opening.open_all.Given as goal
 

@@ -1,7 +1,7 @@
-use Rattle.std.proofs.Common.{rules, ◌≡◌, ◌++◌, List, map, [], ◌∷◌, length, refl, sym, ap, ◌∙◌, subst, append_assoc, append-nil, arith}
+use Rattle.std.proofs.Common.{rules, ◌≡◌, List, ◌∷◌, length, refl, sym, ap, ◌∙◌, subst, append_assoc, append-nil, arith}
 use Rattle.std.proofs.lemmas.List.{map-append}
-use Rattle.std.specs.Vec.Iter.{into_iter_items, into_iter_len}
-use Rattle.ctf_session.specs.Inputs.{Input, input_of}
+use Rattle.std.specs.Vec.Iter.{into_iter_items}
+use Rattle.ctf_session.specs.Inputs.{Input}
 use Rattle.ctf_session.specs.Opening.{EachOpens}
 use Rattle.ctf_session.proofs.Opened.{opens_next, all_taken, taken_more}
 use Rattle.ctf_session.proofs.opening.open_streams.Goals as goal
@@ -24,17 +24,17 @@ loop-name-preserved g c =
           let gone = c.in-Some.ensures.steps.1 in
           let short = ap length steps in
           omega arith;
-      opened = λ inputs each. rw c.in_ok-push.ensures.items (opens_next c.args.shift inputs _ c.loop-name.yielded (c.in-Some.name, c.in-Some.source) c.loop-name.readers.items c.new.result
+      opened = λ inputs each. rw c.in_ok-push.ensures.items (opens_next c.args.shift inputs _ c.loop-name.yielded (c.in-Some.name, c.in-Some.source) c.loop-name.readers.items c.asked.result
           (c.loop-name.invariant.opened inputs each)
-          (record {
-            told = c.new.ensures.told;
-            name = c.new.ensures.name ∙ c.from_string-name.ensures;
-            tells = c.new.ensures.tells;
-            left = c.new.ensures.left;
-            taken = c.new.ensures.taken;
-            ahead = c.new.ensures.start;
-            on_line = c.new.ensures.on_line;
-          }));
+          (rw c.asked.ensures.1 (record {
+            told = c.new-reader.ensures.told;
+            name = c.new-reader.ensures.name ∙ c.from_string-name.ensures;
+            tells = c.new-reader.ensures.tells;
+            left = c.new-reader.ensures.left;
+            taken = c.new-reader.ensures.taken;
+            ahead = c.new-reader.ensures.start;
+            on_line = c.new-reader.ensures.on_line;
+          })));
       numbers = rw (c.in_ok-push-2.ensures.items, c.loop-name.invariant.numbers, append_assoc, map-append) refl;
     }
 

@@ -1,4 +1,4 @@
-use Rattle.std.proofs.Common.{◌≡◌, ◌≤◌, None, IsTrue}
+use Rattle.std.proofs.Common.{◌≡◌, None, IsTrue}
 use Rattle.ctf_session.specs.Steps.{Tells}
 use Rattle.ctf_session.proofs.Reaching.{Reaches}
 use Rattle.ctf_session.proofs.session.print_all.Given as goal

@@ -62,6 +62,13 @@ returns-in-Some-clause-traces g c =
     rw (← c.self.view_is)
     (map-kept (λ r. r.trace) c.self.inside.readers.items c.number-number.result c.index_mut-reader.result.now c.go_on.new.self at.1.within c.index_mut-reader.ensures.value c.go_on.ensures.trace)
 
+pub returns-in-Some-clause-writes : goal.returns-in-Some-clause-writes
+returns-in-Some-clause-writes g c =
+    let at = turn_front c.self.inside.readers.items c.self.inside.stage (heap_items c.self.inside.turns) c.in-Some.turn.now _ c.number-number.result c.number-number.ensures.value c.in-Going.is c.self.invariant.stands
+    c.self.inside.turns.data.ok.0 (c.in-Some.ensures.variant.0 refl) c.in-Some.ensures.lookup c.in-Some.ensures.greatest in
+    rw (← c.self.view_is)
+    (map-kept (λ r. r.writes) c.self.inside.readers.items c.number-number.result c.index_mut-reader.result.now c.go_on.new.self at.1.within c.index_mut-reader.ensures.value c.go_on.ensures.writes)
+
 pub returns-in-Some-clause-room : goal.returns-in-Some-clause-room
 returns-in-Some-clause-room g c =
     let at = turn_front c.self.inside.readers.items c.self.inside.stage (heap_items c.self.inside.turns) c.in-Some.turn.now _ c.number-number.result c.number-number.ensures.value c.in-Going.is c.self.invariant.stands

@@ -5,7 +5,7 @@ use Rattle.ctf_merge.specs.Merges.{EachIsFetched, MergedOrRefused}
 use Rattle.std.specs.BinaryHeap.{heap_items}
 use Rattle.ctf_merge.specs.Stages.{Stands}
 use Rattle.ctf_merge.proofs.Lining.{open_coming}
-use Rattle.ctf_merge.proofs.Going.{written, length-fetched, told_at_first, each_fetched, tells_at_first, names_at_first, traces_at_first, given_at_first, on_line_at_first, all_taken_at_first}
+use Rattle.ctf_merge.proofs.Going.{written, length-fetched, told_at_first, each_fetched, tells_at_first, names_at_first, traces_at_first, writes_at_first, given_at_first, on_line_at_first, all_taken_at_first}
 use Rattle.ctf_merge.proofs.Rising.{rises_at_first}
 use Rattle.ctf_merge.proofs.merge.Merge.new.Goals as goal
 
@@ -37,6 +37,10 @@ returns-clause-names g c =
 pub returns-clause-traces : goal.returns-clause-traces
 returns-clause-traces g c =
     traces_at_first _ _ (readers_are c.args.readers.items c.deref_mut.result.now c.fetch_each.new.readers c.args.readers.len c.deref_mut.ensures.value c.args.readers.ok.0 c.fetch_each.ensures)
+
+pub returns-clause-writes : goal.returns-clause-writes
+returns-clause-writes g c =
+    writes_at_first _ _ (readers_are c.args.readers.items c.deref_mut.result.now c.fetch_each.new.readers c.args.readers.len c.deref_mut.ensures.value c.args.readers.ok.0 c.fetch_each.ensures)
 
 pub returns-clause-tells : goal.returns-clause-tells
 returns-clause-tells g c =

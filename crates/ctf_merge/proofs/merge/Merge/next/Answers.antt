@@ -85,6 +85,12 @@ returns-in-Ok-clause-traces g c =
     c.self.inside.turns.data.ok.0 (c.in-Some.ensures.variant.0 refl) c.in-Some.ensures.lookup c.in-Some.ensures.greatest in
     rw (← c.self.view_is) (map-kept (λ r. r.trace) c.self.inside.readers.items c.number-number.result c.index_mut-reader.result.now c.give.new.reader at.1.within c.index_mut-reader.ensures.value c.give.ensures.trace)
 
+pub returns-in-Ok-clause-writes : goal.returns-in-Ok-clause-writes
+returns-in-Ok-clause-writes g c =
+    let at = turn_front c.self.inside.readers.items c.self.inside.stage (heap_items c.self.inside.turns) c.in-Some.turn.now _ c.number-number.result c.number-number.ensures.value c.in-Going.is c.self.invariant.stands
+    c.self.inside.turns.data.ok.0 (c.in-Some.ensures.variant.0 refl) c.in-Some.ensures.lookup c.in-Some.ensures.greatest in
+    rw (← c.self.view_is) (map-kept (λ r. r.writes) c.self.inside.readers.items c.number-number.result c.index_mut-reader.result.now c.give.new.reader at.1.within c.index_mut-reader.ensures.value c.give.ensures.writes)
+
 pub returns-in-Ok-clause-counted : goal.returns-in-Ok-clause-counted
 returns-in-Ok-clause-counted g c =
     let at = turn_front c.self.inside.readers.items c.self.inside.stage (heap_items c.self.inside.turns) c.in-Some.turn.now _ c.number-number.result c.number-number.ensures.value c.in-Going.is c.self.invariant.stands
@@ -104,6 +110,12 @@ returns-in-Err-clause-traces g c =
     let at = turn_front c.self.inside.readers.items c.self.inside.stage (heap_items c.self.inside.turns) c.in-Some.turn.now _ c.number-number.result c.number-number.ensures.value c.in-Going.is c.self.invariant.stands
     c.self.inside.turns.data.ok.0 (c.in-Some.ensures.variant.0 refl) c.in-Some.ensures.lookup c.in-Some.ensures.greatest in
     rw (← c.self.view_is) (map-kept (λ r. r.trace) c.self.inside.readers.items c.number-number.result c.index_mut-reader.result.now c.give.new.reader at.1.within c.index_mut-reader.ensures.value c.give.ensures.trace)
+
+pub returns-in-Err-clause-writes : goal.returns-in-Err-clause-writes
+returns-in-Err-clause-writes g c =
+    let at = turn_front c.self.inside.readers.items c.self.inside.stage (heap_items c.self.inside.turns) c.in-Some.turn.now _ c.number-number.result c.number-number.ensures.value c.in-Going.is c.self.invariant.stands
+    c.self.inside.turns.data.ok.0 (c.in-Some.ensures.variant.0 refl) c.in-Some.ensures.lookup c.in-Some.ensures.greatest in
+    rw (← c.self.view_is) (map-kept (λ r. r.writes) c.self.inside.readers.items c.number-number.result c.index_mut-reader.result.now c.give.new.reader at.1.within c.index_mut-reader.ensures.value c.give.ensures.writes)
 
 pub returns-in-Err-clause-counted : goal.returns-in-Err-clause-counted
 returns-in-Err-clause-counted g c =

@@ -12,6 +12,7 @@ invariant-loop-fault g l = record {
   trace : l.self.cut.trace ≡ l.initial.self.cut.trace;
   stands : Stands l.self;
   part : HasPart l.self;
+  writes : l.self.writes ≡ l.initial.self.writes;
   room : room_of l.self ≤ room_of l.initial.self;
 }
 

@@ -1,0 +1,73 @@
+-- The scopes behind the header of an event record, one after the other, and their texts.
+use Rattle.std.proofs.Common.{◌≡◌, ℕ, List, [], ◌++◌, Option, Some, None, IfSome, take, Result, Ok, codes, option_map, refl, sym, ap, ◌∙◌, append_assoc, append-nil}
+use Rattle.std.specs.List.{flat_map}
+use Rattle.ctf_class.specs.HostAndName.{heading_text}
+use Rattle.ctf_class.specs.declared.class.Class.{Class}
+use Rattle.ctf_class.specs.declared.route.Scope.TheVariants.{StreamEventContext, EventContext, EventFields}
+use Rattle.ctf_class.specs.declared.trace.EventClass.{EventClass}
+use Rattle.ctf_class.specs.declared.trace.StreamClass.{StreamClass}
+use Rattle.ctf_decode.specs.Views.{form}
+use Rattle.ctf_line.specs.Making.{PutsScope, PutsBody}
+use Rattle.ctf_packet.specs.Records.{Body, bodied}
+use Rattle.ctf_packet.specs.Scopes.{◌>>=◌, Values, Stood, stood, scope_at, input_of, value_in, put, fault_in_record}
+use Rattle.ctf_packet.specs.declared.fault.StreamFault.{StreamFault}
+use Rattle.ctf_text.specs.Lines.{if_shown, scope_texts}
+use Rattle.ctf_text.specs.Standing.{Puts}
+use Rattle.ctf_text.specs.Texts.{value_text}
+use Rattle.ctf_text.specs.declared.standing.Standing.{Standing}
+use Rattle.ctf_text.proofs.LinesLemmas.{followed, record_chain}
+
+pub puts_none : (bytes : List ℕ) (content : ℕ) (from : Standing) (before : List ℕ) → PutsScope None bytes content from before from before
+puts_none bytes content from before values =
+    (record { value = None; end = from.place; spent = from.spent }, refl, refl, refl, sym (append-nil before))
+
+pub puts_some : (k : Class) (bytes : List ℕ) (content : ℕ) (from to : Standing) (before text after : List ℕ) → Puts (form k) (value_text k) bytes content from.place from.spent to.place to.spent before text → after ≡ text ++ codes ", " → PutsScope (Some k) bytes content from before to after
+puts_some k bytes content from to before text after puts added values =
+    let p = puts (value_in values) [] in
+    let shown = value_text k p.0 in
+    (record { value = Some p.0; end = to.place; spent = to.spent }, ap (stood fault_in_record) p.1, refl, refl, added ∙ ap followed p.2 ∙ append_assoc before shown (codes ", ") ∙ ap (λ xs. before ++ xs) (sym (append-nil (followed shown))))
+
+module _ (stream : StreamClass) (event : EventClass) (part bytes : List ℕ) (content : ℕ) where
+  abbrev behind_own : Values → Stood → Result Body StreamFault
+  behind_own v own =
+      let with_own = put EventContext own.value v in
+      scope_at fault_in_record (Some (form event.fields)) (input_of bytes content with_own) own.end own.spent >>= (λ fields. Ok (record { values = put EventFields fields.value with_own; end = fields.end }))
+
+  abbrev behind_shared : Values → Stood → Result Body StreamFault
+  behind_shared v shared =
+      let with_shared = put StreamEventContext shared.value v in
+      scope_at fault_in_record (option_map form event.context) (input_of bytes content with_shared) shared.end shared.spent >>= behind_own with_shared
+
+  opens : (values : Values) (place spent : ℕ) → bodied (option_map form stream.event_context) (option_map form event.context) (form event.fields) bytes content values place spent ≡ (scope_at fault_in_record (option_map form stream.event_context) (input_of bytes content values) place spent >>= behind_shared values)
+  unfolding bodied
+  opens values place spent = refl
+
+  pub puts_body : (from shared own : Standing) (place spent : ℕ) (front first second text : List ℕ) → front ≡ heading_text event.heading ++ flat_map followed (if_shown part)
+      → PutsScope stream.event_context bytes content from front shared first → PutsScope event.context bytes content shared first own second
+      → Puts (form event.fields) (value_text event.fields) bytes content own.place own.spent place spent second text → PutsBody stream event part bytes content from.place from.spent place text
+  puts_body from shared own place spent front first second text wrote has_shared has_own has_fields values =
+      let a = has_shared values in
+      let with_shared = put StreamEventContext a.0.value values in
+      let b = has_own with_shared in
+      let with_own = put EventContext b.0.value with_shared in
+      let f = has_fields (value_in with_own) [] in
+      let body : Body = record { values = put EventFields (Some f.0) with_own; end = place } in
+      let at_own : scope_at fault_in_record (option_map form event.context) (input_of bytes content with_shared) a.0.end a.0.spent ≡ Ok b.0 =
+      (λ i. scope_at fault_in_record (option_map form event.context) (input_of bytes content with_shared) (sym a.2 i) (sym a.3 i)) ∙ b.1
+      in
+      let at_fields : scope_at fault_in_record (Some (form event.fields)) (input_of bytes content with_own) b.0.end b.0.spent ≡ Ok (record { value = Some f.0; end = place; spent = spent }) =
+      (λ i. scope_at fault_in_record (Some (form event.fields)) (input_of bytes content with_own) (sym b.2 i) (sym b.3 i)) ∙ ap (stood fault_in_record) f.1
+      in
+      let is : bodied (option_map form stream.event_context) (option_map form event.context) (form event.fields) bytes content values from.place from.spent ≡ Ok body =
+      opens values from.place from.spent ∙ ap (λ r. r >>= behind_shared values) a.1 ∙ ap (λ r. r >>= behind_own with_shared) at_own
+      ∙ ap (λ r. r >>= (λ (fields : Stood). Ok (record { values = put EventFields fields.value with_own; end = fields.end }))) at_fields
+      in
+      let chain = record_chain [] (heading_text event.heading) (value_text event.fields f.0) (heading_text event.heading) front first second (if_shown part) (scope_texts stream.event_context a.0.value) (scope_texts event.context b.0.value) refl wrote a.4 b.4 in
+      (body, is, refl, refl, f.2 ∙ chain)
+
+  -- the same of fields that may not have been written
+  pub puts_all : (from shared own : Standing) (r : Option Standing) (front first second line : List ℕ) → front ≡ heading_text event.heading ++ flat_map followed (if_shown part)
+      → PutsScope stream.event_context bytes content from front shared first → PutsScope event.context bytes content shared first own second
+      → IfSome r (λ s. Puts (form event.fields) (value_text event.fields) bytes content own.place own.spent s.place s.spent second (take s.end line)) → IfSome r (λ s. PutsBody stream event part bytes content from.place from.spent s.place (take s.end line))
+  puts_all from shared own (Some s) front first second line wrote has_shared has_own has_fields = puts_body from shared own s.place s.spent front first second (take s.end line) wrote has_shared has_own has_fields
+  puts_all from shared own None front first second line wrote has_shared has_own has_fields = tt

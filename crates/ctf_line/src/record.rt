@@ -1,0 +1,186 @@
+//! Event records whose text is made as they are read.
+
+ghost use Rattle.std.specs.Prelude.{◌≡◌, ◌<◌, ◌≤◌, ◌*◌, ◌^◌, length, take, vec_len, option_copied, option_map, IfOk, IfSome, OnOk};
+ghost use Rattle.ctf_clock.specs.declared.moment.Shift.{Shift};
+ghost use Rattle.ctf_line.specs.Making.{Makes, MakesValues, PutsBody, PutsScope};
+ghost use Rattle.ctf_packet.specs.Classes.{stream_form};
+ghost use Rattle.ctf_decode.specs.Views.{form};
+ghost use Rattle.ctf_packet.specs.Records.{bodied, record_at};
+ghost use Rattle.ctf_packet.specs.Views.{values_of, packet_values, opened_of};
+
+use ctf_class::Class;
+use ctf_clock::Moment;
+use ctf_decode::{MOST_VALUES, Scopes};
+use ctf_packet::{EventRecord, Head, OpenPacket, Spares, StreamFault, next_head, put_body};
+use ctf_text::{Standing, put_comma, put_front, put_standing};
+use std::alloc::Global;
+
+/// The longest buffer, in bytes, that is kept for the next text. So no trace makes a reader hold a long one for each of many
+/// streams.
+const LONGEST_KEPT: usize = 65_536;
+
+/// An event record that was read.
+#[derive(Clone, Copy, Debug)]
+pub struct LineRecord<'a> {
+    pub record: EventRecord<'a>,
+    /// The index behind its text, in bytes, where that was made. Else its values are in the scopes.
+    pub text: Option<usize>,
+}
+
+/// The event record at a place of a packet, in bits from its first one, where `bytes` are the packet's and its clock
+/// came so far (CTF 1.8.3, section 6). The values of the packet's header and context are in `scopes`, and `part` is
+/// their text in the lines of the packet's event records. Where it can, it writes the text of the record at the front
+/// of `line`: the host, the name and the scopes. Elsewhere the record's values are in `scopes` then. The memory of
+/// `spares` is used.
+///
+/// An error is the first fault of the record: F6 to F11, or `NoMemory`.
+pub fn next_line<'a>(
+    alloc: Global,
+    packet: &OpenPacket<'a>,
+    part: &[u8],
+    bytes: &[u8],
+    clock: Option<Moment>,
+    place: u64,
+    spares: &mut Spares,
+    scopes: &mut Scopes,
+    line: &mut Vec<u8>,
+) -> Result<LineRecord<'a>, StreamFault>
+    requires start { place ≤ packet.now.content }
+    requires content { packet.now.content ≤ 2 ^ 62 }
+    requires held { packet.now.content ≤ 8 * length bytes.now }
+    ensures makes { (shift : Shift) → packet.now.line ≡ (stream_form shift packet.now.stream.now).line → Makes packet.now.stream.now (record_at (opened_of shift (packet_values (values_of scopes.old)) packet.now) bytes.now clock place) part.now scopes.new line.new.items result }
+    ensures within { IfOk result (λ r. r.record.end ≤ packet.now.content) }
+    ensures forward { IfOk result (λ r. place < r.record.end) }
+    ensures packet { OnOk result (packet_values (values_of scopes.new) ≡ packet_values (values_of scopes.old)) }
+    ensures text { IfOk result (λ r. IfSome r.text (λ end. end ≤ vec_len line.new)) }
+{
+    let head = next_head(alloc, packet, bytes, clock, place, spares, scopes)?;
+    keep_short(alloc, line);
+    if let Some(standing) = put_record(packet, head, part, bytes, scopes.spent(), line) {
+        if place < standing.place {
+            return Ok(LineRecord {
+                record: EventRecord {
+                    event: head.event,
+                    clock: head.clock,
+                    end: standing.place,
+                },
+                text: Some(standing.end),
+            });
+        }
+    }
+    let record = valued(alloc, packet, head, bytes, place, spares, scopes)?;
+    Ok(LineRecord { record, text: None })
+}
+
+/// Gives the memory of a long buffer back.
+#[inline(always)]
+fn keep_short(alloc: Global, line: &mut Vec<u8>) {
+    if line.len() > LONGEST_KEPT {
+        *line = Vec::new(alloc);
+    }
+}
+
+/// The event record of a header, with its values.
+fn valued<'a>(
+    alloc: Global,
+    packet: &OpenPacket<'a>,
+    head: Head<'a>,
+    bytes: &[u8],
+    place: u64,
+    spares: &mut Spares,
+    scopes: &mut Scopes,
+) -> Result<EventRecord<'a>, StreamFault>
+    requires start { head.end ≤ packet.now.content }
+    requires content { packet.now.content ≤ 2 ^ 62 }
+    requires held { packet.now.content ≤ 8 * length bytes.now }
+    requires behind { place ≤ head.end }
+    ensures values { MakesValues packet.now.stream.now head.entry (bodied (option_map form packet.now.stream.now.event_context) (option_map form head.entry.event.now.context) (form head.entry.event.now.fields) bytes.now packet.now.content (values_of scopes.old) head.entry.end scopes.old.spent) place scopes.new result }
+    ensures within { IfOk result (λ r. r.end ≤ packet.now.content) }
+    ensures forward { IfOk result (λ r. place < r.end) }
+    ensures packet { OnOk result (packet_values (values_of scopes.new) ≡ packet_values (values_of scopes.old)) }
+{
+    let stream = packet.stream;
+    let event = head.event;
+    let content = packet.content;
+    let end = put_body(
+        alloc, stream, event, bytes, head.end, content, spares, scopes,
+    )?;
+    if end == place {
+        return Err(StreamFault::EmptyEvent);
+    }
+    spares.note(end - place, scopes.spent());
+    Ok(EventRecord {
+        event,
+        clock: head.clock,
+        end,
+    })
+}
+
+/// Writes the text of the event record of a header at the front of a line, where the scopes behind the header stand in a
+/// form that can be shown without their values, and so many values were begun before.
+fn put_record(
+    packet: &OpenPacket<'_>,
+    head: Head<'_>,
+    part: &[u8],
+    bytes: &[u8],
+    spent: u64,
+    line: &mut Vec<u8>,
+) -> Option<Standing>
+    requires start { head.end ≤ packet.now.content }
+    requires content { packet.now.content ≤ 2 ^ 62 }
+    requires held { packet.now.content ≤ 8 * length bytes.now }
+    requires few { spent ≤ MOST_VALUES }
+    ensures puts { IfSome result (λ s. PutsBody packet.now.stream.now head.entry.event.now part.now bytes.now packet.now.content head.entry.end spent s.place (take s.end line.new.items)) }
+    ensures within { IfSome result (λ s. s.place ≤ packet.now.content) }
+    ensures held { IfSome result (λ s. s.end ≤ vec_len line.new) }
+{
+    let event = head.event;
+    let content = packet.content;
+    let Ok(front) = put_front(&event.heading, part, line, 0) else {
+        return None;
+    };
+    let from = Standing {
+        place: head.end,
+        spent,
+        end: front,
+    };
+    let shared = put_scope(packet.stream.event_context(), bytes, content, from, line)?;
+    let own = put_scope(event.context(), bytes, content, shared, line)?;
+    let fields = event.fields();
+    put_standing(fields, bytes, content, own.place, own.spent, line, own.end)
+}
+
+/// Writes the text of a scope, if it has a class, and a comma behind it.
+#[inline(always)]
+fn put_scope(
+    class: Option<&Class>,
+    bytes: &[u8],
+    content: u64,
+    from: Standing,
+    line: &mut Vec<u8>,
+) -> Option<Standing>
+    requires content { content ≤ 2 ^ 62 }
+    requires held { content ≤ 8 * length bytes.now }
+    requires start { from.place ≤ content }
+    requires few { from.spent ≤ MOST_VALUES }
+    requires index { from.end ≤ vec_len line.old }
+    ensures puts { IfSome result (λ to. PutsScope (option_copied class.entry) bytes.now content from (take from.end line.old.items) to (take to.end line.new.items)) }
+    ensures within { IfSome result (λ to. to.place ≤ content) }
+    ensures few { IfSome result (λ to. to.spent ≤ MOST_VALUES) }
+    ensures held { IfSome result (λ to. to.end ≤ vec_len line.new) }
+{
+    let Some(class) = class else {
+        return Some(from);
+    };
+    let to = put_standing(
+        class, bytes, content, from.place, from.spent, line, from.end,
+    )?;
+    let Ok(end) = put_comma(line, to.end) else {
+        return None;
+    };
+    Some(Standing {
+        place: to.place,
+        spent: to.spent,
+        end,
+    })
+}

@@ -1,0 +1,30 @@
+-- The text of an event record in front.
+use Rattle.std.proofs.Common.{◌≡◌, ◌-◌, Bool, List, ℕ, take, Some, ap, sym, ◌∙◌}
+use Rattle.ctf_line.specs.Texts.{values_text, event_text}
+use Rattle.ctf_clock.specs.declared.moment.Shift.{Shift}
+use Rattle.ctf_decode.specs.Known.{Known}
+use Rattle.ctf_packet.specs.Classes.{Classes}
+use Rattle.ctf_packet.specs.Items.{Event}
+use Rattle.ctf_packet.specs.Scopes.{Values}
+use Rattle.ctf_packet.specs.Views.{values_of, packet_values}
+use Rattle.ctf_stream.specs.Coming.{opened_in, values_at, IsWritten}
+use Rattle.ctf_stream.specs.Course.{IsPartOf}
+use Rattle.ctf_stream.specs.declared.packet.Packet.{Packet}
+use Rattle.ctf_stream.specs.declared.packet.WrittenRecord.{WrittenRecord}
+use Rattle.ctf_text.specs.Lines.{packet_part}
+
+module _ (writes : Bool) (shift : Shift) (known : Known) (bytes part line : List ℕ) (p : Packet) (w : WrittenRecord) where
+  abbrev pub the_event : Event Classes
+  the_event = record {
+    class = record { stream = p.opened.stream.now; event = w.event.event.now };
+    clock = w.event.clock;
+    values = values_at (opened_in shift known p.opened) bytes w;
+    packet_end = p.opened.end;
+    packet_length = p.opened.end - p.opened.start;
+  }
+
+  pub text_is : IsWritten writes (opened_in shift known p.opened) p.opened.stream.now bytes part line w → IsPartOf (packet_values (values_of known)) part (Some p) → take w.end line ≡ event_text the_event
+  text_is written made =
+      let s = p.opened.stream.now in
+      let context = ap (λ (v : Values). v.packet_context) written.same in
+      written.text ∙ ap (λ xs. values_text xs s w.event.event.now (values_at (opened_in shift known p.opened) bytes w)) (made ∙ ap (packet_part s.packet_context) (sym context))

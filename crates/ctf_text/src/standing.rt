@@ -1,0 +1,296 @@
+//! Texts of values where they stand, out of the packet's bits.
+
+ghost use Rattle.std.specs.Prelude.{ℕ, ◌+◌, ◌*◌, ◌^◌, ◌∷◌, ◌≤◌, length, take, vec_len, IfSome};
+ghost use Rattle.ctf_decode.specs.Forms as forms;
+ghost use Rattle.ctf_decode.specs.Views.{form};
+ghost use Rattle.ctf_text.specs.Rows.{row, enclosed};
+ghost use Rattle.ctf_text.specs.Standing.{Puts, PutsOne, PutsMembers};
+ghost use Rattle.ctf_text.specs.Texts as texts;
+
+use crate::mark::{put_end, put_nothing, put_ready};
+use crate::number::{LONGEST_NUMBER, put_signed_number, put_unsigned_number};
+use crate::text::put_quoted;
+use ctf_bits::{sint_within, uint_within, up};
+use ctf_class::{Align, Class, Integer, Kind, Length, Member};
+use ctf_decode::{MOST_VALUES, before_zero, bytes_at, bytes_from, zero_in};
+
+/// Where a structure ends whose text was written.
+#[derive(Clone, Copy, Debug, PartialEq, Eq)]
+pub struct Standing {
+    /// Where its value ends, in bits from the packet's first one.
+    pub place: u64,
+    /// How many values were begun so far.
+    pub spent: u64,
+    /// The index behind its text, in bytes.
+    pub end: usize,
+}
+
+/// A packet's bytes, and the place in bits where its content ends.
+#[derive(Clone, Copy, Debug)]
+struct Content<'a> {
+    bytes: &'a [u8],
+    end: u64,
+    ghost bounded: { end ≤ 2 ^ 62 },
+    ghost held: { end ≤ 8 * length bytes.now },
+}
+
+/// Where a value ends, in bits from the packet's first one, and the index behind its text.
+#[derive(Clone, Copy, Debug)]
+struct Ends {
+    place: u64,
+    text: usize,
+}
+
+/// Writes the text of the structure that stands at a place of a packet (CTF 1.8.3, section 4) at an index of a
+/// buffer, in bytes, without making its value. The place and the content's end are in bits from the packet's
+/// first one, and so many values were begun before. What stands before the index is kept, and the buffer grows
+/// where it has no room.
+///
+/// Only structures of integers, strings and texts of fixed lengths are written. `None` where the class is another
+/// one, where no value stands there, and where memory is refused; the buffer is then any buffer.
+#[inline(always)]
+pub fn put_standing(
+    class: &Class,
+    packet: &[u8],
+    content: u64,
+    place: u64,
+    spent: u64,
+    buffer: &mut Vec<u8>,
+    at: usize,
+) -> Option<Standing>
+    requires content { content ≤ 2 ^ 62 }
+    requires held { content ≤ 8 * length packet.now }
+    requires start { place ≤ content }
+    requires few { spent ≤ MOST_VALUES }
+    requires index { at ≤ vec_len buffer.old }
+    ensures puts { IfSome result (λ s. Puts (form class.now) (texts.value_text class.now) packet.now content place spent s.place s.spent (take at buffer.old.items) (take s.end buffer.new.items)) }
+    ensures within { IfSome result (λ s. s.place ≤ content) }
+    ensures few { IfSome result (λ s. s.spent ≤ MOST_VALUES) }
+    ensures held { IfSome result (λ s. s.end ≤ vec_len buffer.new) }
+{
+    let Kind::Structure { members } = &class.kind else {
+        return None;
+    };
+    let members = members.as_slice();
+    let count = members.len() as u64;
+    if count >= MOST_VALUES - spent {
+        return None;
+    }
+    let begin = class.align.up(place);
+    if begin > content {
+        return None;
+    }
+    let packet = Content {
+        bytes: packet,
+        end: content,
+    };
+    let ends = put_structure(members, &packet, begin, buffer, at)?;
+    Some(Standing {
+        place: ends.place,
+        spent: spent + 1 + count,
+        end: ends.text,
+    })
+}
+
+/// Writes the structure of these members.
+#[inline(always)]
+fn put_structure(
+    members: &[Member],
+    packet: &Content<'_>,
+    place: u64,
+    buffer: &mut Vec<u8>,
+    at: usize,
+) -> Option<Ends>
+    requires start { place ≤ packet.now.end }
+    requires index { at ≤ vec_len buffer.old }
+    ensures puts { IfSome result (λ e. PutsMembers (enclosed 123 125) members.now packet.now.bytes.now packet.now.end place e.place (take at buffer.old.items) (take e.text buffer.new.items)) }
+    ensures within { IfSome result (λ e. e.place ≤ packet.now.end) }
+    ensures held { IfSome result (λ e. e.text ≤ vec_len buffer.new) }
+{
+    if members.is_empty() {
+        let Ok(text) = put_nothing(b'{', b'}', buffer, at) else {
+            return None;
+        };
+        return Some(Ends { place, text });
+    }
+    let ends = put_members(members, packet, place, buffer, at)?;
+    let Ok(text) = put_end(b'}', buffer, ends.text) else {
+        return None;
+    };
+    Some(Ends {
+        place: ends.place,
+        text,
+    })
+}
+
+/// Writes members, the first behind `{`.
+#[inline(never)]
+fn put_members(
+    members: &[Member],
+    packet: &Content<'_>,
+    begin: u64,
+    buffer: &mut Vec<u8>,
+    at: usize,
+) -> Option<Ends>
+    requires start { begin ≤ packet.now.end }
+    requires index { at ≤ vec_len buffer.old }
+    ensures puts { IfSome result (λ e. PutsMembers (row 123) members.now packet.now.bytes.now packet.now.end begin e.place (take at buffer.old.items) (take e.text buffer.new.items)) }
+    ensures within { IfSome result (λ e. e.place ≤ packet.now.end) }
+    ensures held { IfSome result (λ e. e.text ≤ vec_len buffer.new) }
+{
+    let mut place = begin;
+    let mut text = at;
+    let mut lead = b'{';
+    for member in members {
+        let ends = put_member(lead, member, packet, place, buffer, text)?;
+        place = ends.place;
+        text = ends.text;
+        lead = b',';
+    }
+    Some(Ends { place, text })
+}
+
+/// Writes a member behind a mark.
+#[inline(always)]
+fn put_member(
+    lead: u8,
+    member: &Member,
+    packet: &Content<'_>,
+    place: u64,
+    buffer: &mut Vec<u8>,
+    at: usize,
+) -> Option<Ends>
+    requires start { place ≤ packet.now.end }
+    requires index { at ≤ vec_len buffer.old }
+    ensures puts { IfSome result (λ e. PutsOne (form member.now.class) (λ v. lead ∷ 32 ∷ texts.part_text (texts.member_part member.now) v) packet.now.bytes.now packet.now.end place e.place (take at buffer.old.items) (take e.text buffer.new.items)) }
+    ensures within { IfSome result (λ e. e.place ≤ packet.now.end) }
+    ensures held { IfSome result (λ e. e.text ≤ vec_len buffer.new) }
+{
+    let Ok(begin) = put_ready(lead, member.name.ready(), LONGEST_NUMBER, buffer, at) else {
+        return None;
+    };
+    put_part(&member.class, packet, place, buffer, begin)
+}
+
+/// Writes an integer, a string or a text of a fixed length, where there is room for a number.
+#[inline(always)]
+fn put_part(
+    class: &Class,
+    packet: &Content<'_>,
+    place: u64,
+    buffer: &mut Vec<u8>,
+    at: usize,
+) -> Option<Ends>
+    requires start { place ≤ packet.now.end }
+    requires room { at + LONGEST_NUMBER ≤ vec_len buffer.old }
+    ensures puts { IfSome result (λ e. PutsOne (form class.now) (texts.value_text class.now) packet.now.bytes.now packet.now.end place e.place (take at buffer.old.items) (take e.text buffer.new.items)) }
+    ensures within { IfSome result (λ e. e.place ≤ packet.now.end) }
+    ensures held { IfSome result (λ e. e.text ≤ vec_len buffer.new) }
+{
+    if let Kind::Integer(integer) = &class.kind {
+        return put_integer(
+            integer,
+            class.align,
+            packet,
+            place,
+            buffer.as_mut_slice(),
+            at,
+        );
+    }
+    if let Kind::String = &class.kind {
+        return put_string(packet, place, buffer, at);
+    }
+    if let Kind::Text { length } = &class.kind {
+        return put_text(length, packet, place, buffer, at);
+    }
+    None
+}
+
+/// Writes an integer.
+#[inline(always)]
+fn put_integer(
+    integer: &Integer,
+    align: Align,
+    packet: &Content<'_>,
+    place: u64,
+    line: &mut [u8],
+    at: usize,
+) -> Option<Ends>
+    requires start { place ≤ packet.now.end }
+    requires room { at + LONGEST_NUMBER ≤ length line.old }
+    ensures puts { IfSome result (λ e. PutsOne (forms.integer align integer.now) (texts.integer_text integer.now) packet.now.bytes.now packet.now.end place e.place (take at line.old) (take e.text line.new)) }
+    ensures within { IfSome result (λ e. e.place ≤ packet.now.end) }
+    ensures near { IfSome result (λ e. e.text ≤ at + LONGEST_NUMBER) }
+{
+    let size = integer.size.bits();
+    let begin = align.up(place);
+    let end = begin + u64::from(size);
+    if end > packet.end {
+        return None;
+    }
+    let text = if integer.is_signed {
+        let number = sint_within(packet.bytes, begin, size, integer.order);
+        put_signed_number(integer, number, line, at)
+    } else {
+        let number = uint_within(packet.bytes, begin, size, integer.order);
+        put_unsigned_number(integer, number, line, at)
+    };
+    Some(Ends { place: end, text })
+}
+
+/// Writes a string.
+fn put_string(packet: &Content<'_>, place: u64, buffer: &mut Vec<u8>, at: usize) -> Option<Ends>
+    requires start { place ≤ packet.now.end }
+    requires index { at ≤ vec_len buffer.old }
+    ensures puts { IfSome result (λ e. (a : ℕ) → PutsOne (forms.string a) texts.string_text packet.now.bytes.now packet.now.end place e.place (take at buffer.old.items) (take e.text buffer.new.items)) }
+    ensures within { IfSome result (λ e. e.place ≤ packet.now.end) }
+    ensures held { IfSome result (λ e. e.text ≤ vec_len buffer.new) }
+{
+    let begin = up(place, 8);
+    if begin > packet.end {
+        return None;
+    }
+    let bytes = bytes_from(packet.bytes, packet.end, begin);
+    let count = zero_in(bytes)?;
+    let Ok(text) = put_quoted(&bytes[..count], buffer, at) else {
+        return None;
+    };
+    Some(Ends {
+        place: begin + 8 * (count as u64 + 1),
+        text,
+    })
+}
+
+/// Writes a text, if its length is fixed.
+fn put_text(
+    length: &Length,
+    packet: &Content<'_>,
+    place: u64,
+    buffer: &mut Vec<u8>,
+    at: usize,
+) -> Option<Ends>
+    requires start { place ≤ packet.now.end }
+    requires index { at ≤ vec_len buffer.old }
+    ensures puts { IfSome result (λ e. (a : ℕ) → PutsOne (forms.text a length.now) texts.string_text packet.now.bytes.now packet.now.end place e.place (take at buffer.old.items) (take e.text buffer.new.items)) }
+    ensures within { IfSome result (λ e. e.place ≤ packet.now.end) }
+    ensures held { IfSome result (λ e. e.text ≤ vec_len buffer.new) }
+{
+    let Length::Fixed(count) = length else {
+        return None;
+    };
+    let begin = up(place, 8);
+    if begin > packet.end {
+        return None;
+    }
+    if *count > (packet.end - begin) / 8 {
+        return None;
+    }
+    let bytes = before_zero(bytes_at(packet.bytes, begin, *count));
+    let Ok(text) = put_quoted(bytes, buffer, at) else {
+        return None;
+    };
+    Some(Ends {
+        place: begin + 8 * *count,
+        text,
+    })
+}

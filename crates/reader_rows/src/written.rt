@@ -1,0 +1,55 @@
+//! Event records that are read as texts.
+
+use crate::reading::trace;
+use crate::texts::{SEQUENCE, TICK};
+use crate::told::{NO_SHIFT, reader};
+use ctf_bits::SliceSource;
+use ctf_stream::{Item, OwnedItem, StreamReader, Told};
+
+/// The text of the event record in front; nothing where none stands there that was read as one.
+fn text<'r>(reader: &'r StreamReader<'_, SliceSource<'_>>) -> &'r [u8] {
+    match reader.told() {
+        Some(Told::Text(event)) => event.text,
+        Some(Told::Item(_)) => b"",
+        None => b"",
+    }
+}
+
+/// A text is told where it was asked for and the class is of integers alone. The record is given by value nonetheless.
+#[test]
+fn a_text_in_front(rt: HostRuntime) {
+    let alloc = rt.alloc();
+    let trace = trace(&rt, alloc, TICK);
+    let source = SliceSource::new(&[1, 2, 3, 4, 5, 6]);
+    let mut reader = reader(alloc, &trace, source, NO_SHIFT)
+        .expect(&rt, "memory")
+        .writing();
+    reader.go_on();
+    assert_eq!(&rt; text(&reader), b"tick: { a = 1, b = 770 }".as_slice());
+    assert!(&rt; reader.head().is_none());
+    match reader.next() {
+        Ok(Some(OwnedItem::Event(event))) => assert_eq!(&rt; event.class.id, 0),
+        _ => assert!(&rt; false),
+    }
+    reader.go_on();
+    assert_eq!(&rt; text(&reader), b"tick: { a = 4, b = 1541 }".as_slice());
+    reader.go_on();
+    assert!(&rt; reader.told().is_none());
+}
+
+/// A sequence is told by its values, also where texts are asked for.
+#[test]
+fn values_in_front(rt: HostRuntime) {
+    let alloc = rt.alloc();
+    let trace = trace(&rt, alloc, SEQUENCE);
+    let source = SliceSource::new(&[0, 0, 0, 0, 9]);
+    let mut reader = reader(alloc, &trace, source, NO_SHIFT)
+        .expect(&rt, "memory")
+        .writing();
+    reader.go_on();
+    match reader.told() {
+        Some(Told::Item(Item::Event(event))) => assert_eq!(&rt; event.class.id, 0),
+        _ => assert!(&rt; false),
+    }
+    assert!(&rt; reader.head().is_some());
+}
