@@ -1,5 +1,5 @@
 -- What a route finds: lengths, tags and options.
-use Rattle.std.specs.Prelude.{ℕ, ℤ, ◌&&◌, Bool, List, [], ◌∷◌, Option, Some, None, option_and_then, option_map, slice_get}
+use Rattle.std.specs.Prelude.{◌≡◌, ℕ, ℤ, ◌&&◌, Bool, List, [], ◌∷◌, Option, Some, None, option_and_then, option_map, slice_get}
 use Rattle.std.specs.Int.Signed.{le_z}
 use Rattle.std.specs.List.{find}
 use Rattle.ctf_class.specs.declared.route.Scope.{Scope}
@@ -51,3 +51,7 @@ chosen choices z = option_map (λ (choice : Choice). choice.option) (find (λ (c
 -- the option that the tag names (CTF 1.8.3, section 4.2.2)
 abbrev pub option_at : Route → List Choice → (Scope → Option Val) → Env → Option ℕ
 option_at tag choices earlier env = option_and_then (chosen choices) (tag_of (found tag earlier env))
+
+-- whatever was decoded before, this option is named where the only member before it is an enumeration with this number
+abbrev pub FirstChooses : Route → List Choice → ℤ → ℕ → Type 0
+FirstChooses tag choices number i = (earlier : Scope → Option Val) (outer : Env) → option_at tag choices earlier ((label number ∷ []) ∷ outer) ≡ Some i

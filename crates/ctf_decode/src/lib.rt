@@ -20,6 +20,7 @@ mod walk;
 
 pub use decoding::{Decoded, decode, decode_header_into, decode_into};
 pub use fault::DecodeFault;
+pub use find::chosen_by_first;
 pub use front::{Front, decode_front};
 pub use ids::{last_id, named_id};
 pub use laws::{needs_so_much, one_stands, stands_in_whole};

@@ -2,18 +2,17 @@
 
 ghost use Rattle.std.specs.Prelude.{◌≡◌, ◌+◌, ◌≤◌, ◌<◌, [], ◌∷◌, length, map, take, IsTrue, nat_lt, true, false};
 ghost use Rattle.std.specs.Int.{next_multiple_of};
-ghost use Rattle.ctf_class.specs.declared.route.Origin.TheVariants.{Enclosing};
 ghost use Rattle.ctf_decode.specs.Forms.{parts_of};
 ghost use Rattle.ctf_decode.specs.Views.{form, member_part, val, env, input};
 ghost use Rattle.ctf_decode.specs.Walk.{walk, walk_members, walk_option, and_then, begin, open_at, as_group, as_choice};
 ghost use Rattle.ctf_decode.specs.Gives.{Found, FoundNext};
 
-use crate::find::{chosen, tag_of};
+use crate::find::{chosen_by_first, tag_of};
 use crate::leaf::{enumeration_into, integer_into};
 use crate::place::{Cursor, Frame, Packet, begin_at};
 use crate::scopes::MOST_VALUES;
 use crate::value::Value;
-use ctf_class::{Align, Class, Kind, Member, Origin, Route};
+use ctf_class::{Align, Class, Kind, Member};
 use ctf_list::{Boxed, List};
 use std::slice;
 
@@ -95,16 +94,13 @@ fn pair_into(
     else {
         return false;
     };
-    if !is_first(route) {
-        return false;
-    }
     let Ok(()) = enumeration_into(container, tag.class.align, packet, at, &mut values[0]) else {
         return false;
     };
     let Some(number) = tag_of(&values[0]) else {
         return false;
     };
-    let Some(i) = chosen(choices.as_slice(), number) else {
+    let Some(i) = chosen_by_first(route, choices.as_slice(), number) else {
         return false;
     };
     if at.spent >= MOST_VALUES {
@@ -115,21 +111,6 @@ fn pair_into(
     let before = Value::Label(number);
     let frame = Frame::Within(slice::from_ref(&before), &Frame::Top);
     chosen_into(options.as_slice(), i, packet, &frame, at, &mut values[1])
-}
-
-/// Whether a route leads to the first member of the innermost structure.
-#[inline(always)]
-fn is_first(route: &Route) -> bool
-    ensures origin { IsTrue result → route.now.origin ≡ Enclosing 0 }
-    ensures steps { IsTrue result → route.now.steps ≡ 0 ∷ [] }
-{
-    let Origin::Enclosing(out) = route.origin else {
-        return false;
-    };
-    let [first] = route.steps.as_slice() else {
-        return false;
-    };
-    out == 0 && *first == 0
 }
 
 /// Makes the option of an index the value, where it is a structure of integers.

@@ -1,2 +1,4 @@
 pub mod Scopes
+pub mod Telling
+pub mod Heading
 pub mod Records

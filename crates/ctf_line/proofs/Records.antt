@@ -6,9 +6,11 @@ use Rattle.ctf_clock.specs.declared.moment.Moment.{Moment}
 use Rattle.ctf_clock.specs.declared.moment.Shift.{Shift}
 use Rattle.ctf_decode.specs.Known.{Known}
 use Rattle.ctf_decode.specs.Views.{form}
+use Rattle.ctf_line.specs.Headers.{TellsHead}
 use Rattle.ctf_line.specs.Making.{PutsBody, MakesValues}
 use Rattle.ctf_line.specs.Texts.{values_text}
-use Rattle.ctf_packet.specs.Classes.{Classes, stream_form}
+use Rattle.ctf_line.specs.declared.header.ToldHead.{ToldHead}
+use Rattle.ctf_packet.specs.Classes.{Classes, stream_form, event_form}
 use Rattle.ctf_packet.specs.Packets.{unless}
 use Rattle.ctf_packet.specs.Records.{Headed, Body, Recorded, headed, bodied, record_at}
 use Rattle.ctf_packet.specs.Scopes.{◌>>=◌, Values, put}
@@ -41,7 +43,8 @@ module _ (shift : Shift) (o : OpenPacket) (old : Values) (bytes : List ℕ) (clo
   no_head known f (inl e) = inl (opens ∙ ap (λ h. h >>= goes) e)
   no_head known f (inr e) = inr e
 
-module _ (shift : Shift) (o : OpenPacket) (old : Values) (bytes part : List ℕ) (clock : Option Moment) (place : ℕ) (head : Head) (known : Known) where
+-- where a header is the one of its values, and so many were begun for it
+module _ (shift : Shift) (o : OpenPacket) (old : Values) (bytes part : List ℕ) (clock : Option Moment) (place : ℕ) (head : Head) (known : Values) (spent : ℕ) where
   abbrev there : Result (Recorded Classes) StreamFault
   there = stands shift o old bytes clock place
 
@@ -49,11 +52,13 @@ module _ (shift : Shift) (o : OpenPacket) (old : Values) (bytes part : List ℕ)
   behind = behind_body shift o old bytes clock place
 
   abbrev Has_head : Type 0
-  Has_head = PutsHead o.stream.now (packet_values old) (headed (stream_form shift o.stream.now) bytes o.content (packet_values old) clock place) (Ok head) known
+  Has_head =
+      (h : Headed Classes) × (headed (stream_form shift o.stream.now) bytes o.content (packet_values old) clock place ≡ Ok h) × (event_form o.stream.now head.event.now ≡ h.event) × (head.clock ≡ h.clock) × (head.end ≡ h.header.end) × (spent ≡ h.header.spent)
+      × (known ≡ put EventHeader h.header.value (packet_values old))
 
   -- the scopes behind the header, as the code reads them
   abbrev read : Result Body StreamFault
-  read = bodied (option_map form o.stream.now.event_context) (option_map form head.event.now.context) (form head.event.now.fields) bytes o.content (values_of known) head.end known.spent
+  read = bodied (option_map form o.stream.now.event_context) (option_map form head.event.now.context) (form head.event.now.fields) bytes o.content known head.end spent
 
   to_body : (g : Has_head) (r : Result Body StreamFault) → read ≡ r → there ≡ (r >>= behind g.0)
   to_body g r is =
@@ -71,10 +76,10 @@ module _ (shift : Shift) (o : OpenPacket) (old : Values) (bytes part : List ℕ)
       in
       to_body g (Ok b) is ∙ ends ∙ shown ∙ ap (λ (x : EventRecord). Ok (recorded_of o.stream.now b.values x)) (sym same)
 
-  pub text_made : (text : List ℕ) (end : ℕ) (r : EventRecord) → Has_head → PutsBody o.stream.now head.event.now part bytes o.content head.end known.spent end text → place < end → r ≡ record { event = head.event; clock = head.clock; end = end }
-      → (values : Values) × (there ≡ Ok (recorded_of o.stream.now values r)) × (packet_values values ≡ packet_values (values_of known)) × (text ≡ values_text part o.stream.now r.event.now values)
+  pub text_made : (text : List ℕ) (end : ℕ) (r : EventRecord) → Has_head → PutsBody o.stream.now head.event.now part bytes o.content head.end spent end text → place < end → r ≡ record { event = head.event; clock = head.clock; end = end }
+      → (values : Values) × (there ≡ Ok (recorded_of o.stream.now values r)) × (packet_values values ≡ packet_values known) × (text ≡ values_text part o.stream.now r.event.now values)
   text_made text end r g body further same =
-      let b = body (values_of known) in
+      let b = body known in
       let ending : r ≡ record { event = head.event; clock = head.clock; end = b.0.end } = same ∙ (λ i. record { event = head.event; clock = head.clock; end = b.2 i }) in
       let later : place < b.0.end = omega (arith, further, b.2) in
       (b.0.values, all g b.0 r b.1 later ending, b.3, b.4 ∙ ap (λ (x : EventRecord). values_text part o.stream.now x.event.now b.0.values) (sym same))
@@ -89,3 +94,12 @@ module _ (shift : Shift) (o : OpenPacket) (old : Values) (bytes part : List ℕ)
       let ends = ap (λ t. unless faults.EmptyEvent t >>= (λ some_bits. Ok (record { event = g.0.event; clock = g.0.clock; values = b.0.values; end = b.0.end }))) none in
       inl (to_body g (Ok b.0) b.1 ∙ ends ∙ ap Err (sym b.3))
   fault_made after f g (inr (inr e)) = inr e
+
+-- the same where the header was told without its value
+pub text_told : (shift : Shift) (o : OpenPacket) (old : Values) (bytes part : List ℕ) (clock : Option Moment) (place : ℕ) (told : ToldHead) (text : List ℕ) (end : ℕ) (r : EventRecord)
+    → TellsHead o.stream.now (stream_form shift o.stream.now) bytes o.content clock place told → PutsBody o.stream.now told.head.event.now part bytes o.content told.head.end told.spent end text → place < end → r ≡ record { event = told.head.event; clock = told.head.clock; end = end }
+    → (values : Values) × (stands shift o old bytes clock place ≡ Ok (recorded_of o.stream.now values r)) × (packet_values values ≡ packet_values old) × (text ≡ values_text part o.stream.now r.event.now values)
+text_told shift o old bytes part clock place told text end r tells body further same =
+    let t = tells (packet_values old) in
+    let values = put EventHeader t.0.header.value (packet_values old) in
+    text_made shift o old bytes part clock place told.head values told.spent text end r (t.0, t.1, t.2, t.3, t.4, t.5, refl) body further same

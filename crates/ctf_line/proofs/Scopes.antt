@@ -1,5 +1,5 @@
 -- The scopes behind the header of an event record, one after the other, and their texts.
-use Rattle.std.proofs.Common.{◌≡◌, ℕ, List, [], ◌++◌, Option, Some, None, IfSome, take, Result, Ok, codes, option_map, refl, sym, ap, ◌∙◌, append_assoc, append-nil}
+use Rattle.std.proofs.Common.{◌≡◌, ℕ, List, [], ◌++◌, Option, Some, None, Result, Ok, codes, option_map, refl, sym, ap, ◌∙◌, append_assoc, append-nil}
 use Rattle.std.specs.List.{flat_map}
 use Rattle.ctf_class.specs.HostAndName.{heading_text}
 use Rattle.ctf_class.specs.declared.class.Class.{Class}
@@ -64,10 +64,3 @@ module _ (stream : StreamClass) (event : EventClass) (part bytes : List ℕ) (co
       in
       let chain = record_chain [] (heading_text event.heading) (value_text event.fields f.0) (heading_text event.heading) front first second (if_shown part) (scope_texts stream.event_context a.0.value) (scope_texts event.context b.0.value) refl wrote a.4 b.4 in
       (body, is, refl, refl, f.2 ∙ chain)
-
-  -- the same of fields that may not have been written
-  pub puts_all : (from shared own : Standing) (r : Option Standing) (front first second line : List ℕ) → front ≡ heading_text event.heading ++ flat_map followed (if_shown part)
-      → PutsScope stream.event_context bytes content from front shared first → PutsScope event.context bytes content shared first own second
-      → IfSome r (λ s. Puts (form event.fields) (value_text event.fields) bytes content own.place own.spent s.place s.spent second (take s.end line)) → IfSome r (λ s. PutsBody stream event part bytes content from.place from.spent s.place (take s.end line))
-  puts_all from shared own (Some s) front first second line wrote has_shared has_own has_fields = puts_body from shared own s.place s.spent front first second (take s.end line) wrote has_shared has_own has_fields
-  puts_all from shared own None front first second line wrote has_shared has_own has_fields = tt

@@ -1,6 +1,7 @@
 //! Event records on their way to a line: as values, or as text where they can be shown without these.
 #![tactic(auto)]
 
+mod header;
 mod record;
 
 pub use record::{LineRecord, next_line};

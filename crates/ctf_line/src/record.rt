@@ -1,6 +1,6 @@
 //! Event records whose text is made as they are read.
 
-ghost use Rattle.std.specs.Prelude.{◌≡◌, ◌<◌, ◌≤◌, ◌*◌, ◌^◌, length, take, vec_len, option_copied, option_map, IfOk, IfSome, OnOk};
+ghost use Rattle.std.specs.Prelude.{◌≡◌, ◌<◌, ◌≤◌, ◌*◌, ◌^◌, length, take, vec_len, Some, option_copied, option_map, IfOk, IfSome, OnOk};
 ghost use Rattle.ctf_clock.specs.declared.moment.Shift.{Shift};
 ghost use Rattle.ctf_line.specs.Making.{Makes, MakesValues, PutsBody, PutsScope};
 ghost use Rattle.ctf_packet.specs.Classes.{stream_form};
@@ -8,6 +8,7 @@ ghost use Rattle.ctf_decode.specs.Views.{form};
 ghost use Rattle.ctf_packet.specs.Records.{bodied, record_at};
 ghost use Rattle.ctf_packet.specs.Views.{values_of, packet_values, opened_of};
 
+use crate::header::told_head;
 use ctf_class::Class;
 use ctf_clock::Moment;
 use ctf_decode::{MOST_VALUES, Scopes};
@@ -54,22 +55,47 @@ pub fn next_line<'a>(
     ensures packet { OnOk result (packet_values (values_of scopes.new) ≡ packet_values (values_of scopes.old)) }
     ensures text { IfOk result (λ r. IfSome r.text (λ end. end ≤ vec_len line.new)) }
 {
-    let head = next_head(alloc, packet, bytes, clock, place, spares, scopes)?;
     keep_short(alloc, line);
-    if let Some(standing) = put_record(packet, head, part, bytes, scopes.spent(), line) {
-        if place < standing.place {
-            return Ok(LineRecord {
-                record: EventRecord {
-                    event: head.event,
-                    clock: head.clock,
-                    end: standing.place,
-                },
-                text: Some(standing.end),
-            });
+    let told = told_head(packet, bytes, clock, place);
+    if let Some(told) = told {
+        if let Some(standing) = put_record(
+            packet, told.head, part, bytes, told.spent, place, line,
+        ) {
+            return Ok(with_text(told.head, standing));
+        }
+    }
+    let head = next_head(alloc, packet, bytes, clock, place, spares, scopes)?;
+    if told.is_none() {
+        if let Some(standing) = put_record(
+            packet,
+            head,
+            part,
+            bytes,
+            scopes.spent(),
+            place,
+            line,
+        ) {
+            return Ok(with_text(head, standing));
         }
     }
     let record = valued(alloc, packet, head, bytes, place, spares, scopes)?;
     Ok(LineRecord { record, text: None })
+}
+
+/// The event record of a header whose text was written.
+#[inline(always)]
+fn with_text<'a>(head: Head<'a>, standing: Standing) -> LineRecord<'a>
+    ensures record { result.record ≡ record { event = head.entry.event; clock = head.entry.clock; end = standing.place } }
+    ensures text { result.text ≡ Some standing.end }
+{
+    LineRecord {
+        record: EventRecord {
+            event: head.event,
+            clock: head.clock,
+            end: standing.place,
+        },
+        text: Some(standing.end),
+    }
 }
 
 /// Gives the memory of a long buffer back.
@@ -116,14 +142,15 @@ fn valued<'a>(
     })
 }
 
-/// Writes the text of the event record of a header at the front of a line, where the scopes behind the header stand in a
-/// form that can be shown without their values, and so many values were begun before.
+/// Writes the text of the event record that begins at `place` at the front of a line, where the scopes behind its header
+/// stand in a form that can be shown without their values, and so many values were begun before.
 fn put_record(
     packet: &OpenPacket<'_>,
     head: Head<'_>,
     part: &[u8],
     bytes: &[u8],
     spent: u64,
+    place: u64,
     line: &mut Vec<u8>,
 ) -> Option<Standing>
     requires start { head.end ≤ packet.now.content }
@@ -132,6 +159,7 @@ fn put_record(
     requires few { spent ≤ MOST_VALUES }
     ensures puts { IfSome result (λ s. PutsBody packet.now.stream.now head.entry.event.now part.now bytes.now packet.now.content head.entry.end spent s.place (take s.end line.new.items)) }
     ensures within { IfSome result (λ s. s.place ≤ packet.now.content) }
+    ensures forward { IfSome result (λ s. place < s.place) }
     ensures held { IfSome result (λ s. s.end ≤ vec_len line.new) }
 {
     let event = head.event;
@@ -147,7 +175,11 @@ fn put_record(
     let shared = put_scope(packet.stream.event_context(), bytes, content, from, line)?;
     let own = put_scope(event.context(), bytes, content, shared, line)?;
     let fields = event.fields();
-    put_standing(fields, bytes, content, own.place, own.spent, line, own.end)
+    let all = put_standing(fields, bytes, content, own.place, own.spent, line, own.end)?;
+    if all.place <= place {
+        return None;
+    }
+    Some(all)
 }
 
 /// Writes the text of a scope, if it has a class, and a comma behind it.

@@ -198,9 +198,10 @@ fn set_by(line: &Timeline, integer: &Integer, value: &Value, told: &mut Told) ->
     }
 }
 
-/// The moment behind an integer.
+/// The moment that is reached where an integer of this value sets the clock, if it is a moving one. `None` exactly where
+/// it is refused.
 #[inline(always)]
-fn moved_by_integer(
+pub fn moved_by_integer(
     line: &Timeline,
     integer: &Integer,
     value: &Value,

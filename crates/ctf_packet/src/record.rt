@@ -39,8 +39,8 @@ pub struct EventRecord<'a> {
     pub end: u64,
 }
 
-/// The event class of a number, or the only one.
-fn event_named(stream: &StreamClass, id: Option<i128>) -> Option<&EventClass>
+/// The event class of the number that a header tells, or the only one (CTF 1.8.3, section 6.1).
+pub fn event_named(stream: &StreamClass, id: Option<i128>) -> Option<&EventClass>
     ensures { option_map (event_form stream.now) (option_copied result) ≡ records.event_named (map (event_form stream.now) stream.now.events) id }
 {
     match id {
