@@ -3,7 +3,7 @@
 use crate::reading::trace;
 use crate::texts::{SEQUENCE, TICK};
 use crate::told::{NO_SHIFT, reader};
-use ctf_bits::SliceSource;
+use ctf_bits::{SliceSource, Source};
 use ctf_stream::{Item, OwnedItem, StreamReader, Told};
 
 /// The text of the event record in front; nothing where none stands there that was read as one.
@@ -12,6 +12,14 @@ fn text<'r>(reader: &'r StreamReader<'_, SliceSource<'_>>) -> &'r [u8] {
         Some(Told::Text(event)) => event.text,
         Some(Told::Item(_)) => b"",
         None => b"",
+    }
+}
+
+/// The number of the class of the event record in front, which is given by value; `None` where none stands there.
+fn class_given<S: Source + Drop>(reader: &mut StreamReader<'_, S>) -> Option<u64> {
+    match reader.next() {
+        Ok(Some(OwnedItem::Event(event))) => Some(event.class.id),
+        _ => None,
     }
 }
 
@@ -27,10 +35,7 @@ fn a_text_in_front(rt: HostRuntime) {
     reader.go_on();
     assert_eq!(&rt; text(&reader), b"tick: { a = 1, b = 770 }".as_slice());
     assert!(&rt; reader.head().is_none());
-    match reader.next() {
-        Ok(Some(OwnedItem::Event(event))) => assert_eq!(&rt; event.class.id, 0),
-        _ => assert!(&rt; false),
-    }
+    assert_eq!(&rt; class_given(&mut reader), Some(0));
     reader.go_on();
     assert_eq!(&rt; text(&reader), b"tick: { a = 4, b = 1541 }".as_slice());
     reader.go_on();
