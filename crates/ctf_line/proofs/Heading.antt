@@ -51,8 +51,7 @@ tells_head class shift k line clock bytes content place from to told has_class h
     let start : Telling = record { id = None; clock = clock; place = place; spent = 0 } in
     let t = subst (λ (x : Telling). Tells line (form k) bytes content x to) begins tells (value_in values) [] in
     let id = ap (event_named (stream_form shift class).events) t.3 ∙ named in
-    let header : Stood = record { value = Some t.0; end = to.place; spent = to.spent } in
-    (
+    let header : Stood = record { value = Some t.0; end = to.place; spent = to.spent } in (
       record { event = event_form class told.head.event.now; clock = Some to.clock; header = header },
       headed_is (stream_form shift class) bytes content values place (form k) line clock to.clock t.0 to.place to.spent (event_form class told.head.event.now) (ap (option_map form) has_class) has_line t.1 t.2 id,
       refl,

@@ -213,8 +213,7 @@ tells_pair line tag other i ls route choices options packet content from at (Som
     let numbers : member_ids (parts_of (map member_part (tag ∷ other ∷ []))) all ≡ named ++ ids (form m.class) w =
     ap (λ p. member_ids p all) parts ∙ ap (λ xs. (xs ++ ((named_id other.name second v ++ of_option) ++ []))) (append-nil named) ∙ ap (λ xs. named ++ ((xs ++ of_option) ++ [])) no_name ∙ ap (λ xs. named ++ xs) (append-nil of_option ∙ sym (numbered.option_here options n m w within here_is))
     in
-    let id_is : last_or from.id named ≡ at.id = ap (λ k. last_or from.id (named_id tag.name k z)) (sym class_tag) ∙ sym id in
-    (
+    let id_is : last_or from.id named ≡ at.id = ap (λ k. last_or from.id (named_id tag.name k z)) (sym class_tag) ∙ sym id in (
       z ∷ v ∷ [],
       walked,
       ap (advanced_by line from.clock) moves ∙ ap (λ (x : Moment). advanced_by line x (moved (form m.class) w)) (sym clock) ∙ t.2,

@@ -211,13 +211,7 @@ fn tell_pair(
 
 /// Reads a tag.
 #[inline(always)]
-fn tag_at(
-    container: &Integer,
-    align: Align,
-    bytes: &[u8],
-    content: u64,
-    place: u64,
-) -> Option<Tag>
+fn tag_at(container: &Integer, align: Align, bytes: &[u8], content: u64, place: u64) -> Option<Tag>
     requires content { content ≤ 2 ^ 62 }
     requires held { content ≤ 8 * length bytes.now }
     requires start { place ≤ content }

@@ -66,15 +66,7 @@ pub fn next_line<'a>(
     }
     let head = next_head(alloc, packet, bytes, clock, place, spares, scopes)?;
     if told.is_none() {
-        if let Some(standing) = put_record(
-            packet,
-            head,
-            part,
-            bytes,
-            scopes.spent(),
-            place,
-            line,
-        ) {
+        if let Some(standing) = put_record(packet, head, part, bytes, scopes.spent(), place, line) {
             return Ok(with_text(head, standing));
         }
     }

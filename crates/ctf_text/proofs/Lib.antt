@@ -9,3 +9,4 @@ pub mod DigitsLemmas
 pub mod HexadecimalLemmas
 pub mod PatternLemmas
 pub mod StandingLemmas
+pub mod ArrayLemmas

@@ -28,18 +28,21 @@ use Rattle.ctf_decode.specs.Fields.{members_in}
 use Rattle.ctf_decode.specs.declared.scopes.TheConstants.{MOST_VALUES}
 use Rattle.ctf_text.specs.Numbers.{number_text}
 use Rattle.ctf_text.specs.Rows.{row, enclosed}
-use Rattle.ctf_text.specs.Standing.{among, Puts, PutsOne, PutsMembers}
+use Rattle.ctf_text.specs.Standing.{among, Puts, PutsOne, LastIs, PutsNext, PutsMembers, StandsAsNumber}
 use Rattle.ctf_text.specs.Texts.{Shown, Part, value_text, kind_text, part_text, member_part, member_texts, integer_text, string_text}
+use Rattle.ctf_text.specs.declared.standing.Before.{Before}
 use Rattle.ctf_text.specs.declared.standing.Ends.{Ends}
+use Rattle.ctf_text.specs.declared.standing.MembersEnd.{MembersEnd}
+use Rattle.ctf_text.specs.declared.standing.Next.{Next}
 use Rattle.ctf_text.proofs.NamesLemmas.{here, drop-all}
 
-begins : (c : Input) (s : ℕ) (r : Step Val) → s < c.limit → begin c s r ≡ r
+pub begins : (c : Input) (s : ℕ) (r : Step Val) → s < c.limit → begin c s r ≡ r
 begins c s r few = ap (λ b. cond b r (Err too_many)) (lt-ltb s c.limit few)
 
 ends : (c : Input) (e s : ℕ) (w : Val) → e ≤ c.content → leaf c e s w ≡ Ok (w, e, s + 1)
 ends c e s w within = ap (λ b. cond b (Err (past e)) (Ok (w, e, s + 1))) (le-ltb c.content e within)
 
-leaf_stands : (c : Input) (e s : ℕ) (w : Val) → s < c.limit → e ≤ c.content → begin c s (leaf c e s w) ≡ Ok (w, e, s + 1)
+pub leaf_stands : (c : Input) (e s : ℕ) (w : Val) → s < c.limit → e ≤ c.content → begin c s (leaf c e s w) ≡ Ok (w, e, s + 1)
 leaf_stands c e s w few within = begins c s (leaf c e s w) few ∙ ends c e s w within
 
 module _ (a : ℕ) (i : Integer) (packet : List ℕ) (content place end : ℕ) (before after : List ℕ) where
@@ -84,10 +87,10 @@ module _ (packet : List ℕ) (content place end n : ℕ) (before after : List �
       let w = text_val (take_while (λ x. not (nat_eq x 0)) (take n (drop (next_multiple_of place 8 / 8) packet))) in
       (w, leaf_stands c e spent w few (subst (λ m. m ≤ content) ending within) ∙ ap (λ m. Ok (w, m, spent + 1)) (sym ending), wrote)
 
--- the mark before the member of this index
-abbrev pub mark_at : ℕ → ℕ
-mark_at zero = 123
-mark_at (suc i) = 44
+-- the mark before the text of this index, where this one stands before the first
+abbrev pub mark_at : ℕ → ℕ → ℕ
+mark_at first zero = first
+mark_at first (suc i) = 44
 
 row_snoc : (texts : List (List ℕ)) (text : List ℕ) → row 44 (texts ++ text ∷ []) ≡ row 44 texts ++ (44 ∷ 32 ∷ text)
 row_snoc [] text = ap (λ xs. 44 ∷ 32 ∷ xs) (append-nil text)
@@ -95,10 +98,10 @@ row_snoc (t ∷ texts) text =
     ap (λ xs. 44 ∷ 32 ∷ (t ++ xs)) (row_snoc texts text) ∙ ap (λ xs. 44 ∷ 32 ∷ xs) (sym (append_assoc t (row 44 texts) (44 ∷ 32 ∷ text)))
 
 -- one text more behind the first ones
-row_more : (texts : List (List ℕ)) (text : List ℕ) → row 123 (texts ++ text ∷ []) ≡ row 123 texts ++ (mark_at (length texts) ∷ 32 ∷ text)
-row_more [] text = ap (λ xs. 123 ∷ 32 ∷ xs) (append-nil text)
-row_more (t ∷ texts) text =
-    ap (λ xs. 123 ∷ 32 ∷ (t ++ xs)) (row_snoc texts text) ∙ ap (λ xs. 123 ∷ 32 ∷ xs) (sym (append_assoc t (row 44 texts) (44 ∷ 32 ∷ text)))
+pub row_more : (first : ℕ) (texts : List (List ℕ)) (text : List ℕ) → row first (texts ++ text ∷ []) ≡ row first texts ++ (mark_at first (length texts) ∷ 32 ∷ text)
+row_more first [] text = ap (λ xs. first ∷ 32 ∷ xs) (append-nil text)
+row_more first (t ∷ texts) text =
+    ap (λ xs. first ∷ 32 ∷ (t ++ xs)) (row_snoc texts text) ∙ ap (λ xs. first ∷ 32 ∷ xs) (sym (append_assoc t (row 44 texts) (44 ∷ 32 ∷ text)))
 
 texts_more : (parts : List Part) (vs : List Val) (part : Part) (v : Val) → length vs ≡ length parts → member_texts (parts ++ part ∷ []) (vals_of (vs ++ v ∷ [])) ≡ member_texts parts (vals_of vs) ++ part_text part v ∷ []
 texts_more [] [] part v same = refl
@@ -111,25 +114,30 @@ texts_length [] vs same = refl
 texts_length (p ∷ parts) [] same = absurd (omega (arith, same))
 texts_length (p ∷ parts) (w ∷ vs) same = ap suc (texts_length parts vs (omega (arith, same)))
 
--- As many members as an index tells were written, and the others stand behind them: so the loop over members goes.
-abbrev pub Going : List Member → List ℕ → ℕ → ℕ → ℕ → ℕ → List ℕ → List ℕ → Type 0
-Going ms packet content place i at before line =
-    (spent : ℕ) → spent + length ms ≤ MOST_VALUES → (earlier : Scope → Option Val) (env : Env)
+-- As many members as an index tells were written, with so many values in them, and the others stand behind them: so the
+-- loop over members goes.
+abbrev pub Going : List Member → List ℕ → ℕ → ℕ → ℕ → ℕ → ℕ → Option ℕ → List ℕ → List ℕ → Type 0
+Going ms packet content place i at more last before line =
+    (spent : ℕ) → spent + length ms + more ≤ MOST_VALUES → (earlier : Scope → Option Val) (env : Env)
     → (vs : List Val)
-    × (walk_members (parts_of (map views.member_part (drop i ms))) (among packet content earlier) env vs at (spent + i) ≡ walk_members (parts_of (map views.member_part ms)) (among packet content earlier) env [] place spent)
-    × (length vs ≡ i) × (line ≡ before ++ row 123 (member_texts (map member_part (take i ms)) (vals_of vs)))
+    × (walk_members (parts_of (map views.member_part (drop i ms))) (among packet content earlier) env vs at (spent + i + more) ≡ walk_members (parts_of (map views.member_part ms)) (among packet content earlier) env [] place spent)
+    × (length vs ≡ i) × (line ≡ before ++ row 123 (member_texts (map member_part (take i ms)) (vals_of vs))) × LastIs last vs
+
+last_is : (o : Option ℕ) (vs : List Val) (v : Val) → IfSome o (λ n. v ≡ unsigned n) → LastIs o (vs ++ v ∷ [])
+last_is None vs v is = tt
+last_is (Some n) vs v is = (vs, ap (λ w. vs ++ w ∷ []) is)
 
 abbrev Part_of : Type 0
 Part_of = List ℕ × Form
 
 -- classes and their texts, level by level
-part-is : (m : Member) → views.member_part m ≡ (m.name, form m.class)
+pub part-is : (m : Member) → views.member_part m ≡ (m.name, form m.class)
 part-is m = search (rules, class.the_lemmas)
 
-form-is : (c : Class) → form c ≡ shape c.kind c.align
+pub form-is : (c : Class) → form c ≡ shape c.kind c.align
 form-is c = search (rules, class.the_lemmas)
 
-value-is : (c : Class) → value_text c ≡ kind_text c.kind
+pub value-is : (c : Class) → value_text c ≡ kind_text c.kind
 value-is c = search (rules, class.the_lemmas)
 
 shape-Integer : (i : Integer) (a : ℕ) → shape (kind.Integer i) a ≡ integer a i
@@ -157,10 +165,10 @@ text-Structure : (ms : List Member) → kind_text (kind.Structure ms) ≡ (λ v.
 text-Structure ms = search (rules, class.the_lemmas)
 
 module _ (ms : List Member) (packet : List ℕ) (content place : ℕ) (before : List ℕ) where
-  pub going_begins : Going ms packet content place 0 place before before
+  pub going_begins : Going ms packet content place 0 place 0 None before before
   going_begins spent room earlier env =
-      let s : spent + 0 ≡ spent = omega arith in
-      ([], ap (λ n. walk_members (parts_of (map views.member_part ms)) (among packet content earlier) env [] place n) s, refl, sym (append-nil before))
+      let s : spent + 0 + 0 ≡ spent = omega arith in
+      ([], ap (λ n. walk_members (parts_of (map views.member_part ms)) (among packet content earlier) env [] place n) s, refl, sym (append-nil before), tt)
 
   next : (c : Input) (env : Env) (i : ℕ) (m : Member) (vs : List Val) (at spent : ℕ) → i < length ms → m ≡ get_or ms i m
       → walk_members (parts_of (map views.member_part (drop i ms))) c env vs at spent ≡ and_then (walk (form m.class) c (vs ∷ env) at spent) (λ w q t. walk_members (parts_of (map views.member_part (drop (i + 1) ms))) c env (vs ++ w ∷ []) q t)
@@ -168,7 +176,7 @@ module _ (ms : List Member) (packet : List ℕ) (content place : ℕ) (before : 
       let rest = map views.member_part (drop (i + 1) ms) in
       ap (λ ns. walk_members (parts_of (map views.member_part ns)) c env vs at spent) (here ms i m within is) ∙ ap (λ (x : Part_of). walk_members (parts_of (x ∷ rest)) c env vs at spent) (part-is m)
 
-  texts_on : (i : ℕ) (m : Member) (vs : List Val) (v : Val) (lead : ℕ) (line more : List ℕ) → i < length ms → m ≡ get_or ms i m → length vs ≡ i → lead ≡ mark_at i
+  texts_on : (i : ℕ) (m : Member) (vs : List Val) (v : Val) (lead : ℕ) (line more : List ℕ) → i < length ms → m ≡ get_or ms i m → length vs ≡ i → lead ≡ mark_at 123 i
       → line ≡ before ++ row 123 (member_texts (map member_part (take i ms)) (vals_of vs)) → more ≡ line ++ (lead ∷ 32 ∷ part_text (member_part m) v) → more ≡ before ++ row 123 (member_texts (map member_part (take (i + 1) ms)) (vals_of (vs ++ v ∷ [])))
   texts_on i m vs v lead line more within is as_many marked wrote added =
       let parts = map member_part (take i ms) in
@@ -176,34 +184,34 @@ module _ (ms : List Member) (packet : List ℕ) (content place : ℕ) (before : 
       let text = part_text (member_part m) v in
       let counted : length parts ≡ i = length-map (take i ms) member_part ∙ length-take-le i ms (omega (arith, within)) in
       let same : length vs ≡ length parts = as_many ∙ sym counted in
-      let lead_is : mark_at (length all) ≡ lead = ap mark_at (texts_length parts vs same ∙ counted) ∙ sym marked in
+      let lead_is : mark_at 123 (length all) ≡ lead = ap (mark_at 123) (texts_length parts vs same ∙ counted) ∙ sym marked in
       let parts_are : map member_part (take (i + 1) ms) ≡ parts ++ member_part m ∷ [] = ap (map member_part) (take_more ms i m within ∙ ap (λ x. take i ms ++ x ∷ []) (sym is)) ∙ map-append member_part (take i ms) (m ∷ []) in
       let longer : member_texts (map member_part (take (i + 1) ms)) (vals_of (vs ++ v ∷ [])) ≡ all ++ text ∷ [] = ap (λ ps. member_texts ps (vals_of (vs ++ v ∷ []))) parts_are ∙ texts_more parts vs (member_part m) v same in
       added ∙ ap (λ xs. xs ++ (lead ∷ 32 ∷ text)) wrote ∙ append_assoc before (row 123 all) (lead ∷ 32 ∷ text)
-      ∙ ap (λ l. before ++ (row 123 all ++ (l ∷ 32 ∷ text))) (sym lead_is) ∙ ap (λ xs. before ++ xs) (sym (row_more all text)) ∙ ap (λ ts. before ++ row 123 ts) (sym longer)
+      ∙ ap (λ l. before ++ (row 123 all ++ (l ∷ 32 ∷ text))) (sym lead_is) ∙ ap (λ xs. before ++ xs) (sym (row_more 123 all text)) ∙ ap (λ ts. before ++ row 123 ts) (sym longer)
 
-  pub going_on : (i at there : ℕ) (m : Member) (lead : ℕ) (line more : List ℕ) → i < length ms → m ≡ get_or ms i m → lead ≡ mark_at i → Going ms packet content place i at before line
-      → PutsOne (form m.class) (λ v. lead ∷ 32 ∷ part_text (member_part m) v) packet content at there line more → Going ms packet content place (i + 1) there before more
-  going_on i at there m lead line more within is marked going puts spent room earlier env =
+  pub going_on : (i at more : ℕ) (last : Option ℕ) (m : Member) (lead : ℕ) (line : List ℕ) (to : Next) (after : List ℕ) → i < length ms → m ≡ get_or ms i m → lead ≡ mark_at 123 i → Going ms packet content place i at more last before line
+      → PutsNext (record { index = i; number = last }) (form m.class) (λ v. lead ∷ 32 ∷ part_text (member_part m) v) packet content at line to after → Going ms packet content place (i + 1) to.place (more + to.more) to.number before after
+  going_on i at more last m lead line to after within is marked going puts spent room earlier env =
       let c = among packet content earlier in
-      let g = going spent room earlier env in
+      let g = going spent (omega (arith, room)) earlier env in
       let vs = g.0 in
-      let p = puts (spent + i) (omega (arith, room, within)) earlier (vs ∷ env) in
+      let p = puts (spent + i + more) (omega (arith, room, within)) earlier env vs g.2 g.4 in
       let rest = λ (w : Val) (q t : ℕ). walk_members (parts_of (map views.member_part (drop (i + 1) ms))) c env (vs ++ w ∷ []) q t in
-      let total : spent + (i + 1) ≡ spent + i + 1 = omega arith in
-      let walked = ap (rest p.0 there) total ∙ sym (next c env i m vs at (spent + i) within is ∙ ap (λ r. and_then r rest) p.1) ∙ g.1 in
+      let total : spent + (i + 1) + (more + to.more) ≡ spent + i + more + 1 + to.more = omega arith in
+      let walked = ap (rest p.0 to.place) total ∙ sym (next c env i m vs at (spent + i + more) within is ∙ ap (λ r. and_then r rest) p.1) ∙ g.1 in
       let longer : length (vs ++ p.0 ∷ []) ≡ i + 1 = length-append vs (p.0 ∷ []) ∙ ap (λ n. n + 1) g.2 in
-      (vs ++ p.0 ∷ [], walked, longer, texts_on i m vs p.0 lead line more within is g.2 marked g.3 p.2)
+      (vs ++ p.0 ∷ [], walked, longer, texts_on i m vs p.0 lead line after within is g.2 marked g.3 p.2, last_is to.number vs p.0 p.3)
 
-  pub going_ends : (at : ℕ) (line : List ℕ) → Going ms packet content place (length ms) at before line → PutsMembers (row 123) ms packet content place at before line
-  going_ends at line going spent room earlier env =
+  pub going_ends : (at more text : ℕ) (last : Option ℕ) (line : List ℕ) → Going ms packet content place (length ms) at more last before line → PutsMembers (row 123) ms packet content place before (record { place = at; text = text; more = more }) line
+  going_ends at more text last line going spent room earlier env =
       let c = among packet content earlier in
       let g = going spent room earlier env in
-      let over = ap (λ ns. walk_members (parts_of (map views.member_part ns)) c env g.0 at (spent + length ms)) (drop-all ms (length ms) (omega arith)) in
+      let over = ap (λ ns. walk_members (parts_of (map views.member_part ns)) c env g.0 at (spent + length ms + more)) (drop-all ms (length ms) (omega arith)) in
       (g.0, sym g.1 ∙ over, g.2, g.3 ∙ ap (λ ns. before ++ row 123 (member_texts (map member_part ns) (vals_of g.0))) (take-length ms))
 
-pub mark_next : (i : ℕ) → 44 ≡ mark_at (i + 1)
-mark_next i = let n : suc i ≡ i + 1 = omega arith in ap mark_at n
+pub mark_next : (first i : ℕ) → 44 ≡ mark_at first (i + 1)
+mark_next first i = let n : suc i ≡ i + 1 = omega arith in ap (mark_at first) n
 
 -- What classes of one kind are decoded as, and what they show.
 module _ (c : Class) where
@@ -260,7 +268,7 @@ pub same_all : (r : Option Ends) (xs : List ℕ) → IfSome r (λ e. take e.text
 same_all (Some e) xs = refl
 same_all None xs = tt
 
-member-is : (m : Member) → member_part m ≡ (m.name, value_text m.class)
+pub member-is : (m : Member) → member_part m ≡ (m.name, value_text m.class)
 member-is m = search (rules, class.the_lemmas)
 
 -- a value behind its name is the member
@@ -280,8 +288,8 @@ closed_row (p ∷ parts) [] some same = absurd (omega (arith, same))
 closed_row (p ∷ parts) (v ∷ vs) some same = refl
 
 -- the mark behind the members
-pub closed : (ms : List Member) (packet : List ℕ) (content place end : ℕ) (before line after : List ℕ) → 0 < length ms → after ≡ line ++ (32 ∷ 125 ∷ []) → PutsMembers (row 123) ms packet content place end before line → PutsMembers (enclosed 123 125) ms packet content place end before after
-closed ms packet content place end before line after some added puts spent room earlier env =
+pub closed : (ms : List Member) (packet : List ℕ) (content place text : ℕ) (end : MembersEnd) (before line after : List ℕ) → 0 < length ms → after ≡ line ++ (32 ∷ 125 ∷ []) → PutsMembers (row 123) ms packet content place before end line → PutsMembers (enclosed 123 125) ms packet content place before (record { place = end.place; text = text; more = end.more }) after
+closed ms packet content place text end before line after some added puts spent room earlier env =
     let p = puts spent room earlier env in
     let parts = map member_part ms in
     let counted = length-map ms member_part in
@@ -289,17 +297,44 @@ closed ms packet content place end before line after some added puts spent room 
     (p.0, p.1, p.2, added ∙ ap (λ xs. xs ++ (32 ∷ 125 ∷ [])) p.3 ∙ append_assoc before (row 123 texts) (32 ∷ 125 ∷ []) ∙ ap (λ xs. before ++ xs) (closed_row parts p.0 (omega (arith, some, counted)) (p.2 ∙ sym counted)))
 
 -- the members of a structure are its value
-pub puts_structure : (k : Class) (ms : List Member) (packet : List ℕ) (content place start spent end total : ℕ) (before after : List ℕ) → k.kind ≡ kind.Structure ms → start ≡ next_multiple_of place k.align → start ≤ content → total ≡ spent + 1 + length ms → total ≤ MOST_VALUES
-    → PutsMembers (enclosed 123 125) ms packet content start end before after → Puts (form k) (value_text k) packet content place spent end total before after
+pub puts_structure : (k : Class) (ms : List Member) (packet : List ℕ) (content place start spent : ℕ) (end : MembersEnd) (total : ℕ) (before after : List ℕ) → k.kind ≡ kind.Structure ms → start ≡ next_multiple_of place k.align → start ≤ content → total ≡ spent + 1 + length ms + end.more → total ≤ MOST_VALUES
+    → PutsMembers (enclosed 123 125) ms packet content start before end after → Puts (form k) (value_text k) packet content place spent end.place total before after
 puts_structure k ms packet content place start spent end total before after is starts within counted room puts earlier env =
     let c = among packet content earlier in
     let p = puts (spent + 1) (omega (arith, counted, room)) earlier env in
     let parts = parts_of (map views.member_part ms) in
     let inner = λ (b : ℕ). begin c spent (open_at c b (and_then (walk_members parts c env [] b (spent + 1)) as_group)) in
     let opened : open_at c start (and_then (walk_members parts c env [] start (spent + 1)) as_group) ≡ and_then (walk_members parts c env [] start (spent + 1)) as_group = ap (λ b. cond b (Err (past start)) (and_then (walk_members parts c env [] start (spent + 1)) as_group)) (le-ltb content start within) in
-    let walked : walk (form k) c env place spent ≡ Ok (group (vals_of p.0), end, total) =
+    let walked : walk (form k) c env place spent ≡ Ok (group (vals_of p.0), end.place, total) =
     ap (λ f. walk f c env place spent) (sym (form_structure k ms is)) ∙ ap inner (sym starts)
     ∙ begins c spent (open_at c start (and_then (walk_members parts c env [] start (spent + 1)) as_group)) (omega (arith, counted, room))
-    ∙ opened ∙ ap (λ r. and_then r as_group) p.1 ∙ ap (λ n. Ok (group (vals_of p.0), end, n)) (sym counted)
+    ∙ opened ∙ ap (λ r. and_then r as_group) p.1 ∙ ap (λ n. Ok (group (vals_of p.0), end.place, n)) (sym counted)
     in
     (group (vals_of p.0), walked, p.3 ∙ ap (λ xs. before ++ xs) (text_structure k ms p.0 is))
+
+-- what stands in a step, if there is a value
+abbrev value_of : Step Val → Val
+value_of (Ok x) = x.0
+value_of (Err e) = unsigned 0
+
+is_number : (o : Option ℕ) (k : Form) (packet : List ℕ) (content place end spent : ℕ) (earlier : Scope → Option Val) (env : Env) (v : Val) → spent < MOST_VALUES → walk k (among packet content earlier) env place spent ≡ Ok (v, end, spent + 1)
+    → IfSome o (StandsAsNumber k packet content place) → IfSome o (λ n. v ≡ unsigned n)
+is_number None k packet content place end spent earlier env v few walked stands = tt
+is_number (Some n) k packet content place end spent earlier env v few walked stands = ap value_of (sym walked ∙ (stands spent few earlier env).1)
+
+-- one value alone, behind the members of a structure
+pub puts_next : (before : Before) (k : Form) (shown : Shown) (packet : List ℕ) (content place end text : ℕ) (number : Option ℕ) (line after : List ℕ) → PutsOne k shown packet content place end line after → IfSome number (StandsAsNumber k packet content place)
+    → PutsNext before k shown packet content place line (record { place = end; text = text; more = 0; number = number }) after
+puts_next before k shown packet content place end text number line after puts stands spent room earlier env vs counted last =
+    let few : spent < MOST_VALUES = omega (arith, room) in
+    let p = puts spent few earlier (vs ∷ env) in
+    let none : spent + 1 ≡ spent + 1 + 0 = omega arith in
+    (p.0, p.1 ∙ ap (λ n. Ok (p.0, end, n)) none, p.2, is_number number k packet content place end spent earlier (vs ∷ env) p.0 few p.1 stands)
+
+-- one unsigned integer
+pub stands_number : (a : ℕ) (i : Integer) (packet : List ℕ) (content place n : ℕ) → i.is_signed ≡ false → next_multiple_of place a + bits_of i ≤ content → n ≡ number i.order packet (next_multiple_of place a) (bits_of i) → StandsAsNumber (integer a i) packet content place n
+stands_number a i packet content place n is within read spent few earlier env =
+    let c = among packet content earlier in
+    let b = next_multiple_of place a in
+    let value : integer_at c i b ≡ unsigned n = ap (λ t. cond t (signed (signed_number i.order packet b (bits_of i))) (unsigned (number i.order packet b (bits_of i)))) is ∙ ap unsigned (sym read) in
+    (b + bits_of i, ap (λ v. begin c spent (leaf c (b + bits_of i) spent v)) value ∙ leaf_stands c (b + bits_of i) spent (unsigned n) few within)

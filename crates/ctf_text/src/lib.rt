@@ -1,6 +1,7 @@
 //! The text of values, and of the part of an event record's line behind its stamp.
 #![tactic(auto)]
 
+mod array;
 mod binary;
 mod decimal;
 mod digits;

@@ -1,12 +1,13 @@
 //! Texts of values where they stand, out of the packet's bits.
 
-ghost use Rattle.std.specs.Prelude.{ℕ, ◌+◌, ◌*◌, ◌^◌, ◌∷◌, ◌≤◌, length, take, vec_len, IfSome};
+ghost use Rattle.std.specs.Prelude.{ℕ, ◌≡◌, false, ◌+◌, ◌*◌, ◌^◌, ◌∷◌, ◌≤◌, length, take, vec_len, IfSome};
 ghost use Rattle.ctf_decode.specs.Forms as forms;
 ghost use Rattle.ctf_decode.specs.Views.{form};
 ghost use Rattle.ctf_text.specs.Rows.{row, enclosed};
-ghost use Rattle.ctf_text.specs.Standing.{Puts, PutsOne, PutsMembers};
+ghost use Rattle.ctf_text.specs.Standing.{Puts, PutsOne, PutsNext, PutsMembers, StandsAsNumber};
 ghost use Rattle.ctf_text.specs.Texts as texts;
 
+use crate::array::put_array;
 use crate::mark::{put_end, put_nothing, put_ready};
 use crate::number::{LONGEST_NUMBER, put_signed_number, put_unsigned_number};
 use crate::text::put_quoted;
@@ -27,18 +28,44 @@ pub struct Standing {
 
 /// A packet's bytes, and the place in bits where its content ends.
 #[derive(Clone, Copy, Debug)]
-struct Content<'a> {
-    bytes: &'a [u8],
-    end: u64,
+pub(crate) struct Content<'a> {
+    pub(crate) bytes: &'a [u8],
+    pub(crate) end: u64,
     ghost bounded: { end ≤ 2 ^ 62 },
     ghost held: { end ≤ 8 * length bytes.now },
 }
 
 /// Where a value ends, in bits from the packet's first one, and the index behind its text.
 #[derive(Clone, Copy, Debug)]
-struct Ends {
+pub(crate) struct Ends {
+    pub(crate) place: u64,
+    pub(crate) text: usize,
+}
+
+/// What stands before a member: so many others, of which the last is this number, if it is an unsigned integer.
+#[derive(Clone, Copy, Debug)]
+pub(crate) struct Before {
+    pub(crate) index: usize,
+    pub(crate) number: Option<u64>,
+}
+
+/// Where a member ends, in bits from the packet's first one, the index behind its text, how many values were begun in it,
+/// and its number, if it is an unsigned integer.
+#[derive(Clone, Copy, Debug)]
+pub(crate) struct Next {
+    pub(crate) place: u64,
+    pub(crate) text: usize,
+    pub(crate) more: u64,
+    pub(crate) number: Option<u64>,
+}
+
+/// Where members end, in bits from the packet's first one, the index behind their texts, and how many values were begun
+/// in them.
+#[derive(Clone, Copy, Debug)]
+pub(crate) struct MembersEnd {
     place: u64,
     text: usize,
+    more: u64,
 }
 
 /// Writes the text of the structure that stands at a place of a packet (CTF 1.8.3, section 4) at an index of a
@@ -46,7 +73,8 @@ struct Ends {
 /// first one, and so many values were begun before. What stands before the index is kept, and the buffer grows
 /// where it has no room.
 ///
-/// Only structures of integers, strings and texts of fixed lengths are written. `None` where the class is another
+/// Only structures of integers, strings, texts of fixed lengths, and arrays of integers whose length is fixed or the member
+/// before are written. `None` where the class is another
 /// one, where no value stands there, and where memory is refused; the buffer is then any buffer.
 #[inline(always)]
 pub fn put_standing(
@@ -85,9 +113,13 @@ pub fn put_standing(
         end: content,
     };
     let ends = put_structure(members, &packet, begin, buffer, at)?;
+    let spent = spent + 1 + count + ends.more;
+    if spent > MOST_VALUES {
+        return None;
+    }
     Some(Standing {
         place: ends.place,
-        spent: spent + 1 + count,
+        spent,
         end: ends.text,
     })
 }
@@ -100,26 +132,32 @@ fn put_structure(
     place: u64,
     buffer: &mut Vec<u8>,
     at: usize,
-) -> Option<Ends>
+) -> Option<MembersEnd>
     requires start { place ≤ packet.now.end }
     requires index { at ≤ vec_len buffer.old }
-    ensures puts { IfSome result (λ e. PutsMembers (enclosed 123 125) members.now packet.now.bytes.now packet.now.end place e.place (take at buffer.old.items) (take e.text buffer.new.items)) }
+    ensures puts { IfSome result (λ e. PutsMembers (enclosed 123 125) members.now packet.now.bytes.now packet.now.end place (take at buffer.old.items) e (take e.text buffer.new.items)) }
     ensures within { IfSome result (λ e. e.place ≤ packet.now.end) }
     ensures held { IfSome result (λ e. e.text ≤ vec_len buffer.new) }
+    ensures few { IfSome result (λ e. e.more ≤ MOST_VALUES) }
 {
     if members.is_empty() {
         let Ok(text) = put_nothing(b'{', b'}', buffer, at) else {
             return None;
         };
-        return Some(Ends { place, text });
+        return Some(MembersEnd {
+            place,
+            text,
+            more: 0,
+        });
     }
     let ends = put_members(members, packet, place, buffer, at)?;
     let Ok(text) = put_end(b'}', buffer, ends.text) else {
         return None;
     };
-    Some(Ends {
+    Some(MembersEnd {
         place: ends.place,
         text,
+        more: ends.more,
     })
 }
 
@@ -131,23 +169,103 @@ fn put_members(
     begin: u64,
     buffer: &mut Vec<u8>,
     at: usize,
-) -> Option<Ends>
+) -> Option<MembersEnd>
     requires start { begin ≤ packet.now.end }
     requires index { at ≤ vec_len buffer.old }
-    ensures puts { IfSome result (λ e. PutsMembers (row 123) members.now packet.now.bytes.now packet.now.end begin e.place (take at buffer.old.items) (take e.text buffer.new.items)) }
+    ensures puts { IfSome result (λ e. PutsMembers (row 123) members.now packet.now.bytes.now packet.now.end begin (take at buffer.old.items) e (take e.text buffer.new.items)) }
     ensures within { IfSome result (λ e. e.place ≤ packet.now.end) }
     ensures held { IfSome result (λ e. e.text ≤ vec_len buffer.new) }
+    ensures few { IfSome result (λ e. e.more ≤ MOST_VALUES) }
 {
     let mut place = begin;
     let mut text = at;
     let mut lead = b'{';
-    for member in members {
-        let ends = put_member(lead, member, packet, place, buffer, text)?;
-        place = ends.place;
-        text = ends.text;
+    let mut more = 0;
+    let mut number = None;
+    for (i, member) in members.iter().enumerate() {
+        let before = Before { index: i, number };
+        let next = put_next(lead, member, before, packet, place, buffer, text)?;
+        more += next.more;
+        if more >= MOST_VALUES {
+            return None;
+        }
+        place = next.place;
+        text = next.text;
+        number = next.number;
         lead = b',';
     }
-    Some(Ends { place, text })
+    Some(MembersEnd { place, text, more })
+}
+
+/// Writes the member behind others.
+#[inline(always)]
+fn put_next(
+    lead: u8,
+    member: &Member,
+    before: Before,
+    packet: &Content<'_>,
+    place: u64,
+    buffer: &mut Vec<u8>,
+    at: usize,
+) -> Option<Next>
+    requires start { place ≤ packet.now.end }
+    requires index { at ≤ vec_len buffer.old }
+    ensures puts { IfSome result (λ n. PutsNext before (form member.now.class) (λ v. lead ∷ 32 ∷ texts.part_text (texts.member_part member.now) v) packet.now.bytes.now packet.now.end place (take at buffer.old.items) n (take n.text buffer.new.items)) }
+    ensures within { IfSome result (λ n. n.place ≤ packet.now.end) }
+    ensures held { IfSome result (λ n. n.text ≤ vec_len buffer.new) }
+    ensures few { IfSome result (λ n. n.more ≤ MOST_VALUES) }
+{
+    if let Kind::Array { length, element } = &member.class.kind {
+        return put_array(
+            lead,
+            member,
+            length,
+            element.get(),
+            before,
+            packet,
+            place,
+            buffer,
+            at,
+        );
+    }
+    let number = number_at(&member.class, packet, place);
+    let ends = put_member(lead, member, packet, place, buffer, at)?;
+    Some(Next {
+        place: ends.place,
+        text: ends.text,
+        more: 0,
+        number,
+    })
+}
+
+/// The number that stands at a place, if it is an unsigned integer.
+#[inline(always)]
+fn number_at(class: &Class, packet: &Content<'_>, place: u64) -> Option<u64>
+    requires start { place ≤ packet.now.end }
+    ensures stands { IfSome result (StandsAsNumber (form class.now) packet.now.bytes.now packet.now.end place) }
+{
+    let Kind::Integer(integer) = &class.kind else {
+        return None;
+    };
+    if integer.is_signed {
+        return None;
+    }
+    unsigned_at(integer, class.align, packet, place)
+}
+
+/// The number of an unsigned integer that stands at a place.
+#[inline(always)]
+fn unsigned_at(integer: &Integer, align: Align, packet: &Content<'_>, place: u64) -> Option<u64>
+    requires start { place ≤ packet.now.end }
+    requires unsigned { integer.now.is_signed ≡ false }
+    ensures stands { IfSome result (StandsAsNumber (forms.integer align integer.now) packet.now.bytes.now packet.now.end place) }
+{
+    let size = integer.size.bits();
+    let begin = align.up(place);
+    if begin + u64::from(size) > packet.end {
+        return None;
+    }
+    Some(uint_within(packet.bytes, begin, size, integer.order))
 }
 
 /// Writes a member behind a mark.
@@ -208,7 +326,7 @@ fn put_part(
 
 /// Writes an integer.
 #[inline(always)]
-fn put_integer(
+pub(crate) fn put_integer(
     integer: &Integer,
     align: Align,
     packet: &Content<'_>,

@@ -1,7 +1,7 @@
 //! Event records that are read as texts.
 
 use crate::reading::trace;
-use crate::texts::{SEQUENCE, TICK};
+use crate::texts::{LABELS, SEQUENCE, TICK};
 use crate::told::{NO_SHIFT, reader};
 use ctf_bits::{SliceSource, Source};
 use ctf_stream::{Item, OwnedItem, StreamReader, Told};
@@ -23,7 +23,7 @@ fn class_given<S: Source + Drop>(reader: &mut StreamReader<'_, S>) -> Option<u64
     }
 }
 
-/// A text is told where it was asked for and the class is of integers alone. The record is given by value nonetheless.
+/// A text is told where it was asked for and the class is of integers. The record is given by value nonetheless.
 #[test]
 fn a_text_in_front(rt: HostRuntime) {
     let alloc = rt.alloc();
@@ -42,12 +42,30 @@ fn a_text_in_front(rt: HostRuntime) {
     assert!(&rt; reader.told().is_none());
 }
 
-/// A sequence is told by its values, also where texts are asked for.
+/// So is a sequence of integers, whose length is the member before. An empty one is aligned too.
+#[test]
+fn sequences_in_front(rt: HostRuntime) {
+    let alloc = rt.alloc();
+    let trace = trace(&rt, alloc, SEQUENCE);
+    let source = SliceSource::new(&[1, 0, 0, 0, 2, 1, 0, 0, 9, 0, 0, 0, 0, 0, 0, 0, 8]);
+    let mut reader = reader(alloc, &trace, source, NO_SHIFT)
+        .expect(&rt, "memory")
+        .writing();
+    reader.go_on();
+    assert_eq!(&rt;
+        text(&reader),
+        b"q: { n = 1, s = [ [0] = 258 ], z = 9 }".as_slice()
+    );
+    reader.go_on();
+    assert_eq!(&rt; text(&reader), b"q: { n = 0, s = [ ], z = 8 }".as_slice());
+}
+
+/// An enumeration is told by its value, also where texts are asked for.
 #[test]
 fn values_in_front(rt: HostRuntime) {
     let alloc = rt.alloc();
-    let trace = trace(&rt, alloc, SEQUENCE);
-    let source = SliceSource::new(&[0, 0, 0, 0, 9]);
+    let trace = trace(&rt, alloc, LABELS);
+    let source = SliceSource::new(&[255]);
     let mut reader = reader(alloc, &trace, source, NO_SHIFT)
         .expect(&rt, "memory")
         .writing();

@@ -1,21 +1,23 @@
-use Rattle.std.proofs.Common.{take, length, subst, arith, ◌≡◌}
+use Rattle.std.proofs.Common.{take, length, subst, arith, rules, ◌≡◌}
 use Rattle.ctf_text.proofs.StandingLemmas.{Going, going_on, going_ends, mark_next}
 use Rattle.ctf_text.proofs.standing.put_members.Goals as goal
 
-pub loop-member-preserved : goal.loop-member-preserved
-loop-member-preserved c =
-    let i = c.loop-member.member-index in
+pub loop-i-preserved : goal.loop-i-preserved
+loop-i-preserved c =
+    let i = c.loop-i.i in
+    let next = c.in_ok-next.next in
     record {
-      within = c.in_ok-ends.ensures.within;
-      held = c.in_ok-ends.ensures.held;
-      marked = mark_next i;
-      going = going_on c.args.members.now c.args.packet.now.bytes.now c.args.packet.now.end c.args.begin (take c.args.at c.args.buffer.now.items) i c.loop-member.place c.in_ok-ends.ends.place c.member-item.result c.loop-member.lead (take c.loop-member.text c.loop-member.buffer.items) (take c.in_ok-ends.ends.text c.put_member.new.buffer.items) c.loop-member-test.true c.member-item.is c.loop-member.invariant.marked c.loop-member.invariant.going c.in_ok-ends.ensures.puts;
+      within = c.in_ok-next.ensures.within;
+      held = c.in_ok-next.ensures.held;
+      few = search (rules, arith);
+      marked = mark_next 123 i;
+      going = going_on c.args.members.now c.args.packet.now.bytes.now c.args.packet.now.end c.args.begin (take c.args.at c.args.buffer.now.items) i c.loop-i.place c.loop-i.more c.loop-i.number c.index-members-i.result c.loop-i.lead (take c.loop-i.text c.loop-i.buffer.items) next (take next.text c.put_next.new.buffer.items) c.loop-i-test.true c.index-members-i.is c.loop-i.invariant.marked c.loop-i.invariant.going c.in_ok-next.ensures.puts;
     }
 
 pub returns-clause-puts : goal.returns-clause-puts
 returns-clause-puts c =
     let ms = c.args.members.now in
-    let all : c.loop-member.member-index ≡ length ms = omega (arith, c.loop-member-test.false, c.loop-member.auto.member-index-end) in
+    let all : c.loop-i.i ≡ length ms = omega (arith, c.loop-i-test.false, c.loop-i.auto.i-end) in
     let before = take c.args.at c.args.buffer.now.items in
-    let after = take c.loop-member.text c.loop-member.buffer.items in
-    going_ends ms c.args.packet.now.bytes.now c.args.packet.now.end c.args.begin before c.loop-member.place after (subst (λ i. Going ms c.args.packet.now.bytes.now c.args.packet.now.end c.args.begin i c.loop-member.place before after) all c.loop-member.invariant.going)
+    let after = take c.loop-i.text c.loop-i.buffer.items in
+    going_ends ms c.args.packet.now.bytes.now c.args.packet.now.end c.args.begin before c.loop-i.place c.loop-i.more c.loop-i.text c.loop-i.number after (subst (λ i. Going ms c.args.packet.now.bytes.now c.args.packet.now.end c.args.begin i c.loop-i.place c.loop-i.more c.loop-i.number before after) all c.loop-i.invariant.going)

@@ -1,0 +1,169 @@
+-- Arrays that are shown where they stand, one element more at a time.
+use Rattle.std.proofs.Common.{◌≡◌, ℕ, zero, suc, ◌+◌, ◌-◌, ◌<◌, ◌≤◌, cond, List, [], ◌∷◌, ◌++◌, length, take, Option, Some, None, IfSome, Ok, Err, rules, refl, sym, ap, subst, ◌∙◌, arith, append_assoc, append-nil, length-append}
+use Rattle.std.specs.Prelude.{slice_get}
+use Rattle.std.specs.Int.{next_multiple_of}
+use Rattle.std.proofs.lemmas.Bool.{le-ltb}
+use Rattle.ctf_class.specs.declared.class.Class as class
+use Rattle.ctf_class.specs.declared.class.Class.{Class}
+use Rattle.ctf_class.specs.declared.class.Kind as kind
+use Rattle.ctf_class.specs.declared.class.Kind.{Kind}
+use Rattle.ctf_class.specs.declared.class.Member.{Member}
+use Rattle.ctf_class.specs.declared.integer.Integer.{Integer}
+use Rattle.ctf_class.specs.declared.route.Length.{Length}
+use Rattle.ctf_class.specs.declared.route.Length.TheVariants.{Field}
+use Rattle.ctf_class.specs.declared.route.Route.{Route}
+use Rattle.ctf_class.specs.declared.route.Scope.{Scope}
+use Rattle.ctf_class.specs.Names.{field_text}
+use Rattle.ctf_decode.specs.Breaks.{past}
+use Rattle.ctf_decode.specs.Fields.{elements_in}
+use Rattle.ctf_decode.specs.Forms as forms
+use Rattle.ctf_decode.specs.Forms.{Form, integer}
+use Rattle.ctf_decode.specs.Input.{Env}
+use Rattle.ctf_decode.specs.Routes.{found}
+use Rattle.ctf_decode.specs.Values.{Val, vals_of, unsigned, list}
+use Rattle.ctf_decode.specs.Views.{form, shape}
+use Rattle.ctf_decode.specs.Walk.{and_then, begin, open_at, as_list, repeat, walk}
+use Rattle.ctf_decode.specs.declared.scopes.TheConstants.{MOST_VALUES}
+use Rattle.ctf_decode.proofs.Steps.{row_ok}
+use Rattle.ctf_decode.proofs.Views.{shape-Array}
+use Rattle.ctf_text.specs.Rows.{row, enclosed}
+use Rattle.ctf_text.specs.Standing.{among, LastIs, PutsOne, PutsNext, PutsElements, Counts, LeadsBefore}
+use Rattle.ctf_text.specs.Texts.{Shown, Part, value_text, kind_text, part_text, member_part, element_text, element_texts, integer_text}
+use Rattle.ctf_text.specs.declared.standing.Before.{Before}
+use Rattle.ctf_text.specs.declared.standing.Ends.{Ends}
+use Rattle.ctf_text.proofs.StandingLemmas.{begins, form-is, value-is, member-is, form_integer, text_integer, mark_at, row_more}
+
+-- the last of some values
+last_of : (ws : List Val) (v : Val) (i : ℕ) → length ws ≡ i → slice_get (ws ++ v ∷ []) i ≡ Some v
+last_of [] v zero same = refl
+last_of [] v (suc i) same = absurd (omega (arith, same))
+last_of (w ∷ ws) v zero same = absurd (omega (arith, same))
+last_of (w ∷ ws) v (suc i) same = last_of ws v i (omega (arith, same))
+
+-- a length that is the member before
+counts_last : (route : Route) (before : Before) (n : ℕ) → LeadsBefore route before.index → before.number ≡ Some n → Counts (Field route) before n
+unfolding found
+counts_last route before n leads is earlier env vs counted last =
+    let at_end = subst (λ o. LastIs o vs) is last in
+    let step = leads.1.0 in
+    let few : length at_end.0 ≡ step = omega (arith, counted, leads.1.2, ap length at_end.1, length-append at_end.0 (unsigned n ∷ [])) in
+    let stands : slice_get vs step ≡ Some (unsigned n) = ap (λ xs. slice_get xs step) at_end.1 ∙ last_of at_end.0 (unsigned n) step few in
+    rw (leads.0, leads.1.1, stands) refl
+
+pub counts_field : (route : Route) (before : Before) (o : Option ℕ) → LeadsBefore route before.index → before.number ≡ o → IfSome o (Counts (Field route) before)
+counts_field route before None leads is = tt
+counts_field route before (Some n) leads is = counts_last route before n leads is
+
+elements_snoc : (shown : Shown) (k : ℕ) (vs : List Val) (v : Val) → element_texts shown k (vals_of (vs ++ v ∷ [])) ≡ element_texts shown k (vals_of vs) ++ element_text shown (k + length vs) v ∷ []
+elements_snoc shown k [] v = let n : k ≡ k + 0 = omega arith in ap (λ i. element_text shown i v ∷ []) n
+elements_snoc shown k (w ∷ vs) v =
+    let n : suc k + length vs ≡ k + suc (length vs) = omega arith in
+    ap (λ xs. element_text shown k w ∷ xs) (elements_snoc shown (suc k) vs v ∙ ap (λ i. element_texts shown (suc k) (vals_of vs) ++ element_text shown i v ∷ []) n)
+
+elements_length : (shown : Shown) (k : ℕ) (vs : List Val) → length (element_texts shown k (vals_of vs)) ≡ length vs
+elements_length shown k [] = refl
+elements_length shown k (w ∷ vs) = ap suc (elements_length shown (suc k) vs)
+
+-- As many elements as an index tells were written, and the others stand behind them: so the loop over elements goes.
+abbrev pub Going : ℕ → Integer → ℕ → List ℕ → ℕ → ℕ → ℕ → ℕ → List ℕ → List ℕ → Type 0
+Going a i count packet content place k at before line =
+    (spent : ℕ) → spent + count ≤ MOST_VALUES → (earlier : Scope → Option Val) (env : Env)
+    → (vs : List Val)
+    × (repeat (walk (integer a i) (among packet content earlier) env) (count - k) vs at (spent + k) ≡ repeat (walk (integer a i) (among packet content earlier) env) count [] place spent)
+    × (length vs ≡ k) × (line ≡ before ++ row 91 (element_texts (integer_text i) 0 (vals_of vs)))
+
+module _ (a : ℕ) (i : Integer) (count : ℕ) (packet : List ℕ) (content place : ℕ) (before : List ℕ) where
+  pub going_begins : Going a i count packet content place 0 place before before
+  going_begins spent room earlier env =
+      let s : spent + 0 ≡ spent = omega arith in
+      let all : count - 0 ≡ count = omega arith in
+      ([], (λ j. repeat (walk (integer a i) (among packet content earlier) env) (all j) [] place (s j)), refl, sym (append-nil before))
+
+  pub going_on : (k at there lead : ℕ) (line more : List ℕ) → k < count → lead ≡ mark_at 91 k → Going a i count packet content place k at before line
+      → PutsOne (integer a i) (λ v. lead ∷ 32 ∷ element_text (integer_text i) k v) packet content at there line more → Going a i count packet content place (k + 1) there before more
+  going_on k at there lead line more within marked going puts spent room earlier env =
+      let c = among packet content earlier in
+      let f = walk (integer a i) c env in
+      let g = going spent room earlier env in
+      let vs = g.0 in
+      let p = puts (spent + k) (omega (arith, room, within)) earlier env in
+      let total : spent + (k + 1) ≡ spent + k + 1 = omega arith in
+      let walked = ap (repeat f (count - (k + 1)) (vs ++ p.0 ∷ []) there) total ∙ row_ok f count k within vs at (spent + k) p.0 there (spent + k + 1) (vs ++ p.0 ∷ []) refl p.1 ∙ g.1 in
+      let longer : length (vs ++ p.0 ∷ []) ≡ k + 1 = length-append vs (p.0 ∷ []) ∙ ap (λ n. n + 1) g.2 in
+      let shown = integer_text i in
+      let all = element_texts shown 0 (vals_of vs) in
+      let text = element_text shown k p.0 in
+      let lead_is : mark_at 91 (length all) ≡ lead = ap (mark_at 91) (elements_length shown 0 vs ∙ g.2) ∙ sym marked in
+      let at_end : 0 + length vs ≡ k = omega (arith, g.2) in
+      let texts : element_texts shown 0 (vals_of (vs ++ p.0 ∷ [])) ≡ all ++ text ∷ [] = elements_snoc shown 0 vs p.0 ∙ ap (λ n. all ++ element_text shown n p.0 ∷ []) at_end in
+      let wrote =
+      p.2 ∙ ap (λ xs. xs ++ (lead ∷ 32 ∷ text)) g.3 ∙ append_assoc before (row 91 all) (lead ∷ 32 ∷ text)
+      ∙ ap (λ l. before ++ (row 91 all ++ (l ∷ 32 ∷ text))) (sym lead_is) ∙ ap (λ xs. before ++ xs) (sym (row_more 91 all text)) ∙ ap (λ ts. before ++ row 91 ts) (sym texts)
+      in
+      (vs ++ p.0 ∷ [], walked, longer, wrote)
+
+  pub going_ends : (at : ℕ) (line : List ℕ) → Going a i count packet content place count at before line → PutsElements (row 91) a i count packet content place at before line
+  going_ends at line going spent room earlier env =
+      let g = going spent room earlier env in
+      let over : count - count ≡ 0 = omega arith in
+      (g.0, sym g.1 ∙ ap (λ n. repeat (walk (integer a i) (among packet content earlier) env) n g.0 at (spent + count)) over, g.2, g.3)
+
+closed_row : (shown : Shown) (vs : List Val) → 0 < length vs → row 91 (element_texts shown 0 (vals_of vs)) ++ (32 ∷ 93 ∷ []) ≡ enclosed 91 93 (element_texts shown 0 (vals_of vs))
+closed_row shown [] some = absurd (omega (arith, some))
+closed_row shown (v ∷ vs) some = refl
+
+-- the mark behind the elements
+pub closed : (a : ℕ) (i : Integer) (count : ℕ) (packet : List ℕ) (content place end : ℕ) (before line after : List ℕ) → 0 < count → after ≡ line ++ (32 ∷ 93 ∷ []) → PutsElements (row 91) a i count packet content place end before line → PutsElements (enclosed 91 93) a i count packet content place end before after
+closed a i count packet content place end before line after some added puts spent room earlier env =
+    let p = puts spent room earlier env in
+    let all = element_texts (integer_text i) 0 (vals_of p.0) in
+    (p.0, p.1, p.2, added ∙ ap (λ xs. xs ++ (32 ∷ 93 ∷ [])) p.3 ∙ append_assoc before (row 91 all) (32 ∷ 93 ∷ []) ∙ ap (λ xs. before ++ xs) (closed_row (integer_text i) p.0 (omega (arith, some, p.2))))
+
+-- no elements
+pub puts_none : (a : ℕ) (i : Integer) (packet : List ℕ) (content place : ℕ) (before after : List ℕ) → after ≡ before ++ (91 ∷ 32 ∷ 93 ∷ []) → PutsElements (enclosed 91 93) a i 0 packet content place place before after
+puts_none a i packet content place before after wrote spent room earlier env = let s : spent ≡ spent + 0 = omega arith in ([], ap (λ n. Ok ([], place, n)) s, refl, wrote)
+
+text-Array : (many : Length) (c : Class) → kind_text (kind.Array many c) ≡ (λ v. enclosed 91 93 (element_texts (value_text c) 0 (elements_in v)))
+text-Array many c = search (rules, class.the_lemmas)
+
+-- the elements are the value of an array
+pub puts_array : (before : Before) (m : Member) (lead : ℕ) (many : Length) (k : Class) (i : Integer) (packet : List ℕ) (content place start count end text : ℕ) (line begun after name : List ℕ)
+    → m.class.kind ≡ kind.Array many k → k.kind ≡ kind.Integer i → start ≡ next_multiple_of place k.align → start ≤ content → Counts many before count → begun ≡ line ++ (lead ∷ 32 ∷ name) → name ≡ field_text m.name
+    → PutsElements (enclosed 91 93) k.align i count packet content start end begun after
+    → PutsNext before (form m.class) (λ v. lead ∷ 32 ∷ part_text (member_part m) v) packet content place line (record { place = end; text = text; more = count; number = None }) after
+puts_array before m lead many k i packet content place start count end text line begun after name is_array is_integer starts within counts wrote named elements spent room earlier env vs counted last =
+    let c = among packet content earlier in
+    let e = vs ∷ env in
+    let p = elements (spent + 1) (omega (arith, room)) earlier e in
+    let v = list (vals_of p.0) in
+    let inner = integer k.align i in
+    let class : form m.class ≡ forms.array m.class.align many inner =
+    form-is m.class ∙ ap (λ x. shape x m.class.align) is_array ∙ shape-Array many k m.class.align ∙ ap (forms.array m.class.align many) (sym (form_integer k i is_integer))
+    in
+    let rest = λ (b n : ℕ). and_then (repeat (walk inner c e) n [] b (spent + 1)) as_list in
+    let opened : open_at c start (rest start count) ≡ rest start count = ap (λ b. cond b (Err (past start)) (rest start count)) (le-ltb content start within) in
+    let walked : walk (form m.class) c e place spent ≡ Ok (v, end, spent + 1 + count) =
+    ap (λ f. walk f c e place spent) class ∙ (λ j. begin c spent (open_at c (sym starts j) (rest (sym starts j) (counts earlier env vs counted last j))))
+    ∙ begins c spent (open_at c start (rest start count)) (omega (arith, room)) ∙ opened ∙ ap (λ r. and_then r as_list) p.1
+    in
+    let texts = enclosed 91 93 (element_texts (integer_text i) 0 (vals_of p.0)) in
+    let shown : texts ≡ value_text m.class v =
+    ap (λ f. enclosed 91 93 (element_texts f 0 (vals_of p.0))) (text_integer k i is_integer) ∙ ap (λ f. f v) (sym (text-Array many k)) ∙ ap (λ x. kind_text x v) (sym is_array) ∙ ap (λ f. f v) (sym (value-is m.class))
+    in
+    let part : part_text (member_part m) v ≡ field_text m.name ++ value_text m.class v = ap (λ (x : Part). part_text x v) (member-is m) in (
+      v,
+      walked,
+      p.3 ∙ ap (λ xs. xs ++ texts) wrote ∙ append_assoc line (lead ∷ 32 ∷ name) texts ∙ (λ j. line ++ (lead ∷ 32 ∷ (named j ++ shown j))) ∙ ap (λ xs. line ++ (lead ∷ 32 ∷ xs)) (sym part),
+      tt,
+    )
+
+-- an integer behind its index is an element
+pub puts_element : (r : Option Ends) (a : ℕ) (i : Integer) (lead k : ℕ) (packet : List ℕ) (content place : ℕ) (before line index buffer : List ℕ) → line ≡ before ++ (lead ∷ 32 ∷ index)
+    → ((v : Val) → element_text (integer_text i) k v ≡ index ++ integer_text i v)
+    → IfSome r (λ e. PutsOne (integer a i) (integer_text i) packet content place e.place line (take e.text buffer)) → IfSome r (λ e. PutsOne (integer a i) (λ v. lead ∷ 32 ∷ element_text (integer_text i) k v) packet content place e.place before (take e.text buffer))
+puts_element None a i lead k packet content place before line index buffer wrote is puts = tt
+puts_element (Some e) a i lead k packet content place before line index buffer wrote is puts =
+    λ spent few earlier env.
+    let p = puts spent few earlier env in
+    let text = integer_text i p.0 in
+    (p.0, p.1, p.2 ∙ ap (λ xs. xs ++ text) wrote ∙ append_assoc before (lead ∷ 32 ∷ index) text ∙ ap (λ xs. before ++ (lead ∷ 32 ∷ xs)) (sym (is p.0)))

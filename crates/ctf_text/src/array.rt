@@ -1,0 +1,186 @@
+//! Texts of arrays of integers where they stand.
+
+ghost use Rattle.std.specs.Prelude.{◌≡◌, ◌+◌, ◌*◌, ◌^◌, ◌∷◌, [], ◌<◌, ◌≤◌, length, take, vec_len, IfSome, IsTrue};
+ghost use Rattle.std.specs.Int.{next_multiple_of};
+ghost use Rattle.ctf_class.specs.declared.class.Kind as kind;
+ghost use Rattle.ctf_decode.specs.Forms as forms;
+ghost use Rattle.ctf_decode.specs.Views.{form};
+ghost use Rattle.ctf_text.specs.Rows.{row, enclosed};
+ghost use Rattle.ctf_text.specs.Standing.{PutsOne, PutsNext, PutsElements, Counts, LeadsBefore};
+ghost use Rattle.ctf_text.specs.Texts as texts;
+
+use crate::element::put_index;
+use crate::mark::{put_end, put_nothing, put_ready};
+use crate::number::LONGEST_NUMBER;
+use crate::standing::{Before, Content, Ends, Next, put_integer};
+use ctf_class::{Align, Class, Integer, Kind, Length, Member, Origin, Route};
+use ctf_decode::MOST_VALUES;
+
+/// Writes a member that is an array of this length, if its elements are integers, behind a mark.
+#[inline(never)]
+pub(crate) fn put_array(
+    lead: u8,
+    member: &Member,
+    length: &Length,
+    element: &Class,
+    before: Before,
+    packet: &Content<'_>,
+    place: u64,
+    buffer: &mut Vec<u8>,
+    at: usize,
+) -> Option<Next>
+    requires kind { member.now.class.kind ≡ kind.Array length.now element.now }
+    requires start { place ≤ packet.now.end }
+    requires index { at ≤ vec_len buffer.old }
+    ensures puts { IfSome result (λ n. PutsNext before (form member.now.class) (λ v. lead ∷ 32 ∷ texts.part_text (texts.member_part member.now) v) packet.now.bytes.now packet.now.end place (take at buffer.old.items) n (take n.text buffer.new.items)) }
+    ensures within { IfSome result (λ n. n.place ≤ packet.now.end) }
+    ensures held { IfSome result (λ n. n.text ≤ vec_len buffer.new) }
+    ensures few { IfSome result (λ n. n.more ≤ MOST_VALUES) }
+{
+    let Kind::Integer(integer) = &element.kind else {
+        return None;
+    };
+    let count = count_of(length, before)?;
+    if count > MOST_VALUES {
+        return None;
+    }
+    let align = element.align;
+    let begin = begin_at(align, packet, place)?;
+    let Ok(text) = put_ready(lead, member.name.ready(), LONGEST_NUMBER, buffer, at) else {
+        return None;
+    };
+    let ends = put_elements(integer, align, count, packet, begin, buffer, text)?;
+    Some(Next {
+        place: ends.place,
+        text: ends.text,
+        more: count,
+        number: None,
+    })
+}
+
+/// Where an array begins that could begin at a place, if it may begin there.
+#[inline(always)]
+fn begin_at(align: Align, packet: &Content<'_>, place: u64) -> Option<u64>
+    requires start { place ≤ packet.now.end }
+    ensures begin { IfSome result (λ begin. begin ≡ next_multiple_of place align) }
+    ensures within { IfSome result (λ begin. begin ≤ packet.now.end) }
+{
+    let begin = align.up(place);
+    if begin > packet.end {
+        return None;
+    }
+    Some(begin)
+}
+
+/// How many elements an array has behind other members, where its length is fixed or that of the last of them.
+fn count_of(length: &Length, before: Before) -> Option<u64>
+    ensures { IfSome result (Counts length.now before) }
+{
+    match length {
+        Length::Fixed(count) => Some(*count),
+        Length::Field(route) => {
+            if leads_before(route, before.index) {
+                before.number
+            } else {
+                None
+            }
+        }
+    }
+}
+
+/// Whether a route leads to the member before that of an index in the innermost structure.
+fn leads_before(route: &Route, index: usize) -> bool
+    ensures { IsTrue result → LeadsBefore route.now index }
+{
+    let Origin::Enclosing(out) = route.origin else {
+        return false;
+    };
+    let [step] = route.steps.as_slice() else {
+        return false;
+    };
+    out == 0 && index > 0 && *step as usize == index - 1
+}
+
+/// Writes so many integers as the elements of an array.
+fn put_elements(
+    integer: &Integer,
+    align: Align,
+    count: u64,
+    packet: &Content<'_>,
+    begin: u64,
+    buffer: &mut Vec<u8>,
+    at: usize,
+) -> Option<Ends>
+    requires start { begin ≤ packet.now.end }
+    requires index { at ≤ vec_len buffer.old }
+    ensures puts { IfSome result (λ e. PutsElements (enclosed 91 93) align integer.now count packet.now.bytes.now packet.now.end begin e.place (take at buffer.old.items) (take e.text buffer.new.items)) }
+    ensures within { IfSome result (λ e. e.place ≤ packet.now.end) }
+    ensures held { IfSome result (λ e. e.text ≤ vec_len buffer.new) }
+{
+    if count == 0 {
+        let Ok(text) = put_nothing(b'[', b']', buffer, at) else {
+            return None;
+        };
+        return Some(Ends { place: begin, text });
+    }
+    let ends = put_row(integer, align, count, packet, begin, buffer, at)?;
+    let Ok(text) = put_end(b']', buffer, ends.text) else {
+        return None;
+    };
+    Some(Ends {
+        place: ends.place,
+        text,
+    })
+}
+
+/// Writes so many integers, the first behind `[`.
+fn put_row(
+    integer: &Integer,
+    align: Align,
+    count: u64,
+    packet: &Content<'_>,
+    begin: u64,
+    buffer: &mut Vec<u8>,
+    at: usize,
+) -> Option<Ends>
+    requires start { begin ≤ packet.now.end }
+    requires index { at ≤ vec_len buffer.old }
+    ensures puts { IfSome result (λ e. PutsElements (row 91) align integer.now count packet.now.bytes.now packet.now.end begin e.place (take at buffer.old.items) (take e.text buffer.new.items)) }
+    ensures within { IfSome result (λ e. e.place ≤ packet.now.end) }
+    ensures held { IfSome result (λ e. e.text ≤ vec_len buffer.new) }
+{
+    let mut place = begin;
+    let mut text = at;
+    let mut lead = b'[';
+    for i in 0..count {
+        let ends = put_element(lead, i, integer, align, packet, place, buffer, text)?;
+        place = ends.place;
+        text = ends.text;
+        lead = b',';
+    }
+    Some(Ends { place, text })
+}
+
+/// Writes an integer that is an element, behind a mark.
+#[inline(always)]
+fn put_element(
+    lead: u8,
+    i: u64,
+    integer: &Integer,
+    align: Align,
+    packet: &Content<'_>,
+    place: u64,
+    buffer: &mut Vec<u8>,
+    at: usize,
+) -> Option<Ends>
+    requires start { place ≤ packet.now.end }
+    requires index { at ≤ vec_len buffer.old }
+    ensures puts { IfSome result (λ e. PutsOne (forms.integer align integer.now) (λ v. lead ∷ 32 ∷ texts.element_text (texts.integer_text integer.now) i v) packet.now.bytes.now packet.now.end place e.place (take at buffer.old.items) (take e.text buffer.new.items)) }
+    ensures within { IfSome result (λ e. e.place ≤ packet.now.end) }
+    ensures held { IfSome result (λ e. e.text ≤ vec_len buffer.new) }
+{
+    let Ok(begin) = put_index(lead, i as usize, buffer, at) else {
+        return None;
+    };
+    put_integer(integer, align, packet, place, buffer.as_mut_slice(), begin)
+}
