@@ -4,8 +4,6 @@ ghost use Rattle.std.specs.Prelude.{◌≡◌, ◌+◌, ◌-◌, ◌*◌, ◌/�
 ghost use Rattle.ctf_bits.specs.declared.number.Order.TheVariants.{Le, Be};
 ghost use Rattle.ctf_bits.specs.Number.{number};
 
-use byteorder::{ByteOrder, LittleEndian};
-
 /// The little endian number of `n` bits from the bit `shift` of the first byte on.
 pub(crate) fn joined_le(bytes: &[u8], shift: u32, n: u32) -> u64
     requires in_first { shift < 8 }
@@ -18,24 +16,12 @@ pub(crate) fn joined_le(bytes: &[u8], shift: u32, n: u32) -> u64
     if end <= 8 {
         return low_bits(bytes[0] >> shift, n);
     }
-    if end <= 32 && bytes.len() >= 4 {
-        return windowed_le(bytes, shift, n);
-    }
     let last = (end - 1) / 8;
     let mut value = u64::from(bytes[0] >> shift);
     for i in 1..last {
         value += u64::from(bytes[i as usize]) << (8 * i - shift);
     }
     value + (low_bits(bytes[last as usize], end - 8 * last) << (8 * last - shift))
-}
-
-/// The same where the bits lie in the first four bytes, which are there.
-fn windowed_le(bytes: &[u8], shift: u32, n: u32) -> u64
-    requires there { 4 ≤ length bytes.now }
-    requires inside { shift + n ≤ 32 }
-    ensures { result ≡ number Le bytes.now shift n }
-{
-    (u64::from(LittleEndian::read_u32(bytes)) >> shift) & ((1 << n) - 1)
 }
 
 /// The big endian number of `n` bits from the bit `shift` of the first byte on.

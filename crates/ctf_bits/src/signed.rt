@@ -1,7 +1,7 @@
 //! Numbers in two's complement.
 
-ghost use Rattle.std.specs.Prelude.{◌≡◌, ◌+◌, ◌-◌, ◌*◌, ◌/◌, ◌^◌, ◌<◌, ◌≤◌, ◌-ℤ◌, pos, length, SomeIff};
-ghost use Rattle.ctf_bits.specs.Number.{signed_number};
+ghost use Rattle.std.specs.Prelude.{◌≡◌, ◌+◌, ◌-◌, ◌*◌, ◌/◌, ◌^◌, ◌<◌, ◌≤◌, ◌-ℤ◌, ℕ, List, pos, length, SomeIff, IsTrue};
+ghost use Rattle.ctf_bits.specs.Number.{number, signed_number};
 
 use crate::number::{Order, uint, uint_within};
 
@@ -25,6 +25,18 @@ pub fn sint_within(bytes: &[u8], pos: u64, n: u32, order: Order) -> i64
     ensures { result ≡ signed_number order bytes.now pos n }
 {
     twos_complement(uint_within(bytes, pos, n, order), n)
+}
+
+/// Whether `n` bits, 1 to 64, that are this number stand for it in two's complement too: their top bit is not set (CTF
+/// 1.8.3, section 4.1.5).
+#[inline(always)]
+pub fn is_unsigned(value: u64, n: u32) -> bool
+    requires some_bits { 1 ≤ n }
+    requires in_a_word { n ≤ 64 }
+    requires bits { value < 2 ^ n }
+    ensures { IsTrue result → (order : Order) (bytes : List ℕ) (p : ℕ) → value ≡ number order bytes p n → signed_number order bytes p n ≡ pos value }
+{
+    value >> (n - 1) == 0
 }
 
 /// A number of `n` bits, less 2 ^ n where its top bit is set.

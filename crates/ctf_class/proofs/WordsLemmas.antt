@@ -3,7 +3,7 @@ use Rattle.std.proofs.Common.{◌≡◌, ℕ, zero, suc, ◌+◌, ◌-◌, ◌*�
 use Rattle.std.proofs.Math.ListN.{get_or-append}
 use Rattle.std.proofs.Math.Seq.{take-length, take-add, take-append-add, get_or-append_right}
 use Rattle.std.proofs.lemmas.Grind.{flat_map-append, take-set_at}
-use Rattle.std.proofs.lemmas.List.{length-take-le, length-set, append-nil, get_or-drop, take_more}
+use Rattle.std.proofs.lemmas.List.{length-take-le, length-set, append-nil, get_or-drop, take_more, take-append-le, take-take}
 use Rattle.std.proofs.lemmas.Bool.{cases_lt}
 use Rattle.std.specs.Int.{w64, to_le_bytes}
 use Rattle.std.specs.List.{flat_map, slice_range}
@@ -107,3 +107,50 @@ written-more line front before words at to i within already wrote =
     let more = word_bytes-more words i within in
     let grouped = append_assoc (take at front) (flat_map (to_le_bytes w64) (take i words)) (to_le_bytes w64 (get_or words i 0)) in
     wrote ∙ (ap (λ xs. xs ++ to_le_bytes w64 (get_or words i 0)) already ∙ (grouped ∙ ap (λ xs. take at front ++ xs) (sym more)))
+
+-- more words behind those that hold a text
+pub more-words : (words others : List ℕ) (count : ℕ) → count ≤ 8 * length words → first_bytes (words ++ others) count ≡ first_bytes words count
+more-words words others count within =
+    ap (take count) (flat_map-append (to_le_bytes w64) words others)
+    ∙ take-append-le count (flat_map (to_le_bytes w64) words) (flat_map (to_le_bytes w64) others) (omega (arith, length-word_bytes words))
+
+-- the first three words, filled up with zeros, and those behind them
+pub in-front : (words : List ℕ) (count : ℕ) → count ≤ 8 * length words → first_bytes (get_or words 0 0 ∷ get_or words 1 0 ∷ get_or words 2 0 ∷ drop 3 words) count ≡ first_bytes words count
+in-front [] count within = more-words [] (0 ∷ 0 ∷ 0 ∷ []) count within
+in-front (a ∷ []) count within = more-words (a ∷ []) (0 ∷ 0 ∷ []) count within
+in-front (a ∷ b ∷ []) count within = more-words (a ∷ b ∷ []) (0 ∷ []) count within
+in-front (a ∷ b ∷ c ∷ words) count within = refl
+
+-- a beginning of what was written
+pub line-part : (line front bytes : List ℕ) (at n m : ℕ) → n ≤ m → length front ≡ at → take (at + m) line ≡ front ++ bytes → take (at + n) line ≡ front ++ take n bytes
+line-part line front bytes at n m within long wrote =
+    sym (take-take (at + n) (at + m) line (omega arith)) ∙ ap (take (at + n)) wrote ∙ ap (λ k. take (k + n) (front ++ bytes)) (sym long)
+    ∙ take-append-add front bytes n
+
+-- three words, one behind the other
+pub three-words : (l1 l2 l3 front : List ℕ) (f s t at : ℕ) → take (at + 8) l1 ≡ front ++ to_le_bytes w64 f → take (at + 8 + 8) l2 ≡ take (at + 8) l1 ++ to_le_bytes w64 s → take (at + 16 + 8) l3 ≡ take (at + 16) l2 ++ to_le_bytes w64 t
+    → take (at + 24) l3 ≡ front ++ flat_map (to_le_bytes w64) (f ∷ s ∷ t ∷ [])
+three-words l1 l2 l3 front f s t at e1 e2 e3 =
+    let second : at + 16 ≡ at + 8 + 8 = omega arith in
+    let third : at + 24 ≡ at + 16 + 8 = omega arith in
+    ap (λ k. take k l3) third ∙ e3 ∙ ap (λ k. take k l2 ++ to_le_bytes w64 t) second ∙ ap (λ l. l ++ to_le_bytes w64 t) (e2 ∙ ap (λ l. l ++ to_le_bytes w64 s) e1)
+    ∙ append_assoc (front ++ to_le_bytes w64 f) (to_le_bytes w64 s) (to_le_bytes w64 t) ∙ append_assoc front (to_le_bytes w64 f) (to_le_bytes w64 s ++ to_le_bytes w64 t)
+
+-- a beginning of a text that lies in its first three words
+pub head-part : (f s t : ℕ) (rest : List ℕ) (count n : ℕ) → n ≤ 24 → n ≤ count → take n (flat_map (to_le_bytes w64) (f ∷ s ∷ t ∷ [])) ≡ take n (first_bytes (f ∷ s ∷ t ∷ rest) count)
+head-part f s t rest count n short within =
+    let words = f ∷ s ∷ t ∷ [] in
+    let bytes = flat_map (to_le_bytes w64) words in
+    let behind = flat_map (to_le_bytes w64) rest in
+    let whole : flat_map (to_le_bytes w64) (words ++ rest) ≡ bytes ++ behind = flat_map-append (to_le_bytes w64) words rest in
+    sym (take-take n count (flat_map (to_le_bytes w64) (words ++ rest)) within ∙ ap (take n) whole
+    ∙ take-append-le n bytes behind (omega (arith, length-word_bytes words)))
+
+-- a text that is longer: its first three words, and those behind them
+pub long-text : (f s t : ℕ) (rest text : List ℕ) (count : ℕ) → 24 ≤ count → first_bytes (f ∷ s ∷ t ∷ rest) count ≡ text → take count (take 24 text ++ flat_map (to_le_bytes w64) rest) ≡ text
+long-text f s t rest text count long is =
+    let words = f ∷ s ∷ t ∷ [] in
+    let bytes = flat_map (to_le_bytes w64) words in
+    let behind = flat_map (to_le_bytes w64) rest in
+    let front : bytes ≡ take 24 text = sym (take-length bytes) ∙ ap (λ k. take k bytes) (length-word_bytes words) ∙ head-part f s t rest count 24 (omega arith) long ∙ ap (take 24) is in
+    ap (λ l. take count (l ++ behind)) (sym front) ∙ ap (take count) (sym (flat_map-append (to_le_bytes w64) words rest)) ∙ is

@@ -11,18 +11,12 @@ use std::alloc::{AllocError, Global};
 use std::marker::Model;
 
 /// The name of a member or an option. Contracts see its bytes, as they are written. Its copies share
-/// them, and what is printed for it.
+/// them, and the long part of what is printed for it.
 #[derive(Debug, Drop)]
 pub struct FieldName {
-    shared: Shared<Kept>,
-}
-
-/// What the copies of a name share.
-#[derive(Debug, Drop)]
-struct Kept {
-    name: List<u8>,
     /// What is printed before the value.
     ready: Ready,
+    name: Shared<List<u8>>,
 }
 
 impl Model for FieldName {
@@ -34,9 +28,9 @@ impl Model for FieldName {
 
     ghost coded = { coded_list coded_ℕ };
 
-    ghost view = { λ field. field.shared.name };
+    ghost view = { λ field. field.name };
 
-    ghost invariant = { λ field. field.shared.ready ≡ field_text field.shared.name };
+    ghost invariant = { λ field. field.ready ≡ field_text field.name };
 }
 
 impl FieldName {
@@ -48,22 +42,22 @@ impl FieldName {
         text.extend_from_slice(shown(name.as_slice()))?;
         text.extend_from_slice(b" = ")?;
         let ready = Ready::new(alloc, text.as_slice())?;
-        let shared = Shared::new(alloc, Kept { name, ready })?;
-        Ok(FieldName { shared })
+        let name = Shared::new(alloc, name)?;
+        Ok(FieldName { ready, name })
     }
 
     /// The name as it is written.
     pub fn as_slice(&self) -> &[u8]
         ensures { result.now ≡ self.now }
     {
-        self.shared.get().name.as_slice()
+        self.name.get().as_slice()
     }
 
     /// What is printed before the value: the name without its leading `_`, and ` = `.
     pub fn ready(&self) -> &Ready
         ensures { result.now ≡ field_text self.now }
     {
-        &self.shared.get().ready
+        &self.ready
     }
 }
 
@@ -72,8 +66,9 @@ impl Clone for FieldName {
     ghost is_clone = { λ name other. other ≡ name };
 
     fn clone(&self) -> Result<FieldName, AllocError> {
-        let shared = self.shared.clone()?;
-        Ok(FieldName { shared })
+        let ready = self.ready.clone()?;
+        let name = self.name.clone()?;
+        Ok(FieldName { ready, name })
     }
 }
 

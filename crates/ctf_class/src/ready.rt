@@ -1,24 +1,32 @@
 //! Texts that are kept as they are printed.
 
-ghost use Rattle.std.specs.Prelude.{◌≡◌, ◌+◌, ◌*◌, ◌^◌, ◌++◌, ◌≤◌, length, take, IfOk};
+ghost use Rattle.std.specs.Prelude.{◌≡◌, ℕ, ◌+◌, ◌*◌, ◌^◌, ◌++◌, ◌≤◌, length, take, drop, get_or, IfOk};
 ghost use Rattle.std.specs.Int.{w64, to_le_bytes};
 ghost use Rattle.std.specs.List.{flat_map};
 
 use crate::words::words_of;
-use ctf_list::NoMemory;
-use std::alloc::Global;
+use ctf_list::{List, NoMemory, Shared};
+use std::alloc::{AllocError, Global};
 use std::marker::Model;
 
-/// A text in words of eight bytes, so that it is written by whole words. Contracts see its bytes.
+/// How many bytes of a text are written whatever its length is.
+const HEAD: usize = 24;
+
+/// A text in words of eight bytes, so that it is written by whole words. The first three stand in it, so that a
+/// short text is written at once: no jump depends on its length. Contracts see its bytes.
 #[derive(Debug, Drop)]
 pub struct Ready {
-    /// Eight bytes each, the first of them in the lowest bits; the last word is filled up.
-    words: Vec<u64>,
+    /// Eight bytes each, the first of them in the lowest bits, filled up with zeros.
+    first: u64,
+    second: u64,
+    third: u64,
+    /// The words behind these, which copies share; the last one is filled up.
+    rest: Shared<List<u64>>,
     length: usize,
 }
 
 impl Model for Ready {
-    ghost use Rattle.std.specs.Prelude.{List, ℕ, ◌+◌, ◌*◌, ◌^◌, ◌≤◌, vec_len};
+    ghost use Rattle.std.specs.Prelude.{List, ℕ, ◌+◌, ◌*◌, ◌^◌, ◌≤◌, ◌∷◌, length as length_of};
     ghost use Rattle.std.specs.Coded.{coded_list, coded_ℕ};
     ghost use Rattle.ctf_class.specs.Words.{first_bytes};
 
@@ -26,9 +34,9 @@ impl Model for Ready {
 
     ghost coded = { coded_list coded_ℕ };
 
-    ghost view = { λ ready. first_bytes ready.words.items ready.length };
+    ghost view = { λ ready. first_bytes (ready.first ∷ ready.second ∷ ready.third ∷ ready.rest) ready.length };
 
-    ghost invariant = { λ ready. (ready.length ≤ 8 * vec_len ready.words) × (8 * vec_len ready.words ≤ ready.length + 7) × (ready.length ≤ 2 ^ 63) };
+    ghost invariant = { λ ready. (ready.length ≤ 8 * (3 + length_of ready.rest)) × (8 * length_of ready.rest ≤ ready.length) × (ready.length ≤ 2 ^ 63) };
 }
 
 impl Ready {
@@ -37,8 +45,12 @@ impl Ready {
         ensures { IfOk result (λ ready. ready ≡ text.now) }
     {
         let words = words_of(alloc, text)?;
+        let rest = List::from_slice(alloc, behind_head(&words))?;
         Ok(Ready {
-            words,
+            first: word_at(&words, 0),
+            second: word_at(&words, 1),
+            third: word_at(&words, 2),
+            rest: Shared::new(alloc, rest)?,
             length: text.len(),
         })
     }
@@ -51,35 +63,80 @@ impl Ready {
         self.length
     }
 
-    /// Writes the text at an index of a line that has room for it and for 7 bytes more, and gives the
+    /// Writes the text at an index of a line that has room for it and for 24 bytes more, and gives the
     /// index behind it. What stands behind it in the line may be any bytes.
+    #[inline(always)]
     pub fn put(&self, line: &mut [u8], at: usize) -> usize
-        requires { at + length self.now + 7 ≤ length line.old }
+        requires { at + length self.now + 24 ≤ length line.old }
         ensures end { result ≡ at + length self.now }
         ensures text { take result line.new ≡ take at line.old ++ self.now }
     {
-        put_words(self.words.as_slice(), line, at);
+        if self.length > HEAD {
+            return self.put_long(line, at);
+        }
+        self.put_head(line, at);
         at + self.length
     }
-}
 
-/// Writes the bytes of words. Mostly there are one or two.
-#[inline(always)]
-fn put_words(words: &[u64], line: &mut [u8], at: usize)
-    requires { at + 8 * length words.now ≤ length line.old }
-    ensures { take (at + 8 * length words.now) line.new ≡ take at line.old ++ flat_map (to_le_bytes w64) words.now }
-{
-    match words.len() {
-        1 => put_word(line, at, words[0]),
-        2 => {
-            put_word(line, at, words[0]);
-            put_word(line, at + 8, words[1]);
-        }
-        _ => put_each(words, line, at),
+    /// The same of a long text.
+    #[inline(never)]
+    fn put_long(&self, line: &mut [u8], at: usize) -> usize
+        requires long { HEAD ≤ length self.now }
+        requires room { at + length self.now + 24 ≤ length line.old }
+        ensures end { result ≡ at + length self.now }
+        ensures text { take result line.new ≡ take at line.old ++ self.now }
+    {
+        self.put_head(line, at);
+        put_each(self.rest.get().as_slice(), line, at + HEAD);
+        at + self.length
+    }
+
+    /// Writes the words that stand in it.
+    #[inline(always)]
+    fn put_head(&self, line: &mut [u8], at: usize)
+        requires { at + HEAD ≤ length line.old }
+        ensures length { length line.new ≡ length line.old }
+        ensures text { (n : ℕ) → n ≤ HEAD → n ≤ length self.now → take (at + n) line.new ≡ take at line.old ++ take n self.now }
+    {
+        put_word(line, at, self.first);
+        put_word(line, at + 8, self.second);
+        put_word(line, at + 16, self.third);
     }
 }
 
-/// The same of any number of words.
+impl Clone for Ready {
+    ghost is_clone = { λ ready other. other ≡ ready };
+
+    fn clone(&self) -> Result<Ready, AllocError> {
+        let rest = self.rest.clone()?;
+        Ok(Ready {
+            first: self.first,
+            second: self.second,
+            third: self.third,
+            rest,
+            length: self.length,
+        })
+    }
+}
+
+/// A word, or zeros where there are fewer words.
+fn word_at(words: &[u64], i: usize) -> u64
+    ensures { result ≡ get_or words.now i 0 }
+{
+    match words.get(i) {
+        Some(word) => *word,
+        None => 0,
+    }
+}
+
+/// The words behind the first three.
+fn behind_head(words: &[u64]) -> &[u64]
+    ensures { result.now ≡ drop 3 words.now }
+{
+    &words[words.len().min(3)..]
+}
+
+/// Writes the bytes of words.
 #[inline(never)]
 fn put_each(words: &[u64], line: &mut [u8], at: usize)
     requires { at + 8 * length words.now ≤ length line.old }

@@ -1,9 +1,8 @@
-use Rattle.std.proofs.Common.{sym, arith, length, ap, ◌∙◌}
-use Rattle.ctf_class.proofs.WordsLemmas.{length-first_bytes}
+use Rattle.std.proofs.Common.{◌∷◌, sym, arith}
+use Rattle.ctf_class.proofs.WordsLemmas.{length-text}
 use Rattle.ctf_class.proofs.ready.Ready.len.Goals as goal
 
 pub returns-clause-is : goal.returns-clause-is
 returns-clause-is c =
     let inside = c.self.inside in
-    let counted = length-first_bytes inside.words.items inside.length (omega (arith, c.self.invariant)) in
-    sym counted ∙ ap length c.self.view_is
+    sym (length-text (inside.first ∷ inside.second ∷ inside.third ∷ inside.rest) c.args.self.now inside.length (omega (arith, c.self.invariant)) c.self.view_is)

@@ -1,0 +1,16 @@
+use Rattle.std.proofs.Common.{◌≡◌, ℕ, ℤ, pos, ◌-◌, ◌*◌, ◌/◌, ◌^◌, ◌-ℤ◌, List, IsTrue, nat_eq, ap, sym, ◌∙◌, arith}
+use Rattle.std.proofs.lemmas.Int.{ints}
+use Rattle.ctf_bits.specs.declared.number.Order.{Order}
+use Rattle.ctf_bits.specs.Number.{number, signed_number}
+use Rattle.ctf_bits.proofs.Signs.{signed_number-number}
+use Rattle.ctf_bits.proofs.signed.is_unsigned.Goals as goal
+
+-- where the top bit weighs nothing
+plain : (v n : ℕ) → v / 2 ^ (n - 1) ≡ 0 → pos v -ℤ pos (v / 2 ^ (n - 1) * 2 ^ n) ≡ pos v
+plain v n none =
+    let nothing : pos v -ℤ pos (0 * 2 ^ n) ≡ pos v = omega (arith, ints) in
+    ap (λ (q : ℕ). pos v -ℤ pos (q * 2 ^ n)) none ∙ nothing
+
+pub returns : goal.returns
+returns c none order bytes p is =
+    sym (signed_number-number order bytes p c.args.n c.args.value c.requires.some_bits is) ∙ plain c.args.value c.args.n (grind arith)
