@@ -1,5 +1,5 @@
 -- The scopes behind the header of an event record, one after the other, and their texts.
-use Rattle.std.proofs.Common.{◌≡◌, ℕ, List, [], ◌++◌, Option, Some, None, Result, Ok, codes, option_map, refl, sym, ap, ◌∙◌, append_assoc, append-nil}
+use Rattle.std.proofs.Common.{◌≡◌, ℕ, List, [], ◌++◌, Some, None, Result, Ok, codes, option_map, refl, sym, ap, ◌∙◌, append_assoc, append-nil}
 use Rattle.std.specs.List.{flat_map}
 use Rattle.ctf_class.specs.HostAndName.{heading_text}
 use Rattle.ctf_class.specs.declared.class.Class.{Class}

@@ -6,7 +6,7 @@ use Rattle.std.specs.List.{last_or}
 use Rattle.std.specs.Str.{bytes_eq}
 use Rattle.std.proofs.Math.Seq.{take-length}
 use Rattle.std.proofs.lemmas.Bool.{le-ltb}
-use Rattle.std.proofs.lemmas.List.{take_more, map-append, length-take-le}
+use Rattle.std.proofs.lemmas.List.{take_more, length-take-le}
 use Rattle.ctf_bits.specs.Number.{number, signed_number}
 use Rattle.ctf_class.specs.declared.class.Class.{Class}
 use Rattle.ctf_class.specs.declared.class.Kind as kind
@@ -19,13 +19,13 @@ use Rattle.ctf_class.specs.declared.span.Label.{Label}
 use Rattle.ctf_clock.specs.Clock.{Line, advanced_by}
 use Rattle.ctf_clock.specs.declared.moment.Moment.{Moment}
 use Rattle.ctf_decode.specs.Breaks.{past}
-use Rattle.ctf_decode.specs.Fields.{named_id, ids, member_ids, option_ids, number_in}
-use Rattle.ctf_decode.specs.Forms.{Form, Parts, integer, enumeration, structure, variant, part, no_parts, parts_of}
-use Rattle.ctf_decode.specs.Input.{Input, Env, bits_of, integer_at, label_at}
+use Rattle.ctf_decode.specs.Fields.{named_id, ids, member_ids, option_ids}
+use Rattle.ctf_decode.specs.Forms.{integer, enumeration, structure, variant, part, no_parts, parts_of}
+use Rattle.ctf_decode.specs.Input.{Input, Env, bits_of, integer_at}
 use Rattle.ctf_decode.specs.Routes.{FirstChooses, option_at}
 use Rattle.ctf_decode.specs.Values.{Val, label, group, choice, signed, unsigned, vals_of}
 use Rattle.ctf_decode.specs.Views.{form, member_part, shape, val}
-use Rattle.ctf_decode.specs.Walk.{Step, walk, walk_members, walk_option, and_then, begin, open_at, leaf, with_option, as_group, as_choice}
+use Rattle.ctf_decode.specs.Walk.{walk, walk_members, walk_option, and_then, begin, open_at, leaf, with_option, as_group, as_choice}
 use Rattle.ctf_decode.specs.declared.scopes.TheConstants.{MOST_VALUES}
 use Rattle.ctf_decode.specs.declared.value.Value as value
 use Rattle.ctf_decode.proofs.Numbered as numbered
@@ -36,7 +36,7 @@ use Rattle.ctf_decode.proofs.Views.{form-is, part-is, shape-Integer, shape-Enume
 use Rattle.ctf_line.specs.Headers.{begun, Tells, TellsMember, TellsMembers, TellsNumber, StandsAsTag}
 use Rattle.ctf_line.specs.declared.header.Tag.{Tag}
 use Rattle.ctf_line.specs.declared.header.Telling.{Telling}
-use Rattle.ctf_packet.specs.Moved.{moved, member_moved, option_moved, moved_in}
+use Rattle.ctf_packet.specs.Moved.{moved, member_moved, option_moved}
 use Rattle.ctf_packet.proofs.Moving as moving
 use Rattle.ctf_packet.proofs.Moving.{advanced_by-append}
 use Rattle.ctf_text.specs.Standing.{among}

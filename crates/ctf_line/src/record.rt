@@ -64,9 +64,48 @@ pub fn next_line<'a>(
             return Ok(with_text(told.head, standing));
         }
     }
+    let made = next_apart(
+        alloc,
+        packet,
+        part,
+        bytes,
+        clock,
+        place,
+        told.is_some(),
+        spares,
+        scopes,
+        line,
+    )?;
+    Ok(made)
+}
+
+/// The same where its header was not told, or its text could not be written behind one that was. Most records take no
+/// part in it, and so it stands out of their way.
+#[inline(never)]
+fn next_apart<'a>(
+    alloc: Global,
+    packet: &OpenPacket<'a>,
+    part: &[u8],
+    bytes: &[u8],
+    clock: Option<Moment>,
+    place: u64,
+    was_told: bool,
+    spares: &mut Spares,
+    scopes: &mut Scopes,
+    line: &mut Vec<u8>,
+) -> Result<LineRecord<'a>, StreamFault>
+    requires start { place ≤ packet.now.content }
+    requires content { packet.now.content ≤ 2 ^ 62 }
+    requires held { packet.now.content ≤ 8 * length bytes.now }
+    ensures makes { (shift : Shift) → packet.now.line ≡ (stream_form shift packet.now.stream.now).line → Makes packet.now.stream.now (record_at (opened_of shift (packet_values (values_of scopes.old)) packet.now) bytes.now clock place) part.now scopes.new line.new.items result }
+    ensures within { IfOk result (λ r. r.record.end ≤ packet.now.content) }
+    ensures forward { IfOk result (λ r. place < r.record.end) }
+    ensures packet { OnOk result (packet_values (values_of scopes.new) ≡ packet_values (values_of scopes.old)) }
+    ensures text { IfOk result (λ r. IfSome r.text (λ end. end ≤ vec_len line.new)) }
+{
     let head = next_head(alloc, packet, bytes, clock, place, spares, scopes)?;
-    if told.is_none() {
-        if let Some(standing) = put_record(packet, head, part, bytes, scopes.spent(), place, line) {
+    if !was_told {
+        if let Some(standing) = put_apart(packet, head, part, bytes, scopes.spent(), place, line) {
             return Ok(with_text(head, standing));
         }
     }
@@ -136,6 +175,7 @@ fn valued<'a>(
 
 /// Writes the text of the event record that begins at `place` at the front of a line, where the scopes behind its header
 /// stand in a form that can be shown without their values, and so many values were begun before.
+#[inline(always)]
 fn put_record(
     packet: &OpenPacket<'_>,
     head: Head<'_>,
@@ -172,6 +212,29 @@ fn put_record(
         return None;
     }
     Some(all)
+}
+
+/// The same out of the way of most records.
+#[inline(never)]
+fn put_apart(
+    packet: &OpenPacket<'_>,
+    head: Head<'_>,
+    part: &[u8],
+    bytes: &[u8],
+    spent: u64,
+    place: u64,
+    line: &mut Vec<u8>,
+) -> Option<Standing>
+    requires start { head.end ≤ packet.now.content }
+    requires content { packet.now.content ≤ 2 ^ 62 }
+    requires held { packet.now.content ≤ 8 * length bytes.now }
+    requires few { spent ≤ MOST_VALUES }
+    ensures puts { IfSome result (λ s. PutsBody packet.now.stream.now head.entry.event.now part.now bytes.now packet.now.content head.entry.end spent s.place (take s.end line.new.items)) }
+    ensures within { IfSome result (λ s. s.place ≤ packet.now.content) }
+    ensures forward { IfSome result (λ s. place < s.place) }
+    ensures held { IfSome result (λ s. s.end ≤ vec_len line.new) }
+{
+    put_record(packet, head, part, bytes, spent, place, line)
 }
 
 /// Writes the text of a scope, if it has a class, and a comma behind it.

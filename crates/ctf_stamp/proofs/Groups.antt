@@ -2,7 +2,7 @@
 use Rattle.std.proofs.Common.{◌≡◌, ℕ, zero, suc, ◌+◌, ◌*◌, ◌/◌, ◌%◌, ◌^◌, ◌<◌, ◌≤◌, List, [], ◌∷◌, ◌++◌, length, refl, sym, ap, subst, ◌∙◌, add-zero, add-suc, mul_comm, append_assoc, append-nil, length-append, arith}
 use Rattle.std.proofs.Math.Nat.{div-add-mod, div-div-eq-div-mul, mod-lt, pow-succ', mul_left_comm}
 use Rattle.std.specs.Fmt.{decimal}
-use Rattle.std.proofs.lemmas.Fmt.{decimal_digit, decimal_step}
+use Rattle.std.proofs.lemmas.Fmt.{decimal_step}
 use Rattle.ctf_stamp.specs.Digits.{last_digits}
 
 pub digits_long : (k n : ℕ) → length (last_digits k n) ≡ k
@@ -42,6 +42,20 @@ two_digits a b n h f g =
     let e : a ≡ n / 10 % 10 = omega arith in
     ap (λ m. (48 + m) ∷ (48 + b) ∷ []) e ∙ ap (λ m. (48 + n / 10 % 10) ∷ (48 + m) ∷ []) g
 
+-- two digits in one word
+pub pair_digits : (w n : ℕ) → n < 100 → w ≡ 48 + n / 10 + (48 + n % 10) * 256 → w % 256 ∷ w / 256 % 256 ∷ [] ≡ last_digits 2 n
+pair_digits w n few is =
+    let first : w % 256 ≡ 48 + n / 10 = omega (arith, few, is) in
+    let second : w / 256 % 256 ≡ 48 + n % 10 = omega (arith, few, is) in
+    (λ i. first i ∷ second i ∷ []) ∙ two_digits (n / 10) (n % 10) n few refl refl
+
+-- nine digits, the first of them alone
+pub nine_digits : (n : ℕ) → n < 1000000000 → (48 + n / 100000000) ∷ last_digits 8 (n % 100000000) ≡ last_digits 9 n
+unfolding last_digits
+nine_digits n few =
+    let one : n / 100000000 % 10 ≡ n / 100000000 = omega (arith, few) in
+    ap (λ d. (48 + d) ∷ last_digits 8 (n % 100000000)) (sym one) ∙ sym (split 1 8 100000000 n (omega arith) refl)
+
 pub twenty_digits : (n : ℕ) → (last_digits 4 (n / 10000000000000000) ++ last_digits 8 (n / 100000000 % 100000000)) ++ last_digits 8 (n % 100000000) ≡ last_digits 20 n
 twenty_digits n =
     let a = split 12 8 100000000 n (omega arith) refl in
@@ -65,15 +79,3 @@ decimal_long (suc k) n low fits =
     let front = decimal_long k (n / 10) (omega arith) (omega arith) in
     let same : n / 10 / p ≡ n / (10 * p) = div-div-eq-div-mul n 10 p in
     rw (step, front, e, append_assoc, same) refl
-
--- a digit more in front of nine
-pub second_text : (n : ℕ) → n < 1000000000 → decimal (1000000000 + n) ≡ 49 ∷ last_digits 9 n
-unfolding last_digits
-second_text n small =
-    let front : (1000000000 + n) / 1000000000 ≡ 1 = omega arith in
-    let last = joined 0 9 1 n small in
-    decimal_long 9 (1000000000 + n) (omega arith) (omega arith) ∙ rw (front, decimal_digit 1 (omega arith)) (ap (λ (xs : List ℕ). 49 ∷ xs) last)
-
-pub second_long : (n : ℕ) → n < 1000000000 → length (decimal (1000000000 + n)) ≡ 10
-unfolding last_digits
-second_long n small = ap length (second_text n small) ∙ ap (λ (k : ℕ). 1 + k) (digits_long 9 n)

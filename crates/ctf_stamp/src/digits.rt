@@ -4,7 +4,8 @@ ghost use Rattle.std.specs.Prelude.{◌≡◌, ◌+◌, ◌<◌, ◌≤◌, [], 
 ghost use Rattle.ctf_stamp.specs.Digits.{last_digits, seconds_text};
 ghost use Rattle.ctf_stamp.specs.Putting.{IsPut};
 
-use itoa::{Buffer, write_digits};
+use ctf_digits::two_digits;
+use itoa::Buffer;
 
 /// Nanoseconds in a second.
 const SECOND: u64 = 1_000_000_000;
@@ -19,6 +20,16 @@ pub(crate) fn put_byte(byte: u8, line: &mut [u8], at: usize) -> usize
     at + 1
 }
 
+/// Two bytes.
+#[inline(always)]
+pub(crate) fn put_two(first: u8, second: u8, line: &mut [u8], at: usize) -> usize
+    requires { at + 2 ≤ length line.old }
+    ensures { IsPut line.old line.new at result (first ∷ second ∷ []) }
+{
+    let at = put_byte(first, line, at);
+    put_byte(second, line, at)
+}
+
 /// Two digits.
 #[inline(always)]
 pub(crate) fn put_pair(pair: u32, line: &mut [u8], at: usize) -> usize
@@ -26,8 +37,8 @@ pub(crate) fn put_pair(pair: u32, line: &mut [u8], at: usize) -> usize
     requires room { at + 2 ≤ length line.old }
     ensures { IsPut line.old line.new at result (last_digits 2 pair) }
 {
-    let at = put_byte(b'0' + (pair / 10) as u8, line, at);
-    put_byte(b'0' + (pair % 10) as u8, line, at)
+    let digits = two_digits(pair).to_le_bytes();
+    put_two(digits[0], digits[1], line, at)
 }
 
 /// Four digits.
@@ -54,16 +65,17 @@ fn put_eight(number: u32, line: &mut [u8], at: usize) -> usize
     put_four(number % 10_000, line, at)
 }
 
-/// A dot and nine digits. The kit writes as many digits as a number has, so it is given one more in front, and
-/// the dot takes its place.
+/// A dot and nine digits.
+#[tactic(auto, using(crate::proofs::Groups::digits_long))]
+#[inline(always)]
 pub(crate) fn put_fraction(number: u32, line: &mut [u8], at: usize) -> usize
     requires nine { number < 1000000000 }
     requires room { at + 10 ≤ length line.old }
     ensures { IsPut line.old line.new at result (codes "." ++ last_digits 9 number) }
 {
-    write_digits(SECOND + u64::from(number), line, at + 10);
-    line[at] = b'.';
-    at + 10
+    let at = put_byte(b'.', line, at);
+    let at = put_byte(b'0' + (number / 100_000_000) as u8, line, at);
+    put_eight(number % 100_000_000, line, at)
 }
 
 /// Twenty digits.
@@ -89,7 +101,8 @@ pub(crate) fn put_bytes(bytes: &[u8], line: &mut [u8], at: usize) -> usize
     end
 }
 
-/// A number in decimal, at most 20 bytes.
+/// A number in decimal, at most 20 bytes. Mostly it has one digit.
+#[inline(always)]
 fn put_decimal(number: u64, line: &mut [u8], at: usize) -> usize
     requires { at + 20 ≤ length line.old }
     ensures put { IsPut line.old line.new at result (decimal number) }
@@ -98,6 +111,16 @@ fn put_decimal(number: u64, line: &mut [u8], at: usize) -> usize
     if number < 10 {
         return put_byte(b'0' + number as u8, line, at);
     }
+    put_long(number, line, at)
+}
+
+/// The same of any number.
+#[inline(never)]
+fn put_long(number: u64, line: &mut [u8], at: usize) -> usize
+    requires { at + 20 ≤ length line.old }
+    ensures put { IsPut line.old line.new at result (decimal number) }
+    ensures short { result ≤ at + 20 }
+{
     let mut digits = Buffer::new();
     put_bytes(digits.format(number).as_bytes(), line, at)
 }

@@ -8,7 +8,7 @@ ghost use Rattle.ctf_stamp.specs.Civil.{second_of, within_second};
 ghost use Rattle.ctf_stamp.specs.Zones.{civil_at};
 
 use crate::civil::{MOST_HEAD, put_head};
-use crate::digits::{put_byte, put_bytes, put_fraction, put_seconds, put_twenty};
+use crate::digits::{put_byte, put_bytes, put_fraction, put_seconds, put_twenty, put_two};
 use crate::style::{ClockStyle, Style};
 use ctf_clock::Moment;
 use std::marker::Model;
@@ -123,13 +123,13 @@ impl Stamper {
         };
         let at = put_byte(b'[', line, at);
         let at = self.put_stamp(moment, line, at);
-        let at = put_bytes(b"] ", line, at);
+        let at = put_two(b']', b' ', line, at);
         if !self.style.delta {
             return at;
         }
         let at = put_byte(b'(', line, at);
         let at = put_delta(last, moment.time, line, at);
-        put_bytes(b") ", line, at)
+        put_two(b')', b' ', line, at)
     }
 }
 

@@ -1,12 +1,11 @@
 -- How long numbers are in decimal.
-use Rattle.std.proofs.Common.{◌≡◌, ℕ, ◌+◌, ◌-◌, ◌*◌, ◌/◌, ◌%◌, ◌^◌, ◌<◌, ◌≤◌, Bool, true, false, nat_lt, bit_and, w32, List, [], ◌∷◌, ◌++◌, length, take, drop, refl, sym, ap, ◌∙◌, subst, arith, length-append}
+use Rattle.std.proofs.Common.{◌≡◌, ℕ, ◌+◌, ◌-◌, ◌*◌, ◌/◌, ◌%◌, ◌^◌, ◌<◌, ◌≤◌, Bool, true, false, nat_lt, w32, List, [], ◌∷◌, ◌++◌, length, take, drop, refl, sym, ap, ◌∙◌, subst, arith, length-append}
 use Rattle.std.proofs.Math.Seq.{take-add, take-append-add, take-append_seam}
 use Rattle.std.proofs.lemmas.List.{take-take, length-take-le}
 use Rattle.std.specs.Fmt.{decimal}
 use mir.Val.{bool_byte}
 use Rattle.std.specs.Int.{to_le_bytes}
 use Rattle.std.proofs.lemmas.Bool.{ltb-true, ltb-false}
-use Rattle.std.proofs.lemmas.Nat.{and_mask, and_block}
 use Rattle.ctf_text.specs.Digits.{four_digits}
 use Rattle.std.proofs.lemmas.Fmt.{decimal_digit, decimal_step, length-decimal-le}
 
@@ -38,22 +37,6 @@ written_at line before text after at end ends within written kept =
     cc
 
 -- ---- four digits in a word
-
--- the masked bits of two numbers of 16 bits in one word
-masked : (low high : ℕ) → low < 2 ^ 16 → bit_and (high * 2 ^ 16 + low) (15 * 2 ^ 16 + 15) ≡ high % 16 * 2 ^ 16 + low % 16
-masked low high fits =
-    let upper = and_mask high 4 in
-    let lower = and_mask low 4 in
-    and_block 16 high 15 low 15 fits (omega arith) ∙ (λ i. upper i * 2 ^ 16 + lower i)
-
--- the tens of two numbers of two digits
-pub tens_masked : (low high : ℕ) → low < 100 → high < 100 → bit_and ((low + high * 2 ^ 16) * 103 / 2 ^ 10) 983055 ≡ low / 10 + high / 10 * 2 ^ 16
-tens_masked low high few many =
-    let s = (low + high * 2 ^ 16) * 103 / 2 ^ 10 in
-    let split : s ≡ s / 2 ^ 16 * 2 ^ 16 + s % 2 ^ 16 = omega arith in
-    let first : s % 2 ^ 16 % 16 ≡ low / 10 = omega (arith, few, many) in
-    let second : s / 2 ^ 16 % 16 ≡ high / 10 = omega (arith, few, many) in
-    ap (λ n. bit_and n 983055) split ∙ (masked (s % 2 ^ 16) (s / 2 ^ 16) (omega arith) ∙ (let sum : s / 2 ^ 16 % 16 * 2 ^ 16 + s % 2 ^ 16 % 16 ≡ low / 10 + high / 10 * 2 ^ 16 = omega (arith, first, second) in sum))
 
 -- the bytes of a word of four
 bytes_are : (a b c d : ℕ) → a < 256 → b < 256 → c < 256 → d < 256 → to_le_bytes w32 (a + b * 2 ^ 8 + c * 2 ^ 16 + d * 2 ^ 24) ≡ a ∷ b ∷ c ∷ d ∷ []

@@ -1,5 +1,5 @@
 -- Values that are shown where they stand, one member more at a time.
-use Rattle.std.proofs.Common.{◌≡◌, ℕ, zero, suc, ◌+◌, ◌-◌, ◌*◌, ◌/◌, ◌<◌, ◌≤◌, true, false, cond, List, [], ◌∷◌, ◌++◌, map, take, drop, length, get_or, position, nat_eq, not, Option, Some, None, IfSome, Ok, Err, pos, rules, refl, sym, ap, subst, ◌∙◌, arith, append_assoc, append-nil, length-append}
+use Rattle.std.proofs.Common.{◌≡◌, ℕ, zero, suc, ◌+◌, ◌-◌, ◌*◌, ◌/◌, ◌<◌, ◌≤◌, Bool, true, false, cond, List, [], ◌∷◌, ◌++◌, map, take, drop, length, get_or, position, nat_eq, not, Option, Some, None, IfSome, Ok, Err, pos, rules, refl, sym, ap, subst, ◌∙◌, arith, append_assoc, append-nil, length-append}
 use Rattle.std.specs.Int.{next_multiple_of}
 use Rattle.std.specs.List.{take_while}
 use Rattle.std.proofs.lemmas.Bool.{lt-ltb, le-ltb}
@@ -66,6 +66,12 @@ module _ (a : ℕ) (i : Integer) (packet : List ℕ) (content place end : ℕ) (
       let value : integer_at c i b ≡ unsigned n = ap (λ t. cond t (signed (signed_number i.order packet b (bits_of i))) (unsigned n)) is in
       let e = b + bits_of i in
       (unsigned n, ap (λ v. begin c spent (leaf c e spent v)) value ∙ leaf_stands c e spent (unsigned n) few (subst (λ n. n ≤ content) ending within) ∙ ap (λ m. Ok (unsigned n, m, spent + 1)) (sym ending), wrote)
+
+  -- the same of one that is not below zero, signed or not
+  pub puts_plain : (s : Bool) (n : ℕ) → i.is_signed ≡ s → end ≡ next_multiple_of place a + bits_of i → end ≤ content → n ≡ number i.order packet (next_multiple_of place a) (bits_of i)
+      → (i.is_signed ≡ true → signed_number i.order packet (next_multiple_of place a) (bits_of i) ≡ pos n) → after ≡ before ++ number_text i (pos n) → Puts_integer
+  puts_plain true n is ending within read plain wrote = puts_signed is ending within (wrote ∙ ap (λ z. before ++ number_text i z) (sym (plain is)))
+  puts_plain false n is ending within read plain wrote = puts_unsigned is ending within (wrote ∙ ap (λ m. before ++ number_text i (pos m)) read)
 
 module _ (packet : List ℕ) (content place end n : ℕ) (before after : List ℕ) where
   -- the whole bytes that are left
@@ -338,3 +344,17 @@ stands_number a i packet content place n is within read spent few earlier env =
     let b = next_multiple_of place a in
     let value : integer_at c i b ≡ unsigned n = ap (λ t. cond t (signed (signed_number i.order packet b (bits_of i))) (unsigned (number i.order packet b (bits_of i)))) is ∙ ap unsigned (sym read) in
     (b + bits_of i, ap (λ v. begin c spent (leaf c (b + bits_of i) spent v)) value ∙ leaf_stands c (b + bits_of i) spent (unsigned n) few within)
+
+pub stands_if : (a : ℕ) (i : Integer) (packet : List ℕ) (content place n : ℕ) (o : Option ℕ) → next_multiple_of place a + bits_of i ≤ content → n ≡ number i.order packet (next_multiple_of place a) (bits_of i)
+    → IfSome o (λ m. (i.is_signed ≡ false) × (m ≡ n)) → IfSome o (StandsAsNumber (integer a i) packet content place)
+stands_if a i packet content place n (Some m) within read is = stands_number a i packet content place m is.0 within (is.1 ∙ read)
+stands_if a i packet content place n None within read is = tt
+
+-- a number of a value, as that of the class that it is of
+pub number_as : (r : Option Ends) (k l : Form) (packet : List ℕ) (content place : ℕ) → k ≡ l → IfSome r (λ e. IfSome e.number (StandsAsNumber k packet content place)) → IfSome r (λ e. IfSome e.number (StandsAsNumber l packet content place))
+number_as r k l packet content place is stands = subst (λ f. IfSome r (λ e. IfSome e.number (StandsAsNumber f packet content place))) is stands
+
+-- a value that tells no number
+pub no_number : (r : Option Ends) (k : Form) (packet : List ℕ) (content place : ℕ) → IfSome r (λ e. e.number ≡ None) → IfSome r (λ e. IfSome e.number (StandsAsNumber k packet content place))
+no_number (Some e) k packet content place none = subst (λ (o : Option ℕ). IfSome o (StandsAsNumber k packet content place)) (sym none) tt
+no_number None k packet content place none = tt

@@ -121,7 +121,11 @@ fn put_elements(
         let Ok(text) = put_nothing(b'[', b']', buffer, at) else {
             return None;
         };
-        return Some(Ends { place: begin, text });
+        return Some(Ends {
+            place: begin,
+            text,
+            number: None,
+        });
     }
     let ends = put_row(integer, align, count, packet, begin, buffer, at)?;
     let Ok(text) = put_end(b']', buffer, ends.text) else {
@@ -130,6 +134,7 @@ fn put_elements(
     Some(Ends {
         place: ends.place,
         text,
+        number: None,
     })
 }
 
@@ -158,7 +163,11 @@ fn put_row(
         text = ends.text;
         lead = b',';
     }
-    Some(Ends { place, text })
+    Some(Ends {
+        place,
+        text,
+        number: None,
+    })
 }
 
 /// Writes an integer that is an element, behind a mark.

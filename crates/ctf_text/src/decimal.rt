@@ -1,10 +1,11 @@
 //! Numbers in decimal.
 
-ghost use Rattle.std.specs.Prelude.{◌≡◌, ◌+◌, ◌*◌, ◌/◌, ◌^◌, ◌++◌, ◌<◌, ◌≤◌, length, take};
+ghost use Rattle.std.specs.Prelude.{◌≡◌, ◌+◌, ◌++◌, ◌<◌, ◌≤◌, length, take};
 ghost use Rattle.std.specs.Fmt.{decimal, signed_decimal};
 ghost use Rattle.std.specs.Int.{w32, to_le_bytes};
 ghost use Rattle.ctf_text.specs.Digits.{four_digits};
 
+use ctf_digits::two_digits;
 use itoa::{Buffer, write_digits};
 
 /// How many digits a number has in decimal.
@@ -32,6 +33,7 @@ fn count_digits(number: u64) -> usize
 
 /// Writes a number in decimal at an index of a line that has room for 20 bytes there, and gives the index
 /// behind it. Mostly it has up to four digits.
+#[inline(always)]
 pub fn put_unsigned(number: u64, line: &mut [u8], at: usize) -> usize
     requires room { at + 20 ≤ length line.old }
     ensures text { take result line.new ≡ take at line.old ++ decimal number }
@@ -46,6 +48,7 @@ pub fn put_unsigned(number: u64, line: &mut [u8], at: usize) -> usize
 
 /// The same, by two digits at a time.
 #[tactic(auto, using(crate::proofs::DecimalLemmas::written_at))]
+#[inline(never)]
 fn put_many(number: u64, line: &mut [u8], at: usize) -> usize
     requires room { at + 20 ≤ length line.old }
     ensures text { take result line.new ≡ take at line.old ++ decimal number }
@@ -91,21 +94,7 @@ fn four_digits(number: u32) -> u32
     requires { number < 10_000 }
     ensures { result ≡ four_digits number }
 {
-    let low = number / 100;
-    let high = number % 100;
-    let tens = tens_of(low, high);
-    tens + ((low + (high << 16) - 10 * tens) << 8) + 0x3030_3030
-}
-
-/// The tens of two numbers of two digits each, in the lower half of a word and in the upper one. 103 of 1024 parts are
-/// close enough to a tenth of such a number, and what the lower half gives never reaches the upper one.
-#[inline(always)]
-fn tens_of(low: u32, high: u32) -> u32
-    requires low { low < 100 }
-    requires high { high < 100 }
-    ensures { result ≡ low / 10 + high / 10 * 2 ^ 16 }
-{
-    (((low + (high << 16)) * 103) >> 10) & 0x000F_000F
+    u32::from(two_digits(number / 100)) + (u32::from(two_digits(number % 100)) << 16)
 }
 
 /// The same of a number of 64 bits that may be negative, with room for 21 bytes.

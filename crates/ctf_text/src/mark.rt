@@ -74,13 +74,14 @@ pub fn put_ready(
     ensures text { IfOk result (λ end. take end buffer.new.items ≡ take at buffer.old.items ++ (mark ∷ 32 ∷ ready.now)) }
     ensures room { IfOk result (λ end. end + more ≤ vec_len buffer.new) }
 {
-    with_room(ready.len() + more + 9, buffer, at)?;
+    with_room(ready.len() + more + 26, buffer, at)?;
     let line = buffer.as_mut_slice();
     let begin = put_lead(mark, line, at);
     Ok(ready.put(line, begin))
 }
 
 /// Writes a space and a mark behind texts.
+#[inline(always)]
 pub fn put_end(mark: u8, buffer: &mut Vec<u8>, at: usize) -> Result<usize, NoMemory>
     requires { at ≤ vec_len buffer.old }
     ensures text { IfOk result (λ end. take end buffer.new.items ≡ take at buffer.old.items ++ (32 ∷ mark ∷ [])) }

@@ -62,17 +62,19 @@ pub fn put_front(
 }
 
 /// Writes the host and the name.
+#[inline(always)]
 fn put_heading(heading: &Heading, buffer: &mut Vec<u8>, at: usize) -> Result<usize, NoMemory>
     requires { at ≤ vec_len buffer.old }
     ensures text { IfOk result (λ end. take end buffer.new.items ≡ take at buffer.old.items ++ heading_text heading.now) }
     ensures held { IfOk result (λ end. end ≤ vec_len buffer.new) }
 {
     let ready = heading.ready();
-    with_room(ready.len() + 7, buffer, at)?;
+    with_room(ready.len() + 24, buffer, at)?;
     Ok(ready.put(buffer.as_mut_slice(), at))
 }
 
 /// Writes a text, if it is not empty, and a comma behind it.
+#[inline(always)]
 fn put_shared_part(bytes: &[u8], buffer: &mut Vec<u8>, at: usize) -> Result<usize, NoMemory>
     requires { at ≤ vec_len buffer.old }
     ensures text { IfOk result (λ end. take end buffer.new.items ≡ take at buffer.old.items ++ flat_map (λ text. text ++ codes ", ") (lines.if_shown bytes.now)) }

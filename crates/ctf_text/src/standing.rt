@@ -1,8 +1,11 @@
 //! Texts of values where they stand, out of the packet's bits.
 
-ghost use Rattle.std.specs.Prelude.{ℕ, ◌≡◌, false, ◌+◌, ◌*◌, ◌^◌, ◌∷◌, ◌≤◌, length, take, vec_len, IfSome};
+ghost use Rattle.std.specs.Prelude.{ℕ, List, pos, ◌≡◌, true, false, None, ◌+◌, ◌*◌, ◌^◌, ◌++◌, ◌∷◌, ◌≤◌, ◌<◌, length, take, vec_len, IfSome, IsTrue};
+ghost use Rattle.ctf_bits.specs.Number.{number, signed_number};
+ghost use Rattle.ctf_decode.specs.Input.{bits_of};
 ghost use Rattle.ctf_decode.specs.Forms as forms;
 ghost use Rattle.ctf_decode.specs.Views.{form};
+ghost use Rattle.ctf_text.specs.Numbers.{number_text};
 ghost use Rattle.ctf_text.specs.Rows.{row, enclosed};
 ghost use Rattle.ctf_text.specs.Standing.{Puts, PutsOne, PutsNext, PutsMembers, StandsAsNumber};
 ghost use Rattle.ctf_text.specs.Texts as texts;
@@ -11,7 +14,7 @@ use crate::array::put_array;
 use crate::mark::{put_end, put_nothing, put_ready};
 use crate::number::{LONGEST_NUMBER, put_signed_number, put_unsigned_number};
 use crate::text::put_quoted;
-use ctf_bits::{sint_within, uint_within, up};
+use ctf_bits::{is_unsigned, sint_within, uint_within, up};
 use ctf_class::{Align, Class, Integer, Kind, Length, Member};
 use ctf_decode::{MOST_VALUES, before_zero, bytes_at, bytes_from, zero_in};
 
@@ -35,11 +38,13 @@ pub(crate) struct Content<'a> {
     ghost held: { end ≤ 8 * length bytes.now },
 }
 
-/// Where a value ends, in bits from the packet's first one, and the index behind its text.
+/// Where a value ends, in bits from the packet's first one, the index behind its text, and its number, if it is an unsigned
+/// integer.
 #[derive(Clone, Copy, Debug)]
 pub(crate) struct Ends {
     pub(crate) place: u64,
     pub(crate) text: usize,
+    pub(crate) number: Option<u64>,
 }
 
 /// What stands before a member: so many others, of which the last is this number, if it is an unsigned integer.
@@ -183,8 +188,7 @@ fn put_members(
     let mut more = 0;
     let mut number = None;
     for (i, member) in members.iter().enumerate() {
-        let before = Before { index: i, number };
-        let next = put_next(lead, member, before, packet, place, buffer, text)?;
+        let next = put_next(lead, member, i, number, packet, place, buffer, text)?;
         more += next.more;
         if more >= MOST_VALUES {
             return None;
@@ -197,12 +201,13 @@ fn put_members(
     Some(MembersEnd { place, text, more })
 }
 
-/// Writes the member behind others.
+/// Writes the member behind so many others, of which the last is this number, if it is an unsigned integer.
 #[inline(always)]
 fn put_next(
     lead: u8,
     member: &Member,
-    before: Before,
+    index: usize,
+    number: Option<u64>,
     packet: &Content<'_>,
     place: u64,
     buffer: &mut Vec<u8>,
@@ -210,7 +215,7 @@ fn put_next(
 ) -> Option<Next>
     requires start { place ≤ packet.now.end }
     requires index { at ≤ vec_len buffer.old }
-    ensures puts { IfSome result (λ n. PutsNext before (form member.now.class) (λ v. lead ∷ 32 ∷ texts.part_text (texts.member_part member.now) v) packet.now.bytes.now packet.now.end place (take at buffer.old.items) n (take n.text buffer.new.items)) }
+    ensures puts { IfSome result (λ n. PutsNext (record { index = index; number = number }) (form member.now.class) (λ v. lead ∷ 32 ∷ texts.part_text (texts.member_part member.now) v) packet.now.bytes.now packet.now.end place (take at buffer.old.items) n (take n.text buffer.new.items)) }
     ensures within { IfSome result (λ n. n.place ≤ packet.now.end) }
     ensures held { IfSome result (λ n. n.text ≤ vec_len buffer.new) }
     ensures few { IfSome result (λ n. n.more ≤ MOST_VALUES) }
@@ -221,51 +226,20 @@ fn put_next(
             member,
             length,
             element.get(),
-            before,
+            Before { index, number },
             packet,
             place,
             buffer,
             at,
         );
     }
-    let number = number_at(&member.class, packet, place);
     let ends = put_member(lead, member, packet, place, buffer, at)?;
     Some(Next {
         place: ends.place,
         text: ends.text,
         more: 0,
-        number,
+        number: ends.number,
     })
-}
-
-/// The number that stands at a place, if it is an unsigned integer.
-#[inline(always)]
-fn number_at(class: &Class, packet: &Content<'_>, place: u64) -> Option<u64>
-    requires start { place ≤ packet.now.end }
-    ensures stands { IfSome result (StandsAsNumber (form class.now) packet.now.bytes.now packet.now.end place) }
-{
-    let Kind::Integer(integer) = &class.kind else {
-        return None;
-    };
-    if integer.is_signed {
-        return None;
-    }
-    unsigned_at(integer, class.align, packet, place)
-}
-
-/// The number of an unsigned integer that stands at a place.
-#[inline(always)]
-fn unsigned_at(integer: &Integer, align: Align, packet: &Content<'_>, place: u64) -> Option<u64>
-    requires start { place ≤ packet.now.end }
-    requires unsigned { integer.now.is_signed ≡ false }
-    ensures stands { IfSome result (StandsAsNumber (forms.integer align integer.now) packet.now.bytes.now packet.now.end place) }
-{
-    let size = integer.size.bits();
-    let begin = align.up(place);
-    if begin + u64::from(size) > packet.end {
-        return None;
-    }
-    Some(uint_within(packet.bytes, begin, size, integer.order))
 }
 
 /// Writes a member behind a mark.
@@ -283,6 +257,7 @@ fn put_member(
     ensures puts { IfSome result (λ e. PutsOne (form member.now.class) (λ v. lead ∷ 32 ∷ texts.part_text (texts.member_part member.now) v) packet.now.bytes.now packet.now.end place e.place (take at buffer.old.items) (take e.text buffer.new.items)) }
     ensures within { IfSome result (λ e. e.place ≤ packet.now.end) }
     ensures held { IfSome result (λ e. e.text ≤ vec_len buffer.new) }
+    ensures number { IfSome result (λ e. IfSome e.number (StandsAsNumber (form member.now.class) packet.now.bytes.now packet.now.end place)) }
 {
     let Ok(begin) = put_ready(lead, member.name.ready(), LONGEST_NUMBER, buffer, at) else {
         return None;
@@ -304,6 +279,7 @@ fn put_part(
     ensures puts { IfSome result (λ e. PutsOne (form class.now) (texts.value_text class.now) packet.now.bytes.now packet.now.end place e.place (take at buffer.old.items) (take e.text buffer.new.items)) }
     ensures within { IfSome result (λ e. e.place ≤ packet.now.end) }
     ensures held { IfSome result (λ e. e.text ≤ vec_len buffer.new) }
+    ensures number { IfSome result (λ e. IfSome e.number (StandsAsNumber (form class.now) packet.now.bytes.now packet.now.end place)) }
 {
     if let Kind::Integer(integer) = &class.kind {
         return put_integer(
@@ -324,7 +300,7 @@ fn put_part(
     None
 }
 
-/// Writes an integer.
+/// Writes an integer. Mostly it is not negative, so that its bits are its number.
 #[inline(always)]
 pub(crate) fn put_integer(
     integer: &Integer,
@@ -339,6 +315,7 @@ pub(crate) fn put_integer(
     ensures puts { IfSome result (λ e. PutsOne (forms.integer align integer.now) (texts.integer_text integer.now) packet.now.bytes.now packet.now.end place e.place (take at line.old) (take e.text line.new)) }
     ensures within { IfSome result (λ e. e.place ≤ packet.now.end) }
     ensures near { IfSome result (λ e. e.text ≤ at + LONGEST_NUMBER) }
+    ensures number { IfSome result (λ e. IfSome e.number (StandsAsNumber (forms.integer align integer.now) packet.now.bytes.now packet.now.end place)) }
 {
     let size = integer.size.bits();
     let begin = align.up(place);
@@ -346,14 +323,50 @@ pub(crate) fn put_integer(
     if end > packet.end {
         return None;
     }
-    let text = if integer.is_signed {
+    let bits = uint_within(packet.bytes, begin, size, integer.order);
+    if is_negative(integer, bits) {
         let number = sint_within(packet.bytes, begin, size, integer.order);
-        put_signed_number(integer, number, line, at)
-    } else {
-        let number = uint_within(packet.bytes, begin, size, integer.order);
-        put_unsigned_number(integer, number, line, at)
-    };
-    Some(Ends { place: end, text })
+        return Some(Ends {
+            place: end,
+            text: put_negative(integer, number, line, at),
+            number: None,
+        });
+    }
+    Some(Ends {
+        place: end,
+        text: put_unsigned_number(integer, bits, line, at),
+        number: unsigned_of(integer, bits),
+    })
+}
+
+/// Whether the number of an integer with these bits is below zero.
+#[inline(always)]
+fn is_negative(integer: &Integer, bits: u64) -> bool
+    requires { bits < 2 ^ bits_of integer.now }
+    ensures signed { IsTrue result → integer.now.is_signed ≡ true }
+    ensures plain { result ≡ false → integer.now.is_signed ≡ true → (bytes : List ℕ) (p : ℕ) → bits ≡ number integer.now.order bytes p (bits_of integer.now)
+        → signed_number integer.now.order bytes p (bits_of integer.now) ≡ pos bits }
+{
+    integer.is_signed & !is_unsigned(bits, integer.size.bits())
+}
+
+/// Writes the number of an integer, out of the way of those that are not negative.
+#[cold]
+#[inline(never)]
+fn put_negative(integer: &Integer, number: i64, line: &mut [u8], at: usize) -> usize
+    requires room { at + LONGEST_NUMBER ≤ length line.old }
+    ensures text { take result line.new ≡ take at line.old ++ number_text integer.now number }
+    ensures near { result ≤ at + LONGEST_NUMBER }
+{
+    put_signed_number(integer, number, line, at)
+}
+
+/// The number of an integer with these bits, if it is unsigned.
+#[inline(always)]
+fn unsigned_of(integer: &Integer, bits: u64) -> Option<u64>
+    ensures { IfSome result (λ n. (integer.now.is_signed ≡ false) × (n ≡ bits)) }
+{
+    if integer.is_signed { None } else { Some(bits) }
 }
 
 /// Writes a string.
@@ -363,6 +376,7 @@ fn put_string(packet: &Content<'_>, place: u64, buffer: &mut Vec<u8>, at: usize)
     ensures puts { IfSome result (λ e. (a : ℕ) → PutsOne (forms.string a) texts.string_text packet.now.bytes.now packet.now.end place e.place (take at buffer.old.items) (take e.text buffer.new.items)) }
     ensures within { IfSome result (λ e. e.place ≤ packet.now.end) }
     ensures held { IfSome result (λ e. e.text ≤ vec_len buffer.new) }
+    ensures alone { IfSome result (λ e. e.number ≡ None) }
 {
     let begin = up(place, 8);
     if begin > packet.end {
@@ -376,6 +390,7 @@ fn put_string(packet: &Content<'_>, place: u64, buffer: &mut Vec<u8>, at: usize)
     Some(Ends {
         place: begin + 8 * (count as u64 + 1),
         text,
+        number: None,
     })
 }
 
@@ -392,6 +407,7 @@ fn put_text(
     ensures puts { IfSome result (λ e. (a : ℕ) → PutsOne (forms.text a length.now) texts.string_text packet.now.bytes.now packet.now.end place e.place (take at buffer.old.items) (take e.text buffer.new.items)) }
     ensures within { IfSome result (λ e. e.place ≤ packet.now.end) }
     ensures held { IfSome result (λ e. e.text ≤ vec_len buffer.new) }
+    ensures alone { IfSome result (λ e. e.number ≡ None) }
 {
     let Length::Fixed(count) = length else {
         return None;
@@ -410,5 +426,6 @@ fn put_text(
     Some(Ends {
         place: begin + 8 * *count,
         text,
+        number: None,
     })
 }

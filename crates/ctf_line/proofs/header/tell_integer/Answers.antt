@@ -29,6 +29,6 @@ returns-else-integer-clause-tells c =
     let bytes = c.args.bytes.now in
     let begin = next_multiple_of c.args.from.place m.class.align in
     let size : c.bits-size.result ≡ bits_of i = grind (arith, c.bits-size.ensures.value, c.bits-size.ensures.positive) in
-    let read = c.uint_within.ensures ∙ (λ j. number i.order bytes (c.in_ok-bits.ensures.begin j) (size j)) in
+    let read = c.uint_within.ensures.value ∙ (λ j. number i.order bytes (c.in_ok-bits.ensures.begin j) (size j)) in
     tells_integer c.args.line.now m i bytes c.args.content c.args.from (unsigned (number i.order bytes begin (bits_of i))) c.tell_number-else-integer.result c.in-Integer.is (search (rules, arith)) (search (rules, arith)) (reads_unsigned i bytes c.args.content begin c.if-integer.false)
     (rw (val-Unsigned c.uint_within.result, read) at c.tell_number-else-integer.ensures.tells) (search (rules, arith))

@@ -1,5 +1,5 @@
 use Rattle.std.proofs.Common.{length, subst, arith, ◌≡◌}
-use Rattle.ctf_line.proofs.Telling.{Going, going_begins, going_on, going_ends}
+use Rattle.ctf_line.proofs.Telling.{Going, going_on, going_ends}
 use Rattle.ctf_line.proofs.header.tell_integers.Goals as goal
 
 pub loop-member-preserved : goal.loop-member-preserved

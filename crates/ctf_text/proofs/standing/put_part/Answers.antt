@@ -3,7 +3,7 @@ use Rattle.ctf_decode.specs.Forms as forms
 use Rattle.ctf_decode.specs.Views.{form}
 use Rattle.ctf_text.specs.Standing.{PutsOne}
 use Rattle.ctf_text.specs.Texts.{value_text, integer_text, string_text}
-use Rattle.ctf_text.proofs.StandingLemmas.{as_class, as_every, same_all, same_front, form_integer, form_string, form_text, text_integer, text_string, text_text}
+use Rattle.ctf_text.proofs.StandingLemmas.{as_class, as_every, no_number, number_as, same_all, same_front, form_integer, form_string, form_text, text_integer, text_string, text_text}
 use Rattle.ctf_text.proofs.standing.put_part.Goals as goal
 
 pub returns-in-Integer-clause-puts : goal.returns-in-Integer-clause-puts
@@ -30,6 +30,7 @@ returns-in-String c =
       puts = as_class r (forms.string class.align) (form class) string_text (value_text class) bytes c.args.packet.now.end c.args.place before after after (form_string class c.in-String.is) (text_string class c.in-String.is) (same_all r after) (as_every r (λ a e. PutsOne (forms.string a) string_text bytes c.args.packet.now.end c.args.place e.place before (take e.text after)) class.align c.put_string.ensures.puts);
       within = c.put_string.ensures.within;
       held = c.put_string.ensures.held;
+      number = no_number r (form class) bytes c.args.packet.now.end c.args.place c.put_string.ensures.alone;
     }
 
 pub returns-in-Text : goal.returns-in-Text
@@ -44,4 +45,11 @@ returns-in-Text c =
       puts = as_class r (forms.text class.align many) (form class) string_text (value_text class) bytes c.args.packet.now.end c.args.place before after after (form_text class many c.in-Text.is) (text_text class many c.in-Text.is) (same_all r after) (as_every r (λ a e. PutsOne (forms.text a many) string_text bytes c.args.packet.now.end c.args.place e.place before (take e.text after)) class.align c.put_text.ensures.puts);
       within = c.put_text.ensures.within;
       held = c.put_text.ensures.held;
+      number = no_number r (form class) bytes c.args.packet.now.end c.args.place c.put_text.ensures.alone;
     }
+
+pub returns-in-Integer-clause-number : goal.returns-in-Integer-clause-number
+returns-in-Integer-clause-number c =
+    let class = c.args.class.now in
+    let i = c.in-Integer.integer in
+    number_as c.put_integer.result (forms.integer class.align i) (form class) c.args.packet.now.bytes.now c.args.packet.now.end c.args.place (form_integer class i c.in-Integer.is) c.put_integer.ensures.number
