@@ -8,7 +8,7 @@ use std::test::Fail;
 /// Whether this is the text that is kept.
 fn is_kept(ready: &Ready, wanted: &[u8]) -> bool {
     let mut line = [b'#'; 64];
-    if ready.len() > 57 {
+    if ready.len() > 40 {
         return false;
     }
     let end = ready.put(&mut line, 0);
@@ -29,6 +29,33 @@ fn fields(rt: HostRuntime) -> Result<(), Fail> {
     assert!(rt; shows(alloc, b"_", b"_ = ")?);
     assert!(rt; shows(alloc, b"", b" = ")?);
     assert!(rt; shows(alloc, b"a_b", b"a_b = ")?);
+    Ok(())
+}
+
+#[test]
+fn long_fields(rt: HostRuntime) -> Result<(), Fail> {
+    let alloc = rt.alloc();
+    assert!(rt;
+        shows(
+            alloc,
+            b"_of_twenty_one_letters",
+            b"of_twenty_one_letters = "
+        )?
+    );
+    assert!(rt;
+        shows(
+            alloc,
+            b"of_twenty_two_letters_",
+            b"of_twenty_two_letters_ = "
+        )?
+    );
+    assert!(rt;
+        shows(
+            alloc,
+            b"of_many_more_letters_than_these",
+            b"of_many_more_letters_than_these = "
+        )?
+    );
     Ok(())
 }
 
