@@ -1,6 +1,6 @@
 -- Bits that lie within a word of 64.
 use Rattle.std.proofs.Common.{◌≡◌, ℕ, ◌+◌, ◌-◌, ◌*◌, ◌/◌, ◌%◌, ◌^◌, ◌<◌, ◌≤◌, List, ap, sym, subst, ◌∙◌, bit_and, arith}
-use Rattle.std.proofs.Math.Nat.{add-mul}
+use Rattle.std.proofs.Math.Nat.{add-mul, div-eq_of_lt}
 use Rattle.std.proofs.lemmas.Nat.{and_mask, pow-add, pow_pos, shr_high, div-mul-add, mod-mul-add}
 use Rattle.ctf_bits.specs.declared.number.Order.TheVariants.{Le, Be}
 use Rattle.ctf_bits.specs.Number.{number}
@@ -46,6 +46,13 @@ ones n k width =
     let spread : 2 ^ n * 2 ^ k ≡ top * 2 ^ k + 1 * 2 ^ k = ap (λ (x : ℕ). x * 2 ^ k) (sym more) ∙ add-mul top 1 (2 ^ k) in
     let parts : 18446744073709551615 ≡ top * 2 ^ k + (2 ^ k - 1) = omega (arith, word, spread, pow_pos k) in
     ap (λ (x : ℕ). x / 2 ^ k) parts ∙ shr_high top k (2 ^ k - 1) (omega (arith, pow_pos k))
+
+-- what is at the most half of the ones of n bits has no top bit
+pub low_half : (v n : ℕ) → 1 ≤ n → n ≤ 64 → v ≤ 18446744073709551615 / 2 ^ (64 - n) / 2 → v / 2 ^ (n - 1) ≡ 0
+low_half v n some few within =
+    let double : 2 ^ n ≡ 2 ^ (n - 1) * 2 = ap (λ (k : ℕ). 2 ^ k) (let count : n ≡ n - 1 + 1 = omega arith in count) ∙ pow-add 2 (n - 1) 1 in
+    let all = ones n (64 - n) (omega arith) in
+    div-eq_of_lt (omega (arith, within, all, double, pow_pos (n - 1)))
 
 -- the lowest n bits of a number
 pub masked : (x n : ℕ) → n ≤ 64 → bit_and x (18446744073709551615 / 2 ^ (64 - n)) ≡ x % 2 ^ n

@@ -36,7 +36,7 @@ pub fn is_unsigned(value: u64, n: u32) -> bool
     requires bits { value < 2 ^ n }
     ensures { IsTrue result → (order : Order) (bytes : List ℕ) (p : ℕ) → value ≡ number order bytes p n → signed_number order bytes p n ≡ pos value }
 {
-    value >> (n - 1) == 0
+    value <= u64::MAX >> (64 - n) >> 1
 }
 
 /// A number of `n` bits, less 2 ^ n where its top bit is set.

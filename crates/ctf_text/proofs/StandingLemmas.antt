@@ -353,8 +353,3 @@ stands_if a i packet content place n None within read is = tt
 -- a number of a value, as that of the class that it is of
 pub number_as : (r : Option Ends) (k l : Form) (packet : List ℕ) (content place : ℕ) → k ≡ l → IfSome r (λ e. IfSome e.number (StandsAsNumber k packet content place)) → IfSome r (λ e. IfSome e.number (StandsAsNumber l packet content place))
 number_as r k l packet content place is stands = subst (λ f. IfSome r (λ e. IfSome e.number (StandsAsNumber f packet content place))) is stands
-
--- a value that tells no number
-pub no_number : (r : Option Ends) (k : Form) (packet : List ℕ) (content place : ℕ) → IfSome r (λ e. e.number ≡ None) → IfSome r (λ e. IfSome e.number (StandsAsNumber k packet content place))
-no_number (Some e) k packet content place none = subst (λ (o : Option ℕ). IfSome o (StandsAsNumber k packet content place)) (sym none) tt
-no_number None k packet content place none = tt

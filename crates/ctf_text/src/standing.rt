@@ -1,6 +1,6 @@
 //! Texts of values where they stand, out of the packet's bits.
 
-ghost use Rattle.std.specs.Prelude.{ℕ, List, pos, ◌≡◌, true, false, None, ◌+◌, ◌*◌, ◌^◌, ◌++◌, ◌∷◌, ◌≤◌, ◌<◌, length, take, vec_len, IfSome, IsTrue};
+ghost use Rattle.std.specs.Prelude.{ℕ, List, pos, ◌≡◌, true, false, ◌+◌, ◌*◌, ◌^◌, ◌++◌, ◌∷◌, ◌≤◌, ◌<◌, length, take, vec_len, IfSome, IsTrue};
 ghost use Rattle.ctf_bits.specs.Number.{number, signed_number};
 ghost use Rattle.ctf_decode.specs.Input.{bits_of};
 ghost use Rattle.ctf_decode.specs.Forms as forms;
@@ -291,6 +291,51 @@ fn put_part(
             at,
         );
     }
+    let mut end = place;
+    let text = put_apart(class, packet, &mut end, buffer, at)?;
+    Some(Ends {
+        place: end,
+        text,
+        number: None,
+    })
+}
+
+/// Writes a string or a text of a fixed length from a place on, and gives the index behind it; the place is the one where
+/// it ends then. It stands out of the way of integers, and gives one number, so that none of them pays for it.
+#[inline(never)]
+fn put_apart(
+    class: &Class,
+    packet: &Content<'_>,
+    place: &mut u64,
+    buffer: &mut Vec<u8>,
+    at: usize,
+) -> Option<usize>
+    requires start { place.old ≤ packet.now.end }
+    requires index { at ≤ vec_len buffer.old }
+    ensures puts { IfSome result (λ text. PutsOne (form class.now) (texts.value_text class.now) packet.now.bytes.now packet.now.end place.old place.new (take at buffer.old.items) (take text buffer.new.items)) }
+    ensures within { IfSome result (λ _. place.new ≤ packet.now.end) }
+    ensures held { IfSome result (λ text. text ≤ vec_len buffer.new) }
+{
+    let ends = put_characters(class, packet, *place, buffer, at)?;
+    *place = ends.place;
+    Some(ends.text)
+}
+
+/// Writes a string or a text of a fixed length.
+#[inline(always)]
+fn put_characters(
+    class: &Class,
+    packet: &Content<'_>,
+    place: u64,
+    buffer: &mut Vec<u8>,
+    at: usize,
+) -> Option<Ends>
+    requires start { place ≤ packet.now.end }
+    requires index { at ≤ vec_len buffer.old }
+    ensures puts { IfSome result (λ e. PutsOne (form class.now) (texts.value_text class.now) packet.now.bytes.now packet.now.end place e.place (take at buffer.old.items) (take e.text buffer.new.items)) }
+    ensures within { IfSome result (λ e. e.place ≤ packet.now.end) }
+    ensures held { IfSome result (λ e. e.text ≤ vec_len buffer.new) }
+{
     if let Kind::String = &class.kind {
         return put_string(packet, place, buffer, at);
     }
@@ -376,7 +421,6 @@ fn put_string(packet: &Content<'_>, place: u64, buffer: &mut Vec<u8>, at: usize)
     ensures puts { IfSome result (λ e. (a : ℕ) → PutsOne (forms.string a) texts.string_text packet.now.bytes.now packet.now.end place e.place (take at buffer.old.items) (take e.text buffer.new.items)) }
     ensures within { IfSome result (λ e. e.place ≤ packet.now.end) }
     ensures held { IfSome result (λ e. e.text ≤ vec_len buffer.new) }
-    ensures alone { IfSome result (λ e. e.number ≡ None) }
 {
     let begin = up(place, 8);
     if begin > packet.end {
@@ -407,7 +451,6 @@ fn put_text(
     ensures puts { IfSome result (λ e. (a : ℕ) → PutsOne (forms.text a length.now) texts.string_text packet.now.bytes.now packet.now.end place e.place (take at buffer.old.items) (take e.text buffer.new.items)) }
     ensures within { IfSome result (λ e. e.place ≤ packet.now.end) }
     ensures held { IfSome result (λ e. e.text ≤ vec_len buffer.new) }
-    ensures alone { IfSome result (λ e. e.number ≡ None) }
 {
     let Length::Fixed(count) = length else {
         return None;

@@ -1,8 +1,9 @@
-use Rattle.std.proofs.Common.{◌≡◌, ℕ, ℤ, pos, ◌-◌, ◌*◌, ◌/◌, ◌^◌, ◌-ℤ◌, List, IsTrue, nat_eq, ap, sym, ◌∙◌, arith}
+use Rattle.std.proofs.Common.{◌≡◌, ℕ, ℤ, pos, ◌-◌, ◌*◌, ◌/◌, ◌^◌, ◌-ℤ◌, ◌≤◌, List, IsTrue, nat_le, ap, sym, ◌∙◌, arith}
 use Rattle.std.proofs.lemmas.Int.{ints}
 use Rattle.ctf_bits.specs.declared.number.Order.{Order}
 use Rattle.ctf_bits.specs.Number.{number, signed_number}
 use Rattle.ctf_bits.proofs.Signs.{signed_number-number}
+use Rattle.ctf_bits.proofs.Windows.{low_half}
 use Rattle.ctf_bits.proofs.signed.is_unsigned.Goals as goal
 
 -- where the top bit weighs nothing
@@ -11,6 +12,10 @@ plain v n none =
     let nothing : pos v -ℤ pos (0 * 2 ^ n) ≡ pos v = omega (arith, ints) in
     ap (λ (q : ℕ). pos v -ℤ pos (q * 2 ^ n)) none ∙ nothing
 
+-- a test that is passed
+within : (v m : ℕ) → IsTrue (nat_le v m) → v ≤ m
+within v m is = grind arith
+
 pub returns : goal.returns
 returns c none order bytes p is =
-    sym (signed_number-number order bytes p c.args.n c.args.value c.requires.some_bits is) ∙ plain c.args.value c.args.n (grind arith)
+    sym (signed_number-number order bytes p c.args.n c.args.value c.requires.some_bits is) ∙ plain c.args.value c.args.n (low_half c.args.value c.args.n c.requires.some_bits c.requires.in_a_word (within c.args.value _ none))

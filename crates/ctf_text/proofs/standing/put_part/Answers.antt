@@ -2,8 +2,8 @@ use Rattle.std.proofs.Common.{◌≡◌, ◌+◌, ◌≤◌, IfSome, length, tak
 use Rattle.ctf_decode.specs.Forms as forms
 use Rattle.ctf_decode.specs.Views.{form}
 use Rattle.ctf_text.specs.Standing.{PutsOne}
-use Rattle.ctf_text.specs.Texts.{value_text, integer_text, string_text}
-use Rattle.ctf_text.proofs.StandingLemmas.{as_class, as_every, no_number, number_as, same_all, same_front, form_integer, form_string, form_text, text_integer, text_string, text_text}
+use Rattle.ctf_text.specs.Texts.{value_text, integer_text}
+use Rattle.ctf_text.proofs.StandingLemmas.{as_class, number_as, same_front, form_integer, text_integer}
 use Rattle.ctf_text.proofs.standing.put_part.Goals as goal
 
 pub returns-in-Integer-clause-puts : goal.returns-in-Integer-clause-puts
@@ -18,35 +18,6 @@ returns-in-Integer-clause-puts c =
     let same = same_front c.put_integer.result (c.args.at + 66) n line items long room c.put_integer.ensures.near in
     let puts = subst (λ xs. IfSome c.put_integer.result (λ e. PutsOne (forms.integer class.align i) (integer_text i) c.args.packet.now.bytes.now c.args.packet.now.end c.args.place e.place (take c.args.at xs) (take e.text line))) c.as_mut_slice.ensures.value c.put_integer.ensures.puts in
     as_class c.put_integer.result (forms.integer class.align i) (form class) (integer_text i) (value_text class) c.args.packet.now.bytes.now c.args.packet.now.end c.args.place (take c.args.at items) line (take n (line ++ drop (length line) items)) (form_integer class i c.in-Integer.is) (text_integer class i c.in-Integer.is) same puts
-
-pub returns-in-String : goal.returns-in-String
-returns-in-String c =
-    let class = c.args.class.now in
-    let r = c.put_string.result in
-    let bytes = c.args.packet.now.bytes.now in
-    let before = take c.args.at c.args.buffer.now.items in
-    let after = c.put_string.new.buffer.items in
-    record {
-      puts = as_class r (forms.string class.align) (form class) string_text (value_text class) bytes c.args.packet.now.end c.args.place before after after (form_string class c.in-String.is) (text_string class c.in-String.is) (same_all r after) (as_every r (λ a e. PutsOne (forms.string a) string_text bytes c.args.packet.now.end c.args.place e.place before (take e.text after)) class.align c.put_string.ensures.puts);
-      within = c.put_string.ensures.within;
-      held = c.put_string.ensures.held;
-      number = no_number r (form class) bytes c.args.packet.now.end c.args.place c.put_string.ensures.alone;
-    }
-
-pub returns-in-Text : goal.returns-in-Text
-returns-in-Text c =
-    let class = c.args.class.now in
-    let many = c.in-Text.length in
-    let r = c.put_text.result in
-    let bytes = c.args.packet.now.bytes.now in
-    let before = take c.args.at c.args.buffer.now.items in
-    let after = c.put_text.new.buffer.items in
-    record {
-      puts = as_class r (forms.text class.align many) (form class) string_text (value_text class) bytes c.args.packet.now.end c.args.place before after after (form_text class many c.in-Text.is) (text_text class many c.in-Text.is) (same_all r after) (as_every r (λ a e. PutsOne (forms.text a many) string_text bytes c.args.packet.now.end c.args.place e.place before (take e.text after)) class.align c.put_text.ensures.puts);
-      within = c.put_text.ensures.within;
-      held = c.put_text.ensures.held;
-      number = no_number r (form class) bytes c.args.packet.now.end c.args.place c.put_text.ensures.alone;
-    }
 
 pub returns-in-Integer-clause-number : goal.returns-in-Integer-clause-number
 returns-in-Integer-clause-number c =
