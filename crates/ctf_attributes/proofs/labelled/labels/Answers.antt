@@ -14,7 +14,7 @@ returns-in_err-span c =
 pub loop-label-preserved : goal.loop-label-preserved
 loop-label-preserved c =
     let last = c.in_ok-span.span.last in
-    let later : to_z w128 (of_z w128 (to_z w128 (of_z w128 last) +ℤ pos 1)) ≡ last +ℤ pos 1 = search (rules, ints, to_z-of_z) in
+    let later : to_z w128 (of_z w128 (to_z w128 (of_z w128 last) +ℤ pos 1)) ≡ last +ℤ pos 1 = search (rules, ints, to_z-of_z, c.in_ok-span.ensures.bounded, c.loop-label.invariant.bounded) in
     let ls = c.args.labels.now in
     let i = c.loop-label.label-index in
     let l = c.label-item.result in
