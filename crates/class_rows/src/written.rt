@@ -5,11 +5,11 @@ use std::test::Fail;
 
 /// Whether the first bytes of a text, written behind three bytes, stand there and end where they should.
 fn is_written(rt: &HostRuntime, count: usize) -> Result<bool, Fail> {
-    let whole = b"0123456789abcdefghijklmn";
-    if count > 24 {
+    let whole = b"0123456789abcdefghijklmnopqrstuvwxyzABCD";
+    if count > 40 {
         return Ok(false);
     }
-    let mut line = [b'#'; 34];
+    let mut line = [b'#'; 67];
     let ready = Ready::new(rt.alloc(), &whole[..count])?;
     let end = ready.put(&mut line, 3);
     let same = &line[..3] == b"###".as_slice() && &line[3..end] == &whole[..count];
@@ -18,7 +18,7 @@ fn is_written(rt: &HostRuntime, count: usize) -> Result<bool, Fail> {
 
 #[test]
 fn lengths(rt: HostRuntime) -> Result<(), Fail> {
-    for count in [0, 1, 7, 8, 9, 15, 16, 17, 24] {
+    for count in [0, 1, 7, 8, 9, 16, 17, 23, 24, 25, 32, 33, 40] {
         assert!(rt; is_written(&rt, count)?, "at {count}");
     }
     Ok(())
