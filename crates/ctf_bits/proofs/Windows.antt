@@ -1,5 +1,5 @@
 -- Bits that lie within a word of 64.
-use Rattle.std.proofs.Common.{◌≡◌, ℕ, ◌+◌, ◌-◌, ◌*◌, ◌/◌, ◌%◌, ◌^◌, ◌<◌, ◌≤◌, List, ap, sym, subst, ◌∙◌, bit_and, arith}
+use Rattle.std.proofs.Common.{◌≡◌, ℕ, ◌+◌, ◌-◌, ◌*◌, ◌/◌, ◌%◌, ◌^◌, ◌<◌, ◌≤◌, List, ap, sym, ◌∙◌, bit_and, arith}
 use Rattle.std.proofs.Math.Nat.{add-mul, div-eq_of_lt}
 use Rattle.std.proofs.lemmas.Nat.{and_mask, pow-add, pow_pos, shr_high, div-mul-add, mod-mul-add}
 use Rattle.ctf_bits.specs.declared.number.Order.TheVariants.{Le, Be}
@@ -53,6 +53,12 @@ low_half v n some few within =
     let double : 2 ^ n ≡ 2 ^ (n - 1) * 2 = ap (λ (k : ℕ). 2 ^ k) (let count : n ≡ n - 1 + 1 = omega arith in count) ∙ pow-add 2 (n - 1) 1 in
     let all = ones n (64 - n) (omega arith) in
     div-eq_of_lt (omega (arith, within, all, double, pow_pos (n - 1)))
+
+pub half_held : (v n : ℕ) → 1 ≤ n → n ≤ 64 → v < 2 ^ (n - 1) → v ≤ 18446744073709551615 / 2 ^ (64 - n) / 2
+half_held v n some few below =
+    let double : 2 ^ n ≡ 2 ^ (n - 1) * 2 = ap (λ (k : ℕ). 2 ^ k) (let count : n ≡ n - 1 + 1 = omega arith in count) ∙ pow-add 2 (n - 1) 1 in
+    let all = ones n (64 - n) (omega arith) in
+    omega (arith, below, all, double)
 
 -- the lowest n bits of a number
 pub masked : (x n : ℕ) → n ≤ 64 → bit_and x (18446744073709551615 / 2 ^ (64 - n)) ≡ x % 2 ^ n

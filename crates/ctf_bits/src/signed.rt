@@ -34,7 +34,8 @@ pub fn is_unsigned(value: u64, n: u32) -> bool
     requires some_bits { 1 ≤ n }
     requires in_a_word { n ≤ 64 }
     requires bits { value < 2 ^ n }
-    ensures { IsTrue result → (order : Order) (bytes : List ℕ) (p : ℕ) → value ≡ number order bytes p n → signed_number order bytes p n ≡ pos value }
+    ensures same { IsTrue result → (order : Order) (bytes : List ℕ) (p : ℕ) → value ≡ number order bytes p n → signed_number order bytes p n ≡ pos value }
+    ensures each { value < 2 ^ (n - 1) → IsTrue result }
 {
     value <= u64::MAX >> (64 - n) >> 1
 }

@@ -1,4 +1,4 @@
-use Rattle.std.proofs.Common.{◌≡◌, ℕ, ◌^◌, ◌<◌, sym, subst}
+use Rattle.std.proofs.Common.{ℕ, ◌^◌, ◌<◌, sym, subst}
 use Rattle.ctf_bits.specs.declared.number.Order.TheVariants.{Le, Be}
 use Rattle.ctf_bits.proofs.Numbers.{number-lt}
 use Rattle.ctf_bits.proofs.number.joined.Goals as goal

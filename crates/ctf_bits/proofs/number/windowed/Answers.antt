@@ -1,4 +1,4 @@
-use Rattle.std.proofs.Common.{◌≡◌, ℕ, ◌+◌, ◌-◌, ◌/◌, ◌%◌, ◌^◌, ◌<◌, List, ap, sym, subst, ◌∙◌, arith}
+use Rattle.std.proofs.Common.{◌≡◌, ℕ, ◌+◌, ◌-◌, ◌/◌, ◌^◌, ◌<◌, List, ap, sym, subst, ◌∙◌, arith}
 use Rattle.ctf_bits.specs.declared.number.Order.{Order}
 use Rattle.ctf_bits.specs.declared.number.Order.TheVariants.{Le, Be}
 use Rattle.ctf_bits.specs.Number.{number}

@@ -1,9 +1,7 @@
-use Rattle.std.proofs.Common.{◌≡◌, ℕ, ℤ, pos, ◌-◌, ◌*◌, ◌/◌, ◌^◌, ◌-ℤ◌, ◌≤◌, List, IsTrue, nat_le, ap, sym, ◌∙◌, arith}
+use Rattle.std.proofs.Common.{◌≡◌, ℕ, pos, ◌-◌, ◌*◌, ◌/◌, ◌^◌, ◌-ℤ◌, ◌≤◌, IsTrue, nat_le, ap, sym, ◌∙◌, arith}
 use Rattle.std.proofs.lemmas.Int.{ints}
-use Rattle.ctf_bits.specs.declared.number.Order.{Order}
-use Rattle.ctf_bits.specs.Number.{number, signed_number}
 use Rattle.ctf_bits.proofs.Signs.{signed_number-number}
-use Rattle.ctf_bits.proofs.Windows.{low_half}
+use Rattle.ctf_bits.proofs.Windows.{low_half, half_held}
 use Rattle.ctf_bits.proofs.signed.is_unsigned.Goals as goal
 
 -- where the top bit weighs nothing
@@ -16,6 +14,13 @@ plain v n none =
 within : (v m : ℕ) → IsTrue (nat_le v m) → v ≤ m
 within v m is = grind arith
 
-pub returns : goal.returns
-returns c none order bytes p is =
+pub returns-clause-same : goal.returns-clause-same
+returns-clause-same c none order bytes p is =
     sym (signed_number-number order bytes p c.args.n c.args.value c.requires.some_bits is) ∙ plain c.args.value c.args.n (low_half c.args.value c.args.n c.requires.some_bits c.requires.in_a_word (within c.args.value _ none))
+
+-- a test that passes
+passes : (v m : ℕ) → v ≤ m → IsTrue (nat_le v m)
+passes v m is = grind arith
+
+pub returns-clause-each : goal.returns-clause-each
+returns-clause-each c below = passes c.args.value _ (half_held c.args.value c.args.n c.requires.some_bits c.requires.in_a_word below)

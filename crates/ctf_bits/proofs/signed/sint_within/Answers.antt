@@ -1,4 +1,4 @@
-use Rattle.std.proofs.Common.{sym, ◌∙◌, w64}
+use Rattle.std.proofs.Common.{◌∙◌, w64}
 use Rattle.std.proofs.lemmas.Int.{to_z-of_z}
 use Rattle.ctf_bits.proofs.Signs.{signed_number-number}
 use Rattle.ctf_bits.proofs.signed.sint_within.Goals as goal
