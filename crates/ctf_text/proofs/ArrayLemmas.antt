@@ -1,5 +1,5 @@
 -- Arrays that are shown where they stand, one element more at a time.
-use Rattle.std.proofs.Common.{◌≡◌, ℕ, zero, suc, ◌+◌, ◌-◌, ◌<◌, ◌≤◌, cond, List, [], ◌∷◌, ◌++◌, length, take, Option, Some, None, IfSome, Ok, Err, rules, refl, sym, ap, subst, ◌∙◌, arith, append_assoc, append-nil, length-append}
+use Rattle.std.proofs.Common.{◌≡◌, ℕ, suc, ◌+◌, ◌-◌, ◌<◌, ◌≤◌, cond, List, [], ◌∷◌, ◌++◌, length, Option, Some, None, IfSome, Ok, Err, rules, refl, sym, ap, subst, ◌∙◌, arith, append_assoc, append-nil, length-append}
 use Rattle.std.specs.Prelude.{slice_get}
 use Rattle.std.specs.Int.{next_multiple_of}
 use Rattle.std.proofs.lemmas.Bool.{le-ltb}
@@ -30,15 +30,7 @@ use Rattle.ctf_text.specs.Rows.{row, enclosed}
 use Rattle.ctf_text.specs.Standing.{among, LastIs, PutsOne, PutsNext, PutsElements, Counts, LeadsBefore}
 use Rattle.ctf_text.specs.Texts.{Shown, Part, value_text, kind_text, part_text, member_part, element_text, element_texts, integer_text}
 use Rattle.ctf_text.specs.declared.standing.Before.{Before}
-use Rattle.ctf_text.specs.declared.standing.Ends.{Ends}
-use Rattle.ctf_text.proofs.StandingLemmas.{begins, form-is, value-is, member-is, form_integer, text_integer, mark_at, row_more}
-
--- the last of some values
-last_of : (ws : List Val) (v : Val) (i : ℕ) → length ws ≡ i → slice_get (ws ++ v ∷ []) i ≡ Some v
-last_of [] v zero same = refl
-last_of [] v (suc i) same = absurd (omega (arith, same))
-last_of (w ∷ ws) v zero same = absurd (omega (arith, same))
-last_of (w ∷ ws) v (suc i) same = last_of ws v i (omega (arith, same))
+use Rattle.ctf_text.proofs.StandingLemmas.{begins, form-is, value-is, member-is, form_integer, text_integer, last_of, mark_at, row_more}
 
 -- a length that is the member before
 counts_last : (route : Route) (before : Before) (n : ℕ) → LeadsBefore route before.index → before.number ≡ Some n → Counts (Field route) before n
@@ -130,7 +122,7 @@ text-Array many c = search (rules, class.the_lemmas)
 pub puts_array : (before : Before) (m : Member) (lead : ℕ) (many : Length) (k : Class) (i : Integer) (packet : List ℕ) (content place start count end text : ℕ) (line begun after name : List ℕ)
     → m.class.kind ≡ kind.Array many k → k.kind ≡ kind.Integer i → start ≡ next_multiple_of place k.align → start ≤ content → Counts many before count → begun ≡ line ++ (lead ∷ 32 ∷ name) → name ≡ field_text m.name
     → PutsElements (enclosed 91 93) k.align i count packet content start end begun after
-    → PutsNext before (form m.class) (λ v. lead ∷ 32 ∷ part_text (member_part m) v) packet content place line (record { place = end; text = text; more = count; number = None }) after
+    → PutsNext before (form m.class) (λ v. lead ∷ 32 ∷ part_text (member_part m) v) packet content place line (record { place = end; text = text; more = count }) after
 puts_array before m lead many k i packet content place start count end text line begun after name is_array is_integer starts within counts wrote named elements spent room earlier env vs counted last =
     let c = among packet content earlier in
     let e = vs ∷ env in
@@ -154,16 +146,12 @@ puts_array before m lead many k i packet content place start count end text line
       v,
       walked,
       p.3 ∙ ap (λ xs. xs ++ texts) wrote ∙ append_assoc line (lead ∷ 32 ∷ name) texts ∙ (λ j. line ++ (lead ∷ 32 ∷ (named j ++ shown j))) ∙ ap (λ xs. line ++ (lead ∷ 32 ∷ xs)) (sym part),
-      tt,
     )
 
 -- an integer behind its index is an element
-pub puts_element : (r : Option Ends) (a : ℕ) (i : Integer) (lead k : ℕ) (packet : List ℕ) (content place : ℕ) (before line index buffer : List ℕ) → line ≡ before ++ (lead ∷ 32 ∷ index)
-    → ((v : Val) → element_text (integer_text i) k v ≡ index ++ integer_text i v)
-    → IfSome r (λ e. PutsOne (integer a i) (integer_text i) packet content place e.place line (take e.text buffer)) → IfSome r (λ e. PutsOne (integer a i) (λ v. lead ∷ 32 ∷ element_text (integer_text i) k v) packet content place e.place before (take e.text buffer))
-puts_element None a i lead k packet content place before line index buffer wrote is puts = tt
-puts_element (Some e) a i lead k packet content place before line index buffer wrote is puts =
-    λ spent few earlier env.
+pub puts_element : (a : ℕ) (i : Integer) (lead k : ℕ) (packet : List ℕ) (content place end : ℕ) (before line index after : List ℕ) → line ≡ before ++ (lead ∷ 32 ∷ index) → ((v : Val) → element_text (integer_text i) k v ≡ index ++ integer_text i v)
+    → PutsOne (integer a i) (integer_text i) packet content place end line after → PutsOne (integer a i) (λ v. lead ∷ 32 ∷ element_text (integer_text i) k v) packet content place end before after
+puts_element a i lead k packet content place end before line index after wrote is puts spent few earlier env =
     let p = puts spent few earlier env in
     let text = integer_text i p.0 in
     (p.0, p.1, p.2 ∙ ap (λ xs. xs ++ text) wrote ∙ append_assoc before (lead ∷ 32 ∷ index) text ∙ ap (λ xs. before ++ (lead ∷ 32 ∷ xs)) (sym (is p.0)))

@@ -2,7 +2,9 @@
 use Rattle.std.proofs.Common.{◌≡◌, ℕ, zero, suc, ◌+◌, ◌-◌, ◌*◌, ◌/◌, ◌<◌, ◌≤◌, Bool, true, false, cond, List, [], ◌∷◌, ◌++◌, map, take, drop, length, get_or, position, nat_eq, not, Option, Some, None, IfSome, Ok, Err, pos, rules, refl, sym, ap, subst, ◌∙◌, arith, append_assoc, append-nil, length-append}
 use Rattle.std.specs.Int.{next_multiple_of}
 use Rattle.std.specs.List.{take_while}
+use Rattle.std.specs.Prelude.{slice_get, option_and_then, if◌then◌else◌}
 use Rattle.std.proofs.lemmas.Bool.{lt-ltb, le-ltb}
+use Rattle.std.proofs.lemmas.Option.{slice_get_read, slice_get_past}
 use Rattle.std.proofs.Math.Seq.{take-length}
 use Rattle.std.proofs.lemmas.List.{take_more, map-append, length-map, length-take-le, take-append-le, take-take}
 use Rattle.ctf_bits.specs.Number.{number, signed_number}
@@ -10,6 +12,8 @@ use Rattle.ctf_class.specs.declared.class.Class as class
 use Rattle.ctf_class.specs.declared.class.Class.{Class}
 use Rattle.ctf_class.specs.declared.class.Kind as kind
 use Rattle.ctf_class.specs.declared.class.Kind.{Kind}
+use Rattle.ctf_class.specs.declared.class.Kind.TheOpen.{Kind-F}
+use Rattle.ctf_class.specs.declared.class.Kind.TheViews.{out-Kind, roll-Kind, roll-out-Kind, rolls-Integer}
 use Rattle.ctf_class.specs.declared.class.Member.{Member}
 use Rattle.ctf_class.specs.declared.integer.Integer.{Integer}
 use Rattle.ctf_class.specs.declared.route.Length.{Length}
@@ -28,7 +32,7 @@ use Rattle.ctf_decode.specs.Fields.{members_in}
 use Rattle.ctf_decode.specs.declared.scopes.TheConstants.{MOST_VALUES}
 use Rattle.ctf_text.specs.Numbers.{number_text}
 use Rattle.ctf_text.specs.Rows.{row, enclosed}
-use Rattle.ctf_text.specs.Standing.{among, Puts, PutsOne, LastIs, PutsNext, PutsMembers, StandsAsNumber}
+use Rattle.ctf_text.specs.Standing.{among, Puts, PutsOne, LastIs, PutsNext, PutsMembers, StandsAsNumber, unsigned_of, number_of_kind, number_of, number_before}
 use Rattle.ctf_text.specs.Texts.{Shown, Part, value_text, kind_text, part_text, member_part, member_texts, integer_text, string_text}
 use Rattle.ctf_text.specs.declared.standing.Before.{Before}
 use Rattle.ctf_text.specs.declared.standing.Ends.{Ends}
@@ -133,6 +137,16 @@ last_is : (o : Option ℕ) (vs : List Val) (v : Val) → IfSome o (λ n. v ≡ u
 last_is None vs v is = tt
 last_is (Some n) vs v is = (vs, ap (λ w. vs ++ w ∷ []) is)
 
+-- what stands in a step, if there is a value
+abbrev value_of : Step Val → Val
+value_of (Ok x) = x.0
+value_of (Err e) = unsigned 0
+
+is_number : (o : Option ℕ) (k : Form) (packet : List ℕ) (content place end spent total : ℕ) (earlier : Scope → Option Val) (env : Env) (v : Val) → spent < MOST_VALUES → walk k (among packet content earlier) env place spent ≡ Ok (v, end, total)
+    → IfSome o (StandsAsNumber k packet content place) → IfSome o (λ n. v ≡ unsigned n)
+is_number None k packet content place end spent total earlier env v few walked stands = tt
+is_number (Some n) k packet content place end spent total earlier env v few walked stands = ap value_of (sym walked ∙ (stands spent few earlier env).1)
+
 abbrev Part_of : Type 0
 Part_of = List ℕ × Form
 
@@ -196,9 +210,9 @@ module _ (ms : List Member) (packet : List ℕ) (content place : ℕ) (before : 
       added ∙ ap (λ xs. xs ++ (lead ∷ 32 ∷ text)) wrote ∙ append_assoc before (row 123 all) (lead ∷ 32 ∷ text)
       ∙ ap (λ l. before ++ (row 123 all ++ (l ∷ 32 ∷ text))) (sym lead_is) ∙ ap (λ xs. before ++ xs) (sym (row_more 123 all text)) ∙ ap (λ ts. before ++ row 123 ts) (sym longer)
 
-  pub going_on : (i at more : ℕ) (last : Option ℕ) (m : Member) (lead : ℕ) (line : List ℕ) (to : Next) (after : List ℕ) → i < length ms → m ≡ get_or ms i m → lead ≡ mark_at 123 i → Going ms packet content place i at more last before line
-      → PutsNext (record { index = i; number = last }) (form m.class) (λ v. lead ∷ 32 ∷ part_text (member_part m) v) packet content at line to after → Going ms packet content place (i + 1) to.place (more + to.more) to.number before after
-  going_on i at more last m lead line to after within is marked going puts spent room earlier env =
+  pub going_on : (i at more : ℕ) (last number : Option ℕ) (m : Member) (lead : ℕ) (line : List ℕ) (to : Next) (after : List ℕ) → i < length ms → m ≡ get_or ms i m → lead ≡ mark_at 123 i → Going ms packet content place i at more last before line
+      → PutsNext (record { index = i; number = last }) (form m.class) (λ v. lead ∷ 32 ∷ part_text (member_part m) v) packet content at line to after → IfSome number (StandsAsNumber (form m.class) packet content at) → Going ms packet content place (i + 1) to.place (more + to.more) number before after
+  going_on i at more last number m lead line to after within is marked going puts stands spent room earlier env =
       let c = among packet content earlier in
       let g = going spent (omega (arith, room)) earlier env in
       let vs = g.0 in
@@ -207,7 +221,8 @@ module _ (ms : List Member) (packet : List ℕ) (content place : ℕ) (before : 
       let total : spent + (i + 1) + (more + to.more) ≡ spent + i + more + 1 + to.more = omega arith in
       let walked = ap (rest p.0 to.place) total ∙ sym (next c env i m vs at (spent + i + more) within is ∙ ap (λ r. and_then r rest) p.1) ∙ g.1 in
       let longer : length (vs ++ p.0 ∷ []) ≡ i + 1 = length-append vs (p.0 ∷ []) ∙ ap (λ n. n + 1) g.2 in
-      (vs ++ p.0 ∷ [], walked, longer, texts_on i m vs p.0 lead line after within is g.2 marked g.3 p.2, last_is to.number vs p.0 p.3)
+      let number_is = is_number number (form m.class) packet content at to.place (spent + i + more) (spent + i + more + 1 + to.more) earlier (vs ∷ env) p.0 (omega (arith, room, within)) p.1 stands in
+      (vs ++ p.0 ∷ [], walked, longer, texts_on i m vs p.0 lead line after within is g.2 marked g.3 p.2, last_is number vs p.0 number_is)
 
   pub going_ends : (at more text : ℕ) (last : Option ℕ) (line : List ℕ) → Going ms packet content place (length ms) at more last before line → PutsMembers (row 123) ms packet content place before (record { place = at; text = text; more = more }) line
   going_ends at more text last line going spent room earlier env =
@@ -215,6 +230,13 @@ module _ (ms : List Member) (packet : List ℕ) (content place : ℕ) (before : 
       let g = going spent room earlier env in
       let over = ap (λ ns. walk_members (parts_of (map views.member_part ns)) c env g.0 at (spent + length ms + more)) (drop-all ms (length ms) (omega arith)) in
       (g.0, sym g.1 ∙ over, g.2, g.3 ∙ ap (λ ns. before ++ row 123 (member_texts (map member_part ns) (vals_of g.0))) (take-length ms))
+
+-- the same of values that are equal
+pub going_as : (ms : List Member) (packet : List ℕ) (content place i at to more many : ℕ) (last number : Option ℕ) (before line after : List ℕ) → to ≡ at → many ≡ more → number ≡ last → after ≡ line
+    → Going ms packet content place i at more last before line → Going ms packet content place i to many number before after
+going_as ms packet content place i at to more many last number before line after places counts numbers lines going =
+    subst (λ p. Going ms packet content place i p many number before after) (sym places) (subst (λ n. Going ms packet content place i at n number before after) (sym counts)
+    (subst (λ o. Going ms packet content place i at more o before after) (sym numbers) (subst (λ xs. Going ms packet content place i at more last before xs) (sym lines) going)))
 
 pub mark_next : (first i : ℕ) → 44 ≡ mark_at first (i + 1)
 mark_next first i = let n : suc i ≡ i + 1 = omega arith in ap (mark_at first) n
@@ -252,41 +274,37 @@ module _ (c : Class) where
   text_structure ms vs is = ap (λ f. f (group (vals_of vs))) (sym (text-Structure ms) ∙ shows (kind.Structure ms) is)
 
 -- The same value, as that of the class that it is of, in the whole buffer.
-pub as_class : (r : Option Ends) (k l : Form) (shown told : Shown) (packet : List ℕ) (content place : ℕ) (before line buffer : List ℕ) → k ≡ l → shown ≡ told → IfSome r (λ e. take e.text line ≡ take e.text buffer)
-    → IfSome r (λ e. PutsOne k shown packet content place e.place before (take e.text line)) → IfSome r (λ e. PutsOne l told packet content place e.place before (take e.text buffer))
-as_class (Some e) k l shown told packet content place before line buffer forms_are texts_are same puts =
-    subst (λ xs. PutsOne l told packet content place e.place before xs) same (subst (λ t. PutsOne l t packet content place e.place before (take e.text line)) texts_are (subst (λ f. PutsOne f shown packet content place e.place before (take e.text line)) forms_are puts))
-as_class None k l shown told packet content place before line buffer forms_are texts_are same puts = tt
+pub as_one : (k l : Form) (shown told : Shown) (packet : List ℕ) (content place end : ℕ) (before line after : List ℕ) → k ≡ l → shown ≡ told → line ≡ after → PutsOne k shown packet content place end before line → PutsOne l told packet content place end before after
+as_one k l shown told packet content place end before line after forms_are texts_are same puts =
+    subst (λ xs. PutsOne l told packet content place end before xs) same (subst (λ t. PutsOne l t packet content place end before line) texts_are (subst (λ f. PutsOne f shown packet content place end before line) forms_are puts))
+
+pub as_class : (r : Option Ends) (k l : Form) (shown told : Shown) (packet : List ℕ) (content place : ℕ) (before line : List ℕ) → k ≡ l → shown ≡ told
+    → IfSome r (λ e. PutsOne k shown packet content place e.place before (take e.text line)) → IfSome r (λ e. PutsOne l told packet content place e.place before (take e.text line))
+as_class (Some e) k l shown told packet content place before line forms_are texts_are puts = as_one k l shown told packet content place e.place before (take e.text line) (take e.text line) forms_are texts_are refl puts
+as_class None k l shown told packet content place before line forms_are texts_are puts = tt
 
 -- What stands in front of a line stands in front of the buffer that the line is in.
-pub same_front : (r : Option Ends) (at n : ℕ) (line items : List ℕ) → length line ≡ n → at ≤ n → IfSome r (λ e. e.text ≤ at) → IfSome r (λ e. take e.text line ≡ take e.text (take n (line ++ drop (length line) items)))
-same_front (Some e) at n line items long room near =
-    let within : e.text ≤ n = omega (arith, room, near) in
-    let short : e.text ≤ length line = omega (arith, within, long) in
-    sym (take-append-le e.text line (drop (length line) items) short) ∙ sym (take-take e.text n (line ++ drop (length line) items) within)
-same_front None at n line items long room near = tt
+pub same_front : (text at n : ℕ) (line items : List ℕ) → length line ≡ n → at ≤ n → text ≤ at → take text line ≡ take text (take n (line ++ drop (length line) items))
+same_front text at n line items long room near =
+    let within : text ≤ n = omega (arith, room, near) in
+    let short : text ≤ length line = omega (arith, within, long) in
+    sym (take-append-le text line (drop (length line) items) short) ∙ sym (take-take text n (line ++ drop (length line) items) within)
 
 pub as_every : (r : Option Ends) (P : ℕ → Ends → Type 0) (a : ℕ) → IfSome r (λ e. (b : ℕ) → P b e) → IfSome r (P a)
 as_every (Some e) P a puts = puts a
 as_every None P a puts = tt
 
-pub same_all : (r : Option Ends) (xs : List ℕ) → IfSome r (λ e. take e.text xs ≡ take e.text xs)
-same_all (Some e) xs = refl
-same_all None xs = tt
-
 pub member-is : (m : Member) → member_part m ≡ (m.name, value_text m.class)
 member-is m = search (rules, class.the_lemmas)
 
 -- a value behind its name is the member
-pub puts_behind : (r : Option Ends) (m : Member) (lead : ℕ) (packet : List ℕ) (content place : ℕ) (before line buffer name : List ℕ) → line ≡ before ++ (lead ∷ 32 ∷ name) → name ≡ field_text m.name
-    → IfSome r (λ e. PutsOne (form m.class) (value_text m.class) packet content place e.place line (take e.text buffer)) → IfSome r (λ e. PutsOne (form m.class) (λ v. lead ∷ 32 ∷ part_text (member_part m) v) packet content place e.place before (take e.text buffer))
-puts_behind (Some e) m lead packet content place before line buffer name wrote named puts =
-    λ spent few earlier env.
+pub puts_behind : (m : Member) (lead : ℕ) (packet : List ℕ) (content place end : ℕ) (before line after name : List ℕ) → line ≡ before ++ (lead ∷ 32 ∷ name) → name ≡ field_text m.name → PutsOne (form m.class) (value_text m.class) packet content place end line after
+    → PutsOne (form m.class) (λ v. lead ∷ 32 ∷ part_text (member_part m) v) packet content place end before after
+puts_behind m lead packet content place end before line after name wrote named puts spent few earlier env =
     let p = puts spent few earlier env in
     let text = value_text m.class p.0 in
     let part : part_text (member_part m) p.0 ≡ field_text m.name ++ text = ap (λ (x : Part). part_text x p.0) (member-is m) in
     (p.0, p.1, p.2 ∙ ap (λ xs. xs ++ text) wrote ∙ append_assoc before (lead ∷ 32 ∷ name) text ∙ ap (λ xs. before ++ (lead ∷ 32 ∷ (xs ++ text))) named ∙ ap (λ xs. before ++ (lead ∷ 32 ∷ xs)) (sym part))
-puts_behind None m lead packet content place before line buffer name wrote named puts = tt
 
 closed_row : (parts : List Part) (vs : List Val) → 0 < length parts → length vs ≡ length parts → row 123 (member_texts parts (vals_of vs)) ++ (32 ∷ 125 ∷ []) ≡ enclosed 123 125 (member_texts parts (vals_of vs))
 closed_row [] vs some same = absurd (omega (arith, some))
@@ -318,24 +336,12 @@ puts_structure k ms packet content place start spent end total before after is s
     in
     (group (vals_of p.0), walked, p.3 ∙ ap (λ xs. before ++ xs) (text_structure k ms p.0 is))
 
--- what stands in a step, if there is a value
-abbrev value_of : Step Val → Val
-value_of (Ok x) = x.0
-value_of (Err e) = unsigned 0
-
-is_number : (o : Option ℕ) (k : Form) (packet : List ℕ) (content place end spent : ℕ) (earlier : Scope → Option Val) (env : Env) (v : Val) → spent < MOST_VALUES → walk k (among packet content earlier) env place spent ≡ Ok (v, end, spent + 1)
-    → IfSome o (StandsAsNumber k packet content place) → IfSome o (λ n. v ≡ unsigned n)
-is_number None k packet content place end spent earlier env v few walked stands = tt
-is_number (Some n) k packet content place end spent earlier env v few walked stands = ap value_of (sym walked ∙ (stands spent few earlier env).1)
-
 -- one value alone, behind the members of a structure
-pub puts_next : (before : Before) (k : Form) (shown : Shown) (packet : List ℕ) (content place end text : ℕ) (number : Option ℕ) (line after : List ℕ) → PutsOne k shown packet content place end line after → IfSome number (StandsAsNumber k packet content place)
-    → PutsNext before k shown packet content place line (record { place = end; text = text; more = 0; number = number }) after
-puts_next before k shown packet content place end text number line after puts stands spent room earlier env vs counted last =
-    let few : spent < MOST_VALUES = omega (arith, room) in
-    let p = puts spent few earlier (vs ∷ env) in
+pub puts_next : (before : Before) (k : Form) (shown : Shown) (packet : List ℕ) (content place end text : ℕ) (line after : List ℕ) → PutsOne k shown packet content place end line after → PutsNext before k shown packet content place line (record { place = end; text = text; more = 0 }) after
+puts_next before k shown packet content place end text line after puts spent room earlier env vs counted last =
+    let p = puts spent (omega (arith, room)) earlier (vs ∷ env) in
     let none : spent + 1 ≡ spent + 1 + 0 = omega arith in
-    (p.0, p.1 ∙ ap (λ n. Ok (p.0, end, n)) none, p.2, is_number number k packet content place end spent earlier (vs ∷ env) p.0 few p.1 stands)
+    (p.0, p.1 ∙ ap (λ n. Ok (p.0, end, n)) none, p.2)
 
 -- one unsigned integer
 pub stands_number : (a : ℕ) (i : Integer) (packet : List ℕ) (content place n : ℕ) → i.is_signed ≡ false → next_multiple_of place a + bits_of i ≤ content → n ≡ number i.order packet (next_multiple_of place a) (bits_of i) → StandsAsNumber (integer a i) packet content place n
@@ -345,11 +351,74 @@ stands_number a i packet content place n is within read spent few earlier env =
     let value : integer_at c i b ≡ unsigned n = ap (λ t. cond t (signed (signed_number i.order packet b (bits_of i))) (unsigned (number i.order packet b (bits_of i)))) is ∙ ap unsigned (sym read) in
     (b + bits_of i, ap (λ v. begin c spent (leaf c (b + bits_of i) spent v)) value ∙ leaf_stands c (b + bits_of i) spent (unsigned n) few within)
 
-pub stands_if : (a : ℕ) (i : Integer) (packet : List ℕ) (content place n : ℕ) (o : Option ℕ) → next_multiple_of place a + bits_of i ≤ content → n ≡ number i.order packet (next_multiple_of place a) (bits_of i)
-    → IfSome o (λ m. (i.is_signed ≡ false) × (m ≡ n)) → IfSome o (StandsAsNumber (integer a i) packet content place)
-stands_if a i packet content place n (Some m) within read is = stands_number a i packet content place m is.0 within (is.1 ∙ read)
-stands_if a i packet content place n None within read is = tt
+-- What number a member has, by what it is.
+number-Integer : (i : Integer) (bits : ℕ) → number_of_kind (out-Kind (kind.Integer i)) bits ≡ unsigned_of i bits
+number-Integer i bits = search (rules, class.the_lemmas)
 
--- a number of a value, as that of the class that it is of
-pub number_as : (r : Option Ends) (k l : Form) (packet : List ℕ) (content place : ℕ) → k ≡ l → IfSome r (λ e. IfSome e.number (StandsAsNumber k packet content place)) → IfSome r (λ e. IfSome e.number (StandsAsNumber l packet content place))
-number_as r k l packet content place is stands = subst (λ f. IfSome r (λ e. IfSome e.number (StandsAsNumber f packet content place))) is stands
+pub number_integer : (m : Member) (i : Integer) (bits : ℕ) → m.class.kind ≡ kind.Integer i → number_of m bits ≡ unsigned_of i bits
+number_integer m i bits is = ap (λ k. number_of_kind (out-Kind k) bits) is ∙ number-Integer i bits
+
+none_at : (k : Kind) (o : Kind-F Kind Class Member) (bits : ℕ) → ((i : Integer) → k ≡ kind.Integer i → ⊥) → out-Kind k ≡ o → number_of_kind o bits ≡ None
+none_at k (Kind-F.Integer i) bits other is = absurd (other i (sym (roll-out-Kind k) ∙ ap roll-Kind is ∙ rolls-Integer i))
+none_at k (Kind-F.Enumeration i labels) bits other is = refl
+none_at k Kind-F.String bits other is = refl
+none_at k (Kind-F.Structure ms) bits other is = refl
+none_at k (Kind-F.Variant tag choices ms) bits other is = refl
+none_at k (Kind-F.Array many c) bits other is = refl
+none_at k (Kind-F.Text many) bits other is = refl
+
+pub number_other : (m : Member) (bits : ℕ) → ((i : Integer) → m.class.kind ≡ kind.Integer i → ⊥) → number_of m bits ≡ None
+number_other m bits other = none_at m.class.kind (out-Kind m.class.kind) bits other refl
+
+-- the last of some
+pub last_of : {A : Type 0} (xs : List A) (x : A) (i : ℕ) → length xs ≡ i → slice_get (xs ++ x ∷ []) i ≡ Some x
+last_of [] x zero same = refl
+last_of [] x (suc i) same = absurd (omega (arith, same))
+last_of (y ∷ xs) x zero same = absurd (omega (arith, same))
+last_of (y ∷ xs) x (suc i) same = last_of xs x i (omega (arith, same))
+
+pub number_none : (before : List Member) (bits : ℕ) → length before ≡ 0 → None ≡ number_before before bits
+number_none before bits none = ap (option_and_then (λ m. number_of m bits)) (sym (slice_get_past before (length before - 1) (omega (arith, none))))
+
+pub number_last : (before : List Member) (m : Member) (bits : ℕ) → 0 < length before → m ≡ get_or before (length before - 1) m → number_of m bits ≡ number_before before bits
+number_last before m bits some is = ap (option_and_then (λ x. number_of x bits)) (sym (slice_get_read before (length before) (length before - 1) m refl (omega (arith, some)) is))
+
+-- behind one member more, its number is the last
+number_next : (ms : List Member) (i : ℕ) (m : Member) (bits : ℕ) → i < length ms → m ≡ get_or ms i m → number_before (take (i + 1) ms) bits ≡ number_of m bits
+number_next ms i m bits within is =
+    let longer : take (i + 1) ms ≡ take i ms ++ m ∷ [] = take_more ms i m within ∙ ap (λ x. take i ms ++ x ∷ []) (sym is) in
+    let at_end : length (take i ms) ≡ length (take i ms ++ m ∷ []) - 1 = omega (arith, length-append (take i ms) (m ∷ [])) in
+    ap (λ before. number_before before bits) longer ∙ ap (option_and_then (λ x. number_of x bits)) (last_of (take i ms) m (length (take i ms ++ m ∷ []) - 1) at_end)
+
+unsigned_if : (signed : Bool) (n : ℕ) (P : ℕ → Type 0) → (signed ≡ false → P n) → IfSome (if signed then None else Some n) P
+unsigned_if true n P holds = tt
+unsigned_if false n P holds = holds refl
+
+-- the number of a member that is an integer
+pub stands_member : (m : Member) (i : Integer) (packet : List ℕ) (content place bits : ℕ) → m.class.kind ≡ kind.Integer i → (i.is_signed ≡ false → StandsAsNumber (integer m.class.align i) packet content place bits) → IfSome (number_of m bits) (StandsAsNumber (form m.class) packet content place)
+stands_member m i packet content place bits is stands =
+    subst (λ o. IfSome o (StandsAsNumber (form m.class) packet content place)) (sym (number_integer m i bits is))
+    (subst (λ f. IfSome (unsigned_of i bits) (StandsAsNumber f packet content place)) (form_integer m.class i is) (unsigned_if i.is_signed bits (StandsAsNumber (integer m.class.align i) packet content place) stands))
+
+module _ (ms : List Member) (packet : List ℕ) (content place i at more bits lead : ℕ) (m : Member) (before line after : List ℕ) (within : i < length ms) (is : m ≡ get_or ms i m) (marked : lead ≡ mark_at 123 i) (going : Going ms packet content place i at more (number_before (take i ms) bits) before line) where
+  -- over a member that is an integer
+  pub over_integer : (to text read : ℕ) → PutsOne (form m.class) (λ v. lead ∷ 32 ∷ part_text (member_part m) v) packet content at to line after → IfSome (number_of m read) (StandsAsNumber (form m.class) packet content at) → Going ms packet content place (i + 1) to more (number_before (take (i + 1) ms) read) before after
+  over_integer to text read puts stands =
+      let shown : Shown = λ v. lead ∷ 32 ∷ part_text (member_part m) v in
+      let k = form m.class in
+      let last = number_before (take i ms) bits in
+      let no_more : more + 0 ≡ more = omega arith in
+      subst (λ n. Going ms packet content place (i + 1) to n (number_before (take (i + 1) ms) read) before after) no_more
+      (subst (λ o. Going ms packet content place (i + 1) to (more + 0) o before after) (sym (number_next ms i m read within is))
+      (going_on ms packet content place before i at more last (number_of m read) m lead line (record { place = to; text = text; more = 0 }) after within is marked going (puts_next (record { index = i; number = last }) k shown packet content at to text line after puts) stands))
+
+  -- over another member
+  pub over_other : (to : Next) → ((n : Integer) → m.class.kind ≡ kind.Integer n → ⊥) → PutsNext (record { index = length (take i ms); number = number_before (take i ms) bits }) (form m.class) (λ v. lead ∷ 32 ∷ part_text (member_part m) v) packet content at line to after
+      → Going ms packet content place (i + 1) to.place (more + to.more) (number_before (take (i + 1) ms) bits) before after
+  over_other to other puts =
+      let shown : Shown = λ v. lead ∷ 32 ∷ part_text (member_part m) v in
+      let k = form m.class in
+      let last = number_before (take i ms) bits in
+      let next = subst (λ n. PutsNext (record { index = n; number = last }) k shown packet content at line to after) (length-take-le i ms (omega (arith, within))) puts in
+      subst (λ o. Going ms packet content place (i + 1) to.place (more + to.more) o before after) (sym (number_next ms i m bits within is ∙ number_other m bits other))
+      (going_on ms packet content place before i at more last None m lead line to after within is marked going next tt)

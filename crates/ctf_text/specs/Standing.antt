@@ -1,5 +1,9 @@
 -- Values that are shown where they stand.
-use Rattle.std.specs.Prelude.{◌≡◌, ℕ, ◌+◌, ◌<◌, ◌≤◌, List, [], ◌∷◌, ◌++◌, map, length, Option, Some, None, IfSome, Ok, ⊤}
+use Rattle.std.specs.Prelude.{◌≡◌, ℕ, ◌+◌, ◌-◌, ◌<◌, ◌≤◌, List, [], ◌∷◌, ◌++◌, map, length, slice_get, Option, Some, None, option_and_then, Ok, ⊤, if◌then◌else◌}
+use Rattle.ctf_class.specs.declared.class.Class.{Class}
+use Rattle.ctf_class.specs.declared.class.Kind.{Kind}
+use Rattle.ctf_class.specs.declared.class.Kind.TheOpen.{Kind-F}
+use Rattle.ctf_class.specs.declared.class.Kind.TheViews.{out-Kind}
 use Rattle.ctf_class.specs.declared.class.Member.{Member}
 use Rattle.ctf_class.specs.declared.integer.Integer.{Integer}
 use Rattle.ctf_class.specs.declared.route.Length.{Length}
@@ -38,11 +42,27 @@ abbrev pub LastIs : Option ℕ → List Val → Type 0
 LastIs None vs = ⊤
 LastIs (Some n) vs = (ws : List Val) × (vs ≡ ws ++ unsigned n ∷ [])
 
--- the same of a value behind the members of a structure, with so many values in it; and whether it is a number
+-- the number of an integer whose bits are these, if it is unsigned
+abbrev pub unsigned_of : Integer → ℕ → Option ℕ
+unsigned_of i bits = if i.is_signed then None else Some bits
+
+abbrev pub number_of_kind : Kind-F Kind Class Member → ℕ → Option ℕ
+number_of_kind (Kind-F.Integer i) bits = unsigned_of i bits
+number_of_kind _ bits = None
+
+-- the number of a member whose bits are these, if it is an unsigned integer
+abbrev pub number_of : Member → ℕ → Option ℕ
+number_of member bits = number_of_kind (out-Kind member.class.kind) bits
+
+-- the number of the last of these members, whose bits are these, if it is an unsigned integer
+abbrev pub number_before : List Member → ℕ → Option ℕ
+number_before before bits = option_and_then (λ member. number_of member bits) (slice_get before (length before - 1))
+
+-- the same of a value behind the members of a structure, with so many values in it
 abbrev pub PutsNext : Before → Form → Shown → List ℕ → ℕ → ℕ → List ℕ → Next → List ℕ → Type 0
 PutsNext before k shown packet content place line next after =
     (spent : ℕ) → spent + next.more < MOST_VALUES → (earlier : Scope → Option Val) (env : Env) (vs : List Val) → length vs ≡ before.index → LastIs before.number vs
-    → (v : Val) × (walk k (among packet content earlier) (vs ∷ env) place spent ≡ Ok (v, next.place, spent + 1 + next.more)) × (after ≡ line ++ shown v) × IfSome next.number (λ n. v ≡ unsigned n)
+    → (v : Val) × (walk k (among packet content earlier) (vs ∷ env) place spent ≡ Ok (v, next.place, spent + 1 + next.more)) × (after ≡ line ++ shown v)
 
 -- an unsigned integer of this number stands at a place, whatever was decoded before
 abbrev pub StandsAsNumber : Form → List ℕ → ℕ → ℕ → ℕ → Type 0

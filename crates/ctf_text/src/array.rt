@@ -54,7 +54,6 @@ pub(crate) fn put_array(
         place: ends.place,
         text: ends.text,
         more: count,
-        number: None,
     })
 }
 
@@ -121,11 +120,7 @@ fn put_elements(
         let Ok(text) = put_nothing(b'[', b']', buffer, at) else {
             return None;
         };
-        return Some(Ends {
-            place: begin,
-            text,
-            number: None,
-        });
+        return Some(Ends { place: begin, text });
     }
     let ends = put_row(integer, align, count, packet, begin, buffer, at)?;
     let Ok(text) = put_end(b']', buffer, ends.text) else {
@@ -134,7 +129,6 @@ fn put_elements(
     Some(Ends {
         place: ends.place,
         text,
-        number: None,
     })
 }
 
@@ -163,11 +157,7 @@ fn put_row(
         text = ends.text;
         lead = b',';
     }
-    Some(Ends {
-        place,
-        text,
-        number: None,
-    })
+    Some(Ends { place, text })
 }
 
 /// Writes an integer that is an element, behind a mark.
@@ -191,5 +181,9 @@ fn put_element(
     let Ok(begin) = put_index(lead, i as usize, buffer, at) else {
         return None;
     };
-    put_integer(integer, align, packet, place, buffer.as_mut_slice(), begin)
+    let ends = put_integer(integer, align, packet, place, buffer.as_mut_slice(), begin)?;
+    Some(Ends {
+        place: ends.place,
+        text: ends.text,
+    })
 }

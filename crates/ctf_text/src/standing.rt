@@ -2,12 +2,13 @@
 
 ghost use Rattle.std.specs.Prelude.{ℕ, List, pos, ◌≡◌, true, false, ◌+◌, ◌*◌, ◌^◌, ◌++◌, ◌∷◌, ◌≤◌, ◌<◌, length, take, vec_len, IfSome, IsTrue};
 ghost use Rattle.ctf_bits.specs.Number.{number, signed_number};
+ghost use Rattle.ctf_class.specs.declared.class.Kind as kind;
 ghost use Rattle.ctf_decode.specs.Input.{bits_of};
 ghost use Rattle.ctf_decode.specs.Forms as forms;
 ghost use Rattle.ctf_decode.specs.Views.{form};
 ghost use Rattle.ctf_text.specs.Numbers.{number_text};
 ghost use Rattle.ctf_text.specs.Rows.{row, enclosed};
-ghost use Rattle.ctf_text.specs.Standing.{Puts, PutsOne, PutsNext, PutsMembers, StandsAsNumber};
+ghost use Rattle.ctf_text.specs.Standing.{Puts, PutsOne, PutsNext, PutsMembers, StandsAsNumber, number_before, number_of, unsigned_of};
 ghost use Rattle.ctf_text.specs.Texts as texts;
 
 use crate::array::put_array;
@@ -38,13 +39,19 @@ pub(crate) struct Content<'a> {
     ghost held: { end ≤ 8 * length bytes.now },
 }
 
-/// Where a value ends, in bits from the packet's first one, the index behind its text, and its number, if it is an unsigned
-/// integer.
+/// Where a value ends, in bits from the packet's first one, and the index behind its text.
 #[derive(Clone, Copy, Debug)]
 pub(crate) struct Ends {
     pub(crate) place: u64,
     pub(crate) text: usize,
-    pub(crate) number: Option<u64>,
+}
+
+/// Where an integer ends, in bits from the packet's first one, the index behind its text, and its bits.
+#[derive(Clone, Copy, Debug)]
+pub(crate) struct IntegerEnds {
+    pub(crate) place: u64,
+    pub(crate) text: usize,
+    pub(crate) bits: u64,
 }
 
 /// What stands before a member: so many others, of which the last is this number, if it is an unsigned integer.
@@ -54,14 +61,12 @@ pub(crate) struct Before {
     pub(crate) number: Option<u64>,
 }
 
-/// Where a member ends, in bits from the packet's first one, the index behind its text, how many values were begun in it,
-/// and its number, if it is an unsigned integer.
+/// Where a member ends, in bits from the packet's first one, the index behind its text, and how many values were begun in it.
 #[derive(Clone, Copy, Debug)]
 pub(crate) struct Next {
     pub(crate) place: u64,
     pub(crate) text: usize,
     pub(crate) more: u64,
-    pub(crate) number: Option<u64>,
 }
 
 /// Where members end, in bits from the packet's first one, the index behind their texts, and how many values were begun
@@ -106,9 +111,6 @@ pub fn put_standing(
     };
     let members = members.as_slice();
     let count = members.len() as u64;
-    if count >= MOST_VALUES - spent {
-        return None;
-    }
     let begin = class.align.up(place);
     if begin > content {
         return None;
@@ -166,7 +168,7 @@ fn put_structure(
     })
 }
 
-/// Writes members, the first behind `{`.
+/// Writes members, the first behind `{`. Mostly they are integers, so that the others stand out of their way.
 #[inline(never)]
 fn put_members(
     members: &[Member],
@@ -186,28 +188,71 @@ fn put_members(
     let mut text = at;
     let mut lead = b'{';
     let mut more = 0;
-    let mut number = None;
+    let mut last = 0;
     for (i, member) in members.iter().enumerate() {
-        let next = put_next(lead, member, i, number, packet, place, buffer, text)?;
-        more += next.more;
-        if more >= MOST_VALUES {
-            return None;
+        if let Kind::Integer(integer) = &member.class.kind {
+            let ends = put_integer_member(lead, member, integer, packet, place, buffer, text)?;
+            place = ends.place;
+            text = ends.text;
+            last = ends.bits;
+        } else {
+            let next = put_other(
+                lead,
+                member,
+                &members[..i],
+                last,
+                packet,
+                place,
+                buffer,
+                text,
+            )?;
+            place = next.place;
+            text = next.text;
+            more += next.more;
+            if more >= MOST_VALUES {
+                return None;
+            }
         }
-        place = next.place;
-        text = next.text;
-        number = next.number;
         lead = b',';
     }
     Some(MembersEnd { place, text, more })
 }
 
-/// Writes the member behind so many others, of which the last is this number, if it is an unsigned integer.
+/// Writes a member that is this integer behind a mark.
 #[inline(always)]
-fn put_next(
+fn put_integer_member(
     lead: u8,
     member: &Member,
-    index: usize,
-    number: Option<u64>,
+    integer: &Integer,
+    packet: &Content<'_>,
+    place: u64,
+    buffer: &mut Vec<u8>,
+    at: usize,
+) -> Option<IntegerEnds>
+    requires kind { member.now.class.kind ≡ kind.Integer integer.now }
+    requires start { place ≤ packet.now.end }
+    requires index { at ≤ vec_len buffer.old }
+    ensures puts { IfSome result (λ e. PutsOne (form member.now.class) (λ v. lead ∷ 32 ∷ texts.part_text (texts.member_part member.now) v) packet.now.bytes.now packet.now.end place e.place (take at buffer.old.items) (take e.text buffer.new.items)) }
+    ensures within { IfSome result (λ e. e.place ≤ packet.now.end) }
+    ensures held { IfSome result (λ e. e.text ≤ vec_len buffer.new) }
+    ensures number { IfSome result (λ e. IfSome (number_of member.now e.bits) (StandsAsNumber (form member.now.class) packet.now.bytes.now packet.now.end place)) }
+{
+    let Ok(begin) = put_ready(lead, member.name.ready(), LONGEST_NUMBER, buffer, at) else {
+        return None;
+    };
+    let line = buffer.as_mut_slice();
+    let ends = put_integer(integer, member.class.align, packet, place, line, begin)?;
+    Some(ends)
+}
+
+/// Writes a member that is an array, a string or a text behind a mark and behind others. The bits are those of the last
+/// integer among them.
+#[inline(never)]
+fn put_other(
+    lead: u8,
+    member: &Member,
+    before: &[Member],
+    bits: u64,
     packet: &Content<'_>,
     place: u64,
     buffer: &mut Vec<u8>,
@@ -215,110 +260,44 @@ fn put_next(
 ) -> Option<Next>
     requires start { place ≤ packet.now.end }
     requires index { at ≤ vec_len buffer.old }
-    ensures puts { IfSome result (λ n. PutsNext (record { index = index; number = number }) (form member.now.class) (λ v. lead ∷ 32 ∷ texts.part_text (texts.member_part member.now) v) packet.now.bytes.now packet.now.end place (take at buffer.old.items) n (take n.text buffer.new.items)) }
+    ensures puts { IfSome result (λ n. PutsNext (record { index = length before.now; number = number_before before.now bits }) (form member.now.class) (λ v. lead ∷ 32 ∷ texts.part_text (texts.member_part member.now) v) packet.now.bytes.now packet.now.end place (take at buffer.old.items) n (take n.text buffer.new.items)) }
     ensures within { IfSome result (λ n. n.place ≤ packet.now.end) }
     ensures held { IfSome result (λ n. n.text ≤ vec_len buffer.new) }
     ensures few { IfSome result (λ n. n.more ≤ MOST_VALUES) }
 {
     if let Kind::Array { length, element } = &member.class.kind {
+        let before = Before {
+            index: before.len(),
+            number: number_before(before, bits),
+        };
+        let element = element.get();
         return put_array(
-            lead,
-            member,
-            length,
-            element.get(),
-            Before { index, number },
-            packet,
-            place,
-            buffer,
-            at,
+            lead, member, length, element, before, packet, place, buffer, at,
         );
     }
-    let ends = put_member(lead, member, packet, place, buffer, at)?;
+    let Ok(begin) = put_ready(lead, member.name.ready(), 0, buffer, at) else {
+        return None;
+    };
+    let ends = put_characters(&member.class, packet, place, buffer, begin)?;
     Some(Next {
         place: ends.place,
         text: ends.text,
         more: 0,
-        number: ends.number,
     })
 }
 
-/// Writes a member behind a mark.
-#[inline(always)]
-fn put_member(
-    lead: u8,
-    member: &Member,
-    packet: &Content<'_>,
-    place: u64,
-    buffer: &mut Vec<u8>,
-    at: usize,
-) -> Option<Ends>
-    requires start { place ≤ packet.now.end }
-    requires index { at ≤ vec_len buffer.old }
-    ensures puts { IfSome result (λ e. PutsOne (form member.now.class) (λ v. lead ∷ 32 ∷ texts.part_text (texts.member_part member.now) v) packet.now.bytes.now packet.now.end place e.place (take at buffer.old.items) (take e.text buffer.new.items)) }
-    ensures within { IfSome result (λ e. e.place ≤ packet.now.end) }
-    ensures held { IfSome result (λ e. e.text ≤ vec_len buffer.new) }
-    ensures number { IfSome result (λ e. IfSome e.number (StandsAsNumber (form member.now.class) packet.now.bytes.now packet.now.end place)) }
+/// The number of the last of these members, whose bits are these, if it is an unsigned integer.
+fn number_before(before: &[Member], bits: u64) -> Option<u64>
+    ensures { result ≡ number_before before.now bits }
 {
-    let Ok(begin) = put_ready(lead, member.name.ready(), LONGEST_NUMBER, buffer, at) else {
+    let count = before.len();
+    if count == 0 {
         return None;
-    };
-    put_part(&member.class, packet, place, buffer, begin)
-}
-
-/// Writes an integer, a string or a text of a fixed length, where there is room for a number.
-#[inline(always)]
-fn put_part(
-    class: &Class,
-    packet: &Content<'_>,
-    place: u64,
-    buffer: &mut Vec<u8>,
-    at: usize,
-) -> Option<Ends>
-    requires start { place ≤ packet.now.end }
-    requires room { at + LONGEST_NUMBER ≤ vec_len buffer.old }
-    ensures puts { IfSome result (λ e. PutsOne (form class.now) (texts.value_text class.now) packet.now.bytes.now packet.now.end place e.place (take at buffer.old.items) (take e.text buffer.new.items)) }
-    ensures within { IfSome result (λ e. e.place ≤ packet.now.end) }
-    ensures held { IfSome result (λ e. e.text ≤ vec_len buffer.new) }
-    ensures number { IfSome result (λ e. IfSome e.number (StandsAsNumber (form class.now) packet.now.bytes.now packet.now.end place)) }
-{
-    if let Kind::Integer(integer) = &class.kind {
-        return put_integer(
-            integer,
-            class.align,
-            packet,
-            place,
-            buffer.as_mut_slice(),
-            at,
-        );
     }
-    let mut end = place;
-    let text = put_apart(class, packet, &mut end, buffer, at)?;
-    Some(Ends {
-        place: end,
-        text,
-        number: None,
-    })
-}
-
-/// Writes a string or a text of a fixed length from a place on, and gives the index behind it; the place is the one where
-/// it ends then. It stands out of the way of integers, and gives one number, so that none of them pays for it.
-#[inline(never)]
-fn put_apart(
-    class: &Class,
-    packet: &Content<'_>,
-    place: &mut u64,
-    buffer: &mut Vec<u8>,
-    at: usize,
-) -> Option<usize>
-    requires start { place.old ≤ packet.now.end }
-    requires index { at ≤ vec_len buffer.old }
-    ensures puts { IfSome result (λ text. PutsOne (form class.now) (texts.value_text class.now) packet.now.bytes.now packet.now.end place.old place.new (take at buffer.old.items) (take text buffer.new.items)) }
-    ensures within { IfSome result (λ _. place.new ≤ packet.now.end) }
-    ensures held { IfSome result (λ text. text ≤ vec_len buffer.new) }
-{
-    let ends = put_characters(class, packet, *place, buffer, at)?;
-    *place = ends.place;
-    Some(ends.text)
+    if let Kind::Integer(integer) = &before[count - 1].class.kind {
+        return unsigned_of(integer, bits);
+    }
+    None
 }
 
 /// Writes a string or a text of a fixed length.
@@ -354,13 +333,13 @@ pub(crate) fn put_integer(
     place: u64,
     line: &mut [u8],
     at: usize,
-) -> Option<Ends>
+) -> Option<IntegerEnds>
     requires start { place ≤ packet.now.end }
     requires room { at + LONGEST_NUMBER ≤ length line.old }
     ensures puts { IfSome result (λ e. PutsOne (forms.integer align integer.now) (texts.integer_text integer.now) packet.now.bytes.now packet.now.end place e.place (take at line.old) (take e.text line.new)) }
     ensures within { IfSome result (λ e. e.place ≤ packet.now.end) }
     ensures near { IfSome result (λ e. e.text ≤ at + LONGEST_NUMBER) }
-    ensures number { IfSome result (λ e. IfSome e.number (StandsAsNumber (forms.integer align integer.now) packet.now.bytes.now packet.now.end place)) }
+    ensures number { IfSome result (λ e. integer.now.is_signed ≡ false → StandsAsNumber (forms.integer align integer.now) packet.now.bytes.now packet.now.end place e.bits) }
 {
     let size = integer.size.bits();
     let begin = align.up(place);
@@ -371,16 +350,16 @@ pub(crate) fn put_integer(
     let bits = uint_within(packet.bytes, begin, size, integer.order);
     if is_negative(integer, bits) {
         let number = sint_within(packet.bytes, begin, size, integer.order);
-        return Some(Ends {
+        return Some(IntegerEnds {
             place: end,
             text: put_negative(integer, number, line, at),
-            number: None,
+            bits,
         });
     }
-    Some(Ends {
+    Some(IntegerEnds {
         place: end,
         text: put_unsigned_number(integer, bits, line, at),
-        number: unsigned_of(integer, bits),
+        bits,
     })
 }
 
@@ -409,7 +388,7 @@ fn put_negative(integer: &Integer, number: i64, line: &mut [u8], at: usize) -> u
 /// The number of an integer with these bits, if it is unsigned.
 #[inline(always)]
 fn unsigned_of(integer: &Integer, bits: u64) -> Option<u64>
-    ensures { IfSome result (λ n. (integer.now.is_signed ≡ false) × (n ≡ bits)) }
+    ensures { result ≡ unsigned_of integer.now bits }
 {
     if integer.is_signed { None } else { Some(bits) }
 }
@@ -434,7 +413,6 @@ fn put_string(packet: &Content<'_>, place: u64, buffer: &mut Vec<u8>, at: usize)
     Some(Ends {
         place: begin + 8 * (count as u64 + 1),
         text,
-        number: None,
     })
 }
 
@@ -469,6 +447,5 @@ fn put_text(
     Some(Ends {
         place: begin + 8 * *count,
         text,
-        number: None,
     })
 }

@@ -3,7 +3,7 @@ use Rattle.ctf_decode.specs.Forms as forms
 use Rattle.ctf_decode.specs.Views.{form}
 use Rattle.ctf_text.specs.Standing.{PutsOne}
 use Rattle.ctf_text.specs.Texts.{value_text, string_text}
-use Rattle.ctf_text.proofs.StandingLemmas.{as_class, as_every, same_all, form_string, form_text, text_string, text_text}
+use Rattle.ctf_text.proofs.StandingLemmas.{as_class, as_every, form_string, form_text, text_string, text_text}
 use Rattle.ctf_text.proofs.standing.put_characters.Goals as goal
 
 pub returns-in-String : goal.returns-in-String
@@ -14,7 +14,7 @@ returns-in-String c =
     let before = take c.args.at c.args.buffer.now.items in
     let after = c.put_string.new.buffer.items in
     record {
-      puts = as_class r (forms.string class.align) (form class) string_text (value_text class) bytes c.args.packet.now.end c.args.place before after after (form_string class c.in-String.is) (text_string class c.in-String.is) (same_all r after) (as_every r (λ a e. PutsOne (forms.string a) string_text bytes c.args.packet.now.end c.args.place e.place before (take e.text after)) class.align c.put_string.ensures.puts);
+      puts = as_class r (forms.string class.align) (form class) string_text (value_text class) bytes c.args.packet.now.end c.args.place before after (form_string class c.in-String.is) (text_string class c.in-String.is) (as_every r (λ a e. PutsOne (forms.string a) string_text bytes c.args.packet.now.end c.args.place e.place before (take e.text after)) class.align c.put_string.ensures.puts);
       within = c.put_string.ensures.within;
       held = c.put_string.ensures.held;
     }
@@ -28,7 +28,7 @@ returns-in-Text c =
     let before = take c.args.at c.args.buffer.now.items in
     let after = c.put_text.new.buffer.items in
     record {
-      puts = as_class r (forms.text class.align many) (form class) string_text (value_text class) bytes c.args.packet.now.end c.args.place before after after (form_text class many c.in-Text.is) (text_text class many c.in-Text.is) (same_all r after) (as_every r (λ a e. PutsOne (forms.text a many) string_text bytes c.args.packet.now.end c.args.place e.place before (take e.text after)) class.align c.put_text.ensures.puts);
+      puts = as_class r (forms.text class.align many) (form class) string_text (value_text class) bytes c.args.packet.now.end c.args.place before after (form_text class many c.in-Text.is) (text_text class many c.in-Text.is) (as_every r (λ a e. PutsOne (forms.text a many) string_text bytes c.args.packet.now.end c.args.place e.place before (take e.text after)) class.align c.put_text.ensures.puts);
       within = c.put_text.ensures.within;
       held = c.put_text.ensures.held;
     }
