@@ -370,6 +370,9 @@ none_at k (Kind-F.Text many) bits other is = refl
 pub number_other : (m : Member) (bits : ℕ) → ((i : Integer) → m.class.kind ≡ kind.Integer i → ⊥) → number_of m bits ≡ None
 number_other m bits other = none_at m.class.kind (out-Kind m.class.kind) bits other refl
 
+pub number_of_none : (m : Member) (bits : ℕ) (P : ℕ → Type 0) → ((i : Integer) → m.class.kind ≡ kind.Integer i → ⊥) → IfSome (number_of m bits) P
+number_of_none m bits P other = subst (λ o. IfSome o P) (sym (number_other m bits other)) tt
+
 -- the last of some
 pub last_of : {A : Type 0} (xs : List A) (x : A) (i : ℕ) → length xs ≡ i → slice_get (xs ++ x ∷ []) i ≡ Some x
 last_of [] x zero same = refl
@@ -401,9 +404,9 @@ stands_member m i packet content place bits is stands =
     (subst (λ f. IfSome (unsigned_of i bits) (StandsAsNumber f packet content place)) (form_integer m.class i is) (unsigned_if i.is_signed bits (StandsAsNumber (integer m.class.align i) packet content place) stands))
 
 module _ (ms : List Member) (packet : List ℕ) (content place i at more bits lead : ℕ) (m : Member) (before line after : List ℕ) (within : i < length ms) (is : m ≡ get_or ms i m) (marked : lead ≡ mark_at 123 i) (going : Going ms packet content place i at more (number_before (take i ms) bits) before line) where
-  -- over a member that is an integer
-  pub over_integer : (to text read : ℕ) → PutsOne (form m.class) (λ v. lead ∷ 32 ∷ part_text (member_part m) v) packet content at to line after → IfSome (number_of m read) (StandsAsNumber (form m.class) packet content at) → Going ms packet content place (i + 1) to more (number_before (take (i + 1) ms) read) before after
-  over_integer to text read puts stands =
+  -- over a member that is one value
+  pub over_one : (to text read : ℕ) → PutsOne (form m.class) (λ v. lead ∷ 32 ∷ part_text (member_part m) v) packet content at to line after → IfSome (number_of m read) (StandsAsNumber (form m.class) packet content at) → Going ms packet content place (i + 1) to more (number_before (take (i + 1) ms) read) before after
+  over_one to text read puts stands =
       let shown : Shown = λ v. lead ∷ 32 ∷ part_text (member_part m) v in
       let k = form m.class in
       let last = number_before (take i ms) bits in
@@ -412,13 +415,11 @@ module _ (ms : List Member) (packet : List ℕ) (content place i at more bits le
       (subst (λ o. Going ms packet content place (i + 1) to (more + 0) o before after) (sym (number_next ms i m read within is))
       (going_on ms packet content place before i at more last (number_of m read) m lead line (record { place = to; text = text; more = 0 }) after within is marked going (puts_next (record { index = i; number = last }) k shown packet content at to text line after puts) stands))
 
-  -- over another member
-  pub over_other : (to : Next) → ((n : Integer) → m.class.kind ≡ kind.Integer n → ⊥) → PutsNext (record { index = length (take i ms); number = number_before (take i ms) bits }) (form m.class) (λ v. lead ∷ 32 ∷ part_text (member_part m) v) packet content at line to after
+  -- over an array
+  pub over_array : (to : Next) (number : Option ℕ) → ((n : Integer) → m.class.kind ≡ kind.Integer n → ⊥) → number ≡ number_before (take i ms) bits → PutsNext (record { index = i; number = number }) (form m.class) (λ v. lead ∷ 32 ∷ part_text (member_part m) v) packet content at line to after
       → Going ms packet content place (i + 1) to.place (more + to.more) (number_before (take (i + 1) ms) bits) before after
-  over_other to other puts =
+  over_array to number other told puts =
       let shown : Shown = λ v. lead ∷ 32 ∷ part_text (member_part m) v in
-      let k = form m.class in
-      let last = number_before (take i ms) bits in
-      let next = subst (λ n. PutsNext (record { index = n; number = last }) k shown packet content at line to after) (length-take-le i ms (omega (arith, within))) puts in
+      let next = subst (λ o. PutsNext (record { index = i; number = o }) (form m.class) shown packet content at line to after) told puts in
       subst (λ o. Going ms packet content place (i + 1) to.place (more + to.more) o before after) (sym (number_next ms i m bits within is ∙ number_other m bits other))
-      (going_on ms packet content place before i at more last None m lead line to after within is marked going next tt)
+      (going_on ms packet content place before i at more (number_before (take i ms) bits) None m lead line to after within is marked going next tt)

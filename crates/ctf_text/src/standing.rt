@@ -8,7 +8,7 @@ ghost use Rattle.ctf_decode.specs.Forms as forms;
 ghost use Rattle.ctf_decode.specs.Views.{form};
 ghost use Rattle.ctf_text.specs.Numbers.{number_text};
 ghost use Rattle.ctf_text.specs.Rows.{row, enclosed};
-ghost use Rattle.ctf_text.specs.Standing.{Puts, PutsOne, PutsNext, PutsMembers, StandsAsNumber, number_before, number_of, unsigned_of};
+ghost use Rattle.ctf_text.specs.Standing.{Puts, PutsOne, PutsMembers, StandsAsNumber, number_before, number_of, unsigned_of};
 ghost use Rattle.ctf_text.specs.Texts as texts;
 
 use crate::array::put_array;
@@ -61,7 +61,8 @@ pub(crate) struct Before {
     pub(crate) number: Option<u64>,
 }
 
-/// Where a member ends, in bits from the packet's first one, the index behind its text, and how many values were begun in it.
+/// Where a member ends, in bits from the packet's first one, the index behind its text, and how many values were begun in
+/// it.
 #[derive(Clone, Copy, Debug)]
 pub(crate) struct Next {
     pub(crate) place: u64,
@@ -168,7 +169,8 @@ fn put_structure(
     })
 }
 
-/// Writes members, the first behind `{`. Mostly they are integers, so that the others stand out of their way.
+/// Writes members, the first behind `{`. Mostly they are integers: the others stand out of their way, and what an integer
+/// tells an array behind it is its bits alone.
 #[inline(never)]
 fn put_members(
     members: &[Member],
@@ -195,16 +197,12 @@ fn put_members(
             place = ends.place;
             text = ends.text;
             last = ends.bits;
-        } else {
-            let next = put_other(
-                lead,
-                member,
-                &members[..i],
-                last,
-                packet,
-                place,
-                buffer,
-                text,
+        } else if let Kind::Array { length, element } = &member.class.kind {
+            let number = number_before(&members[..i], last);
+            let before = Before { index: i, number };
+            let element = element.get();
+            let next = put_array(
+                lead, member, length, element, before, packet, place, buffer, text,
             )?;
             place = next.place;
             text = next.text;
@@ -212,6 +210,10 @@ fn put_members(
             if more >= MOST_VALUES {
                 return None;
             }
+        } else {
+            let mut end = place;
+            text = put_characters_member(lead, member, packet, &mut end, buffer, text)?;
+            place = end;
         }
         lead = b',';
     }
@@ -245,45 +247,30 @@ fn put_integer_member(
     Some(ends)
 }
 
-/// Writes a member that is an array, a string or a text behind a mark and behind others. The bits are those of the last
-/// integer among them.
+/// Writes a member that is a string or a text of a fixed length from a place on, behind a mark, and gives the index behind
+/// it; the place is the one where it ends then. It stands out of the way of integers, and gives one number, so that the
+/// others do not go through memory.
 #[inline(never)]
-fn put_other(
+fn put_characters_member(
     lead: u8,
     member: &Member,
-    before: &[Member],
-    bits: u64,
     packet: &Content<'_>,
-    place: u64,
+    place: &mut u64,
     buffer: &mut Vec<u8>,
     at: usize,
-) -> Option<Next>
-    requires start { place ≤ packet.now.end }
+) -> Option<usize>
+    requires start { place.old ≤ packet.now.end }
     requires index { at ≤ vec_len buffer.old }
-    ensures puts { IfSome result (λ n. PutsNext (record { index = length before.now; number = number_before before.now bits }) (form member.now.class) (λ v. lead ∷ 32 ∷ texts.part_text (texts.member_part member.now) v) packet.now.bytes.now packet.now.end place (take at buffer.old.items) n (take n.text buffer.new.items)) }
-    ensures within { IfSome result (λ n. n.place ≤ packet.now.end) }
-    ensures held { IfSome result (λ n. n.text ≤ vec_len buffer.new) }
-    ensures few { IfSome result (λ n. n.more ≤ MOST_VALUES) }
+    ensures puts { IfSome result (λ text. PutsOne (form member.now.class) (λ v. lead ∷ 32 ∷ texts.part_text (texts.member_part member.now) v) packet.now.bytes.now packet.now.end place.old place.new (take at buffer.old.items) (take text buffer.new.items)) }
+    ensures within { IfSome result (λ _. place.new ≤ packet.now.end) }
+    ensures held { IfSome result (λ text. text ≤ vec_len buffer.new) }
 {
-    if let Kind::Array { length, element } = &member.class.kind {
-        let before = Before {
-            index: before.len(),
-            number: number_before(before, bits),
-        };
-        let element = element.get();
-        return put_array(
-            lead, member, length, element, before, packet, place, buffer, at,
-        );
-    }
     let Ok(begin) = put_ready(lead, member.name.ready(), 0, buffer, at) else {
         return None;
     };
-    let ends = put_characters(&member.class, packet, place, buffer, begin)?;
-    Some(Next {
-        place: ends.place,
-        text: ends.text,
-        more: 0,
-    })
+    let ends = put_characters(&member.class, packet, *place, buffer, begin)?;
+    *place = ends.place;
+    Some(ends.text)
 }
 
 /// The number of the last of these members, whose bits are these, if it is an unsigned integer.
