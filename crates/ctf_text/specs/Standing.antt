@@ -46,6 +46,7 @@ LastIs (Some n) vs = (ws : List Val) × (vs ≡ ws ++ unsigned n ∷ [])
 abbrev pub unsigned_of : Integer → ℕ → Option ℕ
 unsigned_of i bits = if i.is_signed then None else Some bits
 
+-- the same of a member of this kind, if it is an integer
 abbrev pub number_of_kind : Kind-F Kind Class Member → ℕ → Option ℕ
 number_of_kind (Kind-F.Integer i) bits = unsigned_of i bits
 number_of_kind _ bits = None
