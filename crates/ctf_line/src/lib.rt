@@ -4,4 +4,4 @@
 mod header;
 mod record;
 
-pub use record::{LineRecord, next_line};
+pub use record::{Attempt, LineRecord, next_line, written_line};

@@ -2,7 +2,8 @@
 
 ghost use Rattle.std.specs.Prelude.{◌≡◌, ◌<◌, ◌≤◌, ◌*◌, ◌^◌, length, take, vec_len, Some, option_copied, option_map, IfOk, IfSome, OnOk};
 ghost use Rattle.ctf_clock.specs.declared.moment.Shift.{Shift};
-ghost use Rattle.ctf_line.specs.Making.{Makes, MakesValues, PutsBody, PutsScope};
+ghost use Rattle.ctf_decode.specs.Known.{Known};
+ghost use Rattle.ctf_line.specs.Making.{Made, Makes, MakesValues, PutsBody, PutsScope};
 ghost use Rattle.ctf_packet.specs.Classes.{stream_form};
 ghost use Rattle.ctf_decode.specs.Views.{form};
 ghost use Rattle.ctf_packet.specs.Records.{bodied, record_at};
@@ -28,13 +29,83 @@ pub struct LineRecord<'a> {
     pub text: Option<usize>,
 }
 
+/// How far an event record came on its way to a text.
+#[derive(Clone, Copy, Debug, PartialEq, Eq)]
+pub enum Attempt {
+    /// Nothing was tried.
+    Open,
+    /// Its header can't be told where it stands.
+    Untold,
+    /// Its header was told, but its scopes can't be written.
+    Unwritten,
+}
+
 /// The event record at a place of a packet, in bits from its first one, where `bytes` are the packet's and its clock
-/// came so far (CTF 1.8.3, section 6). The values of the packet's header and context are in `scopes`, and `part` is
-/// their text in the lines of the packet's event records. Where it can, it writes the text of the record at the front
-/// of `line`: the host, the name and the scopes. Elsewhere the record's values are in `scopes` then. The memory of
-/// `spares` is used.
+/// came so far (CTF 1.8.3, section 6), if it can be shown without its values. `part` is the text of the packet in the lines
+/// of its event records. The text of the record stands at the front of `line` then: the host, the name and the scopes.
+///
+/// `None` where a class is another one than `put_standing` writes, where the record has a fault, and where memory is
+/// refused. The line is then any line, and `attempt` tells `next_line` how far the record came.
+#[inline(always)]
+pub fn written_line<'a>(
+    alloc: Global,
+    packet: &OpenPacket<'a>,
+    part: &[u8],
+    bytes: &[u8],
+    clock: Option<Moment>,
+    place: u64,
+    line: &mut Vec<u8>,
+    attempt: &mut Attempt,
+) -> Option<LineRecord<'a>>
+    requires start { place ≤ packet.now.content }
+    requires content { packet.now.content ≤ 2 ^ 62 }
+    requires held { packet.now.content ≤ 8 * length bytes.now }
+    ensures makes { (shift : Shift) (known : Known) → packet.now.line ≡ (stream_form shift packet.now.stream.now).line → IfSome result (λ r. Made packet.now.stream.now (record_at (opened_of shift (packet_values (values_of known)) packet.now) bytes.now clock place) part.now known line.new.items r.record r.text) }
+    ensures within { IfSome result (λ r. r.record.end ≤ packet.now.content) }
+    ensures forward { IfSome result (λ r. place < r.record.end) }
+    ensures text { IfSome result (λ r. IfSome r.text (λ end. end ≤ vec_len line.new)) }
+{
+    keep_short(alloc, line);
+    *attempt = Attempt::Untold;
+    let told = told_head(packet, bytes, clock, place)?;
+    *attempt = Attempt::Unwritten;
+    let standing = put_record(
+        packet, told.head, part, bytes, told.spent, place, line,
+    )?;
+    Some(with_text(told.head, standing))
+}
+
+/// The same out of the way of most records.
+#[inline(never)]
+fn written_apart<'a>(
+    alloc: Global,
+    packet: &OpenPacket<'a>,
+    part: &[u8],
+    bytes: &[u8],
+    clock: Option<Moment>,
+    place: u64,
+    line: &mut Vec<u8>,
+    attempt: &mut Attempt,
+) -> Option<LineRecord<'a>>
+    requires start { place ≤ packet.now.content }
+    requires content { packet.now.content ≤ 2 ^ 62 }
+    requires held { packet.now.content ≤ 8 * length bytes.now }
+    ensures makes { (shift : Shift) (known : Known) → packet.now.line ≡ (stream_form shift packet.now.stream.now).line → IfSome result (λ r. Made packet.now.stream.now (record_at (opened_of shift (packet_values (values_of known)) packet.now) bytes.now clock place) part.now known line.new.items r.record r.text) }
+    ensures within { IfSome result (λ r. r.record.end ≤ packet.now.content) }
+    ensures forward { IfSome result (λ r. place < r.record.end) }
+    ensures text { IfSome result (λ r. IfSome r.text (λ end. end ≤ vec_len line.new)) }
+{
+    written_line(alloc, packet, part, bytes, clock, place, line, attempt)
+}
+
+/// The event record at a place of a packet, in bits from its first one, where `bytes` are the packet's and its clock
+/// came so far (CTF 1.8.3, section 6), and which `written_line` tried so far. The values of the packet's header and context
+/// are in `scopes`, and `part` is their text in the lines of the packet's event records. Where it can, it writes the text of
+/// the record at the front of `line`: the host, the name and the scopes. Elsewhere the record's values are in `scopes` then.
+/// The memory of `spares` is used.
 ///
 /// An error is the first fault of the record: F6 to F11, or `NoMemory`.
+#[inline(never)]
 pub fn next_line<'a>(
     alloc: Global,
     packet: &OpenPacket<'a>,
@@ -42,6 +113,7 @@ pub fn next_line<'a>(
     bytes: &[u8],
     clock: Option<Moment>,
     place: u64,
+    attempt: Attempt,
     spares: &mut Spares,
     scopes: &mut Scopes,
     line: &mut Vec<u8>,
@@ -55,56 +127,23 @@ pub fn next_line<'a>(
     ensures packet { OnOk result (packet_values (values_of scopes.new) ≡ packet_values (values_of scopes.old)) }
     ensures text { IfOk result (λ r. IfSome r.text (λ end. end ≤ vec_len line.new)) }
 {
-    keep_short(alloc, line);
-    let told = told_head(packet, bytes, clock, place);
-    if let Some(told) = told {
-        if let Some(standing) = put_record(
-            packet, told.head, part, bytes, told.spent, place, line,
+    let mut attempt = attempt;
+    if let Attempt::Open = attempt {
+        if let Some(made) = written_apart(
+            alloc,
+            packet,
+            part,
+            bytes,
+            clock,
+            place,
+            line,
+            &mut attempt,
         ) {
-            return Ok(with_text(told.head, standing));
+            return Ok(made);
         }
     }
-    let made = next_apart(
-        alloc,
-        packet,
-        part,
-        bytes,
-        clock,
-        place,
-        told.is_some(),
-        spares,
-        scopes,
-        line,
-    )?;
-    Ok(made)
-}
-
-/// The same where its header was not told, or its text could not be written behind one that was. Most records take no
-/// part in it, and so it stands out of their way.
-#[inline(never)]
-fn next_apart<'a>(
-    alloc: Global,
-    packet: &OpenPacket<'a>,
-    part: &[u8],
-    bytes: &[u8],
-    clock: Option<Moment>,
-    place: u64,
-    was_told: bool,
-    spares: &mut Spares,
-    scopes: &mut Scopes,
-    line: &mut Vec<u8>,
-) -> Result<LineRecord<'a>, StreamFault>
-    requires start { place ≤ packet.now.content }
-    requires content { packet.now.content ≤ 2 ^ 62 }
-    requires held { packet.now.content ≤ 8 * length bytes.now }
-    ensures makes { (shift : Shift) → packet.now.line ≡ (stream_form shift packet.now.stream.now).line → Makes packet.now.stream.now (record_at (opened_of shift (packet_values (values_of scopes.old)) packet.now) bytes.now clock place) part.now scopes.new line.new.items result }
-    ensures within { IfOk result (λ r. r.record.end ≤ packet.now.content) }
-    ensures forward { IfOk result (λ r. place < r.record.end) }
-    ensures packet { OnOk result (packet_values (values_of scopes.new) ≡ packet_values (values_of scopes.old)) }
-    ensures text { IfOk result (λ r. IfSome r.text (λ end. end ≤ vec_len line.new)) }
-{
     let head = next_head(alloc, packet, bytes, clock, place, spares, scopes)?;
-    if !was_told {
+    if let Attempt::Untold = attempt {
         if let Some(standing) = put_apart(packet, head, part, bytes, scopes.spent(), place, line) {
             return Ok(with_text(head, standing));
         }
