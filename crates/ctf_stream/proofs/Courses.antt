@@ -1,5 +1,5 @@
 -- Steps of a course.
-use Rattle.std.proofs.Common.{◌≡◌, ℕ, Bool, true, false, List, [], ◌∷◌, Option, Some, None, Ok, inl, inr, sym, ap, subst, ◌∙◌}
+use Rattle.std.proofs.Common.{◌≡◌, ℕ, Bool, true, false, List, [], ◌∷◌, Option, Some, None, Ok, inl, inr, refl, sym, ap, subst, ◌∙◌}
 use Rattle.ctf_bits.specs.declared.source.Ending.{Ending}
 use Rattle.ctf_clock.specs.declared.moment.Moment.{Moment}
 use Rattle.ctf_clock.specs.declared.moment.Shift.{Shift}
@@ -13,6 +13,8 @@ use Rattle.ctf_packet.specs.declared.fault.StreamFault.{StreamFault}
 use Rattle.ctf_packet.specs.declared.reached.Reached.{Reached}
 use Rattle.ctf_stream.specs.Coming.{opened_in, left_in, item_in, TakesItem}
 use Rattle.ctf_stream.specs.Fetching.{OrNoMemory, behind_packet}
+use Rattle.ctf_stream.specs.Reader.{behind_ahead, with_ahead}
+use Rattle.ctf_stream.specs.Standing.{item_at}
 use Rattle.ctf_stream.specs.Course.{trace_of, coming_at, Inside, StandsAt, coming_of, StepsWithin, Enters, Advances}
 use Rattle.ctf_stream.specs.declared.course.Course.{Course}
 use Rattle.ctf_stream.specs.declared.cut.CutPoint.{CutPoint}
@@ -63,6 +65,17 @@ pub advanced : (old middle new : Run Classes) (cut : CutPoint) (known : Known) (
     → StepsWithin middle new cut known bytes packet (Ok found) → Advances old new cut known bytes packet left (Ok (Some front))
 advanced old middle new cut known bytes (Some p) left found front same is steps = same ∙ subst (λ o. StepsWithin middle new cut known bytes (Some p) (Ok o)) is steps
 advanced old middle new cut known bytes None left found front same is steps = absurd (subst (λ o. StepsWithin middle new cut known bytes None (Ok o)) is steps)
+
+-- what comes behind an item is what its course comes to
+pub behind_item : (c : Course) (packet : Option Packet) (front : Front) (at : ℕ) (run : Run Classes) → behind_ahead (item_at c packet front) at run ≡ run
+behind_item c (Some p) front at run = refl
+behind_item c None front at run = refl
+
+-- the item that was found stands in front, and what is to come begins with it
+pub comes : (old new : Run Classes) (c : Course) (packet : Option Packet) (left : List ℕ) (front : Front) (at : ℕ) → Advances old new c.cut c.scopes c.buffer packet left (Ok (Some front))
+    → with_ahead (item_at c packet front) (behind_ahead (item_at c packet front) at new) ≡ old
+comes old new c (Some p) left front at goes = sym goes
+comes old new c None left front at goes = absurd goes
 
 -- nothing was left of the packet at hand
 pub stepped : (old middle new : Run Classes) (cut : CutPoint) (known : Known) (bytes : List ℕ) (packet : Option Packet) (found : Option Front) → old ≡ middle → found ≡ None → StepsWithin middle new cut known bytes packet (Ok found) → (old ≡ new) × (packet ≡ None)

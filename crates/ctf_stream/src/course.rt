@@ -1,6 +1,6 @@
 //! How far a stream was read.
 
-ghost use Rattle.std.specs.Prelude.{◌≡◌, ◌+◌, ◌<◌, ◌≤◌, List, [], false, Some, None, ℕ, length, IsTrue, IfSome, IfOk, OnOk, OnErr};
+ghost use Rattle.std.specs.Prelude.{◌≡◌, ◌+◌, ◌<◌, ◌≤◌, List, [], false, Some, None, Ok, ℕ, length, IsTrue, IsSome, IfSome, IfNone, IfOk, OnOk, OnErr};
 ghost use Rattle.ctf_bits.specs.declared.source.Ending.{Ending};
 ghost use Rattle.ctf_clock.specs.declared.moment.Shift.{Shift};
 ghost use Rattle.ctf_packet.specs.Packets as packets;
@@ -20,6 +20,7 @@ use crate::part::PacketPart;
 use ctf_bits::Source;
 use ctf_class::Scope;
 use ctf_decode::Scopes;
+use ctf_line::Attempt;
 use ctf_packet::{OpenPacket, Reached, Spares, StreamFault};
 use std::alloc::Global;
 
@@ -85,13 +86,51 @@ impl<'a> Course<'a> {
         self.line = Vec::new(alloc);
     }
 
-    /// The next item, out of a source. `None` where the stream ends.
+    /// The next item, if it is an event record of the packet at hand that can be shown without its values, where texts are
+    /// asked for. `None` elsewhere: then only the line is another one, and `attempt` tells `advance` what was tried.
+    #[inline(always)]
+    pub(crate) fn next_written(
+        &mut self,
+        alloc: Global,
+        attempt: &mut Attempt,
+    ) -> Option<Front<'a>>
+        requires stands { Stands self.old }
+        requires part { HasPart self.old }
+        ensures advances { (ending : Ending) (left : List ℕ) → IfSome result (λ front. Advances (coming_of ending left self.old) (coming_of ending left self.new) self.new.cut self.new.scopes self.new.buffer self.new.packet left (Ok (Some front))) }
+        ensures stands { Stands self.new }
+        ensures part { HasPart self.new }
+        ensures taken { self.new.taken ≡ self.old.taken }
+        ensures room { IfSome result (λ _. room_of self.new < room_of self.old) }
+        ensures found { IfSome result (λ _. IsSome self.new.packet) }
+        ensures holds { IfSome result (HoldsIn self.new self.new.packet) }
+        ensures writes { self.new.writes ≡ self.old.writes }
+        ensures cut { self.new.cut ≡ self.old.cut }
+        ensures buffer { self.new.buffer ≡ self.old.buffer }
+        ensures none { IfNone result (self.new ≡ record self.old { line = self.new.line }) }
+    {
+        let packet = match &mut self.packet {
+            None => return None,
+            Some(packet) => packet,
+        };
+        packet.next_written(
+            alloc,
+            self.buffer.as_slice(),
+            self.writes,
+            self.part.as_slice(),
+            &mut self.line,
+            attempt,
+        )
+    }
+
+    /// The next item, out of a source. `None` where the stream ends. `attempt` tells what `next_written` tried before.
     ///
     /// An error is the fault of the stream behind the items before, or `NoMemory`.
+    #[inline(never)]
     pub(crate) fn advance<S: Source>(
         &mut self,
         alloc: Global,
         source: &mut S,
+        attempt: Attempt,
     ) -> Result<Option<Front<'a>>, StreamFault>
         requires stands { Stands self.old }
         requires part { HasPart self.old }
@@ -112,8 +151,9 @@ impl<'a> Course<'a> {
         ensures near { OnErr result (self.new.taken ≤ self.new.cut.at + longest_bytes + 1) }
         ensures most { OnErr result (self.new.taken ≤ most_taken) }
     {
+        let mut attempt = attempt;
         loop {
-            match self.step_within(alloc) {
+            match self.step_within(alloc, attempt) {
                 Err(fault) => return Err(fault),
                 Ok(Some(front)) => return Ok(Some(front)),
                 Ok(None) => {}
@@ -123,6 +163,7 @@ impl<'a> Course<'a> {
                 Ok(false) => return Ok(None),
                 Ok(true) => {}
             }
+            attempt = Attempt::Open;
         }
     }
 
@@ -172,7 +213,11 @@ impl<'a> Course<'a> {
     }
 
     /// The next item of the packet at hand. `None` where there is none, and the packet is left then.
-    fn step_within(&mut self, alloc: Global) -> Result<Option<Front<'a>>, StreamFault>
+    fn step_within(
+        &mut self,
+        alloc: Global,
+        attempt: Attempt,
+    ) -> Result<Option<Front<'a>>, StreamFault>
         requires stands { Stands self.old }
         requires part { HasPart self.old }
         ensures steps { (ending : Ending) (left : List ℕ) → StepsWithin (coming_of ending left self.old) (coming_of ending left self.new) self.new.cut self.new.scopes self.new.buffer self.new.packet result }
@@ -195,6 +240,7 @@ impl<'a> Course<'a> {
             self.buffer.as_slice(),
             self.writes,
             self.part.as_slice(),
+            attempt,
             &mut self.spares,
             &mut self.scopes,
             &mut self.line,

@@ -1,6 +1,7 @@
 //! The packet at hand.
 
-ghost use Rattle.std.specs.Prelude.{◌≡◌, ◌<◌, ◌≤◌, ◌*◌, ◌^◌, Option, OnOk, IfOk, IfSome, IsTrue, length};
+ghost use Rattle.std.specs.Prelude.{◌≡◌, ◌<◌, ◌≤◌, ◌*◌, ◌^◌, Option, Some, Ok, OnOk, IfOk, IfSome, IfNone, IsTrue, length};
+ghost use Rattle.ctf_decode.specs.Known.{Known};
 ghost use Rattle.ctf_clock.specs.declared.moment.Moment.{Moment};
 ghost use Rattle.ctf_clock.specs.declared.moment.Shift.{Shift};
 ghost use Rattle.ctf_line.specs.Making.{Makes};
@@ -12,7 +13,7 @@ ghost use Rattle.ctf_stream.specs.Coming.{front_in, left_in, room_in, HoldsFront
 
 use ctf_clock::Moment;
 use ctf_decode::Scopes;
-use ctf_line::{LineRecord, next_line};
+use ctf_line::{Attempt, LineRecord, next_line, written_line};
 use ctf_packet::{EventRecord, OpenPacket, Spares, StreamFault, next_record};
 use std::alloc::Global;
 
@@ -56,9 +57,56 @@ pub(crate) struct WrittenRecord<'a> {
 }
 
 impl<'a> Packet<'a> {
+    /// The next item, if `writes` asks for texts, and it is an event record that can be shown without its values: its text
+    /// stands at the front of `line` then. `part` is the text that the lines of the packet share. Mostly that is the next item, so it stands apart from
+    /// `next`, and passes nothing through memory.
+    ///
+    /// `None` elsewhere: the packet is as it was then, the line is any line, and `attempt` tells `next` what was tried.
+    #[inline(always)]
+    pub(crate) fn next_written(
+        &mut self,
+        alloc: Global,
+        bytes: &[u8],
+        writes: bool,
+        part: &[u8],
+        line: &mut Vec<u8>,
+        attempt: &mut Attempt,
+    ) -> Option<Front<'a>>
+        requires { Within bytes.now self.old }
+        ensures takes { (shift : Shift) (known : Known) (follows : Option Moment → Run Classes) → self.old.opened.line ≡ (stream_form shift self.old.opened.stream.now).line → IfSome result (λ front. TakesItem shift follows (left_in shift known bytes.now follows self.old) self.new known bytes.now (Ok (Some front))) }
+        ensures written { (shift : Shift) (known : Known) → self.old.opened.line ≡ (stream_form shift self.old.opened.stream.now).line → IfSome result (HoldsFront writes shift known bytes.now part.now line.new.items self.new) }
+        ensures room { IfSome result (λ _. room_in self.new < room_in self.old) }
+        ensures opened { self.new.opened ≡ self.old.opened }
+        ensures place { self.new.place ≤ self.new.opened.content }
+        ensures none { IfNone result (self.new ≡ self.old) }
+    {
+        if !writes {
+            return None;
+        }
+        if self.lost.is_some() || self.dropped.is_some() || self.place >= self.opened.content {
+            return None;
+        }
+        let before = self.clock;
+        let begin = self.place;
+        let made = written_line(
+            alloc,
+            &self.opened,
+            part,
+            bytes,
+            before,
+            begin,
+            line,
+            attempt,
+        )?;
+        self.clock = made.record.clock;
+        self.place = made.record.end;
+        Some(front_of(made, before, begin))
+    }
+
     /// The next item, out of the packet's bytes; `None` behind the last one. `scopes` has the values of the
     /// packet, and of an event record then, unless `writes` asks for its text and this could be written at the front of
-    /// `line`; `part` is the text that the lines of the packet share. The memory of `spares` is used.
+    /// `line`; `part` is the text that the lines of the packet share. `attempt` tells what `next_written` tried before. The
+    /// memory of `spares` is used.
     ///
     /// An error is the fault of the next event record: F6 to F11, or `NoMemory`.
     pub(crate) fn next(
@@ -67,6 +115,7 @@ impl<'a> Packet<'a> {
         bytes: &[u8],
         writes: bool,
         part: &[u8],
+        attempt: Attempt,
         spares: &mut Spares,
         scopes: &mut Scopes,
         line: &mut Vec<u8>,
@@ -100,6 +149,7 @@ impl<'a> Packet<'a> {
             begin,
             writes,
             part,
+            attempt,
             spares,
             scopes,
             line,
@@ -123,6 +173,7 @@ fn event_at<'a>(
     place: u64,
     writes: bool,
     part: &[u8],
+    attempt: Attempt,
     spares: &mut Spares,
     scopes: &mut Scopes,
     line: &mut Vec<u8>,
@@ -138,7 +189,7 @@ fn event_at<'a>(
 {
     if writes {
         return next_line(
-            alloc, packet, part, bytes, clock, place, spares, scopes, line,
+            alloc, packet, part, bytes, clock, place, attempt, spares, scopes, line,
         );
     }
     let record = next_record(alloc, packet, bytes, clock, place, spares, scopes)?;

@@ -17,6 +17,7 @@ use ctf_bits::Source;
 use ctf_class::TraceClass;
 use ctf_clock::Shift;
 use ctf_decode::Scopes;
+use ctf_line::Attempt;
 use ctf_list::Text;
 use ctf_packet::StreamFault;
 use std::alloc::Global;
@@ -145,7 +146,12 @@ impl<'a, S: Source + Drop> StreamReader<'a, S> {
             Head::Item(_) => {}
             Head::Start => {}
         }
-        match self.course.advance(self.alloc, &mut self.source) {
+        let mut attempt = Attempt::Open;
+        if let Some(front) = self.course.next_written(self.alloc, &mut attempt) {
+            self.head = Head::Item(front);
+            return;
+        }
+        match self.course.advance(self.alloc, &mut self.source, attempt) {
             Ok(Some(front)) => self.head = Head::Item(front),
             Ok(None) => {
                 self.course.release(self.alloc);
