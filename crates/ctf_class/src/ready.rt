@@ -91,16 +91,17 @@ impl Ready {
         at + self.length
     }
 
-    /// Writes the words that stand in it.
+    /// Writes the words that stand in it. All are read before the first is written, so that two go at once.
     #[inline(always)]
     fn put_head(&self, line: &mut [u8], at: usize)
         requires { at + HEAD ≤ length line.old }
         ensures length { length line.new ≡ length line.old }
         ensures text { (n : ℕ) → n ≤ HEAD → n ≤ length self.now → take (at + n) line.new ≡ take at line.old ++ take n self.now }
     {
-        put_word(line, at, self.first);
-        put_word(line, at + 8, self.second);
-        put_word(line, at + 16, self.third);
+        let (first, second, third) = (self.first, self.second, self.third);
+        put_word(line, at, first);
+        put_word(line, at + 8, second);
+        put_word(line, at + 16, third);
     }
 }
 
