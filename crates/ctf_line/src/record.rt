@@ -46,7 +46,6 @@ pub enum Attempt {
 ///
 /// `None` where a class is another one than `put_standing` writes, where the record has a fault, and where memory is
 /// refused. The line is then any line, and `attempt` tells `next_line` how far the record came.
-#[inline(always)]
 pub fn written_line<'a>(
     alloc: Global,
     packet: &OpenPacket<'a>,
@@ -69,33 +68,8 @@ pub fn written_line<'a>(
     *attempt = Attempt::Untold;
     let told = told_head(packet, bytes, clock, place)?;
     *attempt = Attempt::Unwritten;
-    let standing = put_record(
-        packet, told.head, part, bytes, told.spent, place, line,
-    )?;
+    let standing = put_record(packet, told.head, part, bytes, told.spent, place, line)?;
     Some(with_text(told.head, standing))
-}
-
-/// The same out of the way of most records.
-#[inline(never)]
-fn written_apart<'a>(
-    alloc: Global,
-    packet: &OpenPacket<'a>,
-    part: &[u8],
-    bytes: &[u8],
-    clock: Option<Moment>,
-    place: u64,
-    line: &mut Vec<u8>,
-    attempt: &mut Attempt,
-) -> Option<LineRecord<'a>>
-    requires start { place ≤ packet.now.content }
-    requires content { packet.now.content ≤ 2 ^ 62 }
-    requires held { packet.now.content ≤ 8 * length bytes.now }
-    ensures makes { (shift : Shift) (known : Known) → packet.now.line ≡ (stream_form shift packet.now.stream.now).line → IfSome result (λ r. Made packet.now.stream.now (record_at (opened_of shift (packet_values (values_of known)) packet.now) bytes.now clock place) part.now known line.new.items r.record r.text) }
-    ensures within { IfSome result (λ r. r.record.end ≤ packet.now.content) }
-    ensures forward { IfSome result (λ r. place < r.record.end) }
-    ensures text { IfSome result (λ r. IfSome r.text (λ end. end ≤ vec_len line.new)) }
-{
-    written_line(alloc, packet, part, bytes, clock, place, line, attempt)
 }
 
 /// The event record at a place of a packet, in bits from its first one, where `bytes` are the packet's and its clock
@@ -129,17 +103,15 @@ pub fn next_line<'a>(
 {
     let mut attempt = attempt;
     if let Attempt::Open = attempt {
-        if let Some(made) = written_apart(
-            alloc,
-            packet,
-            part,
-            bytes,
-            clock,
-            place,
-            line,
-            &mut attempt,
-        ) {
-            return Ok(made);
+        keep_short(alloc, line);
+        attempt = Attempt::Untold;
+        if let Some(told) = told_head(packet, bytes, clock, place) {
+            attempt = Attempt::Unwritten;
+            if let Some(standing) = put_record(
+                packet, told.head, part, bytes, told.spent, place, line,
+            ) {
+                return Ok(with_text(told.head, standing));
+            }
         }
     }
     let head = next_head(alloc, packet, bytes, clock, place, spares, scopes)?;
