@@ -58,8 +58,8 @@ pub(crate) struct WrittenRecord<'a> {
 
 impl<'a> Packet<'a> {
     /// The next item, if `writes` asks for texts, and it is an event record that can be shown without its values: its text
-    /// stands at the front of `line` then. `part` is the text that the lines of the packet share. Mostly that is the next item, so it stands apart from
-    /// `next`, and passes nothing through memory.
+    /// stands at the front of `line` then. `part` is the text that the lines of the packet share. Mostly that is the next item,
+    /// so it stands apart from `next`.
     ///
     /// `None` elsewhere: the packet is as it was then, the line is any line, and `attempt` tells `next` what was tried.
     #[inline(always)]
