@@ -10,3 +10,4 @@ pub mod HexadecimalLemmas
 pub mod PatternLemmas
 pub mod StandingLemmas
 pub mod ArrayLemmas
+pub mod WindowLemmas

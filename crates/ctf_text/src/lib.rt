@@ -18,6 +18,7 @@ mod standing;
 mod text;
 mod value;
 mod whole;
+mod window;
 
 pub use ctf_class::escaped;
 pub use packet::put_packet_part;

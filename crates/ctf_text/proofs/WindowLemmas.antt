@@ -1,0 +1,116 @@
+-- Texts by sixteen bytes at once.
+use Rattle.std.proofs.Common.{⊎_elim, ◌≡◌, ℕ, zero, suc, ◌+◌, ◌<◌, ◌≤◌, Bool, true, false, cond, List, [], ◌∷◌, ◌++◌, Option, Some, None, map, length, take, set, get_or, nat_eq, nat_lt, bit_or, refl, sym, ap, subst, ◌∙◌, arith, append_assoc}
+use Rattle.std.proofs.lemmas.Bool.{ltb-false, eqb-false, cases_lt}
+use Rattle.std.proofs.lemmas.Bool.Decides.{nat_tests}
+use Rattle.std.proofs.lemmas.Iterator.Adapters.{position_from-zero}
+use Rattle.std.proofs.lemmas.List.{get_or-map, get_or-take, take-take, length-take-le, take_more_set, length-set}
+use Rattle.std.proofs.Math.Seq.{take-append-add}
+use Rattle.std.proofs.lemmas.List.Elements.{All-head, All-tail, All-from_get_or}
+use Rattle.std.proofs.lemmas.Nat.Bits.{bit_at_or, bit_at-zero}
+use Rattle.std.proofs.lemmas.Simd.{bit_mask_l, length-put_chunk, take_more_put_chunk}
+use Rattle.std.specs.Int.{bit_at}
+use Rattle.std.specs.List.{All, position, position_from}
+use Rattle.std.specs.Simd.Lanes.{mask_l, put_chunk}
+use Rattle.ctf_class.specs.Escapes.{shown_byte}
+use Rattle.ctf_text.proofs.TextLemmas.{IsPlain}
+
+pub cond_zero : (b : Bool) → cond {A = ℕ} b 1 0 ≡ 0 → b ≡ false
+cond_zero true none = absurd (omega (arith, none))
+cond_zero false none = refl
+
+-- a byte whose bit is not set
+pub not_marked : (test : ℕ → Bool) (bytes : List ℕ) (k : ℕ) → k < length bytes → bit_at (mask_l (map test bytes)) k ≡ 0 → test (get_or bytes k 0) ≡ false
+not_marked test bytes k within clear =
+    sym (get_or-map test bytes k 0 false within) ∙ cond_zero (get_or (map test bytes) k false) (sym (bit_mask_l (map test bytes) k) ∙ clear)
+
+-- a byte that no test finds
+pub plain_byte : (byte : ℕ) → nat_lt byte 32 ≡ false → nat_eq byte 127 ≡ false → nat_eq byte 34 ≡ false → nat_eq byte 92 ≡ false → IsPlain byte
+unfolding shown_byte
+plain_byte byte low delete quote slash = grind (arith, ltb-false)
+
+-- a zero byte may be escaped
+pub zero_escaped : IsPlain 0 → ⊥
+unfolding shown_byte
+zero_escaped plain = absurd (cc)
+
+pub not_zero : (byte : ℕ) → IsPlain byte → nat_eq byte 0 ≡ false
+not_zero zero plain = absurd (zero_escaped plain)
+not_zero (suc byte) plain = grind (arith, nat_tests)
+
+-- none of the bits of four masks is set where none is in all of them
+pub no_mark : (a b c d end k : ℕ) → bit_at (bit_or (bit_or (bit_or (bit_or a b) c) d) end) k ≡ 0 → ((bit_at a k ≡ 0) × (bit_at b k ≡ 0)) × ((bit_at c k ≡ 0) × (bit_at d k ≡ 0))
+no_mark a b c d end k none =
+    let all = bit_at_or (bit_or (bit_or (bit_or a b) c) d) end k in
+    let four = bit_at_or (bit_or (bit_or a b) c) d k in
+    let three = bit_at_or (bit_or a b) c k in
+    let two = bit_at_or a b k in
+    ((omega arith, omega arith), (omega arith, omega arith))
+
+-- a mask with a bit
+pub marked_some : (m k : ℕ) → bit_at m k ≡ 1 → 0 < m
+marked_some zero k set = absurd (omega (arith, bit_at-zero k))
+marked_some (suc m) k set = omega arith
+
+-- the lowest bit is none behind one that is set
+pub not_behind : (m n k : ℕ) → bit_at m k ≡ 1 → ((j : ℕ) → j < n → bit_at m j ≡ 0) → n ≤ k
+not_behind m n k set below = ⊎_elim (λ before. absurd (omega (arith, below k before))) (λ behind. behind) (cases_lt k n)
+
+-- the bytes before the first mark of four tests
+pub unmarked_plain : (bytes window : List ℕ) (low delete quote slash end n : ℕ) → window ≡ take 16 bytes → length window ≡ 16 → n ≤ 16
+    → low ≡ mask_l (map (λ byte. nat_lt byte 32) window) → delete ≡ mask_l (map (λ x. nat_eq x 127) window) → quote ≡ mask_l (map (λ x. nat_eq x 34) window) → slash ≡ mask_l (map (λ x. nat_eq x 92) window)
+    → ((k : ℕ) → k < n → bit_at (bit_or (bit_or (bit_or (bit_or low delete) quote) slash) end) k ≡ 0)
+    → All IsPlain (take n bytes)
+unmarked_plain bytes window low delete quote slash end n front size few lows deletes quotes slashes none =
+    let each : (k : ℕ) → k < length (take n window) → IsPlain (get_or (take n window) k 0) = λ k within.
+    let inside : k < n = omega (arith, length-take-le n window (omega arith)) in
+    let marks = no_mark low delete quote slash end k (none k inside) in
+    let there : k < length window = omega arith in
+    let clear = λ (m : ℕ) (mask : ℕ) (same : m ≡ mask) (unset : bit_at m k ≡ 0). sym (ap (λ x. bit_at x k) same) ∙ unset in
+    let plain = plain_byte (get_or window k 0)
+    (not_marked (λ byte. nat_lt byte 32) window k there (clear low _ lows marks.0.0))
+    (not_marked (λ x. nat_eq x 127) window k there (clear delete _ deletes marks.0.1))
+    (not_marked (λ x. nat_eq x 34) window k there (clear quote _ quotes marks.1.0))
+    (not_marked (λ x. nat_eq x 92) window k there (clear slash _ slashes marks.1.1)) in
+    subst IsPlain (sym (get_or-take n window k 0 inside)) plain
+    in
+    subst (All IsPlain) (ap (take n) front ∙ take-take n 16 bytes few) (All-from_get_or IsPlain (take n window) 0 each)
+
+-- a zero byte behind bytes that are shown as they are is the first one
+pub first_zero_from : (bytes : List ℕ) (n from : ℕ) → All IsPlain (take n bytes) → n < length bytes → get_or bytes n 0 ≡ 0 → position_from (λ x. nat_eq x 0) from bytes ≡ Some (from + n)
+first_zero_from [] n from plain within there = absurd (omega arith)
+first_zero_from (byte ∷ bytes) zero from plain within there =
+    let here : nat_eq byte 0 ≡ true = ap (λ x. nat_eq x 0) there in
+    let same : from ≡ from + 0 = omega arith in
+    ap (λ b. cond b (Some from) (position_from (λ x. nat_eq x 0) (from + 1) bytes)) here ∙ ap Some same
+first_zero_from (byte ∷ bytes) (suc n) from plain within there =
+    let here : nat_eq byte 0 ≡ false = not_zero byte (All-head IsPlain byte (take n bytes) plain) in
+    let rest = first_zero_from bytes n (from + 1) (All-tail IsPlain byte (take n bytes) plain) (omega arith) there in
+    let same : from + 1 + n ≡ from + suc n = omega arith in
+    ap (λ b. cond b (Some from) (position_from (λ x. nat_eq x 0) (from + 1) bytes)) here ∙ (rest ∙ ap Some same)
+
+pub first_zero : (bytes : List ℕ) (n : ℕ) → All IsPlain (take n bytes) → n < length bytes → get_or bytes n 0 ≡ 0 → position (λ x. nat_eq x 0) bytes ≡ Some n
+first_zero bytes n plain within there = position_from-zero (λ x. nat_eq x 0) bytes ∙ (first_zero_from bytes n 0 plain within there ∙ ap Some {x = 0 + n} (omega arith))
+
+-- sixteen bytes are written behind a quote, and a quote over the first one that is not wanted
+pub window_written : (bytes line : List ℕ) (at count : ℕ) → 16 ≤ length bytes → count ≤ 16 → at + 18 ≤ length line
+    → take (at + count + 2) (set (put_chunk (at + 1) (set line at 34) (take 16 (take 16 bytes))) (at + 1 + count) 34) ≡ take at line ++ (34 ∷ (take count bytes ++ (34 ∷ [])))
+window_written bytes line at count enough few room =
+    let opened = set line at 34 in
+    let piece = take 16 (take 16 bytes) in
+    let front : piece ≡ take 16 bytes = take-take 16 16 bytes (omega arith) in
+    let size : length piece ≡ 16 = ap length front ∙ length-take-le 16 bytes enough in
+    let long : length opened ≡ length line = length-set line at 34 in
+    let whole = put_chunk (at + 1) opened piece in
+    let stays : length whole ≡ length opened = length-put_chunk (at + 1) opened piece in
+    let first : take (at + 1) opened ≡ take at line ++ (34 ∷ []) = take_more_set line at 34 (omega arith) in
+    let stored : take (at + 17) whole ≡ take (at + 1) opened ++ piece = take_more_put_chunk (at + 1) opened piece (at + 17) (omega arith) (omega arith) in
+    let cut : take (at + 1 + count) (take (at + 17) whole) ≡ take (at + 1 + count) whole = take-take (at + 1 + count) (at + 17) whole (omega arith) in
+    let head : length (take (at + 1) opened) ≡ at + 1 = length-take-le (at + 1) opened (omega arith) in
+    let seam : take (length (take (at + 1) opened) + count) (take (at + 1) opened ++ piece) ≡ take (at + 1) opened ++ take count piece = take-append-add (take (at + 1) opened) piece count in
+    let wanted : take count piece ≡ take count bytes = ap (take count) front ∙ take-take count 16 bytes few in
+    let upto : take (at + 1 + count) whole ≡ (take at line ++ (34 ∷ [])) ++ take count bytes =
+    sym cut ∙ ap (take (at + 1 + count)) stored ∙ ap (λ n. take (n + count) (take (at + 1) opened ++ piece)) (sym head) ∙ seam ∙ (λ j. first j ++ wanted j) in
+    let closed : take (at + 1 + count + 1) (set whole (at + 1 + count) 34) ≡ take (at + 1 + count) whole ++ (34 ∷ []) = take_more_set whole (at + 1 + count) 34 (omega arith) in
+    let end : at + count + 2 ≡ at + 1 + count + 1 = omega arith in
+    ap (λ n. take n (set whole (at + 1 + count) 34)) end ∙ closed ∙ ap (λ xs. xs ++ (34 ∷ [])) upto
+    ∙ append_assoc (take at line ++ (34 ∷ [])) (take count bytes) (34 ∷ []) ∙ append_assoc (take at line) (34 ∷ []) (take count bytes ++ (34 ∷ []))

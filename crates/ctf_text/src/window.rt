@@ -1,0 +1,87 @@
+//! Short texts, sixteen bytes at once.
+
+ghost use Rattle.std.specs.Prelude.{◌≡◌, ℕ, ◌<◌, ◌+◌, ◌≤◌, ◌++◌, ◌∷◌, [], Some, length, take, map, position, nat_eq, nat_lt, IfSome, IfNone};
+ghost use Rattle.std.specs.Int.{bit_at};
+ghost use Rattle.std.specs.List.{All};
+ghost use Rattle.std.specs.Simd.Lanes.{mask_l};
+ghost use Rattle.ctf_class.specs.Escapes.{shown_byte};
+ghost use Rattle.ctf_class.specs.Names.{label_text};
+
+use std::simd::prelude::*;
+
+/// How many bytes are looked at at once.
+const WINDOW: usize = 16;
+
+/// Writes the bytes before the first zero byte in quotes at an index of a line, and gives how many they are: if they are
+/// fewer than sixteen, each is shown as it is, and there are sixteen bytes and room for as many. No jump depends on how
+/// many they are: a processor foresees that badly. `None` elsewhere, and then the line is as it was.
+#[inline(always)]
+pub fn put_short(bytes: &[u8], line: &mut [u8], at: usize) -> Option<usize>
+    requires { at ≤ length line.old }
+    ensures first { IfSome result (λ n. position (λ x. nat_eq x 0) bytes.now ≡ Some n) }
+    ensures text { IfSome result (λ n. take (at + n + 2) line.new ≡ take at line.old ++ label_text (take n bytes.now)) }
+    ensures held { IfSome result (λ n. at + n + 2 ≤ length line.new) }
+    ensures none { IfNone result (line.new ≡ line.old) }
+{
+    if bytes.len() < WINDOW || line.len() - at < WINDOW + 2 {
+        return None;
+    }
+    let count = count_plain(bytes);
+    if count >= WINDOW || bytes[count] != 0 {
+        return None;
+    }
+    put_window(bytes, count, line, at);
+    Some(count)
+}
+
+/// How many of sixteen bytes stand before the first one that may be escaped.
+#[inline(always)]
+fn count_plain(bytes: &[u8]) -> usize
+    requires { WINDOW ≤ length bytes.now }
+    ensures plain { All (λ byte. shown_byte byte ≡ byte ∷ []) (take result bytes.now) }
+    ensures bounded { result ≤ WINDOW }
+{
+    let window = u8x16::from_slice(&bytes[..WINDOW]);
+    let controls = are_below(window, 0x20) | are(window, 0x7F);
+    let escaped = controls | are(window, b'"') | are(window, b'\\');
+    lowest(escaped | (1 << WINDOW))
+}
+
+/// The place of the lowest bit that is set.
+#[inline(always)]
+fn lowest(bits: u64) -> usize
+    requires { (k : ℕ) × (bit_at bits k ≡ 1) }
+    ensures { (k : ℕ) → k < result → bit_at bits k ≡ 0 }
+{
+    bits.trailing_zeros() as usize
+}
+
+/// The bits of the bytes that are below a limit, the first byte's the lowest.
+#[inline(always)]
+fn are_below(window: u8x16, limit: u8) -> u64
+    ensures { result ≡ mask_l (map (λ byte. nat_lt byte limit) window) }
+{
+    window.simd_lt(u8x16::splat(limit)).to_bitmask()
+}
+
+/// The bits of the bytes that are this one, the first byte's the lowest.
+#[inline(always)]
+fn are(window: u8x16, byte: u8) -> u64
+    ensures { result ≡ mask_l (map (λ x. nat_eq x byte) window) }
+{
+    window.simd_eq(u8x16::splat(byte)).to_bitmask()
+}
+
+/// Writes the first of sixteen bytes in quotes at an index of a line. All of them are written, and the closing quote over
+/// the first one that is not wanted.
+#[inline(always)]
+fn put_window(bytes: &[u8], count: usize, line: &mut [u8], at: usize)
+    requires window { WINDOW ≤ length bytes.now }
+    requires few { count ≤ WINDOW }
+    requires room { at + WINDOW + 2 ≤ length line.old }
+    ensures { take (at + count + 2) line.new ≡ take at line.old ++ (34 ∷ (take count bytes.now ++ (34 ∷ []))) }
+{
+    line[at] = b'"';
+    u8x16::from_slice(&bytes[..WINDOW]).copy_to_slice(&mut line[at + 1..]);
+    line[at + 1 + count] = b'"';
+}
