@@ -1,5 +1,5 @@
 -- How long numbers are in decimal.
-use Rattle.std.proofs.Common.{◌≡◌, ℕ, ◌+◌, ◌-◌, ◌*◌, ◌/◌, ◌%◌, ◌^◌, ◌<◌, ◌≤◌, Bool, true, false, nat_lt, w32, List, [], ◌∷◌, ◌++◌, length, take, drop, refl, sym, ap, ◌∙◌, subst, arith, length-append}
+use Rattle.std.proofs.Common.{◌≡◌, ℕ, ◌+◌, ◌-◌, ◌*◌, ◌/◌, ◌%◌, ◌^◌, ◌<◌, ◌≤◌, Bool, true, false, nat_lt, w32, List, [], ◌∷◌, ◌++◌, length, take, drop, refl, sym, ap, ◌∙◌, subst, arith, length-append, append_assoc}
 use Rattle.std.proofs.Math.Seq.{take-add, take-append-add, take-append_seam}
 use Rattle.std.proofs.lemmas.List.{take-take, length-take-le}
 use Rattle.std.specs.Fmt.{decimal}
@@ -7,6 +7,7 @@ use mir.Val.{bool_byte}
 use Rattle.std.specs.Int.{to_le_bytes}
 use Rattle.std.proofs.lemmas.Bool.{ltb-true, ltb-false}
 use Rattle.ctf_text.specs.Digits.{four_digits}
+use Rattle.ctf_text.proofs.Chains as chains
 use Rattle.std.proofs.lemmas.Fmt.{decimal_digit, decimal_step, length-decimal-le}
 
 pub length_one : (n : ℕ) → n < 10 → length (decimal n) ≡ 1
@@ -123,3 +124,26 @@ few_written before line at n m is few room written =
     ∙ (ap (λ e. take e (take at before ++ to_le_bytes w32 (four_digits n / 2 ^ (8 * m)))) ends
     ∙ (take-append-add (take at before) (to_le_bytes w32 (four_digits n / 2 ^ (8 * m))) (4 - m)
     ∙ ap (λ t. take at before ++ t) shown.0)))
+
+-- the last four digits of a number
+last_four : (n : ℕ) → 10000 ≤ n → n < 2 ^ 64 → decimal n ≡ decimal (n / 10000) ++ to_le_bytes w32 (four_digits (n % 10000))
+last_four n high fits =
+    let m = n % 10000 in
+    let two : n / 10 / 10 ≡ n / 100 = omega arith in
+    let three : n / 100 / 10 ≡ n / 1000 = omega arith in
+    let four : n / 1000 / 10 ≡ n / 10000 = omega arith in
+    let a : 48 + n / 1000 % 10 ≡ 48 + m / 1000 = omega arith in
+    let b : 48 + n / 100 % 10 ≡ 48 + m / 100 % 10 = omega arith in
+    let c : 48 + n / 10 % 10 ≡ 48 + m / 10 % 10 = omega arith in
+    let d : 48 + n % 10 ≡ 48 + m % 10 = omega arith in
+    let bytes = bytes_are (48 + m / 1000) (48 + m / 100 % 10) (48 + m / 10 % 10) (48 + m % 10) (omega arith) (omega arith) (omega arith) (omega arith) in
+    let first = decimal_step (n / 1000) (omega arith) (omega arith) ∙ (λ i. decimal (four i) ++ (a i ∷ [])) in
+    let second = decimal_step (n / 100) (omega arith) (omega arith) ∙ ((λ i. decimal (three i) ++ (b i ∷ [])) ∙ ap (λ xs. xs ++ ((48 + m / 100 % 10) ∷ [])) first) in
+    let third = decimal_step (n / 10) (omega arith) (omega arith) ∙ ((λ i. decimal (two i) ++ (c i ∷ [])) ∙ ap (λ xs. xs ++ ((48 + m / 10 % 10) ∷ [])) second) in
+    let last = decimal_step n (omega arith) fits ∙ ((λ i. decimal (n / 10) ++ (d i ∷ [])) ∙ ap (λ xs. xs ++ ((48 + m % 10) ∷ [])) third) in
+    rw (last, bytes) (simp append_assoc)
+
+-- the same, written behind those before them
+pub four_written : (before mid line : List ℕ) (n : ℕ) → 10000 ≤ n → n < 2 ^ 64 → mid ≡ before ++ decimal (n / 10000) → line ≡ mid ++ to_le_bytes w32 (four_digits (n % 10000)) → line ≡ before ++ decimal n
+four_written before mid line n high fits front last =
+    chains.two before (decimal (n / 10000)) (to_le_bytes w32 (four_digits (n % 10000))) mid line front last ∙ ap (λ xs. before ++ xs) (sym (last_four n high fits))

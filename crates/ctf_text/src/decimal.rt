@@ -43,10 +43,41 @@ pub fn put_unsigned(number: u64, line: &mut [u8], at: usize) -> usize
     if number < 10_000 {
         return put_few(number as u32, line, at);
     }
+    put_more(number, line, at)
+}
+
+/// The same of a number of more than four digits. Mostly it has up to eight.
+#[inline(never)]
+fn put_more(number: u64, line: &mut [u8], at: usize) -> usize
+    requires many { 10_000 ≤ number }
+    requires room { at + 20 ≤ length line.old }
+    ensures text { take result line.new ≡ take at line.old ++ decimal number }
+    ensures end { result ≡ at + length (decimal number) }
+    ensures near { result ≤ at + 20 }
+{
+    if number < 100_000_000 {
+        return put_some(number as u32, line, at);
+    }
     put_many(number, line, at)
 }
 
-/// The same, by two digits at a time.
+/// The same of a number of five to eight digits: up to four, and then four.
+#[inline(always)]
+#[tactic(auto, using(crate::proofs::DecimalLemmas::length_four))]
+fn put_some(number: u32, line: &mut [u8], at: usize) -> usize
+    requires many { 10_000 ≤ number }
+    requires few { number < 100_000_000 }
+    requires room { at + 8 ≤ length line.old }
+    ensures text { take result line.new ≡ take at line.old ++ decimal number }
+    ensures end { result ≡ at + length (decimal number) }
+    ensures near { result ≤ at + 8 }
+{
+    let end = put_few(number / 10_000, line, at);
+    put_word(four_digits(number % 10_000), line, end);
+    end + 4
+}
+
+/// The same of a number of any size, by two digits at a time.
 #[tactic(auto, using(crate::proofs::DecimalLemmas::written_at))]
 #[inline(never)]
 fn put_many(number: u64, line: &mut [u8], at: usize) -> usize
@@ -65,10 +96,10 @@ fn put_many(number: u64, line: &mut [u8], at: usize) -> usize
 #[inline(always)]
 fn put_few(number: u32, line: &mut [u8], at: usize) -> usize
     requires few { number < 10_000 }
-    requires room { at + 20 ≤ length line.old }
+    requires room { at + 4 ≤ length line.old }
     ensures text { take result line.new ≡ take at line.old ++ decimal number }
     ensures end { result ≡ at + length (decimal number) }
-    ensures near { result ≤ at + 20 }
+    ensures near { result ≤ at + 4 }
 {
     let missing = u32::from(number < 10) + u32::from(number < 100) + u32::from(number < 1000);
     put_word(four_digits(number) >> (8 * missing), line, at);

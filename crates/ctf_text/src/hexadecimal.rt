@@ -1,49 +1,67 @@
 //! Numbers in hexadecimal.
 
-ghost use Rattle.std.specs.Prelude.{◌≡◌, ◌+◌, ◌++◌, ◌∷◌, [], ◌/◌, ◌%◌, ◌≤◌, ◌<◌, true, length, take};
+ghost use Rattle.std.specs.Prelude.{◌≡◌, ◌+◌, ◌*◌, ◌++◌, ◌^◌, ◌<◌, ◌≤◌, true, length, map, take};
 ghost use Rattle.std.specs.Fmt.{digits, digit_glyph};
+ghost use Rattle.std.specs.Simd.Lanes.{Each1};
+ghost use Rattle.ctf_text.specs.Digits.{sixteens};
 
-use crate::digits::digit_of;
+use std::simd::prelude::*;
 
-/// Writes a number in hexadecimal at an index of a line that has room for it, and gives the index behind it.
-/// It goes by two digits.
+/// Writes a number in hexadecimal at an index of a line that has room for 16 digits there, and gives the index
+/// behind it. Always 16 are made at once, so that no jump depends on how many there are: what stands behind the
+/// index may be any bytes.
 pub fn put_hexadecimal(number: u64, line: &mut [u8], at: usize) -> usize
-    requires room { at + length (digits 16 true number) ≤ length line.old }
+    requires room { at + 16 ≤ length line.old }
     ensures text { take result line.new ≡ take at line.old ++ digits 16 true number }
     ensures end { result ≡ at + length (digits 16 true number) }
 {
-    if number < 256 {
-        return put_begin(number, line, at);
-    }
-    let end = put_hexadecimal(number / 256, line, at);
-    put_pair(number % 256, line, end)
+    let count = count_digits(number);
+    let moved = number << (64 - 4 * count);
+    put_lanes(glyphs(values(moved)), line, at);
+    at + count as usize
 }
 
-/// The same of one digit or two.
+/// How many digits a number has in hexadecimal.
 #[inline(always)]
-#[tactic(auto, using(crate::proofs::HexadecimalLemmas::hexadecimal_one, crate::proofs::HexadecimalLemmas::hexadecimal_two))]
-fn put_begin(number: u64, line: &mut [u8], at: usize) -> usize
-    requires few { number < 256 }
-    requires room { at + length (digits 16 true number) ≤ length line.old }
-    ensures text { take result line.new ≡ take at line.old ++ digits 16 true number }
-    ensures end { result ≡ at + length (digits 16 true number) }
+fn count_digits(number: u64) -> u32
+    ensures value { result ≡ length (digits 16 true number) }
+    ensures some { 1 ≤ result }
+    ensures few { result ≤ 16 }
 {
-    if number < 16 {
-        line[at] = digit_of(number as u8);
-        return at + 1;
-    }
-    put_pair(number, line, at)
+    number.max(1).ilog2() / 4 + 1
 }
 
-/// Writes two digits.
+/// What each of the 16 digits of a number is worth, the first of them in the first lane. A byte has two, and its
+/// first one stands in its upper half.
 #[inline(always)]
-fn put_pair(number: u64, line: &mut [u8], at: usize) -> usize
-    requires few { number < 256 }
-    requires room { at + 2 ≤ length line.old }
-    ensures text { take result line.new ≡ take at line.old ++ (digit_glyph true (number / 16) ∷ digit_glyph true (number % 16) ∷ []) }
-    ensures end { result ≡ at + 2 }
+fn values(number: u64) -> u8x16
+    ensures { result ≡ sixteens 16 number }
 {
-    line[at] = digit_of((number / 16) as u8);
-    line[at + 1] = digit_of((number % 16) as u8);
-    at + 2
+    let bytes = u64x1::from_array([number]).to_le_bytes();
+    let first = bytes / u8x8::splat(16);
+    let second = bytes % u8x8::splat(16);
+    first.shuffle(
+        second,
+        [7, 15, 6, 14, 5, 13, 4, 12, 3, 11, 2, 10, 1, 9, 0, 8],
+    )
+}
+
+/// The digits of numbers from 0 to 15, in upper case.
+#[inline(always)]
+fn glyphs(numbers: u8x16) -> u8x16
+    requires { Each1 (λ number. number < 16) numbers }
+    ensures { result ≡ map (digit_glyph true) numbers }
+{
+    let past_nine = numbers.simd_gt(u8x16::splat(9));
+    let shift = past_nine.select(u8x16::splat(b'A' - 10 - b'0'), u8x16::splat(0));
+    numbers + u8x16::splat(b'0') + shift
+}
+
+/// Writes the bytes in lanes.
+#[inline(always)]
+fn put_lanes(lanes: u8x16, line: &mut [u8], at: usize)
+    requires { at + 16 ≤ length line.old }
+    ensures { take (at + 16) line.new ≡ take at line.old ++ lanes }
+{
+    lanes.copy_to_slice(&mut line[at..]);
 }
