@@ -1,6 +1,6 @@
 //! A log that is held back in a buffer in front of a writer.
 
-ghost use Rattle.std.specs.Prelude.{◌≡◌, IfOk, [], true, is_some, unwrap_or, IsTrue};
+ghost use Rattle.std.specs.Prelude.{◌≡◌, ℕ, ◌<◌, length, take, IfOk, [], true, is_some, unwrap_or, IsTrue};
 ghost use Rattle.std.specs.Io.Buffered.{writer_contents, writer_inner};
 ghost use Rattle.ctf_bits.specs.Count.{one_more};
 ghost use Rattle.ctf_cli.specs.LogWriters.{writer_of, failures_of};
@@ -48,6 +48,21 @@ impl<O: Write + Drop> LogWriter<O> {
         writer
     }
 
+    /// The first of these bytes, as many as the buffer has room for; all of them where it is full. So it is passed on when it
+    /// is full, and a file is written by whole pages.
+    #[inline(always)]
+    fn fitting<'b>(&self, bytes: &'b [u8]) -> &'b [u8]
+        ensures first { (n : ℕ) × (result.now ≡ take n bytes.now) }
+        ensures some { 0 < length bytes.now → 0 < length result.now }
+    {
+        let room = self.writer.capacity() - self.writer.buffer().len();
+        if 0 < room && room < bytes.len() {
+            &bytes[..room]
+        } else {
+            bytes
+        }
+    }
+
     /// Counts a failure.
     fn fail(&mut self) -> SinkFault
         ensures fault { result ≡ SinkFault.Failed }
@@ -69,7 +84,7 @@ impl<O: Write + Drop> Sink for LogWriter<O> {
     ghost refusals = { λ _. 0 };
 
     fn put(&mut self, bytes: &[u8]) -> Result<usize, SinkFault> {
-        match self.writer.write(bytes) {
+        match self.writer.write(self.fitting(bytes)) {
             Ok(count) if count > 0 => Ok(count),
             Ok(_) | Err(_) => Err(self.fail()),
         }

@@ -12,7 +12,7 @@ use std::io::{ErrorKind, Write};
 use std::rt::{Env, Files};
 
 /// How many bytes of the log are held back at the most.
-const HELD: usize = 65_536;
+const HELD: usize = 262_144;
 
 /// Does what the command line asks for, and gives the exit status. To a terminal each line is written at once.
 pub fn start<R, O, E>(rt: &R, out: O, is_terminal: bool, err: E) -> u8

@@ -1,6 +1,6 @@
 //! The class number of an event record.
 
-ghost use Rattle.std.specs.Prelude.{◌≡◌, None, [], map};
+ghost use Rattle.std.specs.Prelude.{◌≡◌, ◌↔◌, None, [], map, codes, IsTrue};
 ghost use Rattle.std.specs.List.{last_or};
 ghost use Rattle.ctf_decode.specs.Values.{vals_of};
 ghost use Rattle.ctf_decode.specs.Forms.{parts_of};
@@ -96,9 +96,17 @@ fn last_in_chosen(options: &[Member], i: usize, inner: &Value, last: &mut Option
 pub fn named_id(member: &Member, value: &Value, last: &mut Option<i128>)
     ensures { last.new ≡ last_or last.old (fields.named_id member.now.name (form member.now.class) (val value.now)) }
 {
-    if member.name.as_slice() == b"id".as_slice() {
+    if is_id(member.name.as_slice()) {
         number_in(&member.class, value, last);
     }
+}
+
+/// Whether a name is `id`. It is asked of each member of a header, so it takes no call of a comparison of texts.
+#[inline(always)]
+fn is_id(name: &[u8]) -> bool
+    ensures { IsTrue result ↔ (name.now ≡ codes "id") }
+{
+    name.len() == 2 && name[0] == b'i' && name[1] == b'd'
 }
 
 /// Keeps an integer's or an enumeration's number.

@@ -1,6 +1,6 @@
 -- Texts by sixteen bytes at once.
-use Rattle.std.proofs.Common.{⊎_elim, ◌≡◌, ℕ, zero, suc, ◌+◌, ◌<◌, ◌≤◌, Bool, true, false, cond, List, [], ◌∷◌, ◌++◌, Option, Some, None, map, length, take, set, get_or, nat_eq, nat_lt, bit_or, refl, sym, ap, subst, ◌∙◌, arith, append_assoc}
-use Rattle.std.proofs.lemmas.Bool.{ltb-false, eqb-false, cases_lt}
+use Rattle.std.proofs.Common.{⊎_elim, ◌≡◌, ℕ, zero, suc, ◌+◌, ◌<◌, ◌≤◌, Bool, true, false, cond, List, [], ◌∷◌, ◌++◌, Option, Some, None, map, length, take, set, get_or, nat_eq, nat_lt, not, bit_or, refl, sym, ap, subst, ◌∙◌, arith, append_assoc}
+use Rattle.std.proofs.lemmas.Bool.{ltb-false, cases_lt}
 use Rattle.std.proofs.lemmas.Bool.Decides.{nat_tests}
 use Rattle.std.proofs.lemmas.Iterator.Adapters.{position_from-zero}
 use Rattle.std.proofs.lemmas.List.{get_or-map, get_or-take, take-take, length-take-le, take_more_set, length-set}
@@ -9,7 +9,7 @@ use Rattle.std.proofs.lemmas.List.Elements.{All-head, All-tail, All-from_get_or}
 use Rattle.std.proofs.lemmas.Nat.Bits.{bit_at_or, bit_at-zero}
 use Rattle.std.proofs.lemmas.Simd.{bit_mask_l, length-put_chunk, take_more_put_chunk}
 use Rattle.std.specs.Int.{bit_at}
-use Rattle.std.specs.List.{All, position, position_from}
+use Rattle.std.specs.List.{All, position, position_from, prefix_len, take_while}
 use Rattle.std.specs.Simd.Lanes.{mask_l, put_chunk}
 use Rattle.ctf_class.specs.Escapes.{shown_byte}
 use Rattle.ctf_text.proofs.TextLemmas.{IsPlain}
@@ -114,3 +114,12 @@ window_written bytes line at count enough few room =
     let end : at + count + 2 ≡ at + 1 + count + 1 = omega arith in
     ap (λ n. take n (set whole (at + 1 + count) 34)) end ∙ closed ∙ ap (λ xs. xs ++ (34 ∷ [])) upto
     ∙ append_assoc (take at line ++ (34 ∷ [])) (take count bytes) (34 ∷ []) ∙ append_assoc (take at line) (34 ∷ []) (take count bytes ++ (34 ∷ []))
+
+-- a number that was found is the one that was given
+found : (is : Bool) (k n : ℕ) → cond {A = Option ℕ} is (Some k) None ≡ Some n → k ≡ n
+found true k n same = cc
+found false k n same = cc
+
+-- the bytes before the first zero byte
+pub before_first_zero : (bytes : List ℕ) (n : ℕ) → position (λ x. nat_eq x 0) bytes ≡ Some n → take_while (λ x. not (nat_eq x 0)) bytes ≡ take n bytes
+before_first_zero bytes n first = ap (λ k. take k bytes) (found _ (prefix_len (λ x. not (nat_eq x 0)) bytes) n first)

@@ -15,6 +15,7 @@ use crate::array::put_array;
 use crate::mark::{put_end, put_nothing, put_ready};
 use crate::number::{LONGEST_NUMBER, put_signed_number, put_unsigned_number};
 use crate::text::put_quoted;
+use crate::window::{count_short, put_short};
 use ctf_bits::{is_unsigned, sint_within, uint_within, up};
 use ctf_class::{Align, Class, Integer, Kind, Length, Member};
 use ctf_decode::{MOST_VALUES, before_zero, bytes_at, bytes_from, zero_in};
@@ -380,7 +381,7 @@ fn unsigned_of(integer: &Integer, bits: u64) -> Option<u64>
     if integer.is_signed { None } else { Some(bits) }
 }
 
-/// Writes a string.
+/// Writes a string. Mostly it is a short one.
 fn put_string(packet: &Content<'_>, place: u64, buffer: &mut Vec<u8>, at: usize) -> Option<Ends>
     requires start { place ≤ packet.now.end }
     requires index { at ≤ vec_len buffer.old }
@@ -393,6 +394,12 @@ fn put_string(packet: &Content<'_>, place: u64, buffer: &mut Vec<u8>, at: usize)
         return None;
     }
     let bytes = bytes_from(packet.bytes, packet.end, begin);
+    if let Some(count) = count_short(bytes, buffer.len() - at) {
+        return Some(Ends {
+            place: begin + 8 * (count as u64 + 1),
+            text: put_short(bytes, count, buffer, at),
+        });
+    }
     let count = zero_in(bytes)?;
     let Ok(text) = put_quoted(&bytes[..count], buffer, at) else {
         return None;
@@ -403,7 +410,7 @@ fn put_string(packet: &Content<'_>, place: u64, buffer: &mut Vec<u8>, at: usize)
     })
 }
 
-/// Writes a text, if its length is fixed.
+/// Writes a text, if its length is fixed. Mostly a short one stands there.
 fn put_text(
     length: &Length,
     packet: &Content<'_>,
@@ -427,7 +434,14 @@ fn put_text(
     if *count > (packet.end - begin) / 8 {
         return None;
     }
-    let bytes = before_zero(bytes_at(packet.bytes, begin, *count));
+    let bytes = bytes_at(packet.bytes, begin, *count);
+    if let Some(short) = count_short(bytes, buffer.len() - at) {
+        return Some(Ends {
+            place: begin + 8 * *count,
+            text: put_short(bytes, short, buffer, at),
+        });
+    }
+    let bytes = before_zero(bytes);
     let Ok(text) = put_quoted(bytes, buffer, at) else {
         return None;
     };

@@ -1,6 +1,6 @@
 //! Short texts, sixteen bytes at once.
 
-ghost use Rattle.std.specs.Prelude.{◌≡◌, ℕ, ◌<◌, ◌+◌, ◌≤◌, ◌++◌, ◌∷◌, [], Some, length, take, map, position, nat_eq, nat_lt, IfSome, IfNone};
+ghost use Rattle.std.specs.Prelude.{◌≡◌, ℕ, ◌<◌, ◌+◌, ◌≤◌, ◌++◌, ◌∷◌, [], Some, length, vec_len, take, map, position, nat_eq, nat_lt, IfSome};
 ghost use Rattle.std.specs.Int.{bit_at};
 ghost use Rattle.std.specs.List.{All};
 ghost use Rattle.std.specs.Simd.Lanes.{mask_l};
@@ -12,25 +12,24 @@ use std::simd::prelude::*;
 /// How many bytes are looked at at once.
 const WINDOW: usize = 16;
 
-/// Writes the bytes before the first zero byte in quotes at an index of a line, and gives how many they are: if they are
-/// fewer than sixteen, each is shown as it is, and there are sixteen bytes and room for as many. No jump depends on how
-/// many they are: a processor foresees that badly. `None` elsewhere, and then the line is as it was.
+/// How many bytes stand before the first zero byte, if they are fewer than sixteen, each is shown as it is, there are
+/// sixteen bytes, and so much room holds as many in quotes. No jump depends on how many they are: a processor foresees
+/// that badly.
 #[inline(always)]
-pub fn put_short(bytes: &[u8], line: &mut [u8], at: usize) -> Option<usize>
-    requires { at ≤ length line.old }
+pub fn count_short(bytes: &[u8], room: usize) -> Option<usize>
     ensures first { IfSome result (λ n. position (λ x. nat_eq x 0) bytes.now ≡ Some n) }
-    ensures text { IfSome result (λ n. take (at + n + 2) line.new ≡ take at line.old ++ label_text (take n bytes.now)) }
-    ensures held { IfSome result (λ n. at + n + 2 ≤ length line.new) }
-    ensures none { IfNone result (line.new ≡ line.old) }
+    ensures plain { IfSome result (λ n. All (λ byte. shown_byte byte ≡ byte ∷ []) (take n bytes.now)) }
+    ensures few { IfSome result (λ n. n < WINDOW) }
+    ensures window { IfSome result (λ _. WINDOW ≤ length bytes.now) }
+    ensures room { IfSome result (λ _. WINDOW + 2 ≤ room) }
 {
-    if bytes.len() < WINDOW || line.len() - at < WINDOW + 2 {
+    if bytes.len() < WINDOW || room < WINDOW + 2 {
         return None;
     }
     let count = count_plain(bytes);
     if count >= WINDOW || bytes[count] != 0 {
         return None;
     }
-    put_window(bytes, count, line, at);
     Some(count)
 }
 
@@ -72,16 +71,32 @@ fn are(window: u8x16, byte: u8) -> u64
     window.simd_eq(u8x16::splat(byte)).to_bitmask()
 }
 
-/// Writes the first of sixteen bytes in quotes at an index of a line. All of them are written, and the closing quote over
-/// the first one that is not wanted.
+/// Writes the first of sixteen bytes, which are shown as they are, in quotes at an index of a buffer that has room, and
+/// gives the index behind them. What stands before the index is kept.
 #[inline(always)]
-fn put_window(bytes: &[u8], count: usize, line: &mut [u8], at: usize)
-    requires window { WINDOW ≤ length bytes.now }
+pub fn put_short(bytes: &[u8], count: usize, buffer: &mut Vec<u8>, at: usize) -> usize
+    requires plain { All (λ byte. shown_byte byte ≡ byte ∷ []) (take count bytes.now) }
     requires few { count ≤ WINDOW }
+    requires window { WINDOW ≤ length bytes.now }
+    requires room { at + WINDOW + 2 ≤ vec_len buffer.old }
+    ensures text { take result buffer.new.items ≡ take at buffer.old.items ++ label_text (take count bytes.now) }
+    ensures held { result ≤ vec_len buffer.new }
+{
+    put_window(bytes, count, buffer.as_mut_slice(), at)
+}
+
+/// The same in a line that has room. All sixteen are written, and the closing quote over the first one that is not wanted.
+#[inline(always)]
+fn put_window(bytes: &[u8], count: usize, line: &mut [u8], at: usize) -> usize
+    requires plain { All (λ byte. shown_byte byte ≡ byte ∷ []) (take count bytes.now) }
+    requires few { count ≤ WINDOW }
+    requires window { WINDOW ≤ length bytes.now }
     requires room { at + WINDOW + 2 ≤ length line.old }
-    ensures { take (at + count + 2) line.new ≡ take at line.old ++ (34 ∷ (take count bytes.now ++ (34 ∷ []))) }
+    ensures text { take result line.new ≡ take at line.old ++ label_text (take count bytes.now) }
+    ensures end { result ≡ at + count + 2 }
 {
     line[at] = b'"';
     u8x16::from_slice(&bytes[..WINDOW]).copy_to_slice(&mut line[at + 1..]);
     line[at + 1 + count] = b'"';
+    at + count + 2
 }

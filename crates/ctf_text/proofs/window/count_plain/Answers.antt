@@ -1,8 +1,6 @@
-use Rattle.std.proofs.Common.{◌≡◌, ◌≤◌, ◌<◌, ◌*◌, ◌^◌, ◌%◌, ℕ, ap, sym, subst, w64, arith, bit_or, map, take, length, ◌∙◌, nat_eq, nat_lt}
+use Rattle.std.proofs.Common.{◌≡◌, ◌≤◌, ap, w64, arith, take, length, ◌∙◌}
 use Rattle.std.proofs.lemmas.List.{take-take, length-take-le}
 use Rattle.std.proofs.lemmas.Nat.Bits.{bit_at_set_same}
-use Rattle.std.specs.Int.{bit_at}
-use Rattle.std.specs.Simd.Lanes.{mask_l}
 use Rattle.ctf_text.proofs.WindowLemmas.{not_behind, unmarked_plain}
 use Rattle.ctf_text.proofs.window.count_plain.Goals as goal
 
