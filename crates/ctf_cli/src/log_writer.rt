@@ -1,6 +1,6 @@
 //! A log that is held back in a buffer in front of a writer.
 
-ghost use Rattle.std.specs.Prelude.{◌≡◌, ℕ, ◌<◌, length, take, IfOk, [], true, is_some, unwrap_or, IsTrue};
+ghost use Rattle.std.specs.Prelude.{◌≡◌, ◌<◌, ◌≤◌, IfOk, [], true, is_some, unwrap_or, IsTrue};
 ghost use Rattle.std.specs.Io.Buffered.{writer_contents, writer_inner};
 ghost use Rattle.ctf_bits.specs.Count.{one_more};
 ghost use Rattle.ctf_cli.specs.LogWriters.{writer_of, failures_of};
@@ -48,19 +48,10 @@ impl<O: Write + Drop> LogWriter<O> {
         writer
     }
 
-    /// The first of these bytes, as many as the buffer has room for; all of them where it is full. So it is passed on when it
-    /// is full, and a file is written by whole pages.
+    /// How many bytes the buffer still takes before it is passed on.
     #[inline(always)]
-    fn fitting<'b>(&self, bytes: &'b [u8]) -> &'b [u8]
-        ensures first { (n : ℕ) × (result.now ≡ take n bytes.now) }
-        ensures some { 0 < length bytes.now → 0 < length result.now }
-    {
-        let room = self.writer.capacity() - self.writer.buffer().len();
-        if 0 < room && room < bytes.len() {
-            &bytes[..room]
-        } else {
-            bytes
-        }
+    fn room(&self) -> usize {
+        self.writer.capacity() - self.writer.buffer().len()
     }
 
     /// Counts a failure.
@@ -74,6 +65,16 @@ impl<O: Write + Drop> LogWriter<O> {
     }
 }
 
+/// How many of so many bytes are handed to a buffer with this room: as many as it still takes, all where it is full. So a
+/// full buffer is passed on, and a file is written by whole pages.
+#[inline(always)]
+fn count_fitting(room: usize, count: usize) -> usize
+    ensures within { result ≤ count }
+    ensures some { 0 < count → 0 < result }
+{
+    if room == 0 { count } else { room.min(count) }
+}
+
 impl<O: Write + Drop> Sink for LogWriter<O> {
     ghost tells = { λ log. is_some (writer_contents O.contents (writer_of log)) };
 
@@ -84,7 +85,8 @@ impl<O: Write + Drop> Sink for LogWriter<O> {
     ghost refusals = { λ _. 0 };
 
     fn put(&mut self, bytes: &[u8]) -> Result<usize, SinkFault> {
-        match self.writer.write(self.fitting(bytes)) {
+        let count = count_fitting(self.room(), bytes.len());
+        match self.writer.write(&bytes[..count]) {
             Ok(count) if count > 0 => Ok(count),
             Ok(_) | Err(_) => Err(self.fail()),
         }
