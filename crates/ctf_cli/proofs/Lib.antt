@@ -1,3 +1,4 @@
 pub mod Endings
 pub mod Names
 pub mod Opened
+pub mod Settled

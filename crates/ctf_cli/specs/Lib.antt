@@ -1,4 +1,5 @@
 pub mod Ends
 pub mod Files
+pub mod Holding
 pub mod LogWriters
 pub mod Traces

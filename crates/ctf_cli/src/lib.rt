@@ -3,6 +3,7 @@
 
 mod disk;
 mod folders;
+mod held;
 mod log_writer;
 mod opening;
 mod printing;

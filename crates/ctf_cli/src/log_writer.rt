@@ -1,10 +1,14 @@
 //! A log that is held back in a buffer in front of a writer.
 
-ghost use Rattle.std.specs.Prelude.{◌≡◌, ◌<◌, ◌≤◌, IfOk, [], true, is_some, unwrap_or, IsTrue};
-ghost use Rattle.std.specs.Io.Buffered.{writer_contents, writer_inner};
+ghost use Rattle.std.specs.Prelude.{◌≡◌, ◌<◌, ◌≤◌, IfOk, IfErr, OnOk, [], true, is_some, unwrap_or, IsTrue, length};
+ghost use Rattle.std.specs.Io.Buffered.{writer_inner};
+ghost use Rattle.std.specs.Io.KnownBytes.{Keeps, WriteAppends};
 ghost use Rattle.ctf_bits.specs.Count.{one_more};
-ghost use Rattle.ctf_cli.specs.LogWriters.{writer_of, failures_of};
+ghost use Rattle.ctf_bits.specs.Putting.{failures_after};
+ghost use Rattle.ctf_session.specs.Putting.{failures_put};
+ghost use Rattle.ctf_cli.specs.LogWriters.{writer_of, failures_of, log_contents};
 
+use crate::held::Held;
 use ctf_bits::{Sink, SinkFault};
 use ctf_list::NoMemory;
 use ctf_run::Log;
@@ -14,7 +18,10 @@ use std::io::{BufWriter, Write};
 /// A buffer in front of a writer. It tells its bytes where the writer does. An error of the writer is a failure.
 #[derive(Drop)]
 pub struct LogWriter<O: Write + Drop> {
+    /// Holds nothing back, but tries again what was interrupted.
     writer: BufWriter<O>,
+    /// What stands in front of the writer. Mostly a line is only copied there.
+    held: Held,
     failures: u64,
 }
 
@@ -26,9 +33,11 @@ impl<O: Write + Drop> LogWriter<O> {
         ensures failures { IfOk result (λ log. ⟦<LogWriter<O> as Sink>⟧.failures log ≡ 0) }
         ensures settled { IfOk result (λ log. IsTrue (⟦<LogWriter<O> as Log>⟧.settled log)) }
     {
-        match BufWriter::with_capacity(alloc, held, writer) {
+        let held = Held::new(alloc, held)?;
+        match BufWriter::with_capacity(alloc, 0, writer) {
             Ok(writer) => Ok(LogWriter {
                 writer,
+                held,
                 failures: 0,
             }),
             Err(_refused) => Err(NoMemory),
@@ -42,22 +51,73 @@ impl<O: Write + Drop> LogWriter<O> {
     {
         let LogWriter {
             writer,
+            held: _,
             failures: _,
         } = self;
         let (writer, _held) = writer.into_parts();
         writer
     }
 
-    /// How many bytes the buffer still takes before it is passed on.
-    #[inline(always)]
-    fn room(&self) -> usize {
-        self.writer.capacity() - self.writer.buffer().len()
+    /// Passes on what is held back. What was not taken is held on after a fault.
+    #[inline(never)]
+    fn pass_on(&mut self) -> Result<(), SinkFault>
+        ensures keeps { Keeps (log_contents O.contents self.old) (log_contents O.contents self.new) }
+        ensures empty { OnOk result (self.new.held.bytes ≡ []) }
+        ensures failed { failures_of self.new ≡ failures_put result (failures_of self.old) }
+        ensures fault { IfErr result (λ fault. fault ≡ SinkFault.Failed) }
+    {
+        while !self.held.as_slice().is_empty() {
+            match self.writer.write(self.held.as_slice()) {
+                Ok(count) if count > 0 => self.held.pass(count),
+                Ok(_) | Err(_) => return Err(self.fail()),
+            }
+        }
+        Ok(())
+    }
+
+    /// Passes a piece on at once, where nothing is held back.
+    fn put_through(&mut self, bytes: &[u8]) -> Result<usize, SinkFault>
+        requires { self.old.held.bytes ≡ [] }
+        ensures some { IfOk result (λ count. 0 < count) }
+        ensures bound { IfOk result (λ count. count ≤ length bytes.now) }
+        ensures appends { WriteAppends (log_contents O.contents self.old) (log_contents O.contents self.new) result bytes.now }
+        ensures failed { failures_of self.new ≡ failures_after result (failures_of self.old) }
+        ensures fault { IfErr result (λ fault. fault ≡ SinkFault.Failed) }
+    {
+        match self.writer.write(bytes) {
+            Ok(count) if count > 0 => Ok(count),
+            Ok(_) | Err(_) => Err(self.fail()),
+        }
+    }
+
+    /// Takes the first bytes of a piece for which there is no room, or just enough. A buffer is filled before it is passed
+    /// on, so that a file is written by whole pages.
+    #[cold]
+    #[inline(never)]
+    fn put_apart(&mut self, bytes: &[u8]) -> Result<usize, SinkFault>
+        requires { 0 < length bytes.now }
+        ensures some { IfOk result (λ count. 0 < count) }
+        ensures bound { IfOk result (λ count. count ≤ length bytes.now) }
+        ensures appends { WriteAppends (log_contents O.contents self.old) (log_contents O.contents self.new) result bytes.now }
+        ensures failed { failures_of self.new ≡ failures_after result (failures_of self.old) }
+        ensures fault { IfErr result (λ fault. fault ≡ SinkFault.Failed) }
+    {
+        if self.held.room() == 0 {
+            self.pass_on()?;
+            if self.held.room() == 0 {
+                return self.put_through(bytes);
+            }
+        }
+        let count = bytes.len().min(self.held.room());
+        self.held.put(&bytes[..count]);
+        Ok(count)
     }
 
     /// Counts a failure.
     fn fail(&mut self) -> SinkFault
         ensures fault { result ≡ SinkFault.Failed }
         ensures writer { writer_of self.new ≡ writer_of self.old }
+        ensures held { self.new.held ≡ self.old.held }
         ensures failures { failures_of self.new ≡ one_more (failures_of self.old) }
     {
         self.failures = self.failures.saturating_add(1);
@@ -65,31 +125,21 @@ impl<O: Write + Drop> LogWriter<O> {
     }
 }
 
-/// How many of so many bytes are handed to a buffer with this room: as many as it still takes, all where it is full. So a
-/// full buffer is passed on, and a file is written by whole pages.
-#[inline(always)]
-fn count_fitting(room: usize, count: usize) -> usize
-    ensures within { result ≤ count }
-    ensures some { 0 < count → 0 < result }
-{
-    if room == 0 { count } else { room.min(count) }
-}
-
 impl<O: Write + Drop> Sink for LogWriter<O> {
-    ghost tells = { λ log. is_some (writer_contents O.contents (writer_of log)) };
+    ghost tells = { λ log. is_some (log_contents O.contents log) };
 
-    ghost accepted = { λ log. unwrap_or (writer_contents O.contents (writer_of log)) [] };
+    ghost accepted = { λ log. unwrap_or (log_contents O.contents log) [] };
 
     ghost failures = { λ log. failures_of log };
 
     ghost refusals = { λ _. 0 };
 
     fn put(&mut self, bytes: &[u8]) -> Result<usize, SinkFault> {
-        let count = count_fitting(self.room(), bytes.len());
-        match self.writer.write(&bytes[..count]) {
-            Ok(count) if count > 0 => Ok(count),
-            Ok(_) | Err(_) => Err(self.fail()),
+        if bytes.len() < self.held.room() {
+            self.held.put(bytes);
+            return Ok(bytes.len());
         }
+        self.put_apart(bytes)
     }
 }
 
@@ -99,6 +149,7 @@ impl<O: Write + Drop> Log for LogWriter<O> {
     ghost settled = { λ log. is_settled log };
 
     fn settle(&mut self) -> Result<(), SinkFault> {
+        self.pass_on()?;
         match self.writer.flush() {
             Ok(()) => Ok(()),
             Err(_) => Err(self.fail()),
