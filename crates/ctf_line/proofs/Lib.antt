@@ -2,3 +2,4 @@ pub mod Scopes
 pub mod Telling
 pub mod Heading
 pub mod Records
+pub mod Shorts

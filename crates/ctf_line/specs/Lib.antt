@@ -1,3 +1,4 @@
 pub mod Headers
 pub mod Making
+pub mod Shorts
 pub mod Texts

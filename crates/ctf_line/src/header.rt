@@ -1,13 +1,15 @@
 //! Headers of event records that are told where they stand, without their values.
 
-ghost use Rattle.std.specs.Prelude.{◌≡◌, ◌<◌, ◌≤◌, ◌+◌, ◌*◌, ◌^◌, [], ◌∷◌, length, IfSome};
+ghost use Rattle.std.specs.Prelude.{◌≡◌, ◌<◌, ◌≤◌, ◌+◌, ◌*◌, ◌^◌, [], ◌∷◌, Some, length, IfSome, option_copied};
 ghost use Rattle.std.specs.Int.{next_multiple_of};
 ghost use Rattle.ctf_clock.specs.declared.moment.Shift.{Shift};
 ghost use Rattle.ctf_decode.specs.Input.{bits_of};
 ghost use Rattle.ctf_decode.specs.Views.{form, val};
 ghost use Rattle.ctf_line.specs.Headers.{Tells, TellsMember, TellsMembers, TellsNumber, TellsHead, StandsAsTag, begun};
+ghost use Rattle.ctf_line.specs.Shorts.{IsShortOf};
 ghost use Rattle.ctf_packet.specs.Classes.{stream_form};
 
+use crate::short::{SHORT_VALUES, ShortHeader, tell_short};
 use ctf_bits::{sint_within, uint_within};
 use ctf_class::{Align, Class, Integer, Kind, Member};
 use ctf_clock::{Moment, Timeline};
@@ -35,9 +37,9 @@ struct Tag {
 
 /// Where an integer begins and ends, in bits from the packet's first one.
 #[derive(Clone, Copy, Debug)]
-struct Bits {
-    begin: u64,
-    end: u64,
+pub(crate) struct Bits {
+    pub(crate) begin: u64,
+    pub(crate) end: u64,
 }
 
 /// A header that was told, and how many values were begun for it.
@@ -48,11 +50,43 @@ pub(crate) struct ToldHead<'a> {
 }
 
 /// The header of the event record at a place of a packet, in bits from its first one, whose clock came so far (CTF
+/// 1.8.3, section 6.1), told by what was looked at of its class. `None` where that does not hold for it, and where it has a
+/// fault.
+#[inline(always)]
+pub(crate) fn told_short<'a>(
+    packet: &OpenPacket<'a>,
+    short: &ShortHeader,
+    bytes: &[u8],
+    clock: Option<Moment>,
+    place: u64,
+) -> Option<ToldHead<'a>>
+    requires start { place ≤ packet.now.content }
+    requires content { packet.now.content ≤ 2 ^ 62 }
+    requires held { packet.now.content ≤ 8 * length bytes.now }
+    requires short { IsShortOf packet.now.stream.now (Some short.now) }
+    ensures tells { IfSome result (λ told. (shift : Shift) → packet.now.line ≡ (stream_form shift packet.now.stream.now).line → TellsHead packet.now.stream.now (stream_form shift packet.now.stream.now) bytes.now packet.now.content clock place told) }
+    ensures within { IfSome result (λ told. told.head.end ≤ packet.now.content) }
+    ensures few { IfSome result (λ told. told.spent ≤ MOST_VALUES) }
+{
+    let line = packet.line.as_ref()?;
+    let to = tell_short(line, short, bytes, packet.content, clock?, place)?;
+    let event = packet.stream.event(to.id)?;
+    Some(ToldHead {
+        head: Head {
+            event,
+            clock: Some(to.clock),
+            end: to.place,
+        },
+        spent: SHORT_VALUES,
+    })
+}
+
+/// The header of the event record at a place of a packet, in bits from its first one, whose clock came so far (CTF
 /// 1.8.3, section 6.1). Only structures of integers are told, and those of an enumeration and a variant on it whose
 /// option is such a structure, where the packet has a clock. `None` where the class is another one, and where the header
 /// has a fault.
 #[inline(always)]
-pub(crate) fn told_head<'a>(
+pub(crate) fn told_by_class<'a>(
     packet: &OpenPacket<'a>,
     bytes: &[u8],
     clock: Option<Moment>,
@@ -233,7 +267,7 @@ fn tag_at(container: &Integer, align: Align, bytes: &[u8], content: u64, place: 
 
 /// The bits of an integer that could begin at a place, if they lie within the content.
 #[inline(always)]
-fn bits_at(integer: &Integer, align: Align, content: u64, place: u64) -> Option<Bits>
+pub(crate) fn bits_at(integer: &Integer, align: Align, content: u64, place: u64) -> Option<Bits>
     requires content { content ≤ 2 ^ 62 }
     requires start { place ≤ content }
     ensures begin { IfSome result (λ bits. bits.begin ≡ next_multiple_of place align) }

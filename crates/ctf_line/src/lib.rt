@@ -3,5 +3,7 @@
 
 mod header;
 mod record;
+mod short;
 
 pub use record::{Attempt, LineRecord, next_line, written_line};
+pub use short::{Field, ShortHeader, short_header};

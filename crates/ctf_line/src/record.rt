@@ -4,12 +4,14 @@ ghost use Rattle.std.specs.Prelude.{◌≡◌, ◌<◌, ◌≤◌, ◌*◌, ◌^
 ghost use Rattle.ctf_clock.specs.declared.moment.Shift.{Shift};
 ghost use Rattle.ctf_decode.specs.Known.{Known};
 ghost use Rattle.ctf_line.specs.Making.{Made, Makes, MakesValues, PutsBody, PutsScope};
+ghost use Rattle.ctf_line.specs.Shorts.{IsShortOf};
 ghost use Rattle.ctf_packet.specs.Classes.{stream_form};
 ghost use Rattle.ctf_decode.specs.Views.{form};
 ghost use Rattle.ctf_packet.specs.Records.{bodied, record_at};
 ghost use Rattle.ctf_packet.specs.Views.{values_of, packet_values, opened_of};
 
-use crate::header::told_head;
+use crate::header::{told_by_class, told_short};
+use crate::short::ShortHeader;
 use ctf_class::Class;
 use ctf_clock::Moment;
 use ctf_decode::{MOST_VALUES, Scopes};
@@ -42,12 +44,45 @@ pub enum Attempt {
 
 /// The event record at a place of a packet, in bits from its first one, where `bytes` are the packet's and its clock
 /// came so far (CTF 1.8.3, section 6), if it can be shown without its values. `part` is the text of the packet in the lines
-/// of its event records. The text of the record stands at the front of `line` then: the host, the name and the scopes.
+/// of its event records, and `short` what was looked at of the class of its headers. The text of the record stands at the front of `line` then: the host, the name and the scopes.
 ///
 /// `None` where a class is another one than `put_standing` writes, where the record has a fault, and where memory is
 /// refused. The line is then any line, and `attempt` tells `next_line` how far the record came.
 pub fn written_line<'a>(
     alloc: Global,
+    packet: &OpenPacket<'a>,
+    part: &[u8],
+    bytes: &[u8],
+    clock: Option<Moment>,
+    place: u64,
+    short: Option<&ShortHeader>,
+    line: &mut Vec<u8>,
+    attempt: &mut Attempt,
+) -> Option<LineRecord<'a>>
+    requires start { place ≤ packet.now.content }
+    requires content { packet.now.content ≤ 2 ^ 62 }
+    requires held { packet.now.content ≤ 8 * length bytes.now }
+    requires short { IsShortOf packet.now.stream.now (option_copied short) }
+    ensures makes { (shift : Shift) (known : Known) → packet.now.line ≡ (stream_form shift packet.now.stream.now).line → IfSome result (λ r. Made packet.now.stream.now (record_at (opened_of shift (packet_values (values_of known)) packet.now) bytes.now clock place) part.now known line.new.items r.record r.text) }
+    ensures within { IfSome result (λ r. r.record.end ≤ packet.now.content) }
+    ensures forward { IfSome result (λ r. place < r.record.end) }
+    ensures text { IfSome result (λ r. IfSome r.text (λ end. end ≤ vec_len line.new)) }
+{
+    keep_short(alloc, line);
+    if let Some(short) = short {
+        if let Some(told) = told_short(packet, short, bytes, clock, place) {
+            *attempt = Attempt::Unwritten;
+            let standing = put_record(packet, told.head, part, bytes, told.spent, place, line)?;
+            return Some(with_text(told.head, standing));
+        }
+    }
+    written_by_class(packet, part, bytes, clock, place, line, attempt)
+}
+
+/// The same of a header that is told by its class. It stands apart, so that what is told of mostly each header goes through
+/// no memory.
+#[inline(never)]
+fn written_by_class<'a>(
     packet: &OpenPacket<'a>,
     part: &[u8],
     bytes: &[u8],
@@ -64,9 +99,8 @@ pub fn written_line<'a>(
     ensures forward { IfSome result (λ r. place < r.record.end) }
     ensures text { IfSome result (λ r. IfSome r.text (λ end. end ≤ vec_len line.new)) }
 {
-    keep_short(alloc, line);
     *attempt = Attempt::Untold;
-    let told = told_head(packet, bytes, clock, place)?;
+    let told = told_by_class(packet, bytes, clock, place)?;
     *attempt = Attempt::Unwritten;
     let standing = put_record(packet, told.head, part, bytes, told.spent, place, line)?;
     Some(with_text(told.head, standing))
@@ -105,7 +139,7 @@ pub fn next_line<'a>(
     if let Attempt::Open = attempt {
         keep_short(alloc, line);
         attempt = Attempt::Untold;
-        if let Some(told) = told_head(packet, bytes, clock, place) {
+        if let Some(told) = told_by_class(packet, bytes, clock, place) {
             attempt = Attempt::Unwritten;
             if let Some(standing) = put_record(
                 packet, told.head, part, bytes, told.spent, place, line,

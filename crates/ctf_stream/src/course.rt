@@ -20,7 +20,7 @@ use crate::part::PacketPart;
 use ctf_bits::Source;
 use ctf_class::Scope;
 use ctf_decode::Scopes;
-use ctf_line::Attempt;
+use ctf_line::{Attempt, short_header};
 use ctf_packet::{OpenPacket, Reached, Spares, StreamFault};
 use std::alloc::Global;
 
@@ -197,6 +197,7 @@ impl<'a> Course<'a> {
                     Ok(()) => {}
                 }
                 self.packet = Some(Packet {
+                    short: short_header(opened.stream),
                     lost: opened.lost,
                     dropped: opened.dropped,
                     clock: opened.clock,

@@ -5,6 +5,7 @@ ghost use Rattle.ctf_decode.specs.Known.{Known};
 ghost use Rattle.ctf_clock.specs.declared.moment.Moment.{Moment};
 ghost use Rattle.ctf_clock.specs.declared.moment.Shift.{Shift};
 ghost use Rattle.ctf_line.specs.Making.{Makes};
+ghost use Rattle.ctf_line.specs.Shorts.{IsShortOf};
 ghost use Rattle.ctf_packet.specs.Classes.{Classes, stream_form};
 ghost use Rattle.ctf_packet.specs.Items.{Run};
 ghost use Rattle.ctf_packet.specs.Records.{record_at};
@@ -13,7 +14,7 @@ ghost use Rattle.ctf_stream.specs.Coming.{front_in, left_in, room_in, HoldsFront
 
 use ctf_clock::Moment;
 use ctf_decode::Scopes;
-use ctf_line::{Attempt, LineRecord, next_line, written_line};
+use ctf_line::{Attempt, LineRecord, ShortHeader, next_line, written_line};
 use ctf_packet::{EventRecord, OpenPacket, Spares, StreamFault, next_record};
 use std::alloc::Global;
 
@@ -21,6 +22,8 @@ use std::alloc::Global;
 #[derive(Clone, Copy, Debug)]
 pub(crate) struct Packet<'a> {
     pub(crate) opened: OpenPacket<'a>,
+    /// What was looked at of the class of its event headers.
+    pub(crate) short: Option<ShortHeader>,
     /// How many packets were lost before it, where that is not told yet.
     pub(crate) lost: Option<u64>,
     /// How many event records were discarded before it, where that is not told yet.
@@ -72,11 +75,13 @@ impl<'a> Packet<'a> {
         line: &mut Vec<u8>,
         attempt: &mut Attempt,
     ) -> Option<Front<'a>>
-        requires { Within bytes.now self.old }
+        requires within { Within bytes.now self.old }
+        requires looked { IsShortOf self.old.opened.stream.now self.old.short }
         ensures takes { (shift : Shift) (known : Known) (follows : Option Moment → Run Classes) → self.old.opened.line ≡ (stream_form shift self.old.opened.stream.now).line → IfSome result (λ front. TakesItem shift follows (left_in shift known bytes.now follows self.old) self.new known bytes.now (Ok (Some front))) }
         ensures written { (shift : Shift) (known : Known) → self.old.opened.line ≡ (stream_form shift self.old.opened.stream.now).line → IfSome result (HoldsFront writes shift known bytes.now part.now line.new.items self.new) }
         ensures room { IfSome result (λ _. room_in self.new < room_in self.old) }
         ensures opened { self.new.opened ≡ self.old.opened }
+        ensures short { self.new.short ≡ self.old.short }
         ensures place { self.new.place ≤ self.new.opened.content }
         ensures none { IfNone result (self.new ≡ self.old) }
     {
@@ -95,6 +100,7 @@ impl<'a> Packet<'a> {
             bytes,
             before,
             begin,
+            self.short.as_ref(),
             line,
             attempt,
         )?;
@@ -125,6 +131,7 @@ impl<'a> Packet<'a> {
         ensures written { (shift : Shift) → self.old.opened.line ≡ (stream_form shift self.old.opened.stream.now).line → IfOk result (λ front. IfSome front (HoldsFront writes shift scopes.new bytes.now part.now line.new.items self.new)) }
         ensures room { TakesRoom (room_in self.old) (room_in self.new) result }
         ensures opened { self.new.opened ≡ self.old.opened }
+        ensures short { self.new.short ≡ self.old.short }
         ensures place { self.new.place ≤ self.new.opened.content }
         ensures packet { OnOk result (packet_values (values_of scopes.new) ≡ packet_values (values_of scopes.old)) }
     {

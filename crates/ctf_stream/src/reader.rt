@@ -151,6 +151,26 @@ impl<'a, S: Source + Drop> StreamReader<'a, S> {
             self.head = Head::Item(front);
             return;
         }
+        self.head = Head::Start;
+        self.advance(attempt);
+    }
+
+    /// Fetches the next item, where nothing stands in front. `attempt` tells what was tried of it. Mostly the next item is
+    /// one that `go_on` fetches itself, so this stands out of its way.
+    #[inline(never)]
+    fn advance(&mut self, attempt: Attempt)
+        requires { self.old.ahead ≡ start }
+        ensures comes { IsTrue self.old.tells → OrRefused (coming self.old) (coming self.new) }
+        ensures fetched { IsFetched self.new.ahead }
+        ensures room { self.new.room ≤ self.old.room }
+        ensures trace { self.new.trace ≡ self.old.trace }
+        ensures writes { self.new.writes ≡ self.old.writes }
+        ensures name { self.new.name ≡ self.old.name }
+        ensures tells { IsTrue self.old.tells → IsTrue self.new.tells }
+        ensures counted { IsTrue self.old.tells → self.new.taken + length self.new.left ≡ self.old.taken + length self.old.left }
+        ensures on_line { IsOnLine self.new }
+        ensures all_taken { IsTrue self.old.tells → IsAllTaken self.new.ahead self.new.left }
+    {
         match self.course.advance(self.alloc, &mut self.source, attempt) {
             Ok(Some(front)) => self.head = Head::Item(front),
             Ok(None) => {

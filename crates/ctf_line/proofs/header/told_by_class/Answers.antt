@@ -4,7 +4,7 @@ use Rattle.ctf_line.specs.declared.header.Telling.{Telling}
 use Rattle.ctf_line.specs.declared.header.ToldHead.{ToldHead}
 use Rattle.ctf_packet.specs.Classes.{stream_form}
 use Rattle.ctf_line.proofs.Heading.{tells_head}
-use Rattle.ctf_line.proofs.header.told_head.Goals as goal
+use Rattle.ctf_line.proofs.header.told_by_class.Goals as goal
 
 pub returns-clause-tells : goal.returns-clause-tells
 returns-clause-tells c = λ shift has_line.

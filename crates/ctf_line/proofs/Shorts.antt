@@ -1,0 +1,110 @@
+-- Headers whose class was looked at beforehand tell what their class tells.
+use Rattle.std.proofs.Common.{◌≡◌, ℕ, ℤ, true, false, cond, pos, ◌+◌, ◌<◌, ◌≤◌, List, [], ◌∷◌, length, get_or, Option, Some, None, IfSome, refl, sym, ap, ◌∙◌, arith, rules}
+use Rattle.std.specs.Prelude.{codes}
+use Rattle.std.specs.Int.{next_multiple_of}
+use Rattle.std.specs.List.{last_or}
+use Rattle.std.specs.Str.{bytes_eq}
+use Rattle.ctf_bits.specs.Number.{number, signed_number}
+use Rattle.ctf_class.specs.declared.class.Class.{Class}
+use Rattle.ctf_class.specs.declared.class.Member.{Member}
+use Rattle.ctf_class.specs.declared.integer.Integer.{Integer}
+use Rattle.ctf_class.specs.declared.route.Route.{Route}
+use Rattle.ctf_class.specs.declared.span.Choice.{Choice}
+use Rattle.ctf_class.specs.declared.span.Label.{Label}
+use Rattle.ctf_class.specs.declared.trace.StreamClass.{StreamClass}
+use Rattle.ctf_clock.specs.Clock.{Line, advanced, advanced_by}
+use Rattle.ctf_clock.specs.declared.moment.Moment.{Moment}
+use Rattle.ctf_decode.specs.Fields.{named_id, number_in}
+use Rattle.ctf_decode.specs.Forms.{enumeration}
+use Rattle.ctf_decode.specs.Input.{bits_of}
+use Rattle.ctf_decode.specs.Routes.{chosen, covers, FirstChooses}
+use Rattle.ctf_decode.specs.Values.{Val, label, unsigned}
+use Rattle.ctf_decode.specs.Views.{form, shape}
+use Rattle.ctf_decode.proofs.Pairs.{first_chooses}
+use Rattle.ctf_decode.proofs.Views.{form-is, shape-Enumeration}
+use Rattle.ctf_line.specs.Headers.{begun, Tells, TellsMember, TellsMembers, TellsNumber, StandsAsTag}
+use Rattle.ctf_line.specs.Shorts.{IsShort, IsFirstChoice, IsShortOf, begins_telling}
+use Rattle.ctf_line.specs.declared.header.Tag.{Tag}
+use Rattle.ctf_line.specs.declared.header.Telling.{Telling}
+use Rattle.ctf_line.specs.declared.short.ShortHeader.{ShortHeader}
+use Rattle.ctf_line.proofs.Telling.{tells_integer, reads_unsigned, stands_tag, going_begins, going_on, going_ends, tells_structure, tells_pair}
+use Rattle.ctf_packet.specs.Moved.{moved_in}
+
+-- the first choice is made by the numbers that it covers
+chosen_first : (choices : List Choice) (choice : Choice) (route : Route) (first last id : ℕ) → IsFirstChoice route choices choice → choice.span.first ≡ pos first → choice.span.last ≡ pos last → first ≤ id → id ≤ last → FirstChooses route choices (pos id) choice.option
+chosen_first choices choice route first last id is from to above below =
+    let low = ap (λ z. cond (covers (record { first = z; last = choice.span.last }) (pos id)) true false) from in
+    let covered : covers choice.span (pos id) ≡ true = search rules in
+    let found : Some choice.option ≡ chosen choices (pos id) = search rules in
+    first_chooses route choices (pos id) (Some choice.option) is.origin is.steps found
+
+-- a name that is `id`, and one that is not
+named_so : (m : Member) (i : Integer) (ls : List Label) (z : ℤ) → form m.class ≡ enumeration m.class.align i → bytes_eq m.name (codes "id") ≡ true → named_id m.name (form m.class) (label z) ≡ z ∷ []
+named_so m i ls z class named = ap (λ b. cond b (number_in (form m.class) (label z)) []) named ∙ ap (λ k. number_in k (label z)) class
+
+named_otherwise : (m : Member) (v : Val) → bytes_eq m.name (codes "id") ≡ false → named_id m.name (form m.class) v ≡ []
+named_otherwise m v named = ap (λ b. cond b (number_in (form m.class) v) []) named
+
+-- what an integer that sets the clock does to it
+moves_so : (line : Line) (i : Integer) (clock next : Moment) (n : ℕ) → i.is_moving ≡ true → i.is_signed ≡ false → advanced line clock i.size n ≡ Some next → advanced_by line clock (moved_in i (unsigned n)) ≡ Some next
+moves_so line i clock next n moves unsigned_is goes = search (rules, moves, unsigned_is, goes)
+
+pub tells_short : (line : Line) (short : ShortHeader) (class : Class) (packet : List ℕ) (content place : ℕ) (clock next : Moment) (begin tag_end inner end id n : ℕ) (is : IsShort short class)
+    → begin ≡ next_multiple_of place short.align → begin ≤ content
+    → tag_end ≡ next_multiple_of begin short.tag.align + bits_of short.tag.integer → tag_end ≤ content
+    → inner ≡ next_multiple_of tag_end short.option → inner ≤ content
+    → end ≡ next_multiple_of inner short.stamp.align + bits_of short.stamp.integer → end ≤ content
+    → id ≡ number short.tag.integer.order packet (next_multiple_of begin short.tag.align) (bits_of short.tag.integer) → short.first ≤ id → id ≤ short.last
+    → n ≡ number short.stamp.integer.order packet (next_multiple_of inner short.stamp.align) (bits_of short.stamp.integer)
+    → advanced line clock short.stamp.integer.size n ≡ Some next
+    → Tells line (form class) packet content (begins_telling clock place) (record { id = Some (pos id); clock = next; place = end; spent = 5 })
+tells_short line short class packet content place clock next begin tag_end inner end id n is begins room tag_ends tag_within opens open_within ends within id_is above below n_is goes =
+    let i = short.tag.integer in
+    let j = short.stamp.integer in
+    let tag = is.tag in
+    let stamp = is.of_stamp.stamp in
+    let z = pos id in
+    let from = begins_telling clock place in
+    let at : Telling = record { id = None; clock = clock; place = begin; spent = 1 } in
+    let chose : Telling = record { id = Some z; clock = clock; place = tag_end; spent = 3 } in
+    let opened : Telling = record { id = Some z; clock = clock; place = inner; spent = 4 } in
+    let to : Telling = record { id = Some z; clock = next; place = end; spent = 5 } in
+    let read : Tag = record { number = z; place = tag_end } in
+    let at_is : at ≡ begun class.align from = λ k. record { id = None; clock = clock; place = (begins ∙ ap (next_multiple_of place) (sym is.align)) k; spent = 1 } in
+    let opened_is : opened ≡ begun is.option.class.align chose = λ k. record { id = Some z; clock = clock; place = (opens ∙ ap (next_multiple_of tag_end) (sym is.inner)) k; spent = 4 } in
+    let tag_begin = ap (next_multiple_of begin) is.of_tag.align in
+    let stamp_begin = ap (next_multiple_of inner) is.of_stamp.align in
+    let tag_at : tag_end ≡ next_multiple_of begin tag.class.align + bits_of i = tag_ends ∙ ap (λ b. b + bits_of i) (sym tag_begin) in
+    let end_at : end ≡ next_multiple_of inner stamp.class.align + bits_of j = ends ∙ ap (λ b. b + bits_of j) (sym stamp_begin) in
+    let number_at : n ≡ number j.order packet (next_multiple_of inner stamp.class.align) (bits_of j) = n_is ∙ ap (λ b. number j.order packet b (bits_of j)) (sym stamp_begin) in
+    let told : TellsNumber line stamp j (unsigned n) opened to = (moves_so line j clock next n is.of_stamp.moves is.of_stamp.unsigned goes, ap (last_or (Some z)) (named_otherwise stamp (unsigned n) is.of_stamp.named)) in
+    let of_stamp : TellsMember line stamp packet content opened to =
+    tells_integer line stamp j packet content opened (unsigned n) (Some to) is.of_stamp.of_integer (omega arith) (omega (arith, within, end_at))
+    (λ earlier. reads_unsigned j packet content (next_multiple_of inner stamp.class.align) is.of_stamp.unsigned earlier ∙ ap unsigned (sym number_at)) told (end_at, refl)
+    in
+    let alone : TellsMembers line (stamp ∷ []) packet content opened to =
+    going_ends line (stamp ∷ []) packet content opened to (going_on line (stamp ∷ []) packet content opened 0 stamp opened to (omega arith) refl (going_begins line (stamp ∷ []) packet content opened) of_stamp)
+    in
+    let of_option : Tells line (form is.option.class) packet content chose to = tells_structure line is.option.class (stamp ∷ []) packet content chose opened (Some to) is.of_stamp.is opened_is open_within (omega arith) alone in
+    let class_tag : form tag.class ≡ enumeration tag.class.align i = form-is tag.class ∙ ap (λ x. shape x tag.class.align) is.of_tag.is ∙ shape-Enumeration i is.of_tag.labels tag.class.align in
+    let id_at : id ≡ number i.order packet (next_multiple_of begin tag.class.align) (bits_of i) = id_is ∙ ap (λ b. number i.order packet b (bits_of i)) (sym tag_begin) in
+    let stands : StandsAsTag tag.class.align i packet content begin read =
+    stands_tag tag.class.align i packet content begin read (omega (arith, tag_within, tag_at)) tag_at
+    (ap (λ b. cond b (signed_number i.order packet (next_multiple_of begin tag.class.align) (bits_of i)) (pos (number i.order packet (next_multiple_of begin tag.class.align) (bits_of i)))) is.of_tag.unsigned ∙ ap pos (sym id_at))
+    in
+    let pair : TellsMembers line (tag ∷ is.variant ∷ []) packet content at to =
+    tells_pair line tag is.variant i is.of_tag.labels is.route is.choices is.options packet content at chose (Some to) read is.choice.option is.option is.of_tag.is is.of_variant (omega arith) is.within is.chosen stands
+    (chosen_first is.choices is.choice is.route short.first short.last id is.first_choice is.first is.last above below) (sym (ap (last_or None) (named_so tag i is.of_tag.labels z class_tag is.of_tag.named))) refl refl refl of_option
+    in
+    tells_structure line class (tag ∷ is.variant ∷ []) packet content from at (Some to) is.is at_is room (omega arith) pair
+
+-- the only member, where there is one
+pub one_member : (ms : List Member) (m : Member) → 1 ≤ length ms → length ms < 2 → m ≡ get_or ms 0 m → m ∷ [] ≡ ms
+one_member [] m some few first = absurd (omega (arith, some))
+one_member (x ∷ []) m some few first = λ j. first j ∷ []
+one_member (x ∷ y ∷ ms) m some few first = absurd (omega (arith, few))
+
+-- what was looked at of the class of a stream class's headers
+pub short_of : (stream : StreamClass) (class : Class) (r : Option ShortHeader) → stream.event_header ≡ Some class → IfSome r (λ short. IsShort short class) → IsShortOf stream r
+short_of stream class None is short = tt
+short_of stream class (Some s) is short = (class, is, short)
