@@ -44,7 +44,8 @@ pub enum Attempt {
 
 /// The event record at a place of a packet, in bits from its first one, where `bytes` are the packet's and its clock
 /// came so far (CTF 1.8.3, section 6), if it can be shown without its values. `part` is the text of the packet in the lines
-/// of its event records, and `short` what was looked at of the class of its headers. The text of the record stands at the front of `line` then: the host, the name and the scopes.
+/// of its event records, and `short` what `short_header` gave for its stream class, or nothing. The text of the record stands
+/// at the front of `line` then: the host, the name and the scopes.
 ///
 /// `None` where a class is another one than `put_standing` writes, where the record has a fault, and where memory is
 /// refused. The line is then any line, and `attempt` tells `next_line` how far the record came.
@@ -79,8 +80,7 @@ pub fn written_line<'a>(
     written_by_class(packet, part, bytes, clock, place, line, attempt)
 }
 
-/// The same of a header that is told by its class. It stands apart, so that what is told of mostly each header goes through
-/// no memory.
+/// The same of a header that is told by its class. It stands apart, so that what a usual header tells goes through no memory.
 #[inline(never)]
 fn written_by_class<'a>(
     packet: &OpenPacket<'a>,
