@@ -3,3 +3,4 @@ pub mod Telling
 pub mod Heading
 pub mod Records
 pub mod Shorts
+pub mod Bare

@@ -1,5 +1,5 @@
 -- Headers that are told where they stand.
-use Rattle.std.specs.Prelude.{◌≡◌, ℕ, ◌+◌, ◌<◌, List, [], ◌++◌, map, Option, Some, Ok}
+use Rattle.std.specs.Prelude.{◌≡◌, ℕ, ◌+◌, ◌<◌, List, [], ◌++◌, map, Option, Some, None, Ok}
 use Rattle.std.specs.Int.{next_multiple_of}
 use Rattle.std.specs.List.{last_or}
 use Rattle.ctf_class.specs.declared.class.Member.{Member}
@@ -57,6 +57,11 @@ TellsNumber line m i v from to = (advanced_by line from.clock (moved_in i v) ≡
 abbrev pub StandsAsTag : ℕ → Integer → List ℕ → ℕ → ℕ → Tag → Type 0
 StandsAsTag align i packet content place tag =
     (earlier : Scope → Option Val) (env : Env) (spent : ℕ) → spent < MOST_VALUES → walk (enumeration align i) (among packet content earlier) env place spent ≡ Ok (label tag.number, tag.place, spent + 1)
+
+-- the clock of a stream that has one, where nothing sets it
+abbrev pub clock_kept : Option Line → Option Moment → Option Moment
+clock_kept (Some line) clock = clock
+clock_kept None clock = None
 
 -- the header that stands at a place, whatever the values of the scopes before it
 abbrev pub TellsHead : StreamClass → StreamForm Classes → List ℕ → ℕ → Option Moment → ℕ → ToldHead → Type 0

@@ -1,6 +1,6 @@
 //! Headers of event records that are told where they stand, without their values.
 
-ghost use Rattle.std.specs.Prelude.{◌≡◌, ◌<◌, ◌≤◌, ◌+◌, ◌*◌, ◌^◌, [], ◌∷◌, Some, length, IfSome, option_copied};
+ghost use Rattle.std.specs.Prelude.{◌≡◌, ℕ, List, None, ◌<◌, ◌≤◌, ◌+◌, ◌*◌, ◌^◌, [], ◌∷◌, Some, length, IfSome, option_copied};
 ghost use Rattle.std.specs.Int.{next_multiple_of};
 ghost use Rattle.ctf_clock.specs.declared.moment.Shift.{Shift};
 ghost use Rattle.ctf_decode.specs.Input.{bits_of};
@@ -83,8 +83,8 @@ pub(crate) fn told_short<'a>(
 
 /// The header of the event record at a place of a packet, in bits from its first one, whose clock came so far (CTF
 /// 1.8.3, section 6.1). Only structures of integers are told, and those of an enumeration and a variant on it whose
-/// option is such a structure, where the packet has a clock. `None` where the class is another one, and where the header
-/// has a fault.
+/// option is such a structure, where the packet has a clock; and records without a header. `None` where the class is another
+/// one, and where the header has a fault.
 #[inline(always)]
 pub(crate) fn told_by_class<'a>(
     packet: &OpenPacket<'a>,
@@ -100,7 +100,9 @@ pub(crate) fn told_by_class<'a>(
     ensures few { IfSome result (λ told. told.spent ≤ MOST_VALUES) }
 {
     let stream = packet.stream;
-    let class = stream.event_header()?;
+    let Some(class) = stream.event_header() else {
+        return told_bare(packet, clock, place);
+    };
     let line = packet.line.as_ref()?;
     let from = Telling {
         id: None,
@@ -117,6 +119,29 @@ pub(crate) fn told_by_class<'a>(
             end: to.place,
         },
         spent: to.spent,
+    })
+}
+
+/// The header of an event record of a stream whose event records have none: it is of the only event class.
+#[inline(always)]
+fn told_bare<'a>(packet: &OpenPacket<'a>, clock: Option<Moment>, place: u64) -> Option<ToldHead<'a>>
+    requires bare { packet.now.stream.now.event_header ≡ None }
+    ensures tells { (bytes : List ℕ) (content : ℕ) → IfSome result (λ told. (shift : Shift) → packet.now.line ≡ (stream_form shift packet.now.stream.now).line → TellsHead packet.now.stream.now (stream_form shift packet.now.stream.now) bytes content clock place told) }
+    ensures end { IfSome result (λ told. told.head.end ≡ place) }
+    ensures spent { IfSome result (λ told. told.spent ≡ 0) }
+{
+    let event = event_named(packet.stream, None)?;
+    let clock = match &packet.line {
+        Some(_line) => clock,
+        None => None,
+    };
+    Some(ToldHead {
+        head: Head {
+            event,
+            clock,
+            end: place,
+        },
+        spent: 0,
     })
 }
 
