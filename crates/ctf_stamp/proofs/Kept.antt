@@ -1,5 +1,5 @@
 -- Stamps from a kept second, and from one that is made.
-use Rattle.std.proofs.Common.{◌≡◌, ℕ, ℤ, ◌<◌, List, ◌∷◌, ◌++◌, take, sym, ap, subst, ◌∙◌, arith}
+use Rattle.std.proofs.Common.{◌≡◌, ℕ, ℤ, ◌<◌, List, ◌∷◌, ◌++◌, Option, Some, None, IfSome, take, sym, ap, subst, ◌∙◌, arith}
 use Rattle.ctf_stamp.specs.Civil.{second_of, within_second}
 use Rattle.ctf_stamp.specs.Digits.{last_digits}
 use Rattle.ctf_stamp.specs.Putting.{IsPut}
@@ -27,3 +27,14 @@ put_first p = p.stands
 
 pub same_head : (style : Style) (s t : ℤ) (xs ys : List ℕ) → IsHeadOf style s xs → s ≡ t → xs ≡ ys → IsHeadOf style t ys
 same_head style s t xs ys h e f = subst (IsHeadOf style t) f (subst (λ (z : ℤ). IsHeadOf style z xs) e h)
+
+-- the head that is kept with the start of its second
+pub head_from : (style : Style) (start : Option ℤ) (s : ℤ) (text : List ℕ) → start ≡ Some s → IfSome start (λ s. (within_second s ≡ 0) × IsHeadOf style (second_of s) text) → IsHeadOf style (second_of s) text
+head_from style start s text is kept = (subst (λ o. IfSome o (λ s. (within_second s ≡ 0) × IsHeadOf style (second_of s) text)) is kept).1
+
+pub keeps_head : (style : Style) (start : Option ℤ) (time : ℤ) (nanos : ℕ) (xs ys : List ℕ) → IfSome start (λ s. second_of s ≡ second_of time) → IfSome start (λ s. within_second s ≡ 0) → IfSome start (λ _. nanos < 999999999) → nanos ≡ within_second time
+    → (within_second time < 999999999 → IsHeadOf style (second_of time) xs) → xs ≡ ys → IfSome start (λ s. (within_second s ≡ 0) × IsHeadOf style (second_of s) ys)
+keeps_head style None time nanos xs ys second zero early is head same = tt
+keeps_head style (Some s) time nanos xs ys second zero early is head same =
+    let before : within_second time < 999999999 = omega arith in
+    (zero, same_head style _ _ xs ys (head before) (sym second) same)

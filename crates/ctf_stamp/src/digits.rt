@@ -30,7 +30,7 @@ pub(crate) fn put_two(first: u8, second: u8, line: &mut [u8], at: usize) -> usiz
     put_byte(second, line, at)
 }
 
-/// Two digits.
+/// Two digits. They are put as one slice, which the compiler writes by one store.
 #[inline(always)]
 pub(crate) fn put_pair(pair: u32, line: &mut [u8], at: usize) -> usize
     requires two { pair < 100 }
@@ -38,7 +38,7 @@ pub(crate) fn put_pair(pair: u32, line: &mut [u8], at: usize) -> usize
     ensures { IsPut line.old line.new at result (last_digits 2 pair) }
 {
     let digits = two_digits(pair).to_le_bytes();
-    put_two(digits[0], digits[1], line, at)
+    put_bytes(&digits, line, at)
 }
 
 /// Four digits.

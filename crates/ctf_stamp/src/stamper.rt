@@ -30,17 +30,17 @@ const LAST_NANO: u32 = 999_999_999;
 #[derive(Drop)]
 pub struct Stamper {
     style: Style,
-    // The second that is kept, since the epoch.
-    second: i64,
+    // The start of the second that is kept, in nanoseconds since the epoch.
+    start: Option<i64>,
     // What the style shows of it before the dot.
     text: [u8; MOST_HEAD],
     length: usize,
-    kept: bool,
 }
 
 impl Model for Stamper {
-    ghost use Rattle.std.specs.Prelude.{◌≤◌, IsTrue, take};
+    ghost use Rattle.std.specs.Prelude.{◌≡◌, ◌≤◌, IfSome, take};
     ghost use Rattle.ctf_stamp.specs.declared.style.Style.{Style as PlainStyle};
+    ghost use Rattle.ctf_stamp.specs.Civil.{second_of, within_second};
     ghost use Rattle.ctf_stamp.specs.Stamps.{IsHeadOf};
 
     ghost Value = { PlainStyle };
@@ -48,7 +48,8 @@ impl Model for Stamper {
     ghost view = { λ stamper. stamper.style };
 
     ghost invariant = { λ stamper. (stamper.length ≤ 19)
-        × (IsTrue stamper.kept → IsHeadOf stamper.style stamper.second (take stamper.length stamper.text)) };
+        × IfSome stamper.start (λ start. (within_second start ≡ 0)
+        × IsHeadOf stamper.style (second_of start) (take stamper.length stamper.text)) };
 }
 
 impl Stamper {
@@ -58,10 +59,9 @@ impl Stamper {
     {
         Stamper {
             style,
-            second: 0,
+            start: None,
             text: [0; MOST_HEAD],
             length: 0,
-            kept: false,
         }
     }
 
@@ -91,15 +91,14 @@ impl Stamper {
         ensures short { result ≤ at + MOST_STAMP }
         ensures style { self.new ≡ self.old }
     {
-        if self.kept {
-            if let Some(nanos) = nanos_within(self.second, time) {
+        if let Some(start) = self.start {
+            if let Some(nanos) = nanos_within(start, time) {
                 return put_second(&self.text[..self.length], nanos, line, at);
             }
         }
-        let (second, nanos) = split(time);
+        let nanos = nanos_of(time);
         self.length = put_head(&self.style, time, &mut self.text, 0);
-        self.second = second;
-        self.kept = nanos != LAST_NANO;
+        self.start = start_to_keep(nanos, time);
         put_second(&self.text[..self.length], nanos, line, at)
     }
 
@@ -161,14 +160,14 @@ fn put_kept(head: &[u8], line: &mut [u8], at: usize) -> usize
 }
 
 /// The nanoseconds of a time behind the start of a second, if it lies in that second and is not its last nanosecond.
-/// It takes no division.
+/// It takes neither a division nor a product.
 #[inline(always)]
-fn nanos_within(second: i64, time: i64) -> Option<u32>
-    ensures second { IfSome result (λ _. second_of time ≡ second) }
+fn nanos_within(start: i64, time: i64) -> Option<u32>
+    requires { within_second start ≡ 0 }
+    ensures second { IfSome result (λ _. second_of time ≡ second_of start) }
     ensures nanos { IfSome result (λ n. n ≡ within_second time) }
     ensures early { IfSome result (λ n. n < 999999999) }
 {
-    let start = second.checked_mul(SECOND)?;
     if time < start {
         return None;
     }
@@ -179,13 +178,26 @@ fn nanos_within(second: i64, time: i64) -> Option<u32>
     Some(nanos as u32)
 }
 
-/// The second in which a time lies, and the nanoseconds behind its start.
-fn split(time: i64) -> (i64, u32)
-    ensures second { result.0 ≡ second_of time }
-    ensures nanos { result.1 ≡ within_second time }
-    ensures below { result.1 < 1000000000 }
+/// The nanoseconds of a time behind the start of its second.
+fn nanos_of(time: i64) -> u32
+    ensures nanos { result ≡ within_second time }
+    ensures below { result < 1000000000 }
 {
-    (time.div_euclid(SECOND), time.rem_euclid(SECOND) as u32)
+    time.rem_euclid(SECOND) as u32
+}
+
+/// The start of the second of a time, so many nanoseconds before it. None at the second's last nanosecond, whose head
+/// can be another one, and where the start is no number of 64 bits.
+fn start_to_keep(nanos: u32, time: i64) -> Option<i64>
+    requires { nanos ≡ within_second time }
+    ensures second { IfSome result (λ start. second_of start ≡ second_of time) }
+    ensures start { IfSome result (λ start. within_second start ≡ 0) }
+    ensures early { IfSome result (λ _. nanos < 999999999) }
+{
+    if nanos == LAST_NANO {
+        return None;
+    }
+    time.checked_sub(i64::from(nanos))
 }
 
 /// The seconds since the epoch.
