@@ -7,3 +7,5 @@ mod numbers;
 mod sinks;
 #[cfg(test)]
 mod sources;
+#[cfg(test)]
+mod windows;

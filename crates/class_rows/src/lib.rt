@@ -10,6 +10,8 @@ mod lookups;
 #[cfg(test)]
 mod names;
 #[cfg(test)]
+mod plans;
+#[cfg(test)]
 mod sizes;
 #[cfg(test)]
 mod traces;

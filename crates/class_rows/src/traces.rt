@@ -2,7 +2,7 @@
 
 use ctf_bits::Order;
 use ctf_class::{
-    Align, Base, Class, EventClass, FieldName, Heading, Indexed, Integer, Kind, Member,
+    Align, Base, Class, EventClass, FieldName, Heading, Indexed, Integer, Kind, Member, Planned,
     StreamClass, TraceClass, Width,
 };
 use ctf_list::{List, NoMemory};
@@ -48,8 +48,11 @@ fn event(alloc: Global, id: u64, fields: Class) -> Result<EventClass, NoMemory> 
     Ok(EventClass {
         id,
         heading,
-        context: integer_of(16),
-        fields,
+        context: match integer_of(16) {
+            Some(class) => Some(Planned::new(alloc, class)?),
+            None => None,
+        },
+        fields: Planned::new(alloc, fields)?,
     })
 }
 

@@ -38,7 +38,7 @@ between-be bytes s n r w is =
     ∙ mod-mul-add above (2 ^ n) wanted (number-lt Be bytes s n)
 
 -- the ones of n bits, made of those of a word
-ones : (n k : ℕ) → n + k ≡ 64 → 18446744073709551615 / 2 ^ k ≡ 2 ^ n - 1
+pub ones : (n k : ℕ) → n + k ≡ 64 → 18446744073709551615 / 2 ^ k ≡ 2 ^ n - 1
 ones n k width =
     let top : ℕ = 2 ^ n - 1 in
     let word : 2 ^ n * 2 ^ k ≡ 2 ^ 64 = sym (pow-add 2 n k) ∙ ap (λ (x : ℕ). 2 ^ x) width in

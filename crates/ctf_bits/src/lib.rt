@@ -14,6 +14,7 @@ mod slices;
 mod source;
 mod to_write;
 mod vec_sink;
+mod window;
 
 pub use align::up;
 pub use drip_sink::DripSink;
@@ -26,3 +27,4 @@ pub use slices::{FailingSource, PieceSource, SliceSource};
 pub use source::{Ending, Source, SourceFault};
 pub use to_write::ToWrite;
 pub use vec_sink::VecSink;
+pub use window::Window;

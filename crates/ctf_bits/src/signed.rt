@@ -42,7 +42,7 @@ pub fn is_unsigned(value: u64, n: u32) -> bool
 
 /// A number of `n` bits, less 2 ^ n where its top bit is set.
 #[inline(always)]
-fn twos_complement(value: u64, n: u32) -> i64
+pub(crate) fn twos_complement(value: u64, n: u32) -> i64
     requires some_bits { 1 ≤ n }
     requires in_a_word { n ≤ 64 }
     requires bits { value < 2 ^ n }

@@ -1,4 +1,5 @@
 pub mod AlignmentLemmas
 pub mod EscapesLemmas
 pub mod PlacesLemmas
+pub mod PlansLemmas
 pub mod WordsLemmas

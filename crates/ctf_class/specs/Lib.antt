@@ -5,4 +5,5 @@ pub mod HostAndName
 pub mod Items
 pub mod Names
 pub mod Places
+pub mod Plans
 pub mod Words

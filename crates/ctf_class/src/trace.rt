@@ -7,6 +7,7 @@ use crate::class::Class;
 use crate::frequency::Frequency;
 use crate::heading::Heading;
 use crate::indexed::{HasId, Indexed};
+use crate::planned::Planned;
 use ctf_list::List;
 
 /// A clock (CTF 1.8.3, section 8).
@@ -25,8 +26,8 @@ pub struct Clock {
 pub struct EventClass {
     pub id: u64,
     pub heading: Heading,
-    pub context: Option<Class>,
-    pub fields: Class,
+    pub context: Option<Planned>,
+    pub fields: Planned,
 }
 
 /// A stream class (CTF 1.8.3, sections 3 and 7.4).
@@ -36,7 +37,7 @@ pub struct StreamClass {
     pub packet_context: Option<Class>,
     pub event_header: Option<Class>,
     /// The stream event context.
-    pub event_context: Option<Class>,
+    pub event_context: Option<Planned>,
     /// The clock of the stream, where a moving integer stands in its packet context or event header.
     pub clock: Option<Clock>,
     /// In the order of the text.
@@ -81,14 +82,14 @@ impl EventClass {
     pub fn context(&self) -> Option<&Class>
         ensures { option_copied result ≡ self.now.context }
     {
-        self.context.as_ref()
+        class_of(&self.context)
     }
 
     /// The class of the event fields.
     pub fn fields(&self) -> &Class
         ensures { result.now ≡ self.now.fields }
     {
-        &self.fields
+        self.fields.class()
     }
 }
 
@@ -132,7 +133,7 @@ impl StreamClass {
     pub fn event_context(&self) -> Option<&Class>
         ensures { option_copied result ≡ self.now.event_context }
     {
-        self.event_context.as_ref()
+        class_of(&self.event_context)
     }
 }
 
@@ -166,5 +167,15 @@ impl TraceClass {
         ensures { option_copied result ≡ self.now.packet_header }
     {
         self.packet_header.as_ref()
+    }
+}
+
+/// The class, where there is one.
+fn class_of(planned: &Option<Planned>) -> Option<&Class>
+    ensures { option_copied result ≡ planned.now }
+{
+    match planned {
+        Some(planned) => Some(planned.class()),
+        None => None,
     }
 }

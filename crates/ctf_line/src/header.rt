@@ -37,9 +37,9 @@ struct Tag {
 
 /// Where an integer begins and ends, in bits from the packet's first one.
 #[derive(Clone, Copy, Debug)]
-pub(crate) struct Bits {
-    pub(crate) begin: u64,
-    pub(crate) end: u64,
+struct Bits {
+    begin: u64,
+    end: u64,
 }
 
 /// A header that was told, and how many values were begun for it.
@@ -292,7 +292,7 @@ fn tag_at(container: &Integer, align: Align, bytes: &[u8], content: u64, place: 
 
 /// The bits of an integer that could begin at a place, if they lie within the content.
 #[inline(always)]
-pub(crate) fn bits_at(integer: &Integer, align: Align, content: u64, place: u64) -> Option<Bits>
+fn bits_at(integer: &Integer, align: Align, content: u64, place: u64) -> Option<Bits>
     requires content { content ≤ 2 ^ 62 }
     requires start { place ≤ content }
     ensures begin { IfSome result (λ bits. bits.begin ≡ next_multiple_of place align) }

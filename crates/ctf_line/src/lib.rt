@@ -6,4 +6,4 @@ mod record;
 mod short;
 
 pub use record::{Attempt, LineRecord, next_line, written_line};
-pub use short::{Field, ShortHeader, short_header};
+pub use short::{ShortHeader, short_header};

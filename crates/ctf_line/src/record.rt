@@ -12,11 +12,11 @@ ghost use Rattle.ctf_packet.specs.Views.{values_of, packet_values, opened_of};
 
 use crate::header::{told_by_class, told_short};
 use crate::short::ShortHeader;
-use ctf_class::Class;
+use ctf_class::Planned;
 use ctf_clock::Moment;
 use ctf_decode::{MOST_VALUES, Scopes};
 use ctf_packet::{EventRecord, Head, OpenPacket, Spares, StreamFault, next_head, put_body};
-use ctf_text::{Standing, put_comma, put_front, put_standing};
+use ctf_text::{Standing, put_comma, put_front, put_planned};
 use std::alloc::Global;
 
 /// The longest buffer, in bytes, that is kept for the next text. So no trace makes a reader hold a long one for each of many
@@ -47,7 +47,7 @@ pub enum Attempt {
 /// of its event records, and `short` what `short_header` gave for its stream class, or nothing. The text of the record stands
 /// at the front of `line` then: the host, the name and the scopes.
 ///
-/// `None` where a class is another one than `put_standing` writes, where the record has a fault, and where memory is
+/// `None` where a class is another one than `put_planned` writes, where the record has a fault, and where memory is
 /// refused. The line is then any line, and `attempt` tells `next_line` how far the record came.
 pub fn written_line<'a>(
     alloc: Global,
@@ -77,7 +77,9 @@ pub fn written_line<'a>(
             return Some(with_text(told.head, standing));
         }
     }
-    written_by_class(packet, part, bytes, clock, place, line, attempt)
+    // This result gets a place of its own. Else the record of a usual header is made in that place, too, and copied.
+    let made = written_by_class(packet, part, bytes, clock, place, line, attempt)?;
+    Some(made)
 }
 
 /// The same of a header that is told by its class. It stands apart, so that what a usual header tells goes through no memory.
@@ -249,10 +251,11 @@ fn put_record(
         spent,
         end: front,
     };
-    let shared = put_scope(packet.stream.event_context(), bytes, content, from, line)?;
-    let own = put_scope(event.context(), bytes, content, shared, line)?;
-    let fields = event.fields();
-    let all = put_standing(fields, bytes, content, own.place, own.spent, line, own.end)?;
+    let context = packet.stream.event_context.as_ref();
+    let shared = put_scope(context, bytes, content, from, line)?;
+    let own = put_scope(event.context.as_ref(), bytes, content, shared, line)?;
+    let fields = &event.fields;
+    let all = put_planned(fields, bytes, content, own.place, own.spent, line, own.end)?;
     if all.place <= place {
         return None;
     }
@@ -285,7 +288,7 @@ fn put_apart(
 /// Writes the text of a scope, if it has a class, and a comma behind it.
 #[inline(always)]
 fn put_scope(
-    class: Option<&Class>,
+    class: Option<&Planned>,
     bytes: &[u8],
     content: u64,
     from: Standing,
@@ -304,7 +307,7 @@ fn put_scope(
     let Some(class) = class else {
         return Some(from);
     };
-    let to = put_standing(
+    let to = put_planned(
         class, bytes, content, from.place, from.spent, line, from.end,
     )?;
     let Ok(end) = put_comma(line, to.end) else {

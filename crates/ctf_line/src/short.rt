@@ -1,14 +1,15 @@
 //! Headers of event records whose class was looked at beforehand.
 
-ghost use Rattle.std.specs.Prelude.{◌≡◌, ◌≤◌, ◌*◌, ◌^◌, codes, pos, length, IfSome};
+ghost use Rattle.std.specs.Prelude.{◌≡◌, ◌≤◌, ◌<◌, ◌+◌, ◌*◌, ◌^◌, ◌%◌, codes, false, pos, length, IfSome, IsTrue};
 ghost use Rattle.std.specs.Str.{bytes_eq};
+ghost use Rattle.ctf_bits.specs.declared.number.Order.TheVariants.{Le};
 ghost use Rattle.ctf_class.specs.declared.class.Class.{Class};
+ghost use Rattle.ctf_decode.specs.Input.{bits_of};
 ghost use Rattle.ctf_decode.specs.Views.{form};
 ghost use Rattle.ctf_line.specs.Headers.{Tells};
-ghost use Rattle.ctf_line.specs.Shorts.{IsShort, IsTagOf, IsStampOf, IsFirstChoice, IsShortOf, begins_telling, short_telling};
+ghost use Rattle.ctf_line.specs.Shorts.{IsShort, IsTagOf, IsStampOf, IsStampPlace, IsFirstChoice, IsShortOf, EndsNear, AreWindows, begins_telling, short_telling};
 
-use crate::header::bits_at;
-use ctf_bits::uint_within;
+use ctf_bits::{Order, Window};
 use ctf_class::{Align, Choice, Class, Integer, Kind, Member, Origin, Route, StreamClass};
 use ctf_clock::{Moment, Timeline};
 
@@ -18,24 +19,34 @@ pub(crate) const SHORT_VALUES: u64 = 5;
 /// What is read of the usual header of tracers such as LTTng (CTF 1.8.3, section 6.1): of an enumeration named `id` and a
 /// variant on it whose first choice is a structure of one integer that sets the clock. Who knows it tells such a header
 /// without a look at its class.
-#[derive(Clone, Copy, Debug)]
+///
+/// The alignments of its parts divide its own, and it begins at a byte. So these stand at fixed places behind its begin, and
+/// the tag right there. Both integers are little endian and lie in eight bytes.
+#[derive(Debug, Drop)]
 pub struct ShortHeader {
     /// The alignment of the header.
     pub align: Align,
-    pub tag: Field,
+    pub tag: Integer,
+    /// How the tag is read.
+    pub tag_window: Window,
     /// The first and the last of the tag's numbers for which it holds.
     pub first: u64,
     pub last: u64,
-    /// The alignment of the structure that they choose.
-    pub option: Align,
-    pub stamp: Field,
+    /// What sets the clock.
+    pub stamp: Integer,
+    /// Where it begins, in bits from the header's first one.
+    pub stamp_place: u64,
+    /// How it is read.
+    pub stamp_window: Window,
+    /// Where the header ends, in bits from its first one.
+    pub end: u64,
 }
 
 /// An unsigned integer, and its alignment.
 #[derive(Clone, Copy, Debug)]
-pub struct Field {
-    pub align: Align,
-    pub integer: Integer,
+struct Field {
+    align: Align,
+    integer: Integer,
 }
 
 /// What such a header told.
@@ -82,20 +93,82 @@ fn short_class(class: &Class) -> Option<ShortHeader>
     let option = &options[choice.option].class;
     let first = unsigned(choice.span.first)?;
     let last = unsigned(choice.span.last)?;
-    let tag = tag_of(tag)?;
+    let integer = tag_of(tag)?;
     let stamp = stamp_of(option)?;
+    let stamp_place = stamp_place(
+        class.align,
+        tag.class.align,
+        &integer,
+        option.align,
+        stamp.align,
+    )?;
+    let end = stamp_place + size_of(&stamp.integer);
+    let tag_window = window_of(&integer, 0)?;
+    let stamp_window = window_of(&stamp.integer, stamp_place)?;
     Some(ShortHeader {
         align: class.align,
-        tag,
+        tag: integer,
+        tag_window,
         first,
         last,
-        option: option.align,
-        stamp,
+        stamp: stamp.integer,
+        stamp_place,
+        stamp_window,
+        end,
     })
 }
 
+/// Where the stamp begins, in bits from the header's first one, if that is the same wherever the header stands.
+fn stamp_place(
+    header: Align,
+    tag: Align,
+    integer: &Integer,
+    option: Align,
+    stamp: Align,
+) -> Option<u64>
+    ensures is { IfSome result (IsStampPlace header tag (bits_of integer.now) option stamp) }
+    ensures behind { IfSome result (λ place. bits_of integer.now ≤ place) }
+    ensures near { IfSome result (λ place. header + place < 2 ^ 39) }
+    ensures whole { IfSome result (λ _. header % 8 ≡ 0) }
+{
+    if header.bits() % 8 != 0 {
+        return None;
+    }
+    if !divides(tag, header) || !divides(option, header) || !divides(stamp, header) {
+        return None;
+    }
+    Some(stamp.up(option.up(size_of(integer))))
+}
+
+/// How an unsigned integer is read that stands at a place behind the first bit of a byte, if it is little endian and lies in
+/// eight bytes.
+fn window_of(integer: &Integer, place: u64) -> Option<Window>
+    ensures is { IfSome result (λ window. window ≡ record { place = place; size = bits_of integer.now; is_signed = false }) }
+    ensures little { IfSome result (λ _. integer.now.order ≡ Le) }
+{
+    if integer.order != Order::Le {
+        return None;
+    }
+    Window::new(place, integer.size.bits(), false)
+}
+
+/// Whether an alignment divides another one.
+fn divides(inner: Align, outer: Align) -> bool
+    ensures { IsTrue result → outer % inner ≡ 0 }
+{
+    outer.bits() % inner.bits() == 0
+}
+
+/// The size of an integer, in bits.
+fn size_of(integer: &Integer) -> u64
+    ensures is { result ≡ bits_of integer.now }
+    ensures few { result ≤ 64 }
+{
+    u64::from(integer.size.bits())
+}
+
 /// An unsigned enumeration named `id`.
-fn tag_of(member: &Member) -> Option<Field>
+fn tag_of(member: &Member) -> Option<Integer>
     ensures { IfSome result (IsTagOf member.now) }
 {
     let Kind::Enumeration { container, labels } = &member.class.kind else {
@@ -104,15 +177,12 @@ fn tag_of(member: &Member) -> Option<Field>
     if container.is_signed || !is_id(member.name.as_slice()) {
         return None;
     }
-    Some(Field {
-        align: member.class.align,
-        integer: *container,
-    })
+    Some(*container)
 }
 
 /// The member of a structure, if it is the only one, and an unsigned integer that sets the clock and is not named `id`.
 fn stamp_of(class: &Class) -> Option<Field>
-    ensures { IfSome result (IsStampOf class.now) }
+    ensures { IfSome result (λ stamp. IsStampOf class.now stamp.align stamp.integer) }
 {
     let Kind::Structure { members } = &class.kind else {
         return None;
@@ -163,7 +233,7 @@ fn is_id(name: &[u8]) -> bool
 }
 
 /// Tells a header of such a class, at a place in bits from the packet's first one, where the clock came so far. `None` where
-/// its tag is none of these numbers, and where it has a fault.
+/// its tag is none of these numbers, where it has a fault, and where it ends in the last eight bytes of the content.
 #[inline(always)]
 pub(crate) fn tell_short(
     line: &Timeline,
@@ -176,31 +246,26 @@ pub(crate) fn tell_short(
     requires content { content ≤ 2 ^ 62 }
     requires held { content ≤ 8 * length bytes.now }
     requires start { place ≤ content }
+    requires near { EndsNear short.now }
+    requires read { AreWindows short.now }
     ensures tells { IfSome result (λ to. (class : Class) → IsShort short.now class → Tells line.now (form class) bytes.now content (begins_telling clock place) (short_telling to)) }
     ensures within { IfSome result (λ to. to.place ≤ content) }
 {
     let begin = short.align.up(place);
-    if begin > content {
+    let end = begin + short.end;
+    if end + 64 > content {
         return None;
     }
-    let integer = &short.tag.integer;
-    let tag = bits_at(integer, short.tag.align, content, begin)?;
-    let id = uint_within(bytes, tag.begin, integer.size.bits(), integer.order);
+    let first = (begin / 8) as usize;
+    let id = short.tag_window.number(bytes, first)?;
     if id < short.first || id > short.last {
         return None;
     }
-    let inner = short.option.up(tag.end);
-    if inner > content {
-        return None;
-    }
-    let integer = &short.stamp.integer;
-    let stamp = bits_at(integer, short.stamp.align, content, inner)?;
-    let size = integer.size.bits();
-    let number = uint_within(bytes, stamp.begin, size, integer.order);
-    let clock = line.advance(clock, size, number)?;
+    let number = short.stamp_window.number(bytes, first)?;
+    let clock = line.advance(clock, short.stamp.size.bits(), number)?;
     Some(ShortTelling {
         id,
         clock,
-        place: stamp.end,
+        place: end,
     })
 }

@@ -19,7 +19,7 @@ use ctf_packet::{EventRecord, OpenPacket, Spares, StreamFault, next_record};
 use std::alloc::Global;
 
 /// A packet whose items are told one after the other.
-#[derive(Clone, Copy, Debug)]
+#[derive(Debug, Drop)]
 pub(crate) struct Packet<'a> {
     pub(crate) opened: OpenPacket<'a>,
     /// What was looked at of the class of its event headers.

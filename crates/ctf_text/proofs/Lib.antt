@@ -9,5 +9,6 @@ pub mod DigitsLemmas
 pub mod HexadecimalLemmas
 pub mod PatternLemmas
 pub mod StandingLemmas
+pub mod PlannedLemmas
 pub mod ArrayLemmas
 pub mod WindowLemmas

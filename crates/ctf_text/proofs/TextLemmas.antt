@@ -58,3 +58,16 @@ rest_more bytes before line more n already wrote =
     let left = take_all (length bytes - n) (drop n bytes) (omega (arith, length-drop n bytes)) in
     wrote ∙ (λ j. already j ++ escaped (left j)) ∙ append_assoc before (escaped (take n bytes)) (escaped (drop n bytes))
     ∙ ap (λ xs. before ++ xs) (sym (ap escaped (sym (take-append-drop n bytes)) ∙ both))
+
+-- a list of eight
+pub eight_items : (xs : List ℕ) → length xs ≡ 8 → get_or xs 0 0 ∷ get_or xs 1 0 ∷ get_or xs 2 0 ∷ get_or xs 3 0 ∷ get_or xs 4 0 ∷ get_or xs 5 0 ∷ get_or xs 6 0 ∷ get_or xs 7 0 ∷ [] ≡ xs
+eight_items (a ∷ b ∷ c ∷ d ∷ e ∷ f ∷ g ∷ h ∷ []) eight = refl
+eight_items [] eight = absurd (omega (arith, eight))
+eight_items (a ∷ []) eight = absurd (omega (arith, eight))
+eight_items (a ∷ b ∷ []) eight = absurd (omega (arith, eight))
+eight_items (a ∷ b ∷ c ∷ []) eight = absurd (omega (arith, eight))
+eight_items (a ∷ b ∷ c ∷ d ∷ []) eight = absurd (omega (arith, eight))
+eight_items (a ∷ b ∷ c ∷ d ∷ e ∷ []) eight = absurd (omega (arith, eight))
+eight_items (a ∷ b ∷ c ∷ d ∷ e ∷ f ∷ []) eight = absurd (omega (arith, eight))
+eight_items (a ∷ b ∷ c ∷ d ∷ e ∷ f ∷ g ∷ []) eight = absurd (omega (arith, eight))
+eight_items (a ∷ b ∷ c ∷ d ∷ e ∷ f ∷ g ∷ h ∷ i ∷ xs) eight = absurd (omega (arith, eight))

@@ -12,6 +12,7 @@ mod mark;
 mod number;
 mod packet;
 mod pattern;
+mod planned;
 mod record;
 mod room;
 mod standing;
@@ -22,6 +23,7 @@ mod window;
 
 pub use ctf_class::escaped;
 pub use packet::put_packet_part;
+pub use planned::put_planned;
 pub use record::{put_comma, put_front, put_record};
 pub use room::with_room;
 pub use standing::{Standing, put_standing};

@@ -27,7 +27,7 @@ pub fn put_few(bytes: &[u8], line: &mut [u8], at: usize) -> usize
     ensures end { result ≡ at + length bytes.now }
 {
     match bytes.len() {
-        8..=16 => put_both_ends::<8>(bytes, line, at),
+        8..=16 => put_both_words(bytes, line, at),
         17..=32 => put_both_ends::<16>(bytes, line, at),
         _ => put_bytes(bytes, line, at),
     }
@@ -45,6 +45,41 @@ pub fn put_both_ends<const COUNT: usize>(bytes: &[u8], line: &mut [u8], at: usiz
     let begin = bytes.len() - COUNT;
     put_bytes(&bytes[..COUNT], line, at);
     put_bytes(&bytes[begin..], line, at + begin)
+}
+
+/// The same of 8 to 16 bytes, which are written as two words.
+#[inline(always)]
+fn put_both_words(bytes: &[u8], line: &mut [u8], at: usize) -> usize
+    requires enough { 8 ≤ length bytes.now }
+    requires covered { length bytes.now ≤ 16 }
+    requires room { at + length bytes.now ≤ length line.old }
+    ensures text { take result line.new ≡ take at line.old ++ bytes.now }
+    ensures end { result ≡ at + length bytes.now }
+{
+    let begin = bytes.len() - 8;
+    put_eight(&bytes[..8], line, at);
+    put_eight(&bytes[begin..], line, at + begin)
+}
+
+/// The same of eight bytes. All are read before the first is written, so that they go as one word.
+#[inline(always)]
+fn put_eight(bytes: &[u8], line: &mut [u8], at: usize) -> usize
+    requires eight { length bytes.now ≡ 8 }
+    requires room { at + 8 ≤ length line.old }
+    ensures text { take result line.new ≡ take at line.old ++ bytes.now }
+    ensures end { result ≡ at + length bytes.now }
+{
+    let (a, b, c, d) = (bytes[0], bytes[1], bytes[2], bytes[3]);
+    let (e, f, g, h) = (bytes[4], bytes[5], bytes[6], bytes[7]);
+    line[at] = a;
+    line[at + 1] = b;
+    line[at + 2] = c;
+    line[at + 3] = d;
+    line[at + 4] = e;
+    line[at + 5] = f;
+    line[at + 6] = g;
+    line[at + 7] = h;
+    at + 8
 }
 
 /// Writes a mark and a space at an index of a line, and gives the index behind them.

@@ -38,7 +38,7 @@ pub fn put_record(
     let end = put_front(&event.heading, packet, buffer, at)?;
     let end = put_scope(stream.event_context(), shared, buffer, end)?;
     let end = put_scope(event.context(), own, buffer, end)?;
-    put_value(&event.fields, fields, buffer, end)
+    put_value(event.fields(), fields, buffer, end)
 }
 
 /// Writes what stands before the scopes of an event record at an index of a buffer, and gives the index behind it: the

@@ -274,6 +274,51 @@ fn put_characters_member(
     Some(ends.text)
 }
 
+/// The same of a member that may be an integer too.
+#[inline(always)]
+pub(crate) fn put_one_member(
+    lead: u8,
+    member: &Member,
+    packet: &Content<'_>,
+    place: &mut u64,
+    buffer: &mut Vec<u8>,
+    at: usize,
+) -> Option<usize>
+    requires start { place.old ≤ packet.now.end }
+    requires index { at ≤ vec_len buffer.old }
+    ensures puts { IfSome result (λ text. PutsOne (form member.now.class) (λ v. lead ∷ 32 ∷ texts.part_text (texts.member_part member.now) v) packet.now.bytes.now packet.now.end place.old place.new (take at buffer.old.items) (take text buffer.new.items)) }
+    ensures within { IfSome result (λ _. place.new ≤ packet.now.end) }
+    ensures held { IfSome result (λ text. text ≤ vec_len buffer.new) }
+{
+    if let Kind::Integer(integer) = &member.class.kind {
+        return put_integer_apart(lead, member, integer, packet, place, buffer, at);
+    }
+    put_characters_member(lead, member, packet, place, buffer, at)
+}
+
+/// The same of a member that is this integer.
+#[inline(never)]
+fn put_integer_apart(
+    lead: u8,
+    member: &Member,
+    integer: &Integer,
+    packet: &Content<'_>,
+    place: &mut u64,
+    buffer: &mut Vec<u8>,
+    at: usize,
+) -> Option<usize>
+    requires kind { member.now.class.kind ≡ kind.Integer integer.now }
+    requires start { place.old ≤ packet.now.end }
+    requires index { at ≤ vec_len buffer.old }
+    ensures puts { IfSome result (λ text. PutsOne (form member.now.class) (λ v. lead ∷ 32 ∷ texts.part_text (texts.member_part member.now) v) packet.now.bytes.now packet.now.end place.old place.new (take at buffer.old.items) (take text buffer.new.items)) }
+    ensures within { IfSome result (λ _. place.new ≤ packet.now.end) }
+    ensures held { IfSome result (λ text. text ≤ vec_len buffer.new) }
+{
+    let ends = put_integer_member(lead, member, integer, packet, *place, buffer, at)?;
+    *place = ends.place;
+    Some(ends.text)
+}
+
 /// The number of the last of these members, whose bits are these, if it is an unsigned integer.
 fn number_before(before: &[Member], bits: u64) -> Option<u64>
     ensures { result ≡ number_before before.now bits }

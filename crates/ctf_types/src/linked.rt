@@ -3,7 +3,7 @@
 ghost use Rattle.std.specs.Prelude.{◌≡◌};
 ghost use Rattle.ctf_types.specs.Gathered.{joined};
 
-use ctf_class::{Class, Clock, EventClass, Indexed, StreamClass};
+use ctf_class::{Class, Clock, EventClass, Indexed, Planned, StreamClass};
 
 /// A stream class without its events.
 #[derive(Debug, Drop)]
@@ -12,7 +12,7 @@ pub struct Head {
     pub packet_context: Option<Class>,
     pub event_header: Option<Class>,
     /// The stream event context.
-    pub event_context: Option<Class>,
+    pub event_context: Option<Planned>,
     /// The clock that its integers move, where they move one.
     pub clock: Option<Clock>,
     /// Whether they move a clock of another name too.

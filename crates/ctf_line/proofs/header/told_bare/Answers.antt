@@ -1,4 +1,4 @@
-use Rattle.std.proofs.Common.{◌≡◌, None, Some, refl, sym, ap, ◌∙◌}
+use Rattle.std.proofs.Common.{◌≡◌, refl, sym, ap, ◌∙◌}
 use Rattle.ctf_line.specs.Headers.{clock_kept}
 use Rattle.ctf_line.specs.declared.header.ToldHead.{ToldHead}
 use Rattle.ctf_line.proofs.Bare.{tells_bare}

@@ -16,4 +16,5 @@ returns-clause-text c =
     let front = c.in_ok-end.ensures.text ∙ sym (append_assoc old heading (flat_map followed (if_shown c.args.packet.now))) in
     let shared = rw c.event_context.ensures at c.in_ok-end-2.ensures.text in
     let own = rw c.context.ensures at c.in_ok-end-3.ensures.text in
-    subst (λ xs. IfOk c.put_value.result (λ end. take end c.put_value.new.buffer.items ≡ xs)) (record_chain old heading (value_text event.fields (val c.args.fields.now)) _ _ _ _ (if_shown c.args.packet.now) (scope_texts stream.event_context (option_map val (option_copied c.args.shared))) (scope_texts event.context (option_map val (option_copied c.args.own))) refl front shared own) c.put_value.ensures.text
+    let fields = rw c.fields.ensures at c.put_value.ensures.text in
+    subst (λ xs. IfOk c.put_value.result (λ end. take end c.put_value.new.buffer.items ≡ xs)) (record_chain old heading (value_text event.fields (val c.args.fields.now)) _ _ _ _ (if_shown c.args.packet.now) (scope_texts stream.event_context (option_map val (option_copied c.args.shared))) (scope_texts event.context (option_map val (option_copied c.args.own))) refl front shared own) fields
