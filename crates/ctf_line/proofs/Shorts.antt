@@ -1,8 +1,6 @@
 -- Headers whose class was looked at beforehand tell what their class tells.
 use Rattle.std.proofs.Common.{◌≡◌, ℕ, ℤ, true, false, cond, pos, ◌+◌, ◌-◌, ◌*◌, ◌/◌, ◌%◌, ◌<◌, ◌≤◌, List, [], ◌∷◌, length, get_or, Option, Some, None, IfSome, refl, sym, ap, ◌∙◌, add_assoc, add-zero, le-add_right, arith, rules}
-use Rattle.std.proofs.Math.Nat.{mod_self, mod-mod_of_dvd, mul-add-mod_self_right, sub-zero, zero-mod}
-use Rattle.std.proofs.lemmas.Nat.{div-add-mod'}
-use Rattle.std.proofs.lemmas.Nat.Gcd.{dvd_of_mod-eq-zero}
+use Rattle.std.proofs.Math.Nat.{mod_self, sub-zero}
 use Rattle.std.specs.Prelude.{codes}
 use Rattle.std.specs.Int.{next_multiple_of}
 use Rattle.std.specs.List.{last_or}

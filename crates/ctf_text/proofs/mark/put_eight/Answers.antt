@@ -1,4 +1,4 @@
-use Rattle.std.proofs.Common.{◌≡◌, List, ℕ, [], ◌∷◌, ◌++◌, take, length, get_or, ap, ◌∙◌, arith}
+use Rattle.std.proofs.Common.{◌++◌, take, get_or, ap, ◌∙◌}
 use Rattle.ctf_class.proofs.WordsLemmas.{put-bytes}
 use Rattle.ctf_text.proofs.TextLemmas.{eight_items}
 use Rattle.ctf_text.proofs.mark.put_eight.Goals as goal
