@@ -1,22 +1,10 @@
 //! What is known of structures beforehand.
 
-use ctf_bits::Order;
-use ctf_class::{Align, Base, Class, FieldName, Integer, Kind, Member, Planned, Width};
+use crate::traces::integer_of;
+use ctf_class::{Align, Class, FieldName, Kind, Member, Planned};
 use ctf_list::{List, NoMemory};
 use std::alloc::Global;
 use std::test::Fail;
-
-/// An unsigned integer of so many bits in decimal, where there can be one.
-fn integer_of(bits: u32) -> Option<Class> {
-    let integer = Integer {
-        size: Width::new(bits)?,
-        is_signed: false,
-        base: Base::Decimal,
-        order: Order::Le,
-        is_moving: false,
-    };
-    aligned(8, Kind::Integer(integer))
-}
 
 /// A class of this alignment, in bits.
 fn aligned(align: u64, kind: Kind) -> Option<Class> {

@@ -10,7 +10,7 @@ use std::alloc::Global;
 use std::test::Fail;
 
 /// An unsigned integer of so many bits, where there can be one.
-fn integer_of(bits: u32) -> Option<Class> {
+pub fn integer_of(bits: u32) -> Option<Class> {
     let integer = Integer {
         size: Width::new(bits)?,
         is_signed: false,
