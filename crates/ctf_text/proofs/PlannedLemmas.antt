@@ -10,6 +10,7 @@ use Rattle.std.proofs.lemmas.Nat.Gcd.{dvd_of_mod-eq-zero}
 use Rattle.ctf_bits.specs.Number.{number, signed_number}
 use Rattle.ctf_bits.specs.Placed.{Placed, number_behind}
 use Rattle.ctf_bits.specs.declared.number.Order.TheVariants.{Le}
+use Rattle.ctf_class.proofs.PlansLemmas.{numbers_few}
 use Rattle.ctf_class.specs.Names.{field_text}
 use Rattle.ctf_class.specs.Plans.{IsPlain, AreNumbers, IsStretch, ArePlanned, room_of}
 use Rattle.ctf_class.specs.declared.class.Member.{Member}
@@ -154,11 +155,6 @@ pub next_stretch : (lead : ℕ) (rest : List Member) (ss : List Stretch) (k : �
 next_stretch lead rest ss k s planned within is = subst (ArePlanned lead rest) (here ss k s within is) planned
 
 -- a stretch has no more numbers than there are members
-numbers_few : (base from lead span : ℕ) (ms : List Member) (ns : List PlainNumber) → AreNumbers base from lead ms ns span → length ns ≤ length ms
-numbers_few base from lead span ms [] are = omega arith
-numbers_few base from lead span [] (n ∷ ns) are = absurd are
-numbers_few base from lead span (m ∷ ms) (n ∷ ns) are = let fewer = numbers_few base (n.window.place + n.window.size) 44 span ms ns are.1 in omega (arith, fewer)
-
 pub stretch_few : (lead : ℕ) (ms : List Member) (i : ℕ) (s : Stretch) → i ≤ length ms → IsStretch lead (drop i ms) s → i + length s.numbers ≤ length ms
 stretch_few lead ms i s within is = omega (arith, within, numbers_few s.base 0 lead s.span (drop i ms) s.numbers is.numbers, length-drop i ms)
 
