@@ -14,7 +14,8 @@ use Rattle.ctf_merge.specs.Turns.{Turn, turn_cmp, turns_from, fault_at}
 use Rattle.ctf_merge.specs.declared.fault.MergeFault.TheVariants.{Stream}
 use Rattle.ctf_merge.proofs.Merging.{item-count, merged-item, merged-broken, merged-nothing}
 use Rattle.ctf_merge.proofs.Going.{front_by, next_by}
-use Rattle.ctf_merge.proofs.Turning.{lows, turn_of, IsLow, not_before, not_less_along, later_number, tied}
+use Rattle.ctf_merge.specs.Trees.{IsLow}
+use Rattle.ctf_merge.proofs.Turning.{lows, turn_of, not_before, not_less_along, later_number, tied}
 use Rattle.ctf_merge.proofs.Lining.{not_broken}
 use Rattle.ctf_merge.proofs.Rising.{low_heads}
 
@@ -313,17 +314,17 @@ low_first from k (h ∷ hs) t (suc m) x is e low =
     low_first (suc from) k hs t m x (omega (arith, is)) (next_by h (first_of hs) m x e) (low_heads from h hs t low).1
 
 low_more : (from : ℕ) (h : reader.Ahead) (hs gs : List reader.Ahead) (t : Turn) → IsLow t (turns_from from (h ∷ hs)) → IsLow t (turns_from (suc from) gs) → IsLow t (turns_from from (h ∷ gs))
-low_more from reader.start hs gs t low rest = rest
+low_more from reader.start hs gs t low rest = (tt, rest)
 low_more from (reader.item x) hs gs t low rest = (low.0, rest)
-low_more from reader.ended hs gs t low rest = rest
-low_more from (reader.fault f) hs gs t low rest = rest
+low_more from reader.ended hs gs t low rest = (tt, rest)
+low_more from (reader.fault f) hs gs t low rest = (tt, rest)
 
 low_behind : (from : ℕ) (items : List (Item Classes)) (fault : Option StreamFault) (hs : List reader.Ahead) (t : Turn) (x : Item Classes) → head_by items fault ≡ reader.item x → Rises None items
     → IsLow t (turns_from from (head_by items fault ∷ hs)) → IsLow t (turns_from from (head_by (behind_first items) fault ∷ hs))
 low_behind from [] None hs t x e rises low = absurd cc
 low_behind from [] (Some f) hs t x e rises low = absurd cc
-low_behind from (y ∷ []) None hs t x e rises low = low.1
-low_behind from (y ∷ []) (Some f) hs t x e rises low = low.1
+low_behind from (y ∷ []) None hs t x e rises low = (tt, low.1)
+low_behind from (y ∷ []) (Some f) hs t x e rises low = (tt, low.1)
 low_behind from (y ∷ (z ∷ zs)) fault hs t x e rises low =
     (not_less_along (turn_of from z) (turn_of from y) t (later_number (time_of y) (time_of z) from from rises.1.0 (omega arith)) low.0, low.1)
 

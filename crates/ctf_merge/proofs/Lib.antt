@@ -1,8 +1,8 @@
 pub mod Merging
 pub mod Going
-pub mod Pushed
 pub mod Keys
 pub mod Turning
+pub mod Nodes
 pub mod Lining
 pub mod Rising
 pub mod Cutting

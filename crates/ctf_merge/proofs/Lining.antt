@@ -1,10 +1,9 @@
--- The turns of streams in a heap.
-use Rattle.std.proofs.Common.{◌≡◌, ℕ, zero, suc, ◌+◌, ◌≤◌, ◌<◌, Bool, true, false, cond, List, [], ◌∷◌, ◌++◌, length, map, set, get_or, take, drop, slice_get, Option, Some, None, refl, sym, ap, ◌∙◌, subst, arith}
+-- The turns of streams, and which item comes first.
+use Rattle.std.proofs.Common.{◌≡◌, ℕ, zero, suc, ◌<◌, Bool, true, false, cond, List, [], ◌∷◌, ◌++◌, length, map, set, get_or, take, replicate, slice_get, Option, Some, None, IfSome, refl, sym, ap, ◌∙◌, subst, arith}
 use Rattle.std.specs.Ordering.{is_lt}
-use Rattle.std.specs.List.{AllByRecursion, sum_by}
-use Rattle.std.specs.BinaryHeap.{IsHeap, IsUpperBound, KeepsHeap}
-use Rattle.std.specs.declared.cmp.Reverse.{Reverse}
-use Rattle.std.proofs.lemmas.List.Sums.{sum_by-cons}
+use Rattle.std.specs.List.{AllByRecursion}
+use Rattle.std.proofs.Math.Seq.{take-suc-set, take-length}
+use Rattle.std.proofs.lemmas.List.{length-set, length-replicate}
 use Rattle.ctf_packet.specs.Classes.{Classes}
 use Rattle.ctf_packet.specs.Items.{Item}
 use Rattle.ctf_packet.specs.declared.fault.StreamFault.{StreamFault}
@@ -13,14 +12,14 @@ use Rattle.ctf_stream.specs.Reader as reader
 use Rattle.ctf_stream.specs.Reader.{Reader, coming}
 use Rattle.stream_laws.specs.Times.{is_before}
 use Rattle.ctf_merge.specs.Merged.{First, item, broken, nothing, later, least, with_first, first_of, ends, merged, advance}
-use Rattle.ctf_merge.specs.Turns.{Turn, turn_cmp, last_cmp, turn_at, turns_from, fault_at, Joins, LinedUp}
+use Rattle.ctf_merge.specs.Turns.{Turn, turn_cmp, turn_at, turns_from, fault_at, LinedUp}
+use Rattle.ctf_merge.specs.Trees.{IsLow, IsFirst}
 use Rattle.ctf_merge.specs.Merges.{Merge, first_now, coming_of, EachFetched, EachNotBefore, AheadNotBefore, IsNext}
 use Rattle.ctf_merge.specs.Stages.{is_over, stage_of, Stands}
 use Rattle.ctf_merge.specs.declared.merge.Stage.{Stage}
 use Rattle.ctf_merge.specs.declared.merge.Stage.TheVariants as stages
-use Rattle.ctf_merge.proofs.Going.{front_by, next_by, map-set, InFront, in_front, open_item, front, coming-item}
-use Rattle.ctf_merge.proofs.Pushed.{first_and_rest}
-use Rattle.ctf_merge.proofs.Turning.{same_turn, not_before, indicator, none_sum, not_indicated, turn_of, sum_turns, at_least, no_turns, IsLow, lows, all_append}
+use Rattle.ctf_merge.proofs.Going.{map-set, InFront, in_front, open_item, front, coming-item}
+use Rattle.ctf_merge.proofs.Turning.{same_turn, not_before, turn_of, turns_length, turns_set, turns_more, turn_there, turn_number, NoTurns, no_turns, lows, all_append}
 
 -- ---- what comes first of streams that are lined up
 
@@ -55,92 +54,58 @@ pub not_broken : (hs : List reader.Ahead) (i : ℕ) (f : StreamFault) → AllSou
 not_broken [] i f sound e = absurd cc
 not_broken (h ∷ hs) i f sound e = not_broken_by h hs i f (λ j k is. not_broken hs j k sound.1 is) sound.0 e
 
-at_top : (f : Reverse Turn → ℕ) (heap : List (Reverse Turn)) (t : Reverse Turn) → 0 < length heap → t ≡ get_or heap 0 t → f t ≤ sum_by f heap
-at_top f [] t lt is = absurd (omega (arith, lt))
-at_top f (u ∷ us) t lt is =
-    let same = ap f is in
-    let sum = sum_by-cons f u us in
-    omega (arith, same, sum)
+all_at : {X : Type 0} (P : X → Type 0) (xs : List X) (n : ℕ) (x : X) → AllByRecursion P xs → slice_get xs n ≡ Some x → P x
+all_at P [] n x all e = absurd cc
+all_at P (y ∷ ys) zero x all e = subst P (let same : y ≡ x = cc in same) all.0
+all_at P (y ∷ ys) (suc m) x all e = all_at P ys m x all.1 e
 
-pub top_turn : (hs : List reader.Ahead) (heap : List (Reverse Turn)) (t : Reverse Turn) → LinedUp hs heap → 0 < length heap → t ≡ get_or heap 0 t → IsUpperBound last_cmp t heap
-    → (x : Item Classes) × (first_of hs ≡ item t.0.number x) × (t.0 ≡ turn_of t.0.number x)
-top_turn hs heap t lined lt is bound = by_first (first_of hs) refl
+no_turn_at : (turns : List (Option Turn)) (n : ℕ) (t : Turn) → NoTurns turns → slice_get turns n ≡ Some (Some t) → ⊥
+no_turn_at turns n t none e = let is = all_at (λ (u : Option Turn). u ≡ None) turns n (Some t) none e in cc
+
+-- the least turn is that of the first item
+pub first_turn : (hs : List reader.Ahead) (turns : List (Option Turn)) (n : ℕ) → LinedUp hs turns → IsFirst turns n → (x : Item Classes) × (first_of hs ≡ item n x)
+first_turn hs turns n lined first = by_first (first_of hs) refl
   where
-    by_first : (f : First) → first_of hs ≡ f → (x : Item Classes) × (first_of hs ≡ item t.0.number x) × (t.0 ≡ turn_of t.0.number x)
-    by_first (item n x) e =
-        let none_lower = none_sum (λ (y : Turn). is_lt (turn_cmp y (turn_of n x))) (turns_from 0 hs) (lows 0 n hs n x (omega arith) e) in
-        let in_heap = lined.turns (λ y. indicator (is_lt (turn_cmp y (turn_of n x)))) in
-        let at = at_top (λ y. indicator (is_lt (turn_cmp y.0 (turn_of n x)))) heap t lt is in
-        let first = not_indicated (is_lt (turn_cmp t.0 (turn_of n x))) (omega (arith, none_lower, in_heap, at)) in
-        let none_higher = none_sum (λ (y : Reverse Turn). is_lt (turn_cmp y.0 t.0)) heap bound in
-        let in_turns = lined.turns (λ y. indicator (is_lt (turn_cmp y t.0))) in
-        let there = at_least (λ y. indicator (is_lt (turn_cmp y t.0))) 0 n hs n x (omega arith) e in
-        let second = not_indicated (is_lt (turn_cmp (turn_of n x) t.0)) (omega (arith, none_higher, in_turns, there)) in
-        let same = same_turn t.0 (turn_of n x) first second in
-        let number : n ≡ t.0.number = sym (ap (λ (u : Turn). u.number) same) in
-        (x, e ∙ ap (λ (k : ℕ). item k x) number, same ∙ ap (λ (k : ℕ). turn_of k x) number)
+    t : Turn
+    t = first.turn
+
+    at : slice_get (turns_from 0 hs) n ≡ Some (Some t)
+    at = subst (λ (ts : List (Option Turn)). slice_get ts n ≡ Some (Some t)) lined.turns_are first.at
+
+    by_first : (f : First) → first_of hs ≡ f → (x : Item Classes) × (first_of hs ≡ item n x)
+    by_first (item m x) e =
+        let there = turn_there 0 m hs m x (omega arith) e in
+        let first_low = all_at (λ (u : Option Turn). IfSome u (λ v. is_lt (turn_cmp v (turn_of m x)) ≡ false)) (turns_from 0 hs) n (Some t) (lows 0 m hs m x (omega arith) e) at in
+        let second_low = all_at (λ (u : Option Turn). IfSome u (λ v. is_lt (turn_cmp v t) ≡ false)) (turns_from 0 hs) m (Some (turn_of m x))
+        (subst (λ (ts : List (Option Turn)). IsLow t ts) lined.turns_are first.low) there in
+        let same = same_turn t (turn_of m x) first_low second_low in
+        let its = turn_number 0 n hs t at in
+        let number = ap (λ (u : Turn). u.number) same in
+        (x, e ∙ ap (λ (k : ℕ). item k x) (let q : m ≡ n = omega (arith, its, number) in q))
     by_first (broken i f) e = absurd (not_broken hs i f lined.sound e)
-    by_first nothing e =
-        let none : sum_by (λ (y : Turn). 1) (turns_from 0 hs) ≡ 0 = ap (sum_by (λ (y : Turn). 1)) (no_turns 0 hs e) in
-        let in_heap = lined.turns (λ y. 1) in
-        let at = at_top (λ y. 1) heap t lt is in
-        absurd (omega (arith, none, in_heap, at))
+    by_first nothing e = absurd (no_turn_at (turns_from 0 hs) n t (no_turns 0 hs e) at)
 
-pub no_turn : (hs : List reader.Ahead) (heap : List (Reverse Turn)) → LinedUp hs heap → length heap ≡ 0 → first_of hs ≡ nothing
-no_turn hs heap lined len = by_first (first_of hs) refl
+pub no_turn : (hs : List reader.Ahead) (turns : List (Option Turn)) → LinedUp hs turns → NoTurns turns → first_of hs ≡ nothing
+no_turn hs turns lined none = by_first (first_of hs) refl
   where
-    empty : (heap : List (Reverse Turn)) → length heap ≡ 0 → sum_by (λ (y : Reverse Turn). 1) heap ≡ 0
-    empty [] len = refl
-    empty (u ∷ us) len = absurd (omega (arith, len))
-
     by_first : (f : First) → first_of hs ≡ f → first_of hs ≡ nothing
-    by_first (item n x) e =
-        let there = at_least (λ y. 1) 0 n hs n x (omega arith) e in
-        let in_heap = lined.turns (λ y. 1) in
-        let none = empty heap len in
-        absurd (omega (arith, there, in_heap, none))
+    by_first (item m x) e =
+        absurd (no_turn_at (turns_from 0 hs) m (turn_of m x) (subst NoTurns lined.turns_are none) (turn_there 0 m hs m x (omega arith) e))
     by_first (broken i f) e = absurd (not_broken hs i f lined.sound e)
     by_first nothing e = e
 
 -- ---- one stream went on
-
-sum_set : (f : Turn → ℕ) (from k : ℕ) (hs : List reader.Ahead) (n : ℕ) (x : Item Classes) (h : reader.Ahead) → k ≡ from + n → first_of hs ≡ item n x
-    → sum_by f (turns_from from (set hs n h)) + f (turn_of k x) ≡ sum_by f (turns_from from hs) + sum_by f (turn_at k (told h))
-sum_set f from k [] n x h is e = absurd cc
-sum_set f from k (g ∷ hs) zero x h is e =
-    let here = front_by g (first_of hs) x e in
-    let old = sum_turns f from g hs in
-    let new = sum_turns f from h hs in
-    let one : sum_by f (turn_at from (told g)) ≡ f (turn_of from x) + 0 =
-    ap (λ (a : reader.Ahead). sum_by f (turn_at from (told a))) here ∙ sum_by-cons f (turn_of from x) [] in
-    let at : k ≡ from = omega (arith, is) in
-    let same = ap (λ (j : ℕ). f (turn_of j x)) at in
-    let other = ap (λ (j : ℕ). sum_by f (turn_at j (told h))) at in
-    omega (arith, old, new, one, same, other)
-sum_set f from k (g ∷ hs) (suc m) x h is e =
-    let there = sum_set f (suc from) k hs m x h (omega (arith, is)) (next_by g (first_of hs) m x e) in
-    let old = sum_turns f from g hs in
-    let new = sum_turns f from g (set hs m h) in
-    omega (arith, there, old, new)
 
 sound_set : (hs : List reader.Ahead) (n : ℕ) (h : reader.Ahead) → AllSound hs → fault_at (told h) ≡ None → AllSound (set hs n h)
 sound_set [] n h all here = tt
 sound_set (g ∷ hs) zero h all here = (here, all.1)
 sound_set (g ∷ hs) (suc m) h all here = (all.0, sound_set hs m h all.1 here)
 
-pub lined_again : (hs : List reader.Ahead) (old new : List (Reverse Turn)) (t : Reverse Turn) (n : ℕ) (x : Item Classes) (h : reader.Ahead)
-    → LinedUp hs old → first_of hs ≡ item n x → t.0 ≡ turn_of n x → 0 < length old → t ≡ get_or old 0 t
-    → Joins (turn_at n (told h)) (drop 1 old) new → KeepsHeap last_cmp old new → fault_at (told h) ≡ None → LinedUp (set hs n h) new
-lined_again hs old new t n x h lined e is filled top joins keeps sound = record {
+pub lined_again : (hs : List reader.Ahead) (old new : List (Option Turn)) (n : ℕ) (h : reader.Ahead) → LinedUp hs old → new ≡ set old n (turn_at n (told h)) → fault_at (told h) ≡ None
+    → LinedUp (set hs n h) new
+lined_again hs old new n h lined is sound = record {
   sound = sound_set hs n h lined.sound sound;
-  heap_order = keeps lined.heap_order;
-  turns = λ f.
-      let joined = joins f in
-      let had = lined.turns f in
-      let parts = first_and_rest f t old filled top in
-      let changed = sum_set f 0 n hs n x h (omega arith) e in
-      let same = ap f is in
-      omega (arith, joined, had, parts, changed, same);
+  turns_are = is ∙ (ap (λ (ts : List (Option Turn)). set ts n (turn_at n (told h))) lined.turns_are ∙ sym (turns_set 0 n n hs h (omega arith)));
 }
 
 fault_is : (h : reader.Ahead) (f : StreamFault) → fault_at (told h) ≡ Some f → h ≡ reader.fault f
@@ -175,31 +140,34 @@ heads_length [] i lt = absurd (omega (arith, lt))
 heads_length (s ∷ rs) zero lt = refl
 heads_length (s ∷ rs) (suc m) lt = let rest = heads_length rs m (omega (arith, lt)) in omega (arith, rest)
 
-sum_more : (f : Turn → ℕ) (from k : ℕ) (hs : List reader.Ahead) (h : reader.Ahead) → k ≡ from + length hs
-    → sum_by f (turns_from from (hs ++ h ∷ [])) ≡ sum_by f (turns_from from hs) + sum_by f (turn_at k (told h))
-sum_more f from k [] h is =
-    let sum = sum_turns f from h [] in
-    let same = ap (λ (j : ℕ). sum_by f (turn_at j (told h))) (let q : k ≡ from = omega (arith, is) in q) in
-    let none : sum_by f (turns_from (suc from) []) ≡ 0 = refl in
-    omega (arith, sum, same, none)
-sum_more f from k (g ∷ hs) h is =
-    let there = sum_more f (suc from) k hs h (omega (arith, is)) in
-    let old = sum_turns f from g hs in
-    let new = sum_turns f from g (hs ++ h ∷ []) in
-    omega (arith, there, old, new)
+-- the first streams are lined up, and there is a place for each other one
+pub record LinedUpTo (i : ℕ) (readers : List Reader) (turns : List (Option Turn)) : Type 0 where
+  pub sound : AllSound (heads_of (take i readers))
+  pub turns_are : take i turns ≡ turns_from 0 (heads_of (take i readers))
+  pub sized : length turns ≡ length readers
 
-pub lined_more : (rs : List Reader) (i : ℕ) (r : Reader) (old new : List (Reverse Turn)) → i < length rs → r ≡ get_or rs i r → LinedUp (heads_of (take i rs)) old
-    → Joins (turn_at i (told r.ahead)) old new → KeepsHeap last_cmp old new → fault_at (told r.ahead) ≡ None → LinedUp (heads_of (take (suc i) rs)) new
-lined_more rs i r old new lt is lined joins keeps sound =
-    subst (λ (hs : List reader.Ahead). LinedUp hs new) (sym (heads_more rs i r lt is)) (record {
-      sound = all_append (λ h. fault_at (told h) ≡ None) (heads_of (take i rs)) (r.ahead ∷ []) lined.sound (sound, tt);
-      heap_order = keeps lined.heap_order;
-      turns = λ f.
-          let joined = joins f in
-          let had = lined.turns f in
-          let more = sum_more f 0 i (heads_of (take i rs)) r.ahead (let len = heads_length rs i lt in omega (arith, len)) in
-          omega (arith, joined, had, more);
-    })
+pub lined_more : (rs : List Reader) (i : ℕ) (r : Reader) (old new : List (Option Turn)) → i < length rs → r ≡ get_or rs i r → LinedUpTo i rs old
+    → new ≡ set old i (turn_at i (told r.ahead)) → fault_at (told r.ahead) ≡ None → LinedUpTo (suc i) rs new
+lined_more rs i r old new lt is lined new_is sound = record {
+  sound = subst AllSound (sym heads) (all_append (λ h. fault_at (told h) ≡ None) (heads_of (take i rs)) (r.ahead ∷ []) lined.sound (sound, tt));
+  turns_are = ap (take (suc i)) new_is
+      ∙ (take-suc-set old i (turn_at i (told r.ahead)) (let len = lined.sized in omega (arith, lt, len))
+      ∙ (ap (λ (ts : List (Option Turn)). ts ++ turn_at i (told r.ahead) ∷ []) lined.turns_are
+      ∙ (sym (turns_more 0 i (heads_of (take i rs)) r.ahead (let len = heads_length rs i lt in omega (arith, len))) ∙ ap (turns_from 0) (sym heads))));
+  sized = ap length new_is ∙ (length-set old i (turn_at i (told r.ahead)) ∙ lined.sized);
+}
+  where
+    heads : heads_of (take (suc i) rs) ≡ heads_of (take i rs) ++ r.ahead ∷ []
+    heads = heads_more rs i r lt is
+
+pub lined_all : (rs : List Reader) (turns : List (Option Turn)) → LinedUpTo (length rs) rs turns → LinedUp (heads_of rs) turns
+lined_all rs turns lined = record {
+  sound = subst (λ (ss : List Reader). AllSound (heads_of ss)) (take-length rs) lined.sound;
+  turns_are = sym (take-length turns) ∙ (ap (λ (n : ℕ). take n turns) lined.sized ∙ (lined.turns_are ∙ ap (λ (ss : List Reader). turns_from 0 (heads_of ss)) (take-length rs)));
+}
+
+pub lined_none : (rs : List Reader) (turns : List (Option Turn)) → turns ≡ replicate (length rs) None → LinedUpTo 0 rs turns
+lined_none rs turns is = record { sound = tt; turns_are = refl; sized = ap length is ∙ length-replicate (length rs) None }
 
 pub broken_first : (rs : List Reader) (i : ℕ) (r : Reader) (f : StreamFault) → i < length rs → r ≡ get_or rs i r → AllSound (heads_of (take i rs)) → fault_at (told r.ahead) ≡ Some f
     → first_of (heads_of rs) ≡ broken i f
@@ -213,84 +181,66 @@ length-heads (r ∷ rs) = let rest = length-heads rs in omega (arith, rest)
 
 -- ---- a stage
 
-pub lined_going : (stage : Stage) (hs : List reader.Ahead) (heap : List (Reverse Turn)) → stage ≡ stages.Going → Stands stage hs heap → LinedUp hs heap
-lined_going stage hs heap e stands = subst (λ (s : Stage). Stands s hs heap) e stands
+pub lined_going : (stage : Stage) (hs : List reader.Ahead) (turns : List (Option Turn)) → stage ≡ stages.Going → Stands stage hs turns → LinedUp hs turns
+lined_going stage hs turns e stands = subst (λ (s : Stage). Stands s hs turns) e stands
 
 pub first_going : (m : Merge) (readers : List Reader) (stage : Stage) (f : First) → record { readers = readers; over = is_over stage } ≡ m → stage ≡ stages.Going
     → first_of (heads_of readers) ≡ f → first_now m ≡ f
 first_going m readers stage f view e is =
     sym (ap first_now view) ∙ (ap (λ (s : Stage). cond (is_over s) nothing (first_of (heads_of readers))) e ∙ is)
 
-pub none_left : (n : ℕ) → (0 < n → false ≡ true) → n ≡ 0
-none_left zero h = refl
-none_left (suc m) h = absurd (let no = h (omega arith) in cc)
-
 pub open_coming : (readers : List Reader) (stage : Stage) → is_over stage ≡ false → coming_of (record { readers = readers; over = is_over stage }) ≡ merged (map coming readers)
 open_coming readers stage open_ = ap (λ (b : Bool). cond b (ends None) (merged (map coming readers))) open_
 
--- the first turn is that of the first item
-front_of : (readers : List Reader) (stage : Stage) (heap : List (Reverse Turn)) (t : Reverse Turn) (n : ℕ) → stage ≡ stages.Going → Stands stage (heads_of readers) heap
-    → n ≡ length heap → 0 < n → t ≡ get_or heap 0 t → (IsHeap last_cmp heap → IsUpperBound last_cmp t heap)
-    → (x : Item Classes) × InFront (record { readers = readers; over = is_over stage }) t.0.number x × (t.0 ≡ turn_of t.0.number x)
-front_of readers stage heap t n going stands len filled top greatest =
-    let lined = lined_going stage (heads_of readers) heap going stands in
-    let at = top_turn (heads_of readers) heap t lined (omega (arith, len, filled)) top (greatest lined.heap_order) in
-    (at.0, in_front (record { readers = readers; over = is_over stage }) t.0.number at.0 (ap is_over going) at.1, at.2)
+-- the least turn is that of the item in front
+pub turn_front : (readers : List Reader) (stage : Stage) (turns : List (Option Turn)) (n : ℕ) → stage ≡ stages.Going → Stands stage (heads_of readers) turns → IsFirst turns n
+    → (x : Item Classes) × InFront (record { readers = readers; over = is_over stage }) n x
+turn_front readers stage turns n going stands first =
+    let at = first_turn (heads_of readers) turns n (lined_going stage (heads_of readers) turns going stands) first in
+    (at.0, in_front (record { readers = readers; over = is_over stage }) n at.0 (ap is_over going) at.1)
 
--- the same of a number that is the turn's
-pub turn_front : (readers : List Reader) (stage : Stage) (heap : List (Reverse Turn)) (t : Reverse Turn) (n k : ℕ) → k ≡ t.0.number → stage ≡ stages.Going
-    → Stands stage (heads_of readers) heap → n ≡ length heap → 0 < n → t ≡ get_or heap 0 t → (IsHeap last_cmp heap → IsUpperBound last_cmp t heap)
-    → (x : Item Classes) × InFront (record { readers = readers; over = is_over stage }) k x × (t.0 ≡ turn_of k x)
-turn_front readers stage heap t n k e going stands len filled top greatest =
-    subst (λ (j : ℕ). (x : Item Classes) × InFront (record { readers = readers; over = is_over stage }) j x × (t.0 ≡ turn_of j x)) (sym e)
-    (front_of readers stage heap t n going stands len filled top greatest)
+-- there is a place for its turn
+pub turn_within : (readers : List Reader) (stage : Stage) (turns : List (Option Turn)) (n : ℕ) → stage ≡ stages.Going → Stands stage (heads_of readers) turns → n < length readers → n < length turns
+turn_within readers stage turns n going stands within =
+    let lined = lined_going stage (heads_of readers) turns going stands in
+    let long = ap length lined.turns_are in
+    let each = turns_length 0 (heads_of readers) in
+    let heads = length-heads readers in
+    omega (arith, within, long, each, heads)
 
 -- the streams once its stream went on
-stands_by : (readers : List Reader) (stage next : Stage) (heap new : List (Reverse Turn)) (t : Reverse Turn) (n : ℕ) (x : Item Classes) (r : Reader) → stage ≡ stages.Going
-    → Stands stage (heads_of readers) heap → InFront (record { readers = readers; over = is_over stage }) t.0.number x → t.0 ≡ turn_of t.0.number x
-    → n ≡ length heap → 0 < n → t ≡ get_or heap 0 t → Joins (turn_at t.0.number (told r.ahead)) (drop 1 heap) new → KeepsHeap last_cmp heap new
-    → next ≡ stage_of t.0.number (fault_at (told r.ahead)) → Stands next (heads_of (set readers t.0.number r)) new
-stands_by readers stage next heap new t n x r going stands at is len filled top joins keeps next_is =
-    subst (λ (s : Stage). Stands s (heads_of (set readers t.0.number r)) new) (sym next_is)
-    (subst (λ (hs : List reader.Ahead). Stands (stage_of t.0.number (fault_at (told r.ahead))) hs new) (sym (map-set (λ (q : Reader). q.ahead) readers t.0.number r))
+pub stands_again : (readers : List Reader) (stage next : Stage) (turns new : List (Option Turn)) (n : ℕ) (r : Reader) → stage ≡ stages.Going → Stands stage (heads_of readers) turns
+    → n < length readers → new ≡ set turns n (turn_at n (told r.ahead)) → next ≡ stage_of n (fault_at (told r.ahead)) → Stands next (heads_of (set readers n r)) new
+stands_again readers stage next turns new n r going stands within is next_is =
+    subst (λ (s : Stage). Stands s (heads_of (set readers n r)) new) (sym next_is)
+    (subst (λ (hs : List reader.Ahead). Stands (stage_of n (fault_at (told r.ahead))) hs new) (sym (map-set (λ (q : Reader). q.ahead) readers n r))
     (by_fault (fault_at (told r.ahead)) refl))
   where
-    lined : LinedUp (heads_of readers) heap
-    lined = lined_going stage (heads_of readers) heap going stands
+    lined : LinedUp (heads_of readers) turns
+    lined = lined_going stage (heads_of readers) turns going stands
 
-    by_fault : (f : Option StreamFault) → fault_at (told r.ahead) ≡ f → Stands (stage_of t.0.number f) (set (heads_of readers) t.0.number r.ahead) new
-    by_fault None e = lined_again (heads_of readers) heap new t t.0.number x r.ahead lined at.heads is (omega (arith, len, filled)) top joins keeps e
-    by_fault (Some f) e = broken_again (heads_of readers) t.0.number r.ahead f lined.sound (let lt = at.within in let len = length-heads readers in omega (arith, lt, len)) e
-
-pub stands_again : (readers : List Reader) (stage next : Stage) (heap new : List (Reverse Turn)) (t : Reverse Turn) (n k : ℕ) (x : Item Classes) (r : Reader) → k ≡ t.0.number
-    → stage ≡ stages.Going → Stands stage (heads_of readers) heap → InFront (record { readers = readers; over = is_over stage }) k x → t.0 ≡ turn_of k x
-    → n ≡ length heap → 0 < n → t ≡ get_or heap 0 t → Joins (turn_at k (told r.ahead)) (drop 1 heap) new → KeepsHeap last_cmp heap new
-    → next ≡ stage_of k (fault_at (told r.ahead)) → Stands next (heads_of (set readers k r)) new
-stands_again readers stage next heap new t n k x r e going stands at is len filled top joins keeps next_is =
-    subst (λ (j : ℕ). Stands next (heads_of (set readers j r)) new) (sym e)
-    (stands_by readers stage next heap new t n x r going stands
-    (subst (λ (j : ℕ). InFront (record { readers = readers; over = is_over stage }) j x) e at) (subst (λ (j : ℕ). t.0 ≡ turn_of j x) e is)
-    len filled top (subst (λ (j : ℕ). Joins (turn_at j (told r.ahead)) (drop 1 heap) new) e joins) keeps
-    (subst (λ (j : ℕ). next ≡ stage_of j (fault_at (told r.ahead))) e next_is))
+    by_fault : (f : Option StreamFault) → fault_at (told r.ahead) ≡ f → Stands (stage_of n f) (set (heads_of readers) n r.ahead) new
+    by_fault None e = lined_again (heads_of readers) turns new n r.ahead lined is e
+    by_fault (Some f) e = broken_again (heads_of readers) n r.ahead f lined.sound (let len = length-heads readers in omega (arith, within, len)) e
 
 pub stage_open : (n : ℕ) (f : Option StreamFault) → is_over (stage_of n f) ≡ false
 stage_open n None = refl
 stage_open n (Some f) = refl
 
-pub first_broken : (m : Merge) (readers : List Reader) (stage : Stage) (heap : List (Reverse Turn)) (n : ℕ) (f : StreamFault) → record { readers = readers; over = is_over stage } ≡ m
-    → stage ≡ stages.Broken n f → Stands stage (heads_of readers) heap → first_now m ≡ broken n f
-first_broken m readers stage heap n f view e stands =
-    let heads : first_of (heads_of readers) ≡ broken n f = subst (λ (s : Stage). Stands s (heads_of readers) heap) e stands in
+pub first_broken : (m : Merge) (readers : List Reader) (stage : Stage) (turns : List (Option Turn)) (n : ℕ) (f : StreamFault) → record { readers = readers; over = is_over stage } ≡ m
+    → stage ≡ stages.Broken n f → Stands stage (heads_of readers) turns → first_now m ≡ broken n f
+first_broken m readers stage turns n f view e stands =
+    let heads : first_of (heads_of readers) ≡ broken n f = subst (λ (s : Stage). Stands s (heads_of readers) turns) e stands in
     sym (ap first_now view) ∙ (ap (λ (s : Stage). cond (is_over s) nothing (first_of (heads_of readers))) e ∙ heads)
 
 -- ---- the item that comes next
 
 low_by : (from : ℕ) (h : reader.Ahead) (rs : List Reader) (t : Turn) → (IsLow t (turns_from (suc from) (heads_of rs)) → EachNotBefore t.time rs) → IsLow t (turns_from from (h ∷ heads_of rs))
     → AheadNotBefore t.time h × EachNotBefore t.time rs
-low_by from reader.start rs t others low = (tt, others low)
+low_by from reader.start rs t others low = (tt, others low.1)
 low_by from (reader.item x) rs t others low = (not_before (turn_of from x) t low.0, others low.1)
-low_by from reader.ended rs t others low = (tt, others low)
-low_by from (reader.fault f) rs t others low = (tt, others low)
+low_by from reader.ended rs t others low = (tt, others low.1)
+low_by from (reader.fault f) rs t others low = (tt, others low.1)
 
 each_low : (from : ℕ) (readers : List Reader) (t : Turn) → IsLow t (turns_from from (heads_of readers)) → EachNotBefore t.time readers
 each_low from [] t low = tt

@@ -14,7 +14,8 @@ use Rattle.ctf_merge.specs.Merges.{AheadNotBefore, EachRises, GoesOn, MergedOrRe
 use Rattle.ctf_merge.specs.Turns.{Turn, turns_from}
 use Rattle.ctf_merge.proofs.Merging.{item-count, merged-item, merged-broken, merged-nothing}
 use Rattle.ctf_merge.proofs.Going.{front_by, next_by}
-use Rattle.ctf_merge.proofs.Turning.{not_before, lows, turn_of, IsLow}
+use Rattle.ctf_merge.proofs.Turning.{not_before, lows, turn_of}
+use Rattle.ctf_merge.specs.Trees.{IsLow}
 
 abbrev RunsRise : Option ℤ → List (Run Classes) → Type 0
 RunsRise low runs = AllByRecursion (λ r. Rises low r.items) runs
@@ -25,10 +26,10 @@ run_from low time [] fault ahead rises = tt
 run_from low time (x ∷ xs) fault ahead rises = (ahead, rises.1)
 
 pub low_heads : (from : ℕ) (h : reader.Ahead) (hs : List reader.Ahead) (t : Turn) → IsLow t (turns_from from (h ∷ hs)) → AheadNotBefore t.time h × IsLow t (turns_from (suc from) hs)
-low_heads from reader.start hs t low = (tt, low)
+low_heads from reader.start hs t low = (tt, low.1)
 low_heads from (reader.item x) hs t low = (not_before (turn_of from x) t low.0, low.1)
-low_heads from reader.ended hs t low = (tt, low)
-low_heads from (reader.fault f) hs t low = (tt, low)
+low_heads from reader.ended hs t low = (tt, low.1)
+low_heads from (reader.fault f) hs t low = (tt, low.1)
 
 -- every run goes on from the time of a turn that is not above their first items
 rises_from : (low : Option ℤ) (from : ℕ) (t : Turn) (runs : List (Run Classes)) → IsLow t (turns_from from (map head_of runs)) → RunsRise low runs → RunsRise t.time runs

@@ -1,19 +1,21 @@
 -- The order of turns, and the turns of streams.
-use Rattle.std.proofs.Common.{◌≡◌, ℤ, ℕ, zero, suc, ◌+◌, ◌≤◌, ◌<◌, Bool, true, false, cond, int_lt, ◌<ℤ◌, List, [], ◌∷◌, ◌++◌, Option, Some, None, refl, sym, ap, ◌∙◌, subst, arith}
+use Rattle.std.proofs.Common.{◌≡◌, ℤ, ℕ, zero, suc, ◌+◌, ◌≤◌, ◌<◌, Bool, true, false, cond, int_lt, ◌<ℤ◌, List, [], ◌∷◌, ◌++◌, length, set, slice_get, Option, Some, None, IfSome, refl, sym, ap, ◌∙◌, subst, arith}
 use Rattle.std.specs.Ordering.{int_cmp, nat_cmp, ordering_then, ordering_reverse, is_lt, is_gt, MatchOrdering}
 use Rattle.std.specs.Option.{option_cmp}
 use Rattle.std.specs.Cmp.Lexicographic.{options_total}
-use Rattle.std.specs.List.{AllByRecursion, sum_by}
+use Rattle.std.specs.List.{AllByRecursion}
 use Rattle.std.specs.declared.cmp.Ordering.{Ordering}
 use Rattle.std.specs.declared.cmp.Ordering.TheVariants.{Less, Equal, Greater}
 use Rattle.std.proofs.lemmas.Cmp.{int_cmp_total, upto, tied_itself, ranked, int_ranked}
-use Rattle.std.proofs.lemmas.List.Sums.{sum_by-append, sum_by-cons}
 use Rattle.ctf_packet.specs.Classes.{Classes}
 use Rattle.ctf_packet.specs.Items.{Item}
 use Rattle.ctf_stream.specs.Ahead.{time_of, told}
 use Rattle.ctf_stream.specs.Reader as reader
 use Rattle.stream_laws.specs.Times.{is_before}
 use Rattle.ctf_merge.specs.Merged.{First, item, broken, nothing, later, least, with_first, first_of}
+use Rattle.ctf_stream.specs.declared.ahead.Ahead.{Ahead}
+use Rattle.ctf_stream.specs.declared.ahead.Ahead.TheVariants as aheads
+use Rattle.ctf_merge.specs.Trees.{IsLow}
 use Rattle.ctf_merge.specs.Turns.{Turn, turn_cmp, turns_total, turn_at, turns_from}
 use Rattle.ctf_merge.proofs.Merging.{later_item}
 use Rattle.ctf_merge.proofs.Going.{front_by, next_by}
@@ -133,48 +135,52 @@ module _ {X : Type 0} (P : X → Type 0) where
   all_other Q f [] a = tt
   all_other Q f (x ∷ xs) a = (f x a.0, all_other Q f xs a.1)
 
--- how often a test holds, by a sum
-abbrev pub indicator : Bool → ℕ
-indicator true = 1
-indicator false = 0
-
-pub none_sum : {X : Type 0} (p : X → Bool) (xs : List X) → AllByRecursion (λ x. p x ≡ false) xs → sum_by (λ x. indicator (p x)) xs ≡ 0
-none_sum p [] a = refl
-none_sum p (x ∷ xs) a =
-    let here : indicator (p x) ≡ 0 = ap indicator a.0 in
-    let rest = none_sum p xs a.1 in
-    sum_by-cons (λ y. indicator (p y)) x xs ∙ omega (arith, here, rest)
-
-pub not_indicated : (b : Bool) → indicator b ≤ 0 → b ≡ false
-not_indicated true le = absurd (omega (arith, le))
-not_indicated false le = refl
-
 abbrev pub turn_of : ℕ → Item Classes → Turn
 turn_of number x = record { time = time_of x; number = number }
 
-pub sum_turns : (f : Turn → ℕ) (from : ℕ) (h : reader.Ahead) (hs : List reader.Ahead) → sum_by f (turns_from from (h ∷ hs)) ≡ sum_by f (turn_at from (told h)) + sum_by f (turns_from (suc from) hs)
-sum_turns f from h hs = sum_by-append f (turn_at from (told h)) (turns_from (suc from) hs)
+pub turns_length : (from : ℕ) (hs : List reader.Ahead) → length (turns_from from hs) ≡ length hs
+turns_length from [] = refl
+turns_length from (h ∷ hs) = let rest = turns_length (suc from) hs in omega (arith, rest)
+
+pub turns_set : (from k n : ℕ) (hs : List reader.Ahead) (h : reader.Ahead) → k ≡ from + n → turns_from from (set hs n h) ≡ set (turns_from from hs) n (turn_at k (told h))
+turns_set from k n [] h is = refl
+turns_set from k zero (g ∷ hs) h is = ap (λ (j : ℕ). turn_at j (told h) ∷ turns_from (suc from) hs) (let at : from ≡ k = omega (arith, is) in at)
+turns_set from k (suc m) (g ∷ hs) h is = λ i. turn_at from (told g) ∷ turns_set (suc from) k m hs h (omega (arith, is)) i
+
+pub turns_more : (from k : ℕ) (hs : List reader.Ahead) (h : reader.Ahead) → k ≡ from + length hs → turns_from from (hs ++ h ∷ []) ≡ turns_from from hs ++ turn_at k (told h) ∷ []
+turns_more from k [] h is = ap (λ (j : ℕ). turn_at j (told h) ∷ []) (let at : from ≡ k = omega (arith, is) in at)
+turns_more from k (g ∷ hs) h is = λ i. turn_at from (told g) ∷ turns_more (suc from) k hs h (omega (arith, is)) i
 
 -- the first item has a turn
-pub at_least : (f : Turn → ℕ) (from k : ℕ) (hs : List reader.Ahead) (n : ℕ) (x : Item Classes) → k ≡ from + n → first_of hs ≡ item n x
-    → f (turn_of k x) ≤ sum_by f (turns_from from hs)
-at_least f from k [] n x is e = absurd cc
-at_least f from k (h ∷ hs) zero x is e =
-    let here = front_by h (first_of hs) x e in
-    let sum = sum_turns f from h hs in
-    let one : sum_by f (turn_at from (told h)) ≡ f (turn_of from x) =
-    ap (λ (g : reader.Ahead). sum_by f (turn_at from (told g))) here ∙ (sum_by-cons f (turn_of from x) [] ∙ add_none (f (turn_of from x))) in
-    let same : f (turn_of k x) ≡ f (turn_of from x) = ap (λ (j : ℕ). f (turn_of j x)) (let q : k ≡ from = omega (arith, is) in q) in
-    omega (arith, sum, one, same)
-  where
-    add_none : (a : ℕ) → a + 0 ≡ a
-    add_none a = omega arith
-at_least f from k (h ∷ hs) (suc m) x is e =
-    let there = at_least f (suc from) k hs m x (omega (arith, is)) (next_by h (first_of hs) m x e) in
-    let sum = sum_turns f from h hs in
-    omega (arith, there, sum)
+pub turn_there : (from k : ℕ) (hs : List reader.Ahead) (n : ℕ) (x : Item Classes) → k ≡ from + n → first_of hs ≡ item n x → slice_get (turns_from from hs) n ≡ Some (Some (turn_of k x))
+turn_there from k [] n x is e = absurd cc
+turn_there from k (h ∷ hs) zero x is e =
+    ap (λ (a : reader.Ahead). Some (turn_at from (told a))) (front_by h (first_of hs) x e) ∙ ap (λ (j : ℕ). Some (Some (turn_of j x))) (let q : from ≡ k = omega (arith, is) in q)
+turn_there from k (h ∷ hs) (suc m) x is e = turn_there (suc from) k hs m x (omega (arith, is)) (next_by h (first_of hs) m x e)
 
-pub no_turns_by : (from : ℕ) (h : reader.Ahead) (hs : List reader.Ahead) → (first_of hs ≡ nothing → turns_from (suc from) hs ≡ []) → first_of (h ∷ hs) ≡ nothing → turns_from from (h ∷ hs) ≡ []
+-- a turn is that of the stream at its place
+pub turn_number : (from n : ℕ) (hs : List reader.Ahead) (t : Turn) → slice_get (turns_from from hs) n ≡ Some (Some t) → t.number ≡ from + n
+turn_number from n [] t e = absurd cc
+turn_number from zero (h ∷ hs) t e = by_head (told h) (some_is e)
+  where
+    some_is : Some (turn_at from (told h)) ≡ Some (Some t) → turn_at from (told h) ≡ Some t
+    some_is e = cc
+
+    by_head : (a : Ahead) → turn_at from a ≡ Some t → t.number ≡ from + 0
+    by_head aheads.Start e = absurd cc
+    by_head (aheads.Item time) e =
+        let same : record { time = time; number = from } ≡ t = cc in
+        let number = ap (λ (u : Turn). u.number) same in
+        omega (arith, number)
+    by_head aheads.Ended e = absurd cc
+    by_head (aheads.Fault f) e = absurd cc
+turn_number from (suc m) (h ∷ hs) t e = let there = turn_number (suc from) m hs t e in omega (arith, there)
+
+-- no stream has a turn
+abbrev pub NoTurns : List (Option Turn) → Type 0
+NoTurns turns = AllByRecursion (λ t. t ≡ None) turns
+
+pub no_turns_by : (from : ℕ) (h : reader.Ahead) (hs : List reader.Ahead) → (first_of hs ≡ nothing → NoTurns (turns_from (suc from) hs)) → first_of (h ∷ hs) ≡ nothing → NoTurns (turns_from from (h ∷ hs))
 no_turns_by from h hs others e = by_head h (first_of hs) refl e
   where
     behind : (f : First) → later f ≡ nothing → f ≡ nothing
@@ -191,19 +197,24 @@ no_turns_by from h hs others e = by_head h (first_of hs) refl e
     not_least y (broken i f) e = absurd cc
     not_least y nothing e = absurd cc
 
-    by_head : (h : reader.Ahead) (f : First) → first_of hs ≡ f → with_first h (later f) ≡ nothing → turns_from from (h ∷ hs) ≡ []
-    by_head reader.start f is e = others (is ∙ behind f e)
+    by_head : (h : reader.Ahead) (f : First) → first_of hs ≡ f → with_first h (later f) ≡ nothing → NoTurns (turns_from from (h ∷ hs))
+    by_head reader.start f is e = (refl, others (is ∙ behind f e))
     by_head (reader.item y) f is e = absurd (not_least y (later f) e)
-    by_head reader.ended f is e = others (is ∙ behind f e)
+    by_head reader.ended f is e = (refl, others (is ∙ behind f e))
     by_head (reader.fault g) f is e = absurd cc
 
-pub no_turns : (from : ℕ) (hs : List reader.Ahead) → first_of hs ≡ nothing → turns_from from hs ≡ []
-no_turns from [] e = refl
+pub no_turns : (from : ℕ) (hs : List reader.Ahead) → first_of hs ≡ nothing → NoTurns (turns_from from hs)
+no_turns from [] e = tt
 no_turns from (h ∷ hs) e = no_turns_by from h hs (no_turns (suc from) hs) e
 
 -- no turn is less than that of the first item
-abbrev pub IsLow : Turn → List Turn → Type 0
-IsLow t ts = AllByRecursion (λ y. is_lt (turn_cmp y t) ≡ false) ts
+lower_too : (x y : Turn) (t : Option Turn) → IfSome t (λ u. is_lt (turn_cmp u x) ≡ false) → is_lt (turn_cmp x y) ≡ false → IfSome t (λ u. is_lt (turn_cmp u y) ≡ false)
+lower_too x y None not low = tt
+lower_too x y (Some u) not low = not_less_along u x y not low
+
+none_low : (x : Turn) (t : Option Turn) → t ≡ None → IfSome t (λ u. is_lt (turn_cmp u x) ≡ false)
+none_low x None e = tt
+none_low x (Some u) e = absurd cc
 
 pub lows_by : (from k : ℕ) (h : reader.Ahead) (hs : List reader.Ahead) (n : ℕ) (x : Item Classes)
     → ((k j : ℕ) (z : Item Classes) → k ≡ suc from + j → first_of hs ≡ item j z → IsLow (turn_of k z) (turns_from (suc from) hs))
@@ -233,8 +244,8 @@ lows_by from k h hs n x others is e = by_head h e
             let low = later_number (time_of y) (time_of z) from (suc from + j) is_b (omega arith) in
             let all : IsLow (turn_of from y) (turns_from from (reader.item y ∷ hs)) = (
               not_less_itself (turn_of from y),
-              all_other (λ t. is_lt (turn_cmp t (turn_of (suc from + j) z)) ≡ false) (λ t. is_lt (turn_cmp t (turn_of from y)) ≡ false)
-                  (λ t not. not_less_along t (turn_of (suc from + j) z) (turn_of from y) not low) (turns_from (suc from) hs) there,
+              all_other (λ t. IfSome t (λ u. is_lt (turn_cmp u (turn_of (suc from + j) z)) ≡ false)) (λ t. IfSome t (λ u. is_lt (turn_cmp u (turn_of from y)) ≡ false))
+                  (λ t not. lower_too (turn_of (suc from + j) z) (turn_of from y) t not low) (turns_from (suc from) hs) there,
             ) in
             subst (λ (t : Turn). IsLow t (turns_from from (reader.item y ∷ hs))) (λ i. turn_of (k_is i) (same i)) all
     by_item y (broken j f) at l = absurd cc
@@ -243,13 +254,13 @@ lows_by from k h hs n x others is e = by_head h e
         let same : y ≡ x = cc in
         let k_is : from ≡ k = omega (arith, is, number) in
         let all : IsLow (turn_of from y) (turns_from from (reader.item y ∷ hs)) =
-        (not_less_itself (turn_of from y), subst (λ (ts : List Turn). IsLow (turn_of from y) ts) (sym (no_turns (suc from) hs at)) tt) in
+        (not_less_itself (turn_of from y), all_other (λ t. t ≡ None) (λ t. IfSome t (λ u. is_lt (turn_cmp u (turn_of from y)) ≡ false)) (none_low (turn_of from y)) (turns_from (suc from) hs) (no_turns (suc from) hs at)) in
         subst (λ (t : Turn). IsLow t (turns_from from (reader.item y ∷ hs))) (λ i. turn_of (k_is i) (same i)) all
 
     by_head : (h : reader.Ahead) → with_first h (later (first_of hs)) ≡ item n x → IsLow (turn_of k x) (turns_from from (h ∷ hs))
-    by_head reader.start l = behind l
+    by_head reader.start l = (tt, behind l)
     by_head (reader.item y) l = by_item y (first_of hs) refl l
-    by_head reader.ended l = behind l
+    by_head reader.ended l = (tt, behind l)
     by_head (reader.fault f) l = absurd cc
 
 pub lows : (from k : ℕ) (hs : List reader.Ahead) (n : ℕ) (x : Item Classes) → k ≡ from + n → first_of hs ≡ item n x → IsLow (turn_of k x) (turns_from from hs)

@@ -3,6 +3,7 @@ pub mod Merges
 pub mod Given
 pub mod Turns
 pub mod Keys
+pub mod Trees
 pub mod Stages
 pub mod Finding
 pub mod Laws

@@ -1,7 +1,6 @@
 -- How far a merge has come.
 use Rattle.std.specs.Prelude.{◌≡◌, ℕ, Bool, true, false, List, map, Option, Some, None}
 use Rattle.ctf_packet.specs.declared.fault.StreamFault.{StreamFault}
-use Rattle.std.specs.declared.cmp.Reverse.{Reverse}
 use Rattle.ctf_stream.specs.Reader as reader
 use Rattle.ctf_stream.specs.Reader.{Reader}
 use Rattle.ctf_merge.specs.Merged.{first_of, broken}
@@ -20,12 +19,12 @@ abbrev pub stage_of : ℕ → Option StreamFault → Stage
 stage_of number (Some fault) = stages.Broken number fault
 stage_of number None = stages.Going
 
--- the turns stand in a heap; a fault is in front; or it was left behind
-abbrev pub Stands : Stage → List reader.Ahead → List (Reverse Turn) → Type 0
-Stands stages.Going heads heap = LinedUp heads heap
-Stands (stages.Broken number fault) heads heap = first_of heads ≡ broken number fault
-Stands stages.Over heads heap = Unit {0}
+-- the streams are lined up; a fault is in front; or it was left behind
+abbrev pub Stands : Stage → List reader.Ahead → List (Option Turn) → Type 0
+Stands stages.Going heads turns = LinedUp heads turns
+Stands (stages.Broken number fault) heads turns = first_of heads ≡ broken number fault
+Stands stages.Over heads turns = Unit {0}
 
-pub record IsStanding (readers : List Reader) (heap : List (Reverse Turn)) (stage : Stage) : Type 0 where
+pub record IsStanding (readers : List Reader) (turns : List (Option Turn)) (stage : Stage) : Type 0 where
   pub fetched : EachFetched readers
-  pub stands : Stands stage (map (λ r. r.ahead) readers) heap
+  pub stands : Stands stage (map (λ r. r.ahead) readers) turns

@@ -1,25 +1,23 @@
 //! Several readers as one.
 
-ghost use Rattle.std.specs.Prelude.{◌≡◌, ◌+◌, ◌^◌, ◌<◌, [], length, map, drop, IfOk, IsOk, OnOk, OnErr, IfSome, IfNone, IsTrue, MatchOption, slice_get, None, true, false};
+ghost use Rattle.std.specs.Prelude.{◌≡◌, ◌+◌, ◌^◌, ◌<◌, [], length, map, set, IfOk, OnOk, OnErr, IfSome, IfNone, IsTrue, MatchOption, slice_get, None, true, false};
 ghost use Rattle.ctf_stream.specs.Owned as owned;
 ghost use Rattle.ctf_stream.specs.Reader.{coming, rest_of, HasItem, OrRefused, IsFetched, IsOnLine, IsAllTaken};
 ghost use Rattle.ctf_merge.specs.Merged.{merged};
 ghost use Rattle.ctf_merge.specs.Given.{Gives, GivesFirst, GivesFront, GivesRoom};
 ghost use Rattle.ctf_merge.specs.Merges.{coming_of, first_now, number_in, fault_in, names_of, traces_of, writes_of, given_of, room_of, MergedOrRefused, ComingRises, EachRises, EachFetched, EachTells, EachOnLine, EachAllTaken, Fetched, EachIsFetched, GoesOn, IsNext, RoomLeft};
-ghost use Rattle.std.specs.BinaryHeap.{heap_items, heap_len, heap_capacity, KeepsHeap};
 ghost use Rattle.ctf_merge.specs.Finding.{Finds};
 ghost use Rattle.ctf_merge.specs.Stages.{is_over, stage_of, Stands};
-ghost use Rattle.ctf_merge.specs.Turns.{last_cmp, turn_at, fault_at, Joins};
+ghost use Rattle.ctf_merge.specs.Turns.{turn_at, fault_at};
 
 use crate::fault::MergeFault;
 use crate::turn::Turn;
+use crate::turns::Turns;
 use ctf_bits::Source;
 use ctf_list::NoMemory;
 use ctf_packet::StreamFault;
 use ctf_stream::{Ahead, OwnedItem, StreamReader};
 use std::alloc::Global;
-use std::cmp::Reverse;
-use std::collections::BinaryHeap;
 use std::marker::Model;
 
 /// What comes first of several streams.
@@ -61,16 +59,14 @@ impl Stage {
 #[derive(Drop)]
 pub struct Merge<'a, S: Source + Drop> {
     readers: Vec<StreamReader<'a, S>>,
-    /// The turns of the streams with an item in front, while no fault comes next. It has room for each
-    /// stream's.
-    turns: BinaryHeap<Reverse<Turn>>,
+    /// The turns of the streams with an item in front, while no fault comes next.
+    turns: Turns,
     stage: Stage,
 }
 
 impl<'a, S: Source + Drop> Model for Merge<'a, S> {
     ghost use Rattle.ctf_merge.specs.Merges.{Merge};
     ghost use Rattle.ctf_merge.specs.Stages.{is_over, IsStanding};
-    ghost use Rattle.std.specs.BinaryHeap.{heap_items};
 
     ghost Value = { Merge };
 
@@ -82,7 +78,7 @@ impl<'a, S: Source + Drop> Model for Merge<'a, S> {
 
     ghost view = { λ m. record { readers = m.readers.items; over = is_over m.stage } };
 
-    ghost invariant = { λ m. IsStanding m.readers.items (heap_items m.turns) m.stage };
+    ghost invariant = { λ m. IsStanding m.readers.items m.turns m.stage };
 }
 
 /// Fetches what stands first, where nothing was fetched.
@@ -133,68 +129,39 @@ fn give<'a, S: Source + Drop>(
     }
 }
 
-/// Lines up the turn of a stream by what stands in front of it. Gives the fault that stands there.
-#[tactic(auto, using(crate::proofs::Pushed::pushed))]
-fn line_up(
-    turns: &mut BinaryHeap<Reverse<Turn>>,
-    number: usize,
-    ahead: Ahead,
-) -> Result<Option<StreamFault>, NoMemory>
-    requires { number < 2 ^ 63 }
-    ensures fault { IfOk result (λ f. f ≡ fault_at ahead) }
-    ensures joins { OnOk result (Joins (turn_at number ahead) (heap_items turns.old) (heap_items turns.new)) }
-    ensures heap_order { OnOk result (KeepsHeap last_cmp (heap_items turns.old) (heap_items turns.new)) }
-    ensures room { heap_len turns.old < heap_capacity turns.old → IsOk result }
-{
-    match ahead {
-        Ahead::Item(time) => {
-            turns.push(Reverse(Turn::new(time, number)))?;
-            Ok(None)
-        }
-        Ahead::Fault(fault) => Ok(Some(fault)),
-        Ahead::Start => Ok(None),
-        Ahead::Ended => Ok(None),
-    }
-}
-
-/// Replaces the first turn by the next one of its stream, by what stands in front of that, in one walk through the
-/// heap. Takes it out where no item stands there. Gives the fault that stands there.
-fn replace_first(
-    turns: &mut BinaryHeap<Reverse<Turn>>,
-    number: usize,
-    ahead: Ahead,
-) -> Option<StreamFault>
-    requires some { 0 < heap_len turns.old }
+/// Lines up a stream by what stands in front of it: its turn, where that is an item, in the place of the one before. Gives
+/// the fault that stands there.
+#[inline(always)]
+fn line_up(turns: &mut Turns, number: usize, ahead: Ahead) -> Option<StreamFault>
     requires number { number < 2 ^ 63 }
+    requires within { number < length turns.old }
     ensures fault { result ≡ fault_at ahead }
-    ensures joins { Joins (turn_at number ahead) (drop 1 (heap_items turns.old)) (heap_items turns.new) }
-    ensures heap_order { KeepsHeap last_cmp (heap_items turns.old) (heap_items turns.new) }
+    ensures turns { turns.new ≡ set turns.old number (turn_at number ahead) }
 {
-    let fault = match ahead {
-        Ahead::Item(time) => {
-            let mut first = turns.peek_mut().unwrap();
-            *first = Reverse(Turn::new(time, number));
-            return None;
-        }
+    if let Ahead::Item(time) = ahead {
+        turns.put(number, Some(Turn::new(time, number)));
+        return None;
+    }
+    turns.put(number, None);
+    match ahead {
         Ahead::Fault(fault) => Some(fault),
+        Ahead::Item(_time) => None,
         Ahead::Start => None,
         Ahead::Ended => None,
-    };
-    turns.pop();
-    fault
+    }
 }
 
 /// Lines up the turns of all streams, up to the first one with a fault in front.
 fn line_up_each<'a, S: Source + Drop>(
     alloc: Global,
     readers: &[StreamReader<'a, S>],
-) -> Result<(BinaryHeap<Reverse<Turn>>, Stage), NoMemory>
-    ensures stands { IfOk result (λ r. Stands r.1 (map (λ s. s.ahead) readers.now) (heap_items r.0)) }
+) -> Result<(Turns, Stage), NoMemory>
+    ensures stands { IfOk result (λ r. Stands r.1 (map (λ s. s.ahead) readers.now) r.0) }
     ensures open { IfOk result (λ r. is_over r.1 ≡ false) }
 {
-    let mut turns = BinaryHeap::with_capacity(alloc, readers.len())?;
+    let mut turns = Turns::new(alloc, readers.len())?;
     for (number, reader) in readers.iter().enumerate() {
-        if let Some(fault) = line_up(&mut turns, number, reader.ahead())? {
+        if let Some(fault) = line_up(&mut turns, number, reader.ahead()) {
             return Ok((turns, Stage::Broken(number, fault)));
         }
     }
@@ -234,8 +201,8 @@ impl<'a, S: Source + Drop> Merge<'a, S> {
         ensures fetched { EachFetched self.now.readers }
     {
         match self.stage {
-            Stage::Going => match self.turns.peek() {
-                Some(turn) => First::Item(turn.0.number()),
+            Stage::Going => match self.turns.first() {
+                Some(number) => First::Item(number),
                 None => First::Nothing,
             },
             Stage::Broken(number, fault) => First::Fault(number, fault),
@@ -288,12 +255,11 @@ impl<'a, S: Source + Drop> Merge<'a, S> {
     {
         match self.stage {
             Stage::Going => {
-                if let Some(turn) = self.turns.peek() {
-                    let number = turn.0.number();
+                if let Some(number) = self.turns.first() {
                     let reader = &mut self.readers[number];
                     reader.go_on();
                     let ahead = reader.ahead();
-                    let fault = replace_first(&mut self.turns, number, ahead);
+                    let fault = line_up(&mut self.turns, number, ahead);
                     self.stage = Stage::of(number, fault);
                 }
             }
@@ -328,14 +294,13 @@ impl<'a, S: Source + Drop> Merge<'a, S> {
         ensures all_taken { EachTells self.old.readers → EachAllTaken self.old.readers → EachAllTaken self.new.readers }
     {
         match self.stage {
-            Stage::Going => match self.turns.peek() {
-                Some(turn) => {
-                    let number = turn.0.number();
+            Stage::Going => match self.turns.first() {
+                Some(number) => {
                     let reader = &mut self.readers[number];
                     match give(reader) {
                         Ok(item) => {
                             let ahead = reader.ahead();
-                            let fault = replace_first(&mut self.turns, number, ahead);
+                            let fault = line_up(&mut self.turns, number, ahead);
                             self.stage = Stage::of(number, fault);
                             Ok(item)
                         }

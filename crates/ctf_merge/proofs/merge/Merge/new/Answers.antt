@@ -2,7 +2,6 @@ use Rattle.std.proofs.Common.{◌≡◌, ℕ, List, map, take, drop, length, ◌
 use Rattle.ctf_stream.specs.Reader.{Reader, coming}
 use Rattle.ctf_merge.specs.Merged.{Merged, merged}
 use Rattle.ctf_merge.specs.Merges.{EachIsFetched, MergedOrRefused}
-use Rattle.std.specs.BinaryHeap.{heap_items}
 use Rattle.ctf_merge.specs.Stages.{Stands}
 use Rattle.ctf_merge.proofs.Lining.{open_coming}
 use Rattle.ctf_merge.proofs.Going.{written, length-fetched, told_at_first, each_fetched, tells_at_first, names_at_first, traces_at_first, writes_at_first, given_at_first, on_line_at_first, all_taken_at_first}
@@ -19,7 +18,7 @@ readers_are old given new n same len each =
 pub invariant_of-result : goal.invariant_of-result
 invariant_of-result g c = record {
   fetched = each_fetched _ _ (readers_are c.args.readers.items c.deref_mut.result.now c.fetch_each.new.readers c.args.readers.len c.deref_mut.ensures.value c.args.readers.ok.0 c.fetch_each.ensures);
-  stands = subst (λ (rs : List Reader). Stands c.in_ok-turns.stage (map (λ r. r.ahead) rs) (heap_items c.in_ok-turns.turns)) c.deref.ensures.value c.in_ok-turns.ensures.stands;
+  stands = subst (λ (rs : List Reader). Stands c.in_ok-turns.stage (map (λ r. r.ahead) rs) c.in_ok-turns.turns) c.deref.ensures.value c.in_ok-turns.ensures.stands;
 }
 
 pub returns-clause-told : goal.returns-clause-told
