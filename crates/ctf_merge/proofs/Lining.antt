@@ -1,9 +1,9 @@
 -- The turns of streams, and which item comes first.
-use Rattle.std.proofs.Common.{◌≡◌, ℕ, zero, suc, ◌<◌, Bool, true, false, cond, List, [], ◌∷◌, ◌++◌, length, map, set, get_or, take, replicate, slice_get, Option, Some, None, IfSome, refl, sym, ap, ◌∙◌, subst, arith}
+use Rattle.std.proofs.Common.{◌≡◌, ℕ, zero, suc, ◌<◌, Bool, true, false, cond, List, [], ◌∷◌, ◌++◌, length, map, set, get_or, take, slice_get, Option, Some, None, IfSome, refl, sym, ap, ◌∙◌, subst, arith}
 use Rattle.std.specs.Ordering.{is_lt}
 use Rattle.std.specs.List.{AllByRecursion}
-use Rattle.std.proofs.Math.Seq.{take-suc-set, take-length}
-use Rattle.std.proofs.lemmas.List.{length-set, length-replicate}
+use Rattle.std.proofs.Math.Seq.{take-suc-set}
+use Rattle.std.proofs.lemmas.List.{length-set}
 use Rattle.ctf_packet.specs.Classes.{Classes}
 use Rattle.ctf_packet.specs.Items.{Item}
 use Rattle.ctf_packet.specs.declared.fault.StreamFault.{StreamFault}
@@ -159,15 +159,6 @@ lined_more rs i r old new lt is lined new_is sound = record {
   where
     heads : heads_of (take (suc i) rs) ≡ heads_of (take i rs) ++ r.ahead ∷ []
     heads = heads_more rs i r lt is
-
-pub lined_all : (rs : List Reader) (turns : List (Option Turn)) → LinedUpTo (length rs) rs turns → LinedUp (heads_of rs) turns
-lined_all rs turns lined = record {
-  sound = subst (λ (ss : List Reader). AllSound (heads_of ss)) (take-length rs) lined.sound;
-  turns_are = sym (take-length turns) ∙ (ap (λ (n : ℕ). take n turns) lined.sized ∙ (lined.turns_are ∙ ap (λ (ss : List Reader). turns_from 0 (heads_of ss)) (take-length rs)));
-}
-
-pub lined_none : (rs : List Reader) (turns : List (Option Turn)) → turns ≡ replicate (length rs) None → LinedUpTo 0 rs turns
-lined_none rs turns is = record { sound = tt; turns_are = refl; sized = ap length is ∙ length-replicate (length rs) None }
 
 pub broken_first : (rs : List Reader) (i : ℕ) (r : Reader) (f : StreamFault) → i < length rs → r ≡ get_or rs i r → AllSound (heads_of (take i rs)) → fault_at (told r.ahead) ≡ Some f
     → first_of (heads_of rs) ≡ broken i f

@@ -11,42 +11,9 @@ use Rattle.std.specs.List.{AllByRecursion}
 use Rattle.std.specs.Ordering.{is_lt}
 use Rattle.ctf_merge.specs.Keys.{turn_of_key}
 use Rattle.ctf_merge.specs.Turns.{Turn, turn_cmp}
-use Rattle.ctf_merge.specs.Trees.{nothing, turn_in, node, IsLesser, IsTreeBut, IsTree, IsNode, AreNodes, IsLow, IsFirst}
+use Rattle.ctf_merge.specs.Trees.{nothing, turn_in, node, IsTree, IsNode, AreNodes, IsLow, IsFirst}
 use Rattle.ctf_merge.proofs.Keys.{keys_cmp}
 use Rattle.ctf_merge.proofs.Turning.{not_less_number}
-
--- ---- a node is replaced
-
-lesser_elsewhere : (i place v : ℕ) (nodes : List ℕ) → i ≢ place → (i + i) ≢ place → (i + i + 1) ≢ place → IsLesser i nodes → IsLesser i (set nodes place v)
-lesser_elsewhere i place v nodes apart left right lesser =
-    get_or-set_other nodes place i v 0 apart ∙ (lesser
-    ∙ λ j. min (sym (get_or-set_other nodes place (i + i) v 0 left) j) (sym (get_or-set_other nodes place (i + i + 1) v 0 right) j))
-
--- a leaf is replaced: the node above it may be another one
-pub entered : (leaves number place v : ℕ) (nodes : List ℕ) → IsTree leaves nodes → place ≡ leaves + number → IsTreeBut (place / 2) leaves (set nodes place v)
-entered leaves number place v nodes tree at = record {
-  sized = length-set nodes place v ∙ tree.sized;
-  lesser = λ i first inner apart.
-      lesser_elsewhere i place v nodes (λ e. omega (arith, e, at, inner)) (λ e. apart (omega (arith, e))) (λ e. apart (omega (arith, e)))
-      (tree.lesser i first inner (λ e. omega (arith, e, first)));
-}
-
--- a node is made the lesser of the two below it
-pub climbed : (leaves place v : ℕ) (nodes : List ℕ) → IsTreeBut place leaves nodes → 1 ≤ place → place < leaves → v ≡ min (node (place + place) nodes) (node (place + place + 1) nodes)
-    → IsTreeBut (place / 2) leaves (set nodes place v)
-climbed leaves place v nodes tree first inner lesser = record {
-  sized = length-set nodes place v ∙ tree.sized;
-  lesser = λ i from to apart. by_place i from to apart (eqb_tells i place);
-}
-  where
-    by_place : (i : ℕ) → 1 ≤ i → i < leaves → i ≢ place / 2 → ((eqb i place ≡ true) × (i ≡ place)) ⊎ ((eqb i place ≡ false) × (i ≢ place)) → IsLesser i (set nodes place v)
-    by_place i from to apart (inl same) =
-        let sized = tree.sized in
-        subst (λ (j : ℕ). IsLesser j (set nodes place v)) (sym same.1)
-        (get_or-set_same nodes place v 0 (omega (arith, sized, inner)) ∙ (lesser
-        ∙ λ j. min (sym (get_or-set_other nodes place (place + place) v 0 (λ e. omega (arith, e, first))) j) (sym (get_or-set_other nodes place (place + place + 1) v 0 (λ e. omega (arith, e, first))) j)))
-    by_place i from to apart (inr other) =
-        lesser_elsewhere i place v nodes other.1 (λ e. apart (omega (arith, e))) (λ e. apart (omega (arith, e))) (tree.lesser i from to other.1)
 
 -- ---- the first node is the least
 
@@ -207,17 +174,6 @@ no_turn_by (k ∷ ks) from each far = (none each.0 (far 0 (omega arith)), no_tur
 pub none_is : (leaves : ℕ) (nodes : List ℕ) → IsTree leaves nodes → AreNodes 0 (drop leaves nodes) → 2 ^ 128 ≤ node 1 nodes + 2 ^ 64 → AllByRecursion (λ t. t ≡ None) (map turn_in (drop leaves nodes))
 none_is leaves nodes tree each far =
     no_turn_by (drop leaves nodes) 0 each (λ m lt. let le = each_low leaves nodes tree m lt in omega (arith, le, far))
-
--- without nodes there are no streams
-pub none_there : (leaves : ℕ) (nodes : List ℕ) → IsTree leaves nodes → length nodes ≤ 1 → AllByRecursion (λ t. t ≡ None) (map turn_in (drop leaves nodes))
-none_there leaves nodes tree few =
-    let sized = tree.sized in
-    let long = leaves_long leaves nodes tree in
-    empty (drop leaves nodes) (omega (arith, long, sized, few))
-  where
-    empty : (keys : List ℕ) → length keys ≡ 0 → AllByRecursion (λ t. t ≡ None) (map turn_in keys)
-    empty [] e = tt
-    empty (k ∷ ks) e = absurd (omega (arith, e))
 
 -- ---- at the start
 
