@@ -61,7 +61,7 @@ fn print_counts(rt: &impl Print, trace: &TraceClass) -> Result<()> {
     let streams = trace.streams.as_slice();
     let mut events = 0usize;
     for stream in streams {
-        events = events.saturating_add(stream.events.as_slice().len());
+        events = events.saturating_add(stream.events().len());
     }
     println!(rt; "stream classes {}", streams.len())?;
     println!(rt; "event classes {events}")?;

@@ -1,7 +1,7 @@
-//! What is known of structures beforehand.
+//! What is known of event records beforehand.
 
 use crate::traces::integer_of;
-use ctf_class::{Align, Class, FieldName, Kind, Member, Planned};
+use ctf_class::{Align, Class, FieldName, Kind, Member, RecordPlan};
 use ctf_list::{List, NoMemory};
 use std::alloc::Global;
 use std::test::Fail;
@@ -21,8 +21,8 @@ fn member(alloc: Global, name: u8, class: Class) -> Result<Member, NoMemory> {
     Ok(Member { name, class })
 }
 
-/// The plan of the structure of a byte, another member and a word.
-fn planned(alloc: Global, align: u64, between: Kind) -> Result<Option<Planned>, NoMemory> {
+/// A structure of a byte, another member and a word.
+fn structure(alloc: Global, align: u64, between: Kind) -> Result<Option<Class>, NoMemory> {
     let (Some(byte), Some(other), Some(word)) = (integer_of(8), aligned(8, between), integer_of(32))
     else {
         return Ok(None);
@@ -32,35 +32,42 @@ fn planned(alloc: Global, align: u64, between: Kind) -> Result<Option<Planned>, 
     members.push(member(alloc, b'b', other)?)?;
     members.push(member(alloc, b'c', word)?)?;
     let members = List::from_vec(members);
-    match aligned(align, Kind::Structure { members }) {
-        Some(class) => Ok(Some(Planned::new(alloc, class)?)),
-        None => Ok(None),
-    }
+    Ok(aligned(align, Kind::Structure { members }))
 }
 
+/// The plan of records whose two scopes are the same structure: the numbers behind a string of one scope and before that of
+/// the next are one run.
 #[test]
-fn stretches(rt: HostRuntime) -> Result<(), Fail> {
+fn two_scopes(rt: HostRuntime) -> Result<(), Fail> {
     let alloc = rt.alloc();
-    let Some(planned) = planned(alloc, 16, Kind::String)? else {
+    let Some(class) = structure(alloc, 8, Kind::String)? else {
         return Ok(());
     };
-    let stretches = planned.stretches();
-    assert_eq!(rt; stretches.len(), 2);
-    assert_eq!(rt; (stretches[0].span, stretches[1].span), (8, 32));
+    let plan = RecordPlan::new(alloc, Some(&class), None, &class)?;
+    let runs = plan.runs.as_slice();
+    assert_eq!(rt; (runs.len(), plan.count), (3, 8));
+    assert_eq!(rt; (runs[0].span, runs[1].span, runs[2].span), (8, 40, 32));
+    assert!(rt; runs[0].field.is_some() && runs[1].field.is_some() && runs[2].field.is_none());
     Ok(())
 }
 
 #[test]
-fn no_stretches(rt: HostRuntime) -> Result<(), Fail> {
+fn no_plan(rt: HostRuntime) -> Result<(), Fail> {
     let alloc = rt.alloc();
-    let Some(unaligned) = planned(alloc, 4, Kind::String)? else {
+    let Some(unaligned) = structure(alloc, 4, Kind::String)? else {
         return Ok(());
     };
-    assert!(rt; unaligned.stretches().is_empty());
+    assert!(rt; has_no_plan(alloc, &unaligned)?);
     let members = List::new(alloc);
-    let Some(nested) = planned(alloc, 8, Kind::Structure { members })? else {
+    let Some(nested) = structure(alloc, 8, Kind::Structure { members })? else {
         return Ok(());
     };
-    assert!(rt; nested.stretches().is_empty());
+    assert!(rt; has_no_plan(alloc, &nested)?);
     Ok(())
+}
+
+/// Whether records of these fields have no plan.
+fn has_no_plan(alloc: Global, fields: &Class) -> Result<bool, NoMemory> {
+    let plan = RecordPlan::new(alloc, None, None, fields)?;
+    Ok(plan.runs.as_slice().is_empty())
 }

@@ -2,7 +2,7 @@
 
 use ctf_bits::Order;
 use ctf_class::{
-    Align, Base, Class, EventClass, FieldName, Heading, Indexed, Integer, Kind, Member, Planned,
+    Align, Base, Class, EventClass, FieldName, Heading, Indexed, Integer, Kind, Member,
     StreamClass, TraceClass, Width,
 };
 use ctf_list::{List, NoMemory};
@@ -48,25 +48,15 @@ fn event(alloc: Global, id: u64, fields: Class) -> Result<EventClass, NoMemory> 
     Ok(EventClass {
         id,
         heading,
-        context: match integer_of(16) {
-            Some(class) => Some(Planned::new(alloc, class)?),
-            None => None,
-        },
-        fields: Planned::new(alloc, fields)?,
+        context: integer_of(16),
+        fields,
     })
 }
 
 /// A stream class of some event classes.
 fn stream(alloc: Global, events: Vec<EventClass>) -> Result<StreamClass, NoMemory> {
     let events = Indexed::new(alloc, List::from_vec(events))?;
-    Ok(StreamClass {
-        id: 4,
-        packet_context: integer_of(32),
-        event_header: integer_of(64),
-        event_context: None,
-        clock: None,
-        events,
-    })
+    StreamClass::new(alloc, 4, integer_of(32), integer_of(64), None, None, events)
 }
 
 #[test]

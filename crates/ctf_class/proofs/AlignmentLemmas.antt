@@ -1,6 +1,6 @@
 -- Lemmas on alignments.
 use Rattle.std.proofs.Common.{◌≡◌, ℕ, ◌+◌, ◌-◌, ◌*◌, ◌/◌, ◌%◌, ◌^◌, ◌<◌, ◌≤◌, bit_and, sym, ap, ◌∙◌, ⊎_elim, subst, lit<, arith}
-use Rattle.std.proofs.Math.Nat.{pow-le-pow_right, mod-mod_of_dvd, zero-mod}
+use Rattle.std.proofs.Math.Nat.{pow-le-pow_right, mod-mod_of_dvd, zero-mod, mod-add-div', mul-add-mod_self_right}
 use Rattle.std.proofs.lemmas.Bool.{cases_eq}
 use Rattle.std.proofs.lemmas.Nat.{pow_pos, pow_below, div-add-mod'}
 use Rattle.std.proofs.lemmas.Nat.Gcd.{dvd_of_mod-eq-zero}
@@ -55,3 +55,18 @@ least_up unit kept place sum begin power cut read same =
 pub last-place-aligned : (align : ℕ) → 8 % align ≡ 0 → 2 ^ 62 % align ≡ 0
 last-place-aligned align divides =
     sym (mod-mod_of_dvd align {b = 8} (2 ^ 62) (dvd_of_mod-eq-zero align divides)) ∙ zero-mod align
+
+-- a place that a multiple of an alignment divides
+pub divides_too : (place base a : ℕ) → place % base ≡ 0 → base % a ≡ 0 → place % a ≡ 0
+divides_too place base a whole divides =
+    sym (mod-mod_of_dvd a {b = base} place (dvd_of_mod-eq-zero a divides)) ∙ ap (λ r. r % a) whole ∙ zero-mod a
+
+-- rounding up behind a place that an alignment divides
+mod-behind : (b x a : ℕ) → b % a ≡ 0 → (b + x) % a ≡ x % a
+mod-behind b x a divides = let whole : b ≡ b / a * a = omega (arith, mod-add-div' b a, divides) in ap (λ k. (k + x) % a) whole ∙ mul-add-mod_self_right (b / a) a x
+
+pub next_behind : (b x a : ℕ) → b % a ≡ 0 → next_multiple_of (b + x) a ≡ b + next_multiple_of x a
+next_behind b x a divides =
+    let left = ap (λ r. b + x + (a - r) % a) (mod-behind b x a divides) in
+    let sum : b + x + (a - x % a) % a ≡ b + (x + (a - x % a) % a) = omega arith in
+    left ∙ sum

@@ -1,5 +1,6 @@
 pub mod AlignmentLemmas
 pub mod EscapesLemmas
 pub mod PlacesLemmas
-pub mod PlansLemmas
+pub mod RecordsLemmas
+pub mod StreamsLemmas
 pub mod WordsLemmas

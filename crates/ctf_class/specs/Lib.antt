@@ -3,7 +3,9 @@ pub mod Escapes
 pub mod FixedSize
 pub mod HostAndName
 pub mod Items
+pub mod Making
 pub mod Names
 pub mod Places
-pub mod Plans
+pub mod Records
+pub mod Streams
 pub mod Words

@@ -1,6 +1,6 @@
 //! Names of members and options, with the texts that are printed for them.
 
-ghost use Rattle.std.specs.Prelude.{◌≡◌, ◌∷◌, nat_eq, IfOk};
+ghost use Rattle.std.specs.Prelude.{◌≡◌, ◌++◌, nat_eq, IfOk};
 ghost use Rattle.std.specs.Cmp.{partial_equiv_from_equiv};
 ghost use Rattle.std.specs.Cmp.Lexicographic.{pointwise, nat_list_eq_equiv};
 ghost use Rattle.ctf_class.specs.Names.{shown_name, field_text};
@@ -46,13 +46,12 @@ impl FieldName {
         Ok(FieldName { ready, name })
     }
 
-    /// What is printed before the value, behind a mark and a space.
-    pub fn marked(&self, alloc: Global, mark: u8) -> Result<Ready, NoMemory>
-        ensures { IfOk result (λ ready. ready ≡ mark ∷ 32 ∷ field_text self.now) }
+    /// What is printed before the value, behind a text.
+    pub fn behind(&self, alloc: Global, lead: &[u8]) -> Result<Ready, NoMemory>
+        ensures { IfOk result (λ ready. ready ≡ lead.now ++ field_text self.now) }
     {
         let mut text = Vec::new(alloc);
-        text.push(mark)?;
-        text.push(b' ')?;
+        text.extend_from_slice(lead)?;
         text.extend_from_slice(shown(self.as_slice()))?;
         text.extend_from_slice(b" = ")?;
         Ok(Ready::new(alloc, text.as_slice())?)

@@ -1,6 +1,6 @@
 //! Items that are found by their numbers.
 
-ghost use Rattle.std.specs.Prelude.{◌≡◌, ℕ, length, map, IsTrue, IfOk, option_copied, slice_get};
+ghost use Rattle.std.specs.Prelude.{◌≡◌, ℕ, length, map, IsTrue, IfOk, IfSome, option_copied, slice_get};
 ghost use Rattle.std.specs.List.{range_with_len};
 ghost use Rattle.ctf_class.specs.Items.{first_of_id, only_item};
 
@@ -68,7 +68,16 @@ impl<T: HasId> Indexed<T> {
         self.items.as_slice()
     }
 
+    /// Where the first item of a number stands.
+    #[inline(always)]
+    pub fn place(&self, id: u64) -> Option<usize>
+        ensures { IfSome result (λ place. slice_get self.now place ≡ first_of_id T.id_of id self.now) }
+    {
+        self.places.at(id, self.items.len())
+    }
+
     /// The first item of a number.
+    #[inline(always)]
     pub fn get(&self, id: u64) -> Option<&T>
         ensures { option_copied result ≡ first_of_id T.id_of id self.now }
     {
@@ -102,6 +111,7 @@ impl Places {
     }
 
     /// The place that is kept for a number, among so many items.
+    #[inline(always)]
     fn at(&self, id: u64, count: usize) -> Option<usize>
         ensures { result ≡ place_of self.now count id }
     {

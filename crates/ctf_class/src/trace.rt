@@ -1,14 +1,18 @@
 //! Classes of events, streams and traces.
 
-ghost use Rattle.std.specs.Prelude.{◌≡◌, option_copied};
+ghost use Rattle.std.specs.Prelude.{◌≡◌, Some, IfOk, IfSome, option_copied};
 ghost use Rattle.ctf_class.specs.Items.{first_of_id, only_item};
+ghost use Rattle.ctf_class.specs.Records.{IsPlanOf, scopes_of};
+ghost use Rattle.ctf_class.specs.Streams.{ArePlans};
 
 use crate::class::Class;
 use crate::frequency::Frequency;
 use crate::heading::Heading;
 use crate::indexed::{HasId, Indexed};
-use crate::planned::Planned;
-use ctf_list::List;
+use crate::record_plan::RecordPlan;
+use ctf_list::{List, NoMemory};
+use std::alloc::Global;
+use std::marker::Model;
 
 /// A clock (CTF 1.8.3, section 8).
 #[derive(Debug, Drop, PartialEq, Eq)]
@@ -26,22 +30,52 @@ pub struct Clock {
 pub struct EventClass {
     pub id: u64,
     pub heading: Heading,
-    pub context: Option<Planned>,
-    pub fields: Planned,
+    pub context: Option<Class>,
+    pub fields: Class,
 }
 
-/// A stream class (CTF 1.8.3, sections 3 and 7.4).
+/// A stream class (CTF 1.8.3, sections 3 and 7.4). Contracts see its parts; with them it keeps the plans of its event records.
 #[derive(Debug, Drop)]
 pub struct StreamClass {
-    pub id: u64,
-    pub packet_context: Option<Class>,
-    pub event_header: Option<Class>,
+    id: u64,
+    packet_context: Option<Class>,
+    event_header: Option<Class>,
     /// The stream event context.
-    pub event_context: Option<Planned>,
+    event_context: Option<Class>,
     /// The clock of the stream, where a moving integer stands in its packet context or event header.
-    pub clock: Option<Clock>,
+    clock: Option<Clock>,
     /// In the order of the text.
-    pub events: Indexed<EventClass>,
+    events: Indexed<EventClass>,
+    /// In the same order.
+    plans: List<RecordPlan>,
+}
+
+/// An event class, with the plan of its records.
+#[derive(Clone, Copy, Debug)]
+pub struct PlannedEvent<'a> {
+    pub event: &'a EventClass,
+    pub plan: &'a RecordPlan,
+}
+
+impl Model for StreamClass {
+    ghost use Rattle.std.specs.Coded.{codes};
+    ghost use Rattle.ctf_class.specs.Streams.{StreamClass as Parts, ArePlans};
+    ghost use Rattle.ctf_class.specs.contracts.class.Kind as kinds;
+
+    ghost Value = { Parts };
+
+    ghost coded = { Prim.hlevel (codes, kinds.the_row.coded) };
+
+    ghost view = { λ stream. record {
+      id = stream.id;
+      packet_context = stream.packet_context;
+      event_header = stream.event_header;
+      event_context = stream.event_context;
+      clock = stream.clock;
+      events = stream.events;
+    } };
+
+    ghost invariant = { λ stream. ArePlans stream.event_context stream.events stream.plans };
 }
 
 /// A trace class (CTF 1.8.3, sections 2 and 7.4).
@@ -82,18 +116,61 @@ impl EventClass {
     pub fn context(&self) -> Option<&Class>
         ensures { option_copied result ≡ self.now.context }
     {
-        class_of(&self.context)
+        self.context.as_ref()
     }
 
     /// The class of the event fields.
     pub fn fields(&self) -> &Class
         ensures { result.now ≡ self.now.fields }
     {
-        self.fields.class()
+        &self.fields
     }
 }
 
 impl StreamClass {
+    /// A stream class of these parts. It fails where memory is refused.
+    pub fn new(
+        alloc: Global,
+        id: u64,
+        packet_context: Option<Class>,
+        event_header: Option<Class>,
+        event_context: Option<Class>,
+        clock: Option<Clock>,
+        events: Indexed<EventClass>,
+    ) -> Result<StreamClass, NoMemory>
+        ensures { IfOk result (λ stream. stream ≡ record { id = id; packet_context = packet_context; event_header = event_header; event_context = event_context; clock = clock; events = events }) }
+    {
+        let plans = plans_of(alloc, event_context.as_ref(), events.as_slice())?;
+        Ok(StreamClass {
+            id,
+            packet_context,
+            event_header,
+            event_context,
+            clock,
+            events,
+            plans,
+        })
+    }
+
+    /// The event classes, in the order of the text.
+    pub fn events(&self) -> &[EventClass]
+        ensures { result.now ≡ self.now.events }
+    {
+        self.events.as_slice()
+    }
+
+    /// The first event class of an id, with the plan of its records.
+    #[inline(always)]
+    pub fn planned(&self, id: u64) -> Option<PlannedEvent<'_>>
+        ensures event { IfSome result (λ p. first_of_id (λ event. event.id) id self.now.events ≡ Some p.event.now) }
+        ensures plan { IfSome result (λ p. IsPlanOf (scopes_of self.now.event_context p.event.now.context p.event.now.fields) p.plan.now) }
+    {
+        let place = self.events.place(id)?;
+        let event = self.events.as_slice().get(place)?;
+        let plan = self.plans.as_slice().get(place)?;
+        Some(PlannedEvent { event, plan })
+    }
+
     /// The first event class of an id.
     pub fn event(&self, id: u64) -> Option<&EventClass>
         ensures { option_copied result ≡ first_of_id (λ event. event.id) id self.now.events }
@@ -133,7 +210,7 @@ impl StreamClass {
     pub fn event_context(&self) -> Option<&Class>
         ensures { option_copied result ≡ self.now.event_context }
     {
-        class_of(&self.event_context)
+        self.event_context.as_ref()
     }
 }
 
@@ -170,12 +247,18 @@ impl TraceClass {
     }
 }
 
-/// The class, where there is one.
-fn class_of(planned: &Option<Planned>) -> Option<&Class>
-    ensures { option_copied result ≡ planned.now }
+/// The plans of records of event classes, where the stream event context has this class.
+fn plans_of(
+    alloc: Global,
+    context: Option<&Class>,
+    events: &[EventClass],
+) -> Result<List<RecordPlan>, NoMemory>
+    ensures { IfOk result (ArePlans (option_copied context.entry) events.now) }
 {
-    match planned {
-        Some(planned) => Some(planned.class()),
-        None => None,
+    let mut plans = List::new(alloc);
+    for event in events {
+        let plan = RecordPlan::new(alloc, context, event.context(), event.fields())?;
+        plans.push(plan)?;
     }
+    Ok(plans)
 }

@@ -2,7 +2,7 @@
 use Rattle.std.proofs.Common.{◌≡◌, ℕ, List, [], Option, Some, None, Result, Ok, option_map, refl, ap, subst, ◌∙◌}
 use Rattle.std.specs.List.{last_or}
 use Rattle.ctf_class.specs.declared.class.Class.{Class}
-use Rattle.ctf_class.specs.declared.trace.StreamClass.{StreamClass}
+use Rattle.ctf_class.specs.Streams.{StreamClass}
 use Rattle.ctf_clock.specs.Clock.{Line, advanced_by}
 use Rattle.ctf_clock.specs.declared.moment.Moment.{Moment}
 use Rattle.ctf_clock.specs.declared.moment.Shift.{Shift}

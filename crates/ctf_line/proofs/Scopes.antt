@@ -1,17 +1,19 @@
 -- The scopes behind the header of an event record, one after the other, and their texts.
-use Rattle.std.proofs.Common.{◌≡◌, ℕ, List, [], ◌++◌, Some, None, Result, Ok, codes, option_map, refl, sym, ap, ◌∙◌, append_assoc, append-nil}
+use Rattle.std.proofs.Common.{◌≡◌, ℕ, ◌<◌, List, [], ◌∷◌, ◌++◌, length, Option, Some, None, Result, Ok, codes, option_map, refl, sym, ap, ◌∙◌, append_assoc, append-nil, arith}
 use Rattle.std.specs.List.{flat_map}
 use Rattle.ctf_class.specs.HostAndName.{heading_text}
+use Rattle.ctf_class.specs.Records.{and_scope, scopes_of}
 use Rattle.ctf_class.specs.declared.class.Class.{Class}
 use Rattle.ctf_class.specs.declared.route.Scope.TheVariants.{StreamEventContext, EventContext, EventFields}
 use Rattle.ctf_class.specs.declared.trace.EventClass.{EventClass}
-use Rattle.ctf_class.specs.declared.trace.StreamClass.{StreamClass}
+use Rattle.ctf_class.specs.Streams.{StreamClass}
 use Rattle.ctf_decode.specs.Views.{form}
 use Rattle.ctf_line.specs.Making.{PutsScope, PutsBody}
 use Rattle.ctf_packet.specs.Records.{Body, bodied}
 use Rattle.ctf_packet.specs.Scopes.{◌>>=◌, Values, Stood, stood, scope_at, input_of, value_in, put, fault_in_record}
 use Rattle.ctf_packet.specs.declared.fault.StreamFault.{StreamFault}
 use Rattle.ctf_text.specs.Lines.{if_shown, scope_texts}
+use Rattle.ctf_text.specs.Records.{PutsScopes}
 use Rattle.ctf_text.specs.Standing.{Puts}
 use Rattle.ctf_text.specs.Texts.{value_text}
 use Rattle.ctf_text.specs.declared.standing.Standing.{Standing}
@@ -64,3 +66,31 @@ module _ (stream : StreamClass) (event : EventClass) (part bytes : List ℕ) (co
       in
       let chain = record_chain [] (heading_text event.heading) (value_text event.fields f.0) (heading_text event.heading) front first second (if_shown part) (scope_texts stream.event_context a.0.value) (scope_texts event.context b.0.value) refl wrote a.4 b.4 in
       (body, is, refl, refl, f.2 ∙ chain)
+
+-- scopes that were written one behind the other
+pub scope_step : (o : Option Class) (ks : List Class) (bytes : List ℕ) (content place spent end total : ℕ) (before after : List ℕ) → 0 < length ks → PutsScopes (and_scope o ks) bytes content place spent end total before after
+    → (to : Standing) × (text : List ℕ) × PutsScope o bytes content (record { place = place; spent = spent; end = 0 }) before to text × PutsScopes ks bytes content to.place to.spent end total text after
+scope_step None ks bytes content place spent end total before after some puts =
+    let from : Standing = record { place = place; spent = spent; end = 0 } in
+    (from, before, puts_none bytes content from before, puts)
+scope_step (Some k) [] bytes content place spent end total before after some puts = absurd (omega (arith, some))
+scope_step (Some k) (l ∷ ks) bytes content place spent end total before after some puts =
+    let from : Standing = record { place = place; spent = spent; end = 0 } in
+    let to : Standing = record { place = puts.0; spent = puts.1; end = 0 } in
+    (to, puts.2 ++ codes ", ", puts_some k bytes content from to before puts.2 (puts.2 ++ codes ", ") puts.3 refl, puts.4)
+
+pub some_scope : (o : Option Class) (k : Class) → 0 < length (and_scope o (k ∷ []))
+some_scope None k = omega arith
+some_scope (Some l) k = omega arith
+
+pub some_scopes : (shared own : Option Class) (k : Class) → 0 < length (scopes_of shared own k)
+some_scopes None own k = some_scope own k
+some_scopes (Some l) own k = omega arith
+
+pub planned_body : (stream : StreamClass) (event : EventClass) (part bytes : List ℕ) (content place spent end total : ℕ) (front text : List ℕ) → front ≡ heading_text event.heading ++ flat_map followed (if_shown part)
+    → PutsScopes (scopes_of stream.event_context event.context event.fields) bytes content place spent end total front text → PutsBody stream event part bytes content place spent end text
+planned_body stream event part bytes content place spent end total front text wrote puts =
+    let from : Standing = record { place = place; spent = spent; end = 0 } in
+    let a = scope_step stream.event_context (and_scope event.context (event.fields ∷ [])) bytes content place spent end total front text (some_scope event.context event.fields) puts in
+    let b = scope_step event.context (event.fields ∷ []) bytes content a.0.place a.0.spent end total a.1 text (omega arith) a.3 in
+    puts_body stream event part bytes content from a.0 b.0 end total front a.1 b.1 text wrote a.2 b.2 b.3

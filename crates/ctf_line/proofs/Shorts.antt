@@ -9,13 +9,14 @@ use Rattle.std.proofs.lemmas.Int.{ints}
 use Rattle.ctf_bits.specs.Number.{number, signed_number}
 use Rattle.ctf_bits.specs.Placed.{Placed, number_behind}
 use Rattle.ctf_bits.specs.declared.number.Order.TheVariants.{Le}
+use Rattle.ctf_class.proofs.AlignmentLemmas.{divides_too, next_behind}
 use Rattle.ctf_class.specs.declared.class.Class.{Class}
 use Rattle.ctf_class.specs.declared.class.Member.{Member}
 use Rattle.ctf_class.specs.declared.integer.Integer.{Integer}
 use Rattle.ctf_class.specs.declared.route.Route.{Route}
 use Rattle.ctf_class.specs.declared.span.Choice.{Choice}
 use Rattle.ctf_class.specs.declared.span.Label.{Label}
-use Rattle.ctf_class.specs.declared.trace.StreamClass.{StreamClass}
+use Rattle.ctf_class.specs.Streams.{StreamClass}
 use Rattle.ctf_clock.specs.Clock.{Line, advanced, advanced_by}
 use Rattle.ctf_clock.specs.declared.moment.Moment.{Moment}
 use Rattle.ctf_decode.specs.Fields.{named_id, number_in}
@@ -33,7 +34,6 @@ use Rattle.ctf_line.specs.declared.header.Telling.{Telling}
 use Rattle.ctf_line.specs.declared.short.ShortHeader.{ShortHeader}
 use Rattle.ctf_line.proofs.Telling.{tells_integer, reads_unsigned, stands_tag, going_begins, going_on, going_ends, tells_structure, tells_pair}
 use Rattle.ctf_packet.specs.Moved.{moved_in}
-use Rattle.ctf_text.proofs.PlannedLemmas.{divides_too, next_behind}
 
 -- the first choice is made by the numbers that it covers
 chosen_first : (choices : List Choice) (choice : Choice) (route : Route) (first last id : ℕ) → IsFirstChoice route choices choice → choice.span.first ≡ pos first → choice.span.last ≡ pos last → first ≤ id → id ≤ last → FirstChooses route choices (pos id) choice.option

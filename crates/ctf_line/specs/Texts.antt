@@ -1,7 +1,7 @@
 -- The texts of event records behind their stamps.
 use Rattle.std.specs.Prelude.{List, ℕ, Option, Some, None}
 use Rattle.ctf_class.specs.declared.trace.EventClass.{EventClass}
-use Rattle.ctf_class.specs.declared.trace.StreamClass.{StreamClass}
+use Rattle.ctf_class.specs.Streams.{StreamClass}
 use Rattle.ctf_decode.specs.Values.{Val, unsigned}
 use Rattle.ctf_packet.specs.Classes.{Classes}
 use Rattle.ctf_packet.specs.Items.{Event}

@@ -2,6 +2,7 @@
 
 ghost use Rattle.std.specs.Prelude.{◌≡◌, ℕ, List, None, ◌<◌, ◌≤◌, ◌+◌, ◌*◌, ◌^◌, [], ◌∷◌, Some, length, IfSome, option_copied};
 ghost use Rattle.std.specs.Int.{next_multiple_of};
+ghost use Rattle.ctf_class.specs.Records.{IsPlanOf, scopes_of};
 ghost use Rattle.ctf_clock.specs.declared.moment.Shift.{Shift};
 ghost use Rattle.ctf_decode.specs.Input.{bits_of};
 ghost use Rattle.ctf_decode.specs.Views.{form, val};
@@ -11,7 +12,7 @@ ghost use Rattle.ctf_packet.specs.Classes.{stream_form};
 
 use crate::short::{SHORT_VALUES, ShortHeader, tell_short};
 use ctf_bits::{sint_within, uint_within};
-use ctf_class::{Align, Class, Integer, Kind, Member};
+use ctf_class::{Align, Class, Integer, Kind, Member, RecordPlan};
 use ctf_clock::{Moment, Timeline};
 use ctf_decode::{MOST_VALUES, Value, chosen_by_first, named_id};
 use ctf_packet::{Head, OpenPacket, event_named, moved_by_integer};
@@ -49,6 +50,13 @@ pub(crate) struct ToldHead<'a> {
     pub(crate) spent: u64,
 }
 
+/// The same, with the plan of the records of its event class.
+#[derive(Clone, Copy, Debug)]
+pub(crate) struct PlannedHead<'a> {
+    pub(crate) told: ToldHead<'a>,
+    pub(crate) plan: &'a RecordPlan,
+}
+
 /// The header of the event record at a place of a packet, in bits from its first one, whose clock came so far (CTF
 /// 1.8.3, section 6.1), told by what was looked at of its class. `None` where that does not hold for it, and where it has a
 /// fault.
@@ -59,25 +67,30 @@ pub(crate) fn told_short<'a>(
     bytes: &[u8],
     clock: Option<Moment>,
     place: u64,
-) -> Option<ToldHead<'a>>
+) -> Option<PlannedHead<'a>>
     requires start { place ≤ packet.now.content }
     requires content { packet.now.content ≤ 2 ^ 62 }
     requires held { packet.now.content ≤ 8 * length bytes.now }
     requires short { IsShortOf packet.now.stream.now (Some short.now) }
-    ensures tells { IfSome result (λ told. (shift : Shift) → packet.now.line ≡ (stream_form shift packet.now.stream.now).line → TellsHead packet.now.stream.now (stream_form shift packet.now.stream.now) bytes.now packet.now.content clock place told) }
-    ensures within { IfSome result (λ told. told.head.end ≤ packet.now.content) }
-    ensures few { IfSome result (λ told. told.spent ≤ MOST_VALUES) }
+    ensures tells { IfSome result (λ p. (shift : Shift) → packet.now.line ≡ (stream_form shift packet.now.stream.now).line → TellsHead packet.now.stream.now (stream_form shift packet.now.stream.now) bytes.now packet.now.content clock place p.told) }
+    ensures plan { IfSome result (λ p. IsPlanOf (scopes_of packet.now.stream.now.event_context p.told.head.event.now.context p.told.head.event.now.fields) p.plan.now) }
+    ensures within { IfSome result (λ p. p.told.head.end ≤ packet.now.content) }
+    ensures few { IfSome result (λ p. p.told.spent ≤ MOST_VALUES) }
 {
     let line = packet.line.as_ref()?;
     let to = tell_short(line, short, bytes, packet.content, clock?, place)?;
-    let event = packet.stream.event(to.id)?;
-    Some(ToldHead {
-        head: Head {
-            event,
-            clock: Some(to.clock),
-            end: to.place,
+    let planned = packet.stream.planned(to.id)?;
+    let head = Head {
+        event: planned.event,
+        clock: Some(to.clock),
+        end: to.place,
+    };
+    Some(PlannedHead {
+        told: ToldHead {
+            head,
+            spent: SHORT_VALUES,
         },
-        spent: SHORT_VALUES,
+        plan: planned.plan,
     })
 }
 

@@ -1,6 +1,7 @@
 //! Event records whose text is made as they are read.
 
 ghost use Rattle.std.specs.Prelude.{◌≡◌, ◌<◌, ◌≤◌, ◌*◌, ◌^◌, length, take, vec_len, Some, option_copied, option_map, IfOk, IfSome, OnOk};
+ghost use Rattle.ctf_class.specs.Records.{IsPlanOf, scopes_of};
 ghost use Rattle.ctf_clock.specs.declared.moment.Shift.{Shift};
 ghost use Rattle.ctf_decode.specs.Known.{Known};
 ghost use Rattle.ctf_line.specs.Making.{Made, Makes, MakesValues, PutsBody, PutsScope};
@@ -10,13 +11,13 @@ ghost use Rattle.ctf_decode.specs.Views.{form};
 ghost use Rattle.ctf_packet.specs.Records.{bodied, record_at};
 ghost use Rattle.ctf_packet.specs.Views.{values_of, packet_values, opened_of};
 
-use crate::header::{told_by_class, told_short};
+use crate::header::{ToldHead, told_by_class, told_short};
 use crate::short::ShortHeader;
-use ctf_class::Planned;
+use ctf_class::{Class, RecordPlan};
 use ctf_clock::Moment;
 use ctf_decode::{MOST_VALUES, Scopes};
 use ctf_packet::{EventRecord, Head, OpenPacket, Spares, StreamFault, next_head, put_body};
-use ctf_text::{Standing, put_comma, put_front, put_planned};
+use ctf_text::{Standing, put_comma, put_front, put_planned_record, put_standing};
 use std::alloc::Global;
 
 /// The longest buffer, in bytes, that is kept for the next text. So no trace makes a reader hold a long one for each of many
@@ -47,8 +48,9 @@ pub enum Attempt {
 /// of its event records, and `short` what `short_header` gave for its stream class, or nothing. The text of the record stands
 /// at the front of `line` then: the host, the name and the scopes.
 ///
-/// `None` where a class is another one than `put_planned` writes, where the record has a fault, and where memory is
+/// `None` where a class is another one than `put_standing` writes, where the record has a fault, and where memory is
 /// refused. The line is then any line, and `attempt` tells `next_line` how far the record came.
+#[inline(always)]
 pub fn written_line<'a>(
     alloc: Global,
     packet: &OpenPacket<'a>,
@@ -71,9 +73,10 @@ pub fn written_line<'a>(
 {
     keep_short(alloc, line);
     if let Some(short) = short {
-        if let Some(told) = told_short(packet, short, bytes, clock, place) {
+        if let Some(planned) = told_short(packet, short, bytes, clock, place) {
             *attempt = Attempt::Unwritten;
-            let standing = put_record(packet, told.head, part, bytes, told.spent, place, line)?;
+            let told = planned.told;
+            let standing = put_planned_body(packet, told, planned.plan, part, bytes, place, line)?;
             return Some(with_text(told.head, standing));
         }
     }
@@ -220,6 +223,41 @@ fn valued<'a>(
     })
 }
 
+/// Writes the text of the event record that begins at `place` at the front of a line by the plan of such records, or, where
+/// that can't be done, scope by scope.
+#[inline(always)]
+fn put_planned_body(
+    packet: &OpenPacket<'_>,
+    told: ToldHead<'_>,
+    plan: &RecordPlan,
+    part: &[u8],
+    bytes: &[u8],
+    place: u64,
+    line: &mut Vec<u8>,
+) -> Option<Standing>
+    requires start { told.head.end ≤ packet.now.content }
+    requires content { packet.now.content ≤ 2 ^ 62 }
+    requires held { packet.now.content ≤ 8 * length bytes.now }
+    requires few { told.spent ≤ MOST_VALUES }
+    requires plan { IsPlanOf (scopes_of packet.now.stream.now.event_context told.head.event.now.context told.head.event.now.fields) plan.now }
+    ensures puts { IfSome result (λ s. PutsBody packet.now.stream.now told.entry.head.event.now part.now bytes.now packet.now.content told.entry.head.end told.entry.spent s.place (take s.end line.new.items)) }
+    ensures within { IfSome result (λ s. s.place ≤ packet.now.content) }
+    ensures forward { IfSome result (λ s. place < s.place) }
+    ensures held { IfSome result (λ s. s.end ≤ vec_len line.new) }
+{
+    let head = told.head;
+    let content = packet.content;
+    let Ok(front) = put_front(&head.event.heading, part, line, 0) else {
+        return None;
+    };
+    if let Some(all) = put_planned_record(plan, bytes, content, head.end, told.spent, line, front) {
+        if all.place > place {
+            return Some(all);
+        }
+    }
+    put_apart(packet, head, part, bytes, told.spent, place, line)
+}
+
 /// Writes the text of the event record that begins at `place` at the front of a line, where the scopes behind its header
 /// stand in a form that can be shown without their values, and so many values were begun before.
 #[inline(always)]
@@ -251,11 +289,11 @@ fn put_record(
         spent,
         end: front,
     };
-    let context = packet.stream.event_context.as_ref();
+    let context = packet.stream.event_context();
     let shared = put_scope(context, bytes, content, from, line)?;
     let own = put_scope(event.context.as_ref(), bytes, content, shared, line)?;
     let fields = &event.fields;
-    let all = put_planned(fields, bytes, content, own.place, own.spent, line, own.end)?;
+    let all = put_standing(fields, bytes, content, own.place, own.spent, line, own.end)?;
     if all.place <= place {
         return None;
     }
@@ -288,7 +326,7 @@ fn put_apart(
 /// Writes the text of a scope, if it has a class, and a comma behind it.
 #[inline(always)]
 fn put_scope(
-    class: Option<&Planned>,
+    class: Option<&Class>,
     bytes: &[u8],
     content: u64,
     from: Standing,
@@ -307,7 +345,7 @@ fn put_scope(
     let Some(class) = class else {
         return Some(from);
     };
-    let to = put_planned(
+    let to = put_standing(
         class, bytes, content, from.place, from.spent, line, from.end,
     )?;
     let Ok(end) = put_comma(line, to.end) else {

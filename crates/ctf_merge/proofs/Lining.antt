@@ -190,6 +190,20 @@ turn_front readers stage turns n going stands first =
     let at = first_turn (heads_of readers) turns n (lined_going stage (heads_of readers) turns going stands) first in
     (at.0, in_front (record { readers = readers; over = is_over stage }) n at.0 (ap is_over going) at.1)
 
+-- an item comes next where no fault does
+pub next_front : (m : Merge) (readers : List Reader) (stage : Stage) (n : ℕ) → record { readers = readers; over = is_over stage } ≡ m → IsNext m n
+    → (x : Item Classes) × InFront (record { readers = readers; over = is_over stage }) n x
+next_front m readers stage n view it =
+    let now : Merge = record { readers = readers; over = is_over stage } in
+    let opened = open_item now n it.next (ap first_now view ∙ it.first) in
+    (it.next, in_front now n it.next opened.0 opened.1)
+
+pub next_going : (readers : List Reader) (stage : Stage) (turns : List (Option Turn)) (n : ℕ) (x : Item Classes) → InFront (record { readers = readers; over = is_over stage }) n x
+    → Stands stage (heads_of readers) turns → stage ≡ stages.Going
+next_going readers stages.Going turns n x at stands = refl
+next_going readers (stages.Broken k f) turns n x at stands = absurd (let no : broken k f ≡ item n x = sym stands ∙ at.heads in cc)
+next_going readers stages.Over turns n x at stands = absurd (let no : nothing ≡ item n x = at.first in cc)
+
 -- there is a place for its turn
 pub turn_within : (readers : List Reader) (stage : Stage) (turns : List (Option Turn)) (n : ℕ) → stage ≡ stages.Going → Stands stage (heads_of readers) turns → n < length readers → n < length turns
 turn_within readers stage turns n going stands within =

@@ -9,7 +9,7 @@ use Rattle.std.proofs.lemmas.List.{get_or-drop, get_or-map, get_or-set_same, get
 use Rattle.std.proofs.lemmas.Option.{slice_get-get_or}
 use Rattle.std.specs.List.{AllByRecursion}
 use Rattle.std.specs.Ordering.{is_lt}
-use Rattle.ctf_merge.specs.Keys.{turn_of_key}
+use Rattle.ctf_merge.specs.Keys.{turn_of_key, IsTimed}
 use Rattle.ctf_merge.specs.Turns.{Turn, turn_cmp}
 use Rattle.ctf_merge.specs.Trees.{nothing, turn_in, node, IsTree, IsNode, AreNodes, IsLow, IsFirst}
 use Rattle.ctf_merge.proofs.Keys.{keys_cmp}
@@ -109,23 +109,28 @@ pub no_turns_in : (n : ℕ) → map turn_in (replicate n nothing) ≡ replicate 
 no_turns_in zero = refl
 no_turns_in (suc n) = λ i. None ∷ no_turns_in n i
 
-pub turn_is : (key : ℕ) → key + 2 ^ 64 < 2 ^ 128 → turn_in key ≡ Some (turn_of_key key)
+pub turn_is : (key : ℕ) → key % 2 ^ 63 + 1 < 2 ^ 63 → turn_in key ≡ Some (turn_of_key key)
 turn_is key short = by_key (eqb_tells key nothing)
   where
     by_key : ((eqb key nothing ≡ true) × (key ≡ nothing)) ⊎ ((eqb key nothing ≡ false) × (key ≢ nothing)) → turn_in key ≡ Some (turn_of_key key)
     by_key (inl same) = absurd (let e = same.1 in omega (arith, e, short))
     by_key (inr other) = ap (λ (b : Bool). cond b None (Some (turn_of_key key))) other.0
 
-low_turn : (root key : ℕ) → root ≤ key → IfSome (turn_in key) (λ v. is_lt (turn_cmp v (turn_of_key root)) ≡ false)
-low_turn root key le = by_key (eqb key nothing)
+timed : (number key : ℕ) → IsNode number key → IsTimed (key / 2 ^ 63)
+timed number key (inl e) = inr (ap (λ (k : ℕ). k / 2 ^ 63 % 2) e)
+timed number key (inr both) = both.0.timed
+
+low_turn : (root key : ℕ) → IsTimed (root / 2 ^ 63) → IsTimed (key / 2 ^ 63) → root ≤ key → IfSome (turn_in key) (λ v. is_lt (turn_cmp v (turn_of_key root)) ≡ false)
+low_turn root key first own le = by_key (eqb key nothing)
   where
     by_key : (b : Bool) → IfSome (cond b None (Some (turn_of_key key))) (λ v. is_lt (turn_cmp v (turn_of_key root)) ≡ false)
     by_key true = tt
-    by_key false = ap is_lt (keys_cmp key root) ∙ not_less_number key root le
+    by_key false = ap is_lt (keys_cmp key root own first) ∙ not_less_number key root le
 
-low_turns : (root : ℕ) (keys : List ℕ) → ((m : ℕ) → m < length keys → root ≤ get_or keys m 0) → IsLow (turn_of_key root) (map turn_in keys)
-low_turns root [] le = tt
-low_turns root (k ∷ ks) le = (low_turn root k (le 0 (omega arith)), low_turns root ks (λ m lt. le (suc m) (omega (arith, lt))))
+low_turns : (root from : ℕ) (keys : List ℕ) → IsTimed (root / 2 ^ 63) → AreNodes from keys → ((m : ℕ) → m < length keys → root ≤ get_or keys m 0) → IsLow (turn_of_key root) (map turn_in keys)
+low_turns root from [] first each le = tt
+low_turns root from (k ∷ ks) first each le =
+    (low_turn root k first (timed from k each.0) (le 0 (omega arith)), low_turns root (suc from) ks first each.1 (λ m lt. le (suc m) (omega (arith, lt))))
 
 leaves_long : (leaves : ℕ) (nodes : List ℕ) → IsTree leaves nodes → length (drop leaves nodes) ≡ leaves
 leaves_long leaves nodes tree = let sized = tree.sized in let left = lists.length-drop leaves nodes in omega (arith, sized, left)
@@ -135,11 +140,11 @@ each_low leaves nodes tree m lt =
     let long = leaves_long leaves nodes tree in
     subst (λ (k : ℕ). node 1 nodes ≤ k) (sym (get_or-drop leaves nodes m 0)) (low leaves (leaves + m) nodes tree (omega (arith, lt, long)) (omega (arith, lt, long)))
 
-own : (m key : ℕ) → IsNode m key → key + 2 ^ 64 < 2 ^ 128 → key % 2 ^ 63 ≡ m
+own : (m key : ℕ) → IsNode m key → key % 2 ^ 63 + 1 < 2 ^ 63 → key % 2 ^ 63 ≡ m
 own m key (inl e) short = absurd (omega (arith, e, short))
 own m key (inr both) short = both.1
 
-first_by : (leaves number m : ℕ) (nodes : List ℕ) → IsTree leaves nodes → AreNodes 0 (drop leaves nodes) → node 1 nodes + 2 ^ 64 < 2 ^ 128 → number ≡ node 1 nodes % 2 ^ 63
+first_by : (leaves number m : ℕ) (nodes : List ℕ) → IsTree leaves nodes → AreNodes 0 (drop leaves nodes) → node 1 nodes % 2 ^ 63 + 1 < 2 ^ 63 → number ≡ node 1 nodes % 2 ^ 63
     → m < leaves → node (leaves + m) nodes ≡ node 1 nodes → IsFirst (map turn_in (drop leaves nodes)) number
 first_by leaves number m nodes tree each short is lt found =
     let long = leaves_long leaves nodes tree in
@@ -153,27 +158,40 @@ first_by leaves number m nodes tree each short is lt found =
     record {
       turn = turn_of_key (node 1 nodes);
       at = subst (λ (n : ℕ). slice_get (map turn_in (drop leaves nodes)) n ≡ Some (Some (turn_of_key (node 1 nodes)))) (sym (is ∙ own m (node 1 nodes) its short)) at;
-      low = low_turns (node 1 nodes) (drop leaves nodes) (each_low leaves nodes tree);
+      low = low_turns (node 1 nodes) 0 (drop leaves nodes) (timed m (node 1 nodes) its) each (each_low leaves nodes tree);
     }
 
 -- the first node names the stream with the least turn
-pub first_is : (leaves number : ℕ) (nodes : List ℕ) → IsTree leaves nodes → AreNodes 0 (drop leaves nodes) → 1 < length nodes → node 1 nodes + 2 ^ 64 < 2 ^ 128 → number ≡ node 1 nodes % 2 ^ 63
+pub first_is : (leaves number : ℕ) (nodes : List ℕ) → IsTree leaves nodes → AreNodes 0 (drop leaves nodes) → 1 < length nodes → node 1 nodes % 2 ^ 63 + 1 < 2 ^ 63 → number ≡ node 1 nodes % 2 ^ 63
     → IsFirst (map turn_in (drop leaves nodes)) number
 first_is leaves number nodes tree each some short is =
     let found = leaf leaves 1 nodes tree (omega arith) (let sized = tree.sized in omega (arith, sized, some)) in
     first_by leaves number found.0 nodes tree each short is found.1 found.2
 
-no_turn_by : (keys : List ℕ) (from : ℕ) → AreNodes from keys → ((m : ℕ) → m < length keys → 2 ^ 128 ≤ get_or keys m 0 + 2 ^ 64) → AllByRecursion (λ t. t ≡ None) (map turn_in keys)
+no_turn_by : (keys : List ℕ) (from : ℕ) → AreNodes from keys → ((m : ℕ) → m < length keys → nothing ≤ get_or keys m 0) → AllByRecursion (λ t. t ≡ None) (map turn_in keys)
 no_turn_by [] from each far = tt
 no_turn_by (k ∷ ks) from each far = (none each.0 (far 0 (omega arith)), no_turn_by ks (suc from) each.1 (λ m lt. far (suc m) (omega (arith, lt))))
   where
-    none : IsNode from k → 2 ^ 128 ≤ k + 2 ^ 64 → turn_in k ≡ None
+    none : IsNode from k → nothing ≤ k → turn_in k ≡ None
     none (inl e) far = ap turn_in e
-    none (inr both) far = absurd (let short = both.0 in omega (arith, short, far))
+    none (inr both) far = absurd (let short = both.0.short in let numbered = both.0.numbered in omega (arith, short, numbered, far))
 
-pub none_is : (leaves : ℕ) (nodes : List ℕ) → IsTree leaves nodes → AreNodes 0 (drop leaves nodes) → 2 ^ 128 ≤ node 1 nodes + 2 ^ 64 → AllByRecursion (λ t. t ≡ None) (map turn_in (drop leaves nodes))
-none_is leaves nodes tree each far =
-    no_turn_by (drop leaves nodes) 0 each (λ m lt. let le = each_low leaves nodes tree m lt in omega (arith, le, far))
+pub none_is : (leaves : ℕ) (nodes : List ℕ) → IsTree leaves nodes → AreNodes 0 (drop leaves nodes) → node 1 nodes % 2 ^ 63 + 1 ≡ 2 ^ 63 → AllByRecursion (λ t. t ≡ None) (map turn_in (drop leaves nodes))
+none_is leaves nodes tree each far = no_turn_by (drop leaves nodes) 0 each last
+  where
+    by_node : (m : ℕ) → IsNode m (node 1 nodes) → nothing ≤ node 1 nodes
+    by_node m (inl e) = omega (arith, e)
+    by_node m (inr both) = absurd (let numbered = both.0.numbered in omega (arith, numbered, far))
+
+    last : (m : ℕ) → m < length (drop leaves nodes) → nothing ≤ get_or (drop leaves nodes) m 0
+    last m lt =
+        let long = leaves_long leaves nodes tree in
+        let le = each_low leaves nodes tree m lt in
+        let found = leaf leaves 1 nodes tree (omega arith) (omega (arith, lt, long)) in
+        let within : found.0 < length (drop leaves nodes) = let its = found.1 in omega (arith, its, long) in
+        let key_is : get_or (drop leaves nodes) found.0 0 ≡ node 1 nodes = get_or-drop leaves nodes found.0 0 ∙ found.2 in
+        let first = by_node (0 + found.0) (subst (λ (k : ℕ). IsNode (0 + found.0) k) key_is (nodes_at 0 found.0 (drop leaves nodes) each within)) in
+        omega (arith, le, first)
 
 -- ---- at the start
 
@@ -194,14 +212,15 @@ pub root_is : (read nodes : List ℕ) (v : ℕ) → read ≡ nodes → 1 < lengt
 root_is read nodes v same some is = is ∙ (get_or_default_zero read 1 v some ∙ ap (node 1) same)
 
 pub first_found : (result : Option ℕ) (leaves root : ℕ) (nodes : List ℕ) → IsTree leaves nodes → AreNodes 0 (drop leaves nodes) → 1 < length nodes → root ≡ node 1 nodes
-    → IfSome result (λ n. n ≡ root % 2 ^ 63) → IfSome result (λ n. root + 2 ^ 64 < 2 ^ 128) → IfSome result (IsFirst (map turn_in (drop leaves nodes)))
+    → IfSome result (λ n. n ≡ root % 2 ^ 63) → IfSome result (λ n. n + 1 < 2 ^ 63) → IfSome result (IsFirst (map turn_in (drop leaves nodes)))
 first_found None leaves root nodes tree each some at named short = tt
 first_found (Some n) leaves root nodes tree each some at named short =
-    first_is leaves n nodes tree each some (omega (arith, at, short)) (named ∙ ap (λ (k : ℕ). k % 2 ^ 63) at)
+    let is : n ≡ node 1 nodes % 2 ^ 63 = named ∙ ap (λ (k : ℕ). k % 2 ^ 63) at in
+    first_is leaves n nodes tree each some (subst (λ (k : ℕ). k + 1 < 2 ^ 63) is short) is
 
 pub none_found : (result : Option ℕ) (leaves root : ℕ) (nodes : List ℕ) → IsTree leaves nodes → AreNodes 0 (drop leaves nodes) → root ≡ node 1 nodes
-    → IfNone result (2 ^ 128 ≤ root + 2 ^ 64) → IfNone result (AllByRecursion (λ t. t ≡ None) (map turn_in (drop leaves nodes)))
-none_found None leaves root nodes tree each at far = none_is leaves nodes tree each (omega (arith, at, far))
+    → IfNone result (root % 2 ^ 63 + 1 ≡ 2 ^ 63) → IfNone result (AllByRecursion (λ t. t ≡ None) (map turn_in (drop leaves nodes)))
+none_found None leaves root nodes tree each at far = none_is leaves nodes tree each (sym (ap (λ (k : ℕ). k % 2 ^ 63 + 1) at) ∙ far)
 none_found (Some n) leaves root nodes tree each at far = tt
 
 -- ---- no stream has a turn

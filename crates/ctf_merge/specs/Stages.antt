@@ -14,6 +14,10 @@ is_over stages.Going = false
 is_over (stages.Broken number fault) = false
 is_over stages.Over = true
 
+-- no fault comes next
+abbrev pub going : Stage
+going = stages.Going
+
 -- the stage where a stream has this fault in front, or none
 abbrev pub stage_of : ℕ → Option StreamFault → Stage
 stage_of number (Some fault) = stages.Broken number fault

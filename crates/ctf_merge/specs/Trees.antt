@@ -1,8 +1,8 @@
 -- Turns as the leaves of a tree (own).
-use Rattle.std.specs.Prelude.{◌≡◌, ◌≢◌, ℕ, suc, ◌+◌, ◌-◌, ◌%◌, ◌^◌, ◌<◌, ◌≤◌, ◌⊎◌, min, false, cond, eqb, List, [], ◌∷◌, length, get_or, Option, Some, None, IfSome, slice_get}
+use Rattle.std.specs.Prelude.{◌≡◌, ◌≢◌, ℕ, suc, ◌+◌, ◌-◌, ◌/◌, ◌%◌, ◌^◌, ◌<◌, ◌≤◌, ◌⊎◌, min, false, cond, eqb, List, [], ◌∷◌, length, get_or, Option, Some, None, IfSome, slice_get}
 use Rattle.std.specs.List.{AllByRecursion}
 use Rattle.std.specs.Ordering.{is_lt}
-use Rattle.ctf_merge.specs.Keys.{turn_of_key}
+use Rattle.ctf_merge.specs.Keys.{turn_of_key, IsKey}
 use Rattle.ctf_merge.specs.Turns.{Turn, turn_cmp}
 
 -- what stands in the place of a turn where there is none
@@ -30,9 +30,15 @@ pub record IsTreeBut (hole leaves : ℕ) (nodes : List ℕ) : Type 0 where
 abbrev pub IsTree : ℕ → List ℕ → Type 0
 IsTree leaves nodes = IsTreeBut 0 leaves nodes
 
+-- each node is but for the one above this place, and this key stands at the place
+pub record IsRisen (leaves place key : ℕ) (nodes : List ℕ) : Type 0 where
+  pub tree : IsTreeBut (place / 2) leaves nodes
+  pub at : node place nodes ≡ key
+  pub within : place < leaves + leaves
+
 -- no turn, or one of the stream of this number
 abbrev pub IsNode : ℕ → ℕ → Type 0
-IsNode number key = (key ≡ nothing) ⊎ ((key + 2 ^ 64 < 2 ^ 128) × (key % 2 ^ 63 ≡ number))
+IsNode number key = (key ≡ nothing) ⊎ (IsKey key × (key % 2 ^ 63 ≡ number))
 
 -- the nodes of streams that are numbered from a number on
 abbrev pub AreNodes : ℕ → List ℕ → Type 0

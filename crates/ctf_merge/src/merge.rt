@@ -7,7 +7,7 @@ ghost use Rattle.ctf_merge.specs.Merged.{merged};
 ghost use Rattle.ctf_merge.specs.Given.{Gives, GivesFirst, GivesFront, GivesRoom};
 ghost use Rattle.ctf_merge.specs.Merges.{coming_of, first_now, number_in, fault_in, names_of, traces_of, writes_of, given_of, room_of, MergedOrRefused, ComingRises, EachRises, EachFetched, EachTells, EachOnLine, EachAllTaken, Fetched, EachIsFetched, GoesOn, IsNext, RoomLeft};
 ghost use Rattle.ctf_merge.specs.Finding.{Finds};
-ghost use Rattle.ctf_merge.specs.Stages.{is_over, stage_of, Stands};
+ghost use Rattle.ctf_merge.specs.Stages.{going, is_over, stage_of, Stands};
 ghost use Rattle.ctf_merge.specs.Turns.{turn_at, fault_at};
 
 use crate::fault::MergeFault;
@@ -42,13 +42,15 @@ pub(crate) enum Stage {
 }
 
 impl Stage {
-    /// The stage where this stream has a fault in front, or none.
-    fn of(number: usize, fault: Option<StreamFault>) -> Stage
-        ensures { result ≡ stage_of number fault }
+    /// Goes on where this stream has a fault in front, or none. Mostly it has none, and then nothing is written.
+    #[inline(always)]
+    fn meet(&mut self, number: usize, fault: Option<StreamFault>)
+        requires { self.old ≡ going }
+        ensures { self.new ≡ stage_of number fault }
     {
         match fault {
-            Some(fault) => Stage::Broken(number, fault),
-            None => Stage::Going,
+            Some(fault) => *self = Stage::Broken(number, fault),
+            None => {}
         }
     }
 }
@@ -133,7 +135,7 @@ fn give<'a, S: Source + Drop>(
 /// the fault that stands there.
 #[inline(always)]
 fn line_up(turns: &mut Turns, number: usize, ahead: Ahead) -> Option<StreamFault>
-    requires number { number < 2 ^ 63 }
+    requires number { number + 1 < 2 ^ 63 }
     requires within { number < length turns.old }
     ensures fault { result ≡ fault_at ahead }
     ensures turns { turns.new ≡ set turns.old number (turn_at number ahead) }
@@ -235,6 +237,33 @@ impl<'a, S: Source + Drop> Merge<'a, S> {
         }
     }
 
+    /// Leaves the item in front behind, that of the stream of this number, and fetches the next one of its stream. For a
+    /// caller who knows it, so that it isn't looked for again.
+    #[inline(always)]
+    pub fn leave(&mut self, number: usize)
+        requires { IsNext self.old number }
+        ensures goes_on { EachTells self.old.readers → GoesOn (coming_of self.old) (coming_of self.new) }
+        ensures rises { EachTells self.old.readers → ComingRises self.old → ComingRises self.new }
+        ensures names { names_of self.new.readers ≡ names_of self.old.readers }
+        ensures traces { traces_of self.new.readers ≡ traces_of self.old.readers }
+        ensures writes { writes_of self.new.readers ≡ writes_of self.old.readers }
+
+        // Of any sources: an item that is left took room.
+        ensures room { RoomLeft (first_now self.old) (room_of self.old.readers) (room_of self.new.readers) }
+
+        // The bytes taken are those that the sources gave, and no more than the items in front need.
+        ensures tells { EachTells self.old.readers → EachTells self.new.readers }
+        ensures counted { EachTells self.old.readers → given_of self.new.readers ≡ given_of self.old.readers }
+        ensures on_line { EachOnLine self.old.readers → EachOnLine self.new.readers }
+        ensures all_taken { EachTells self.old.readers → EachAllTaken self.old.readers → EachAllTaken self.new.readers }
+    {
+        let reader = &mut self.readers[number];
+        reader.go_on();
+        let ahead = reader.ahead();
+        let fault = line_up(&mut self.turns, number, ahead);
+        self.stage.meet(number, fault);
+    }
+
     /// Leaves the item in front behind, and fetches the next one of its stream; or leaves the fault in front
     /// behind, and then nothing comes. The end stays.
     pub fn go_on(&mut self)
@@ -256,11 +285,7 @@ impl<'a, S: Source + Drop> Merge<'a, S> {
         match self.stage {
             Stage::Going => {
                 if let Some(number) = self.turns.first() {
-                    let reader = &mut self.readers[number];
-                    reader.go_on();
-                    let ahead = reader.ahead();
-                    let fault = line_up(&mut self.turns, number, ahead);
-                    self.stage = Stage::of(number, fault);
+                    self.leave(number);
                 }
             }
             Stage::Broken(_number, _fault) => self.stage = Stage::Over,
@@ -301,7 +326,7 @@ impl<'a, S: Source + Drop> Merge<'a, S> {
                         Ok(item) => {
                             let ahead = reader.ahead();
                             let fault = line_up(&mut self.turns, number, ahead);
-                            self.stage = Stage::of(number, fault);
+                            self.stage.meet(number, fault);
                             Ok(item)
                         }
                         Err(fault) => {

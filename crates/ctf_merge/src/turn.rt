@@ -1,7 +1,7 @@
 //! The turn of a stream.
 
 ghost use Rattle.std.specs.Prelude.{◌≡◌, ◌+◌, ◌<◌, ◌^◌};
-ghost use Rattle.ctf_merge.specs.Keys.{turn_of_key};
+ghost use Rattle.ctf_merge.specs.Keys.{turn_of_key, IsKey};
 
 use std::marker::Model;
 
@@ -11,22 +11,22 @@ const NUMBER_BITS: u32 = 63;
 /// The turn of a stream whose item stands in front: the lesser turn comes first, by time, none first, and
 /// then by number. Contracts see the time and the number.
 ///
-/// Both are kept in one number, so that one comparison tells which of two turns comes first.
+/// Both are kept in one number, so that one comparison tells which of two turns comes first. The time fills the upper one of
+/// its words, and below it a bit tells whether there is one.
 #[derive(Debug, Drop)]
 pub(crate) struct Turn {
     key: u128,
 }
 
 impl Model for Turn {
-    ghost use Rattle.std.specs.Prelude.{◌+◌, ◌<◌, ◌^◌};
     ghost use Rattle.ctf_merge.specs.Turns as turns;
-    ghost use Rattle.ctf_merge.specs.Keys.{turn_of_key};
+    ghost use Rattle.ctf_merge.specs.Keys.{turn_of_key, IsKey};
 
     ghost Value = { turns.Turn };
 
     ghost view = { λ turn. turn_of_key turn.key };
 
-    ghost invariant = { λ turn. turn.key + 2 ^ 64 < 2 ^ 128 };
+    ghost invariant = { λ turn. IsKey turn.key };
 }
 
 impl Turn {
@@ -34,12 +34,12 @@ impl Turn {
     /// number, from 0.
     #[inline(always)]
     pub(crate) fn new(time: Option<i64>, number: usize) -> Turn
-        requires { number < 2 ^ 63 }
+        requires { number + 1 < 2 ^ 63 }
         ensures { result ≡ record { time = time; number = number } }
     {
         let above = match time {
             None => 0,
-            Some(time) => (i128::from(time) - i128::from(i64::MIN) + 1) as u128,
+            Some(time) => 2 * (i128::from(time) - i128::from(i64::MIN)) as u128 + 1,
         };
         Turn {
             key: (above << NUMBER_BITS) + number as u128,
@@ -50,7 +50,7 @@ impl Turn {
     #[inline(always)]
     pub(crate) fn key(&self) -> u128
         ensures value { turn_of_key result ≡ self.now }
-        ensures bounded { result + 2 ^ 64 < 2 ^ 128 }
+        ensures kept { IsKey result }
     {
         self.key
     }

@@ -2,7 +2,7 @@
 
 ghost use Rattle.std.specs.Prelude.{◌≡◌, ◌+◌, ◌%◌, ◌^◌, ◌<◌, ◌≤◌, ℕ, length, drop, set, replicate, IfOk, IfSome, IfNone, None};
 ghost use Rattle.std.specs.List.{AllByRecursion};
-ghost use Rattle.ctf_merge.specs.Trees.{turn_in, IsTree, IsNode, IsFirst};
+ghost use Rattle.ctf_merge.specs.Trees.{turn_in, IsTree, IsRisen, IsNode, IsFirst};
 
 use crate::turn::Turn;
 use ctf_list::NoMemory;
@@ -11,6 +11,9 @@ use std::marker::Model;
 
 /// Stands behind all turns.
 const NOTHING: u128 = u128::MAX;
+
+/// The number that stands there in place of a stream's.
+const NOBODY: usize = (1 << 63) - 1;
 
 /// The turn of each stream, by its number, where it has one. Contracts see these.
 ///
@@ -58,7 +61,7 @@ impl Turns {
     #[inline(always)]
     pub(crate) fn first(&self) -> Option<usize>
         ensures first { IfSome result (IsFirst self.now) }
-        ensures bounded { IfSome result (λ number. number < 2 ^ 63) }
+        ensures bounded { IfSome result (λ number. number + 1 < 2 ^ 63) }
         ensures none { IfNone result (AllByRecursion (λ t. t ≡ None) self.now) }
     {
         match self.nodes.get(1) {
@@ -96,14 +99,14 @@ fn key_of(turn: Option<Turn>) -> u128
 #[inline(always)]
 fn number_in(key: u128) -> Option<usize>
     ensures number { IfSome result (λ number. number ≡ key % 2 ^ 63) }
-    ensures bounded { IfSome result (λ number. number < 2 ^ 63) }
-    ensures some { IfSome result (λ _. key + 2 ^ 64 < 2 ^ 128) }
-    ensures none { IfNone result (2 ^ 128 ≤ key + 2 ^ 64) }
+    ensures bounded { IfSome result (λ number. number + 1 < 2 ^ 63) }
+    ensures none { IfNone result (key % 2 ^ 63 + 1 ≡ 2 ^ 63) }
 {
-    if (key >> 64) as u64 == u64::MAX {
+    let number = (key % (1 << 63)) as usize;
+    if number == NOBODY {
         return None;
     }
-    Some((key % (1 << 63)) as usize)
+    Some(number)
 }
 
 /// Replaces a leaf, and then each node above it.
@@ -116,10 +119,47 @@ fn renew(nodes: &mut [u128], leaves: usize, number: usize, key: u128)
 {
     let mut place = leaves + number;
     nodes[place] = key;
-    while place > 1 {
+    while place > 15 {
         place /= 2;
         let left = nodes[2 * place];
         let right = nodes[2 * place + 1];
         nodes[place] = if right < left { right } else { left };
+    }
+    let low = Risen {
+        place,
+        key: nodes[place],
+    };
+    let middle = climb(nodes, leaves, low, 7);
+    let high = climb(nodes, leaves, middle, 3);
+    let _first = climb(nodes, leaves, high, 1);
+}
+
+/// A node that is right, as all below it are, and what it is.
+#[derive(Clone, Copy)]
+struct Risen {
+    place: usize,
+    key: u128,
+}
+
+/// Renews the node above, unless this one is at the last place or before. What was written isn't read again. It is no loop,
+/// since compilers make jumps where a loop keeps the lesser key.
+#[inline(always)]
+fn climb(nodes: &mut [u128], leaves: usize, from: Risen, last: usize) -> Risen
+    requires first { 1 ≤ last }
+    requires risen { IsRisen leaves from.place from.key nodes.old }
+    ensures risen { IsRisen leaves result.place result.key nodes.new }
+    ensures leaves { drop leaves nodes.new ≡ drop leaves nodes.old }
+    ensures place { from.place ≤ last + last + 1 → result.place ≤ last }
+{
+    let place = from.place;
+    if place <= last {
+        return from;
+    }
+    let beside = nodes[2 * (place / 2) + 1 - place % 2];
+    let key = if beside < from.key { beside } else { from.key };
+    nodes[place / 2] = key;
+    Risen {
+        place: place / 2,
+        key,
     }
 }

@@ -5,7 +5,7 @@ use Rattle.std.proofs.lemmas.Bool.Decides.{nat_tests}
 use Rattle.ctf_packet.specs.Records.{event_numbered}
 use Rattle.ctf_class.specs.Items.{first_of_id, only_item}
 use Rattle.ctf_class.specs.declared.trace.EventClass.{EventClass}
-use Rattle.ctf_class.specs.declared.trace.StreamClass.{StreamClass}
+use Rattle.ctf_class.specs.Streams.{StreamClass}
 use Rattle.ctf_clock.specs.declared.moment.Shift.{Shift}
 use Rattle.ctf_packet.specs.Classes.{StreamForm, EventForm, Classes, stream_form, event_form}
 

@@ -1,7 +1,7 @@
 -- What the classes of a trace say, as data that can be computed with.
 use Rattle.std.specs.Prelude.{ℕ, List, map, Option, option_map}
 use Rattle.ctf_class.specs.declared.trace.EventClass.{EventClass}
-use Rattle.ctf_class.specs.declared.trace.StreamClass.{StreamClass}
+use Rattle.ctf_class.specs.Streams.{StreamClass}
 use Rattle.ctf_class.specs.declared.trace.TraceClass.{TraceClass}
 use Rattle.ctf_clock.specs.declared.moment.Shift.{Shift}
 use Rattle.ctf_clock.specs.Clock.{Line, line_of}

@@ -11,7 +11,7 @@ use Rattle.ctf_decode.specs.Gives.{Fails}
 use Rattle.ctf_decode.specs.declared.fault.DecodeFault.TheVariants.{ContentEnds, NoOption, TooManyValues, NoMemory}
 use Rattle.ctf_decode.specs.declared.fault.DecodeFault.{DecodeFault}
 use Rattle.ctf_class.specs.declared.route.Scope.TheVariants.{EventHeader}
-use Rattle.ctf_class.specs.declared.trace.StreamClass.{StreamClass}
+use Rattle.ctf_class.specs.Streams.{StreamClass}
 use Rattle.ctf_packet.specs.Classes.{Classes, stream_form, event_form}
 use Rattle.ctf_packet.specs.Scopes.{Values, no_values, Stood, put}
 use Rattle.ctf_packet.specs.Records.{Headed, Body, Recorded}

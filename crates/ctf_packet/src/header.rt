@@ -14,7 +14,7 @@ use crate::fault::StreamFault;
 use crate::field::Field;
 use crate::reached::Reached;
 use crate::roles::{field_at_top, number_in, role};
-use ctf_class::{Class, Kind, Length, StreamClass, TraceClass};
+use ctf_class::{Class, HasId, Kind, Length, StreamClass, TraceClass};
 use ctf_decode::{Value, elements_in};
 
 const MAGIC: u64 = 0xC1FC_1FC1;
@@ -183,7 +183,7 @@ fn same_stream<'a>(reached: Option<&Reached>, stream: &'a StreamClass) -> Option
     match reached {
         None => Some(stream),
         Some(reached) => {
-            if stream.id == reached.stream {
+            if stream.id() == reached.stream {
                 Some(stream)
             } else {
                 None

@@ -149,7 +149,7 @@ impl<'a, S: Source + Drop> Session<'a, S> {
                 Step::Ended(Outcome::Done)
             }
             Verdict::Before => {
-                self.merge.go_on();
+                self.merge.leave(number);
                 Step::Went
             }
             Verdict::Within => {
@@ -157,7 +157,7 @@ impl<'a, S: Source + Drop> Session<'a, S> {
                 match print_front(&self.merge, number, printer, self.last, out, err) {
                     Ok(last) => {
                         self.last = last;
-                        self.merge.go_on();
+                        self.merge.leave(number);
                         Step::Went
                     }
                     Err(stop) => {

@@ -49,12 +49,24 @@ pair_digits w n few is =
     let second : w / 256 % 256 ≡ 48 + n % 10 = omega (arith, few, is) in
     (λ i. first i ∷ second i ∷ []) ∙ two_digits (n / 10) (n % 10) n few refl refl
 
--- nine digits, the first of them alone
-pub nine_digits : (n : ℕ) → n < 1000000000 → (48 + n / 100000000) ∷ last_digits 8 (n % 100000000) ≡ last_digits 9 n
+-- three digits in one word
+pub triple_digits : (w n : ℕ) → n < 1000 → w ≡ 48 + n / 100 + (48 + n / 10 % 10) * 256 + (48 + n % 10) * 65536
+    → w % 256 ∷ w / 256 % 256 ∷ w / 65536 % 256 ∷ w / 16777216 % 256 ∷ [] ≡ last_digits 3 n ++ 0 ∷ []
 unfolding last_digits
-nine_digits n few =
-    let one : n / 100000000 % 10 ≡ n / 100000000 = omega (arith, few) in
-    ap (λ d. (48 + d) ∷ last_digits 8 (n % 100000000)) (sym one) ∙ sym (split 1 8 100000000 n (omega arith) refl)
+triple_digits w n few is =
+    let first : w % 256 ≡ 48 + n / 10 / 10 % 10 = omega (arith, few, is) in
+    let second : w / 256 % 256 ≡ 48 + n / 10 % 10 = omega (arith, few, is) in
+    let third : w / 65536 % 256 ≡ 48 + n % 10 = omega (arith, few, is) in
+    let none : w / 16777216 % 256 ≡ 0 = omega (arith, few, is) in
+    (λ i. first i ∷ second i ∷ third i ∷ none i ∷ [])
+
+-- nine digits in three groups
+pub nine_digits : (n : ℕ) → (last_digits 3 (n / 1000000) ++ last_digits 3 (n % 1000000 / 1000)) ++ last_digits 3 (n % 1000000 % 1000) ≡ last_digits 9 n
+nine_digits n =
+    let front = split 3 6 1000000 n (omega arith) refl in
+    let rest = split 3 3 1000 (n % 1000000) (omega arith) refl in
+    append_assoc (last_digits 3 (n / 1000000)) (last_digits 3 (n % 1000000 / 1000)) (last_digits 3 (n % 1000000 % 1000))
+    ∙ sym (front ∙ ap (λ xs. last_digits 3 (n / 1000000) ++ xs) rest)
 
 pub twenty_digits : (n : ℕ) → (last_digits 4 (n / 10000000000000000) ++ last_digits 8 (n / 100000000 % 100000000)) ++ last_digits 8 (n % 100000000) ≡ last_digits 20 n
 twenty_digits n =

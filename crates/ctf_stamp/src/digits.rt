@@ -4,7 +4,7 @@ ghost use Rattle.std.specs.Prelude.{◌≡◌, ◌+◌, ◌<◌, ◌≤◌, [], 
 ghost use Rattle.ctf_stamp.specs.Digits.{last_digits, seconds_text};
 ghost use Rattle.ctf_stamp.specs.Putting.{IsPut};
 
-use ctf_digits::two_digits;
+use ctf_digits::{three_digits, two_digits};
 use itoa::Buffer;
 
 /// Nanoseconds in a second.
@@ -20,17 +20,17 @@ pub(crate) fn put_byte(byte: u8, line: &mut [u8], at: usize) -> usize
     at + 1
 }
 
-/// Two bytes.
+/// Two bytes. They are put as one slice, which the compiler writes by one store.
 #[inline(always)]
 pub(crate) fn put_two(first: u8, second: u8, line: &mut [u8], at: usize) -> usize
     requires { at + 2 ≤ length line.old }
     ensures { IsPut line.old line.new at result (first ∷ second ∷ []) }
 {
-    let at = put_byte(first, line, at);
-    put_byte(second, line, at)
+    let bytes = [first, second];
+    put_bytes(&bytes, line, at)
 }
 
-/// Two digits. They are put as one slice, which the compiler writes by one store.
+/// Two digits, by one store too.
 #[inline(always)]
 pub(crate) fn put_pair(pair: u32, line: &mut [u8], at: usize) -> usize
     requires two { pair < 100 }
@@ -65,17 +65,43 @@ fn put_eight(number: u32, line: &mut [u8], at: usize) -> usize
     put_four(number % 10_000, line, at)
 }
 
-/// A dot and nine digits.
+/// Three digits. They are put as a word of four bytes, the last of which is to be written over.
+#[tactic(auto, using(crate::proofs::Groups::digits_long))]
+#[inline(always)]
+fn put_three(number: u32, line: &mut [u8], at: usize) -> usize
+    requires three { number < 1000 }
+    requires room { at + 4 ≤ length line.old }
+    ensures { IsPut line.old line.new at result (last_digits 3 number) }
+{
+    let digits = three_digits(number).to_le_bytes();
+    put_bytes(&digits, line, at);
+    at + 3
+}
+
+/// Nine digits, which take room for ten.
+#[tactic(auto, using(crate::proofs::Groups::digits_long))]
+#[inline(always)]
+pub(crate) fn put_nine(number: u32, line: &mut [u8], at: usize) -> usize
+    requires nine { number < 1000000000 }
+    requires room { at + 10 ≤ length line.old }
+    ensures { IsPut line.old line.new at result (last_digits 9 number) }
+{
+    let at = put_three(number / 1_000_000, line, at);
+    let rest = number % 1_000_000;
+    let at = put_three(rest / 1000, line, at);
+    put_three(rest % 1000, line, at)
+}
+
+/// A dot and nine digits, which take room for eleven bytes.
 #[tactic(auto, using(crate::proofs::Groups::digits_long))]
 #[inline(always)]
 pub(crate) fn put_fraction(number: u32, line: &mut [u8], at: usize) -> usize
     requires nine { number < 1000000000 }
-    requires room { at + 10 ≤ length line.old }
+    requires room { at + 11 ≤ length line.old }
     ensures { IsPut line.old line.new at result (codes "." ++ last_digits 9 number) }
 {
     let at = put_byte(b'.', line, at);
-    let at = put_byte(b'0' + (number / 100_000_000) as u8, line, at);
-    put_eight(number % 100_000_000, line, at)
+    put_nine(number, line, at)
 }
 
 /// Twenty digits.
@@ -125,11 +151,11 @@ fn put_long(number: u64, line: &mut [u8], at: usize) -> usize
     put_bytes(digits.format(number).as_bytes(), line, at)
 }
 
-/// Nanoseconds in seconds, with nine digits behind the dot: at most 30 bytes.
+/// Nanoseconds in seconds, with nine digits behind the dot: at most 30 bytes, which take room for 31.
 #[tactic(auto, using(crate::proofs::Groups::digits_long))]
 #[inline(always)]
 pub(crate) fn put_seconds(nanos: u64, line: &mut [u8], at: usize) -> usize
-    requires { at + 30 ≤ length line.old }
+    requires { at + 31 ≤ length line.old }
     ensures put { IsPut line.old line.new at result (seconds_text nanos) }
     ensures short { result ≤ at + 30 }
 {

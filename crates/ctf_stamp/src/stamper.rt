@@ -1,14 +1,16 @@
 //! Stamps that are written into a slice.
 
-ghost use Rattle.std.specs.Prelude.{◌≡◌, ◌+◌, ◌<◌, ◌≤◌, ◌++◌, length, codes, IfSome};
+ghost use Rattle.std.specs.Prelude.{◌≡◌, ◌+◌, ◌<◌, ◌≤◌, ◌++◌, length, codes, take, IfSome, Some};
 ghost use Rattle.ctf_stamp.specs.Digits.{last_digits};
 ghost use Rattle.ctf_stamp.specs.Putting.{IsPut};
-ghost use Rattle.ctf_stamp.specs.Stamps.{stamp, stamp_part, stamp_by, delta_text, signed_seconds, fraction, head_at};
+ghost use Rattle.ctf_stamp.specs.Stamps.{stamp, stamp_part, stamp_by, delta_part, delta_text, signed_seconds, fraction, head_at};
 ghost use Rattle.ctf_stamp.specs.Civil.{second_of, within_second};
 ghost use Rattle.ctf_stamp.specs.Zones.{civil_at};
 
 use crate::civil::{MOST_HEAD, put_head};
-use crate::digits::{put_byte, put_bytes, put_fraction, put_seconds, put_twenty, put_two};
+use crate::digits::{
+    put_byte, put_bytes, put_fraction, put_nine, put_seconds, put_twenty, put_two,
+};
 use crate::style::{ClockStyle, Style};
 use ctf_clock::Moment;
 use std::marker::Model;
@@ -18,6 +20,9 @@ pub const MOST_STAMP: usize = 32;
 
 /// The room that the beginning of a line may need, in bytes.
 pub const MOST_PART: usize = 72;
+
+/// The bytes of `hh:mm:ss`.
+const CLOCK: usize = 8;
 
 /// Nanoseconds in a second.
 const SECOND: i64 = 1_000_000_000;
@@ -35,6 +40,14 @@ pub struct Stamper {
     // What the style shows of it before the dot.
     text: [u8; MOST_HEAD],
     length: usize,
+}
+
+/// A stamp that needs no calendar.
+#[derive(Drop)]
+struct Kept {
+    // `hh:mm:ss`, and what may stand behind it.
+    text: [u8; MOST_HEAD],
+    nanos: u32,
 }
 
 impl Model for Stamper {
@@ -105,6 +118,7 @@ impl Stamper {
     /// Writes the beginning of a line at an index, and gives the index behind it: the stamp of the line's
     /// moment in brackets and, where the style has it, the time since `last` in parentheses. Nothing for a
     /// line without a moment.
+    #[inline(always)]
     pub fn put_part(
         &mut self,
         moment: Option<Moment>,
@@ -120,16 +134,100 @@ impl Stamper {
         let Some(moment) = moment else {
             return at;
         };
+        let Some(kept) = self.kept(moment) else {
+            return self.put_any_part(moment, last, line, at);
+        };
+        let at = put_byte(b'[', line, at);
+        let at = put_bytes(&kept.text[..CLOCK], line, at);
+        let at = put_fraction(kept.nanos, line, at);
+        self.put_end(last, moment.time, line, at)
+    }
+
+    /// The stamp of a moment, if the style shows `hh:mm:ss` alone before the dot and its second is the one that is kept.
+    #[inline(always)]
+    fn kept(&self, moment: Moment) -> Option<Kept>
+        ensures stamp { IfSome result (λ kept. take 8 kept.text ++ (codes "." ++ last_digits 9 kept.nanos) ≡ stamp self.now moment) }
+        ensures nine { IfSome result (λ kept. kept.nanos < 1000000000) }
+    {
+        let ClockStyle::Time = self.style.clock else {
+            return None;
+        };
+        let start = self.start?;
+        let nanos = nanos_within(start, moment.time)?;
+        let text = self.text;
+        Some(Kept { text, nanos })
+    }
+
+    /// The beginning of a line with any stamp. It is apart, so that the usual one stays short in its callers.
+    #[cold]
+    #[inline(never)]
+    fn put_any_part(
+        &mut self,
+        moment: Moment,
+        last: Option<i64>,
+        line: &mut [u8],
+        at: usize,
+    ) -> usize
+        requires { at + MOST_PART ≤ length line.old }
+        ensures put { IsPut line.old line.new at result (stamp_part self.old (Some moment) last) }
+        ensures short { result ≤ at + MOST_PART }
+        ensures style { self.new ≡ self.old }
+    {
         let at = put_byte(b'[', line, at);
         let at = self.put_stamp(moment, line, at);
-        let at = put_two(b']', b' ', line, at);
+        self.put_end(last, moment.time, line, at)
+    }
+
+    /// What stands behind a stamp.
+    #[inline(always)]
+    #[tactic(auto, using(crate::proofs::Groups::digits_long))]
+    fn put_end(&self, last: Option<i64>, time: i64, line: &mut [u8], at: usize) -> usize
+        requires { at + 36 ≤ length line.old }
+        ensures put { IsPut line.old line.new at result (codes "] " ++ delta_part self.now last time) }
+        ensures short { result ≤ at + 36 }
+    {
         if !self.style.delta {
-            return at;
+            return put_two(b']', b' ', line, at);
         }
-        let at = put_byte(b'(', line, at);
-        let at = put_delta(last, moment.time, line, at);
+        let Some(since) = short_since(last, time) else {
+            return put_any_delta(last, time, line, at);
+        };
+        // An array of its own, of which the compiler knows that it is no part of the line.
+        let begin = *b"] (+0.";
+        let at = put_bytes(&begin, line, at);
+        let at = put_nine(since, line, at);
         put_two(b')', b' ', line, at)
     }
+}
+
+/// The time since the one before, in nanoseconds, if it is below a second. It takes neither a division nor a product.
+#[inline(always)]
+fn short_since(last: Option<i64>, time: i64) -> Option<u32>
+    ensures text { IfSome result (λ nanos. delta_text last time ≡ codes "+0." ++ last_digits 9 nanos) }
+    ensures nine { IfSome result (λ nanos. nanos < 1000000000) }
+{
+    let before = last?;
+    if time < before {
+        return None;
+    }
+    let nanos = time.abs_diff(before);
+    if nanos >= SECOND.unsigned_abs() {
+        return None;
+    }
+    Some(nanos as u32)
+}
+
+/// What stands behind a stamp in a style with any time since the one before.
+#[cold]
+#[inline(never)]
+fn put_any_delta(last: Option<i64>, time: i64, line: &mut [u8], at: usize) -> usize
+    requires { at + 36 ≤ length line.old }
+    ensures put { IsPut line.old line.new at result (codes "] (" ++ (delta_text last time ++ codes ") ")) }
+    ensures short { result ≤ at + 36 }
+{
+    let at = put_bytes(b"] (", line, at);
+    let at = put_delta(last, time, line, at);
+    put_two(b')', b' ', line, at)
 }
 
 /// What is kept of a second, and its nanoseconds.
@@ -143,20 +241,8 @@ fn put_second(head: &[u8], nanos: u32, line: &mut [u8], at: usize) -> usize
         (head.now ++ (codes "." ++ last_digits 9 nanos)) }
     ensures short { result ≤ at + MOST_STAMP }
 {
-    let at = put_kept(head, line, at);
+    let at = put_bytes(head, line, at);
     put_fraction(nanos, line, at)
-}
-
-/// What is kept of a second. Mostly it is `hh:mm:ss`, which is written as one word.
-#[inline(always)]
-fn put_kept(head: &[u8], line: &mut [u8], at: usize) -> usize
-    requires { at + length head.now ≤ length line.old }
-    ensures { IsPut line.old line.new at result head.now }
-{
-    if head.len() == 8 {
-        return put_bytes(&head[..8], line, at);
-    }
-    put_bytes(head, line, at)
 }
 
 /// The nanoseconds of a time behind the start of a second, if it lies in that second and is not its last nanosecond.
@@ -202,7 +288,7 @@ fn start_to_keep(nanos: u32, time: i64) -> Option<i64>
 
 /// The seconds since the epoch.
 fn put_signed(time: i64, line: &mut [u8], at: usize) -> usize
-    requires { at + 31 ≤ length line.old }
+    requires { at + 32 ≤ length line.old }
     ensures put { IsPut line.old line.new at result (signed_seconds time) }
     ensures short { result ≤ at + 31 }
 {
@@ -215,7 +301,7 @@ fn put_signed(time: i64, line: &mut [u8], at: usize) -> usize
 
 /// The time since the one before.
 fn put_delta(last: Option<i64>, time: i64, line: &mut [u8], at: usize) -> usize
-    requires { at + 31 ≤ length line.old }
+    requires { at + 32 ≤ length line.old }
     ensures put { IsPut line.old line.new at result (delta_text last time) }
     ensures short { result ≤ at + 31 }
 {

@@ -18,7 +18,7 @@ use crate::item::{Event, EventText, Gap, Item, Told};
 use crate::packet::{Front, Packet};
 use crate::part::PacketPart;
 use ctf_bits::Source;
-use ctf_class::Scope;
+use ctf_class::{HasId, Scope};
 use ctf_decode::Scopes;
 use ctf_line::{Attempt, short_header};
 use ctf_packet::{OpenPacket, Reached, Spares, StreamFault};
@@ -320,7 +320,7 @@ fn reached_behind(packet: &Packet<'_>) -> Reached
     ensures { (shift : Shift) (values : Values) → result ≡ packets.reached_behind (opened_of shift values packet.now.opened) packet.now.clock }
 {
     Reached {
-        stream: packet.opened.stream.id,
+        stream: packet.opened.stream.id(),
         clock: packet.clock,
         discarded: packet.opened.discarded,
         number: packet.opened.number,

@@ -9,6 +9,7 @@ pub mod DigitsLemmas
 pub mod HexadecimalLemmas
 pub mod PatternLemmas
 pub mod StandingLemmas
-pub mod PlannedLemmas
+pub mod PlainLemmas
+pub mod RecordsLemmas
 pub mod ArrayLemmas
 pub mod WindowLemmas

@@ -2,7 +2,8 @@ pub mod Digits
 pub mod Labels
 pub mod Lines
 pub mod Numbers
-pub mod Planned
+pub mod Plain
+pub mod Records
 pub mod Rows
 pub mod Standing
 pub mod Texts

@@ -8,7 +8,7 @@ use Rattle.ctf_class.specs.declared.class.Kind.{Kind}
 use Rattle.ctf_class.specs.declared.class.Kind.TheViews.{out-Kind}
 use Rattle.ctf_class.specs.declared.class.Kind.TheOpen.{Kind-F}
 use Rattle.ctf_class.specs.declared.trace.EventClass.{EventClass}
-use Rattle.ctf_class.specs.declared.trace.StreamClass.{StreamClass}
+use Rattle.ctf_class.specs.Streams.{StreamClass}
 use Rattle.ctf_class.specs.HostAndName.{heading_text}
 use Rattle.ctf_decode.specs.Values.{Val, Vals, no_vals, more_vals}
 use Rattle.ctf_decode.specs.Fields.{members_in}

@@ -12,7 +12,8 @@ mod mark;
 mod number;
 mod packet;
 mod pattern;
-mod planned;
+mod plain_number;
+mod planned_record;
 mod record;
 mod room;
 mod standing;
@@ -23,7 +24,7 @@ mod window;
 
 pub use ctf_class::escaped;
 pub use packet::put_packet_part;
-pub use planned::put_planned;
+pub use planned_record::put_planned_record;
 pub use record::{put_comma, put_front, put_record};
 pub use room::with_room;
 pub use standing::{Standing, put_standing};

@@ -3,6 +3,7 @@
 ghost use Rattle.std.specs.Prelude.{ℕ, List, pos, ◌≡◌, true, false, ◌+◌, ◌*◌, ◌^◌, ◌++◌, ◌∷◌, ◌≤◌, ◌<◌, length, take, vec_len, IfSome, IsTrue};
 ghost use Rattle.ctf_bits.specs.Number.{number, signed_number};
 ghost use Rattle.ctf_class.specs.declared.class.Kind as kind;
+ghost use Rattle.ctf_class.specs.declared.route.Length.TheVariants.{Fixed};
 ghost use Rattle.ctf_decode.specs.Input.{bits_of};
 ghost use Rattle.ctf_decode.specs.Forms as forms;
 ghost use Rattle.ctf_decode.specs.Views.{form};
@@ -274,51 +275,6 @@ fn put_characters_member(
     Some(ends.text)
 }
 
-/// The same of a member that may be an integer too.
-#[inline(always)]
-pub(crate) fn put_one_member(
-    lead: u8,
-    member: &Member,
-    packet: &Content<'_>,
-    place: &mut u64,
-    buffer: &mut Vec<u8>,
-    at: usize,
-) -> Option<usize>
-    requires start { place.old ≤ packet.now.end }
-    requires index { at ≤ vec_len buffer.old }
-    ensures puts { IfSome result (λ text. PutsOne (form member.now.class) (λ v. lead ∷ 32 ∷ texts.part_text (texts.member_part member.now) v) packet.now.bytes.now packet.now.end place.old place.new (take at buffer.old.items) (take text buffer.new.items)) }
-    ensures within { IfSome result (λ _. place.new ≤ packet.now.end) }
-    ensures held { IfSome result (λ text. text ≤ vec_len buffer.new) }
-{
-    if let Kind::Integer(integer) = &member.class.kind {
-        return put_integer_apart(lead, member, integer, packet, place, buffer, at);
-    }
-    put_characters_member(lead, member, packet, place, buffer, at)
-}
-
-/// The same of a member that is this integer.
-#[inline(never)]
-fn put_integer_apart(
-    lead: u8,
-    member: &Member,
-    integer: &Integer,
-    packet: &Content<'_>,
-    place: &mut u64,
-    buffer: &mut Vec<u8>,
-    at: usize,
-) -> Option<usize>
-    requires kind { member.now.class.kind ≡ kind.Integer integer.now }
-    requires start { place.old ≤ packet.now.end }
-    requires index { at ≤ vec_len buffer.old }
-    ensures puts { IfSome result (λ text. PutsOne (form member.now.class) (λ v. lead ∷ 32 ∷ texts.part_text (texts.member_part member.now) v) packet.now.bytes.now packet.now.end place.old place.new (take at buffer.old.items) (take text buffer.new.items)) }
-    ensures within { IfSome result (λ _. place.new ≤ packet.now.end) }
-    ensures held { IfSome result (λ text. text ≤ vec_len buffer.new) }
-{
-    let ends = put_integer_member(lead, member, integer, packet, *place, buffer, at)?;
-    *place = ends.place;
-    Some(ends.text)
-}
-
 /// The number of the last of these members, whose bits are these, if it is an unsigned integer.
 fn number_before(before: &[Member], bits: u64) -> Option<u64>
     ensures { result ≡ number_before before.now bits }
@@ -427,7 +383,13 @@ fn unsigned_of(integer: &Integer, bits: u64) -> Option<u64>
 }
 
 /// Writes a string. Mostly it is a short one.
-fn put_string(packet: &Content<'_>, place: u64, buffer: &mut Vec<u8>, at: usize) -> Option<Ends>
+#[inline(always)]
+pub(crate) fn put_string(
+    packet: &Content<'_>,
+    place: u64,
+    buffer: &mut Vec<u8>,
+    at: usize,
+) -> Option<Ends>
     requires start { place ≤ packet.now.end }
     requires index { at ≤ vec_len buffer.old }
     ensures puts { IfSome result (λ e. (a : ℕ) → PutsOne (forms.string a) texts.string_text packet.now.bytes.now packet.now.end place e.place (take at buffer.old.items) (take e.text buffer.new.items)) }
@@ -472,17 +434,35 @@ fn put_text(
     let Length::Fixed(count) = length else {
         return None;
     };
+    put_fixed_text(*count, packet, place, buffer, at)
+}
+
+/// Writes a text of so many bytes.
+#[inline(always)]
+pub(crate) fn put_fixed_text(
+    count: u64,
+    packet: &Content<'_>,
+    place: u64,
+    buffer: &mut Vec<u8>,
+    at: usize,
+) -> Option<Ends>
+    requires start { place ≤ packet.now.end }
+    requires index { at ≤ vec_len buffer.old }
+    ensures puts { IfSome result (λ e. (a : ℕ) → PutsOne (forms.text a (Fixed count)) texts.string_text packet.now.bytes.now packet.now.end place e.place (take at buffer.old.items) (take e.text buffer.new.items)) }
+    ensures within { IfSome result (λ e. e.place ≤ packet.now.end) }
+    ensures held { IfSome result (λ e. e.text ≤ vec_len buffer.new) }
+{
     let begin = up(place, 8);
     if begin > packet.end {
         return None;
     }
-    if *count > (packet.end - begin) / 8 {
+    if count > (packet.end - begin) / 8 {
         return None;
     }
-    let bytes = bytes_at(packet.bytes, begin, *count);
+    let bytes = bytes_at(packet.bytes, begin, count);
     if let Some(short) = count_short(bytes, buffer.len() - at) {
         return Some(Ends {
-            place: begin + 8 * *count,
+            place: begin + 8 * count,
             text: put_short(bytes, short, buffer, at),
         });
     }
@@ -491,7 +471,7 @@ fn put_text(
         return None;
     };
     Some(Ends {
-        place: begin + 8 * *count,
+        place: begin + 8 * count,
         text,
     })
 }

@@ -1,7 +1,7 @@
 -- Streams joined with their events, where one of both lists has come to its end.
 use Rattle.std.proofs.Common.{◌≡◌, List, [], ◌∷◌, ◌++◌, refl, sym, ap, ◌∙◌, append-nil, inl, inr, ◌⊎◌}
 use Rattle.ctf_class.specs.declared.trace.EventClass.{EventClass}
-use Rattle.ctf_class.specs.declared.trace.StreamClass.{StreamClass}
+use Rattle.ctf_class.specs.Streams.{StreamClass}
 use Rattle.ctf_types.specs.declared.linked.Head.{Head}
 use Rattle.ctf_types.specs.Gathered.{joined_all}
 

@@ -5,7 +5,7 @@ use Rattle.ctf_bits.specs.declared.number.Order.{Order}
 use Rattle.ctf_class.specs.declared.class.Class.{Class}
 use Rattle.ctf_class.specs.declared.route.Scope.TheVariants.{PacketHeader, PacketContext, EventHeader, StreamEventContext}
 use Rattle.ctf_class.specs.declared.trace.EventClass.{EventClass}
-use Rattle.ctf_class.specs.declared.trace.StreamClass.{StreamClass}
+use Rattle.ctf_class.specs.Streams.{StreamClass}
 use Rattle.ctf_meaning.specs.Written.{BlockEntry, Declaration, Block}
 use Rattle.ctf_meaning.specs.There.{first}
 use Rattle.ctf_meaning.specs.Streams.{Stream, stream_by, stream_of, streams, home_of_stream}

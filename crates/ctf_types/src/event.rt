@@ -15,11 +15,10 @@ ghost use Rattle.ctf_types.specs.Texts.{IsText, home_by};
 
 use crate::home::Home;
 use crate::ids::Ids;
-use crate::link::planned;
 use crate::linked::Linked;
 use crate::text::Text;
 use ctf_attributes::Event;
-use ctf_class::{EventClass, Heading, Planned, Scope};
+use ctf_class::{EventClass, Heading, Scope};
 use ctf_list::List;
 use ctf_meaning::ResolveFault;
 use std::alloc::{AllocError, Global};
@@ -75,8 +74,8 @@ impl<'a> Text<'a> {
             Some(fields) => Ok(EventClass {
                 id: event.id,
                 heading,
-                context: planned(alloc, context)?,
-                fields: Planned::new(alloc, fields)?,
+                context,
+                fields,
             }),
             // The fields of an event have a class, written or not.
             None => Err(ResolveFault::Attribute),

@@ -16,7 +16,7 @@ use crate::home::Home;
 use crate::linked::Head;
 use crate::streams::StreamAt;
 use crate::text::Text;
-use ctf_class::{Class, Clock, Planned, Scope};
+use ctf_class::{Class, Clock, Scope};
 use ctf_linked::{Moved, scope_moved};
 use ctf_list::NoMemory;
 use ctf_meaning::ResolveFault;
@@ -72,7 +72,7 @@ impl<'a> Text<'a> {
             id,
             packet_context,
             event_header,
-            event_context: planned(alloc, event_context)?,
+            event_context,
             clock: moved.clock,
             has_several: moved.has_several,
         })
@@ -143,14 +143,4 @@ fn copied(clock: Option<&Clock>) -> Result<Option<Clock>, AllocError>
         offset_seconds: clock.offset_seconds,
         offset: clock.offset,
     }))
-}
-
-/// A class, with what is known of it beforehand.
-pub fn planned(alloc: Global, class: Option<Class>) -> Result<Option<Planned>, NoMemory>
-    ensures { IfOk result (λ planned. planned ≡ class) }
-{
-    match class {
-        Some(class) => Ok(Some(Planned::new(alloc, class)?)),
-        None => Ok(None),
-    }
 }

@@ -1,9 +1,11 @@
 //! What a declaration gives to the trace class.
 
-ghost use Rattle.std.specs.Prelude.{◌≡◌};
+ghost use Rattle.std.specs.Prelude.{◌≡◌, IfOk};
 ghost use Rattle.ctf_types.specs.Gathered.{joined};
 
-use ctf_class::{Class, Clock, EventClass, Indexed, Planned, StreamClass};
+use ctf_class::{Class, Clock, EventClass, Indexed, StreamClass};
+use ctf_list::NoMemory;
+use std::alloc::Global;
 
 /// A stream class without its events.
 #[derive(Debug, Drop)]
@@ -12,7 +14,7 @@ pub struct Head {
     pub packet_context: Option<Class>,
     pub event_header: Option<Class>,
     /// The stream event context.
-    pub event_context: Option<Planned>,
+    pub event_context: Option<Class>,
     /// The clock that its integers move, where they move one.
     pub clock: Option<Clock>,
     /// Whether they move a clock of another name too.
@@ -34,16 +36,21 @@ pub enum Linked {
 
 impl Head {
     /// The stream class with its events.
-    pub fn with_events(self, events: Indexed<EventClass>) -> StreamClass
-        ensures { result ≡ joined self events }
+    pub fn with_events(
+        self,
+        alloc: Global,
+        events: Indexed<EventClass>,
+    ) -> Result<StreamClass, NoMemory>
+        ensures { IfOk result (λ stream. stream ≡ joined self events) }
     {
-        StreamClass {
-            id: self.id,
-            packet_context: self.packet_context,
-            event_header: self.event_header,
-            event_context: self.event_context,
-            clock: self.clock,
+        StreamClass::new(
+            alloc,
+            self.id,
+            self.packet_context,
+            self.event_header,
+            self.event_context,
+            self.clock,
             events,
-        }
+        )
     }
 }

@@ -153,7 +153,8 @@ fn joined(
 {
     let mut streams = List::new(alloc);
     for (head, events) in heads.into_vec().into_iter().zip(events.into_vec()) {
-        streams.push(head.with_events(Indexed::new(alloc, events)?))?;
+        let events = Indexed::new(alloc, events)?;
+        streams.push(head.with_events(alloc, events)?)?;
     }
     Ok(streams)
 }

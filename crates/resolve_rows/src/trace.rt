@@ -1,7 +1,7 @@
 //! Trace classes as lines.
 
 use crate::class::put_class;
-use ctf_class::{Class, EventClass, StreamClass, TraceClass};
+use ctf_class::{Class, EventClass, HasId, StreamClass, TraceClass};
 use std::io;
 use std::io::Write;
 
@@ -37,7 +37,7 @@ fn put_host<W: Write>(out: &mut W, host: Option<&[u8]>) -> io::Result<()> {
 }
 
 fn put_stream<W: Write>(out: &mut W, stream: &StreamClass) -> io::Result<()> {
-    write!(out, "stream {}", stream.id)?;
+    write!(out, "stream {}", stream.id())?;
     if let Some(clock) = stream.clock() {
         out.write_all(b" clock ")?;
         out.write_all(clock.name.as_slice())?;
@@ -52,7 +52,7 @@ fn put_stream<W: Write>(out: &mut W, stream: &StreamClass) -> io::Result<()> {
     put_scope(out, "packet.context", stream.packet_context())?;
     put_scope(out, "event.header", stream.event_header())?;
     put_scope(out, "event.context", stream.event_context())?;
-    for event in stream.events.as_slice() {
+    for event in stream.events() {
         put_event(out, event)?;
     }
     Ok(())

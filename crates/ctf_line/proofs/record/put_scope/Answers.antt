@@ -18,4 +18,4 @@ returns-clause-puts c =
     let to : Standing = record { place = c.in_ok-to.to.place; spent = c.in_ok-to.to.spent; end = c.in-Ok.end } in
     let some : Some c.in-Some.class.now ≡ option_copied c.args.class = ap option_copied (sym c.in-Some.is) in
     subst (λ k. PutsScope k c.args.bytes.now c.args.content c.args.from before to after) some
-    (puts_some c.in-Some.class.now c.args.bytes.now c.args.content c.args.from to before (take c.in_ok-to.to.end c.put_planned.new.buffer.items) after c.in_ok-to.ensures.puts c.in-Ok.ensures.text)
+    (puts_some c.in-Some.class.now c.args.bytes.now c.args.content c.args.from to before (take c.in_ok-to.to.end c.put_standing.new.buffer.items) after c.in_ok-to.ensures.puts c.in-Ok.ensures.text)

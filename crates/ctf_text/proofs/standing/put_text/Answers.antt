@@ -1,36 +1,14 @@
-use Rattle.std.proofs.Common.{◌+◌, ◌*◌, ◌/◌, ◌++◌, take, drop, not, nat_eq, ap, sym, subst, ◌∙◌, arith}
-use Rattle.std.specs.List.{take_while}
-use Rattle.ctf_class.specs.Names.{label_text}
+use Rattle.std.proofs.Common.{ℕ, IfSome, take, sym, subst}
+use Rattle.ctf_class.specs.declared.route.Length.{Length}
 use Rattle.ctf_decode.specs.Forms as forms
 use Rattle.ctf_text.specs.Standing.{PutsOne}
 use Rattle.ctf_text.specs.Texts.{string_text}
-use Rattle.ctf_text.proofs.StandingLemmas.{puts_text}
-use Rattle.ctf_text.proofs.WindowLemmas.{before_first_zero}
 use Rattle.ctf_text.proofs.standing.put_text.Goals as goal
 
 pub returns-clause-puts : goal.returns-clause-puts
-returns-clause-puts c a =
+returns-clause-puts c =
     let packet = c.args.packet.now.bytes.now in
     let content = c.args.packet.now.end in
-    let n = c.in-Fixed.count in
     let before = take c.args.at c.args.buffer.now.items in
-    let after = take c.in-Ok.text c.put_quoted.new.buffer.items in
-    let bytes = c.before_zero-bytes.ensures ∙ ap (take_while (λ x. not (nat_eq x 0))) (c.bytes_at-bytes.ensures ∙ ap (λ m. take n (drop (m / 8) packet)) c.up-begin.ensures.value) in
-    let puts = puts_text packet content c.args.place (c.up-begin.result + 8 * n) n before after (ap (λ m. m + 8 * n) c.up-begin.ensures.value) (grind (arith, c.if-count-packet.false, c.if-begin-packet.false))
-    (c.in-Ok.ensures.text ∙ ap (λ xs. before ++ label_text xs) bytes) a
-    in
-    subst (λ l. PutsOne (forms.text a l) string_text packet content c.args.place (c.up-begin.result + 8 * n) before after) (sym c.in-Fixed.is) puts
-
-pub returns-in-Some-clause-puts : goal.returns-in-Some-clause-puts
-returns-in-Some-clause-puts c a =
-    let packet = c.args.packet.now.bytes.now in
-    let content = c.args.packet.now.end in
-    let n = c.in-Fixed.count in
-    let before = take c.args.at c.args.buffer.now.items in
-    let after = take c.put_short.result c.put_short.new.buffer.items in
-    let bytes = c.bytes_at-bytes.ensures ∙ ap (λ m. take n (drop (m / 8) packet)) c.up-begin.ensures.value in
-    let shown = sym (before_first_zero c.bytes_at-bytes.result.now c.in-Some.short c.in-Some.ensures.first) ∙ ap (take_while (λ x. not (nat_eq x 0))) bytes in
-    let puts = puts_text packet content c.args.place (c.up-begin.result + 8 * n) n before after (ap (λ m. m + 8 * n) c.up-begin.ensures.value) (grind (arith, c.if-count-packet.false, c.if-begin-packet.false))
-    (c.put_short.ensures.text ∙ ap (λ xs. before ++ label_text xs) shown) a
-    in
-    subst (λ l. PutsOne (forms.text a l) string_text packet content c.args.place (c.up-begin.result + 8 * n) before after) (sym c.in-Fixed.is) puts
+    let items = c.put_fixed_text.new.buffer.items in
+    subst (λ (l : Length). IfSome c.put_fixed_text.result (λ e. (a : ℕ) → PutsOne (forms.text a l) string_text packet content c.args.place e.place before (take e.text items))) (sym c.in-Fixed.is) c.put_fixed_text.ensures.puts

@@ -38,10 +38,10 @@ invariant_of-self g c =
     let told_is = c.ahead-ahead.ensures in
     let turns_is : c.line_up-fault.new.turns ≡ set c.self.inside.turns c.in-Some.number (turn_at c.in-Some.number (told c.give.new.reader.ahead)) =
     subst (λ (a : Ahead). c.line_up-fault.new.turns ≡ set c.self.inside.turns c.in-Some.number (turn_at c.in-Some.number a)) told_is c.line_up-fault.ensures.turns in
-    let next = c.of-self-inside.ensures ∙ ap (λ (f : Option StreamFault). stage_of c.in-Some.number f) (c.line_up-fault.ensures.fault ∙ ap fault_at told_is) in
+    let next = c.meet.ensures ∙ ap (λ (f : Option StreamFault). stage_of c.in-Some.number f) (c.line_up-fault.ensures.fault ∙ ap fault_at told_is) in
     record {
       fetched = each_set (λ r. IsFetched r.ahead) c.self.inside.readers.items c.in-Some.number c.give.new.reader c.self.invariant.fetched c.in-Ok.ensures.fetched;
-      stands = stands_again c.self.inside.readers.items c.self.inside.stage c.of-self-inside.result c.self.inside.turns c.line_up-fault.new.turns c.in-Some.number c.give.new.reader c.in-Going.is c.self.invariant.stands at.1.within turns_is next;
+      stands = stands_again c.self.inside.readers.items c.self.inside.stage c.meet.new.self c.self.inside.turns c.line_up-fault.new.turns c.in-Some.number c.give.new.reader c.in-Going.is c.self.invariant.stands at.1.within turns_is next;
     }
 
 pub returns-in-Ok-clause-first : goal.returns-in-Ok-clause-first
@@ -54,17 +54,17 @@ pub returns-in-Ok-clause-gives : goal.returns-in-Ok-clause-gives
 returns-in-Ok-clause-gives g c =
     let at = turn_front c.self.inside.readers.items c.self.inside.stage c.self.inside.turns c.in-Some.number c.in-Going.is c.self.invariant.stands c.in-Some.ensures.first in
     let m : Merge = record { readers = c.self.inside.readers.items; over = is_over c.self.inside.stage } in
-    let new : Merge = record { readers = set c.self.inside.readers.items c.in-Some.number c.give.new.reader; over = is_over c.of-self-inside.result } in
-    let open_ = ap is_over c.of-self-inside.ensures ∙ stage_open c.in-Some.number c.line_up-fault.result in
+    let new : Merge = record { readers = set c.self.inside.readers.items c.in-Some.number c.give.new.reader; over = is_over c.meet.new.self } in
+    let open_ = ap is_over c.meet.ensures ∙ stage_open c.in-Some.number c.line_up-fault.result in
     let first = first_given m c.in-Some.number at.0 c.index_mut-reader.result.now c.in-Ok.item c.self.invariant.fetched at.1 c.index_mut-reader.ensures.value c.in-Ok.ensures.told c.in-Ok.ensures.of in
     subst (λ (t : Merge). EachTells t.readers → Gives (coming_of t) (coming_of new) (Ok c.in-Ok.item)) c.self.view_is (λ tells.
-    let goes = goes-item m c.in-Some.number at.0 c.index_mut-reader.result.now c.give.new.reader (is_over c.of-self-inside.result) open_ c.self.invariant.fetched at.1.first c.index_mut-reader.ensures.value
+    let goes = goes-item m c.in-Some.number at.0 c.index_mut-reader.result.now c.give.new.reader (is_over c.meet.new.self) open_ c.self.invariant.fetched at.1.first c.index_mut-reader.ensures.value
     (c.in-Ok.ensures.goes_on (each_at (λ r. IsTrue r.tells) c.self.inside.readers.items c.in-Some.number c.index_mut-reader.result.now at.1.within c.index_mut-reader.ensures.value tells)) in
     gives_item m (coming_of new) c.index_mut-reader.result.now.ahead c.in-Ok.item tells c.in-Ok.ensures.told first goes)
 
 pub returns-in-Ok-clause-rises : goal.returns-in-Ok-clause-rises
 returns-in-Ok-clause-rises g c =
-    let new : Merge = record { readers = set c.self.inside.readers.items c.in-Some.number c.give.new.reader; over = is_over c.of-self-inside.result } in
+    let new : Merge = record { readers = set c.self.inside.readers.items c.in-Some.number c.give.new.reader; over = is_over c.meet.new.self } in
     λ tells rises. rises_given (coming_of c.args.self.now) (coming_of new) (Ok c.in-Ok.item) (returns-in-Ok-clause-gives g c tells) rises
 
 pub returns-in-Ok-clause-room : goal.returns-in-Ok-clause-room

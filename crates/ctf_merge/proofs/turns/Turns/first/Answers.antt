@@ -10,7 +10,7 @@ returns-in-Some-clause-first c =
     let some = ltb-true 1 (length c.deref.result.now) (sym lookup.0) in
     let root = root_is c.deref.result.now nodes c.in-Some.least.now c.deref.ensures.value some lookup.1 in
     rw (← c.self.view_is) (first_found c.number_in.result c.self.inside.leaves c.in-Some.least.now nodes c.self.invariant.0 c.self.invariant.1
-    (subst (λ ks. 1 < length ks) c.deref.ensures.value some) root c.number_in.ensures.number c.number_in.ensures.some)
+    (subst (λ ks. 1 < length ks) c.deref.ensures.value some) root c.number_in.ensures.number c.number_in.ensures.bounded)
 
 pub returns-in-Some-clause-none : goal.returns-in-Some-clause-none
 returns-in-Some-clause-none c =

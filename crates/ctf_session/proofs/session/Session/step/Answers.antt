@@ -15,29 +15,29 @@ returns-in-After-clause-steps g c = rw (← c.self.view_is) (λ tells open_ out 
 pub returns-in-Before-clause-steps : goal.returns-in-Before-clause-steps
 returns-in-Before-clause-steps g c = rw (← c.self.view_is) (λ tells open_ out err.
     let is = c.in-Some-next_stream.ensures.item in
-    went _ _ _ (coming_of c.self.inside.merge) (coming_of c.go_on.new.self) _ is.rest _ (open_coming _ _ open_) (open_coming _ _ open_) (is.coming tells.sources) (c.go_on.ensures.goes_on tells.sources)
+    went _ _ _ (coming_of c.self.inside.merge) (coming_of c.leave.new.self) _ is.rest _ (open_coming _ _ open_) (open_coming _ _ open_) (is.coming tells.sources) (c.leave.ensures.goes_on tells.sources)
     (sym (c.in-Before.ensures ∙ ap (verdict_of c.self.inside.trim) (c.front_time.ensures is.next is.first))) refl (Writes-none _ _) refl)
 
 pub returns-in-Before-clause-tells : goal.returns-in-Before-clause-tells
 returns-in-Before-clause-tells g c = rw (← c.self.view_is) (λ tells.
     let is = c.in-Some-next_stream.ensures.item in
     record {
-      sources = c.go_on.ensures.tells tells.sources;
-      rises = rises_left _ (coming_of c.self.inside.merge) (coming_of c.go_on.new.self) tells.rises
-          (still_rises (coming_of c.self.inside.merge) (coming_of c.go_on.new.self) _ is.rest (is.coming tells.sources) (c.go_on.ensures.goes_on tells.sources));
+      sources = c.leave.ensures.tells tells.sources;
+      rises = rises_left _ (coming_of c.self.inside.merge) (coming_of c.leave.new.self) tells.rises
+          (still_rises (coming_of c.self.inside.merge) (coming_of c.leave.new.self) _ is.rest (is.coming tells.sources) (c.leave.ensures.goes_on tells.sources));
     })
 
 pub returns-in-Ok-clause-steps : goal.returns-in-Ok-clause-steps
 returns-in-Ok-clause-steps g c = rw (← c.self.view_is) (λ tells open_ out err.
     let is = c.in-Some-next_stream.ensures.item in
-    went _ _ _ (coming_of c.self.inside.merge) (coming_of c.go_on-in-Ok.new.self) _ is.rest _ (open_coming _ _ open_) (open_coming _ _ open_) (is.coming tells.sources) (c.go_on-in-Ok.ensures.goes_on tells.sources)
+    went _ _ _ (coming_of c.self.inside.merge) (coming_of c.leave-in-Ok.new.self) _ is.rest _ (open_coming _ _ open_) (open_coming _ _ open_) (is.coming tells.sources) (c.leave-in-Ok.ensures.goes_on tells.sources)
     (sym (c.in-Within.ensures ∙ ap (verdict_of c.self.inside.trim) (c.front_time.ensures is.next is.first))) refl (c.in-Ok.ensures.prints out err is.next is.first) (c.in-Ok.ensures.last is.next is.first))
 
 pub returns-in-Ok-clause-tells : goal.returns-in-Ok-clause-tells
 returns-in-Ok-clause-tells g c = rw (← c.self.view_is) (λ tells.
     let is = c.in-Some-next_stream.ensures.item in
     record {
-      sources = c.go_on-in-Ok.ensures.tells tells.sources;
-      rises = rises_left _ (coming_of c.self.inside.merge) (coming_of c.go_on-in-Ok.new.self) tells.rises
-          (still_rises (coming_of c.self.inside.merge) (coming_of c.go_on-in-Ok.new.self) _ is.rest (is.coming tells.sources) (c.go_on-in-Ok.ensures.goes_on tells.sources));
+      sources = c.leave-in-Ok.ensures.tells tells.sources;
+      rises = rises_left _ (coming_of c.self.inside.merge) (coming_of c.leave-in-Ok.new.self) tells.rises
+          (still_rises (coming_of c.self.inside.merge) (coming_of c.leave-in-Ok.new.self) _ is.rest (is.coming tells.sources) (c.leave-in-Ok.ensures.goes_on tells.sources));
     })

@@ -1,22 +1,22 @@
-use Rattle.std.proofs.Common.{◌≡◌, true, false, to_z, of_z, w64, sym, ap, ◌∙◌, arith}
+use Rattle.std.proofs.Common.{◌≡◌, List, ◌∷◌, ◌++◌, to_z, of_z, w64, refl, ap, ◌∙◌, arith}
 use Rattle.std.proofs.lemmas.Int.{ints}
+use Rattle.std.proofs.lemmas.List.{length-take}
 use Rattle.ctf_stamp.proofs.Putting.{put_both, put_as}
-use Rattle.ctf_stamp.proofs.Parts.{part_plain, part_delta}
-use Rattle.ctf_stamp.specs.declared.style.Style.{Style}
+use Rattle.ctf_stamp.proofs.Groups.{digits_long}
+use Rattle.ctf_stamp.proofs.Parts.{whole_part}
+use Rattle.ctf_stamp.specs.Stamps.{delta_part}
 use Rattle.ctf_stamp.proofs.stamper.Stamper.put_part.Goals as goal
 
-pub returns-then-not-self-clause-put : goal.returns-then-not-self-clause-put
-returns-then-not-self-clause-put c =
-    let same = c.self.view_is ∙ c.put_stamp-at.ensures.style in
-    let plain : c.args.self.now.delta ≡ false = ap (λ (s : Style). s.delta) (sym same) ∙ c.if-not-self.true in
-    put_as (put_both (put_both c.put_byte-at.ensures c.put_stamp-at.ensures.put) c.put_two-at.ensures)
-    (part_plain c.args.self.now c.args.moment c.in-Some.moment c.args.last c.in-Some.is plain)
+pub put_end-requires : goal.put_end-requires
+put_end-requires c = omega (arith, length-take 8 c.in-Some-kept.kept.text, digits_long 9 c.in-Some-kept.kept.nanos, c.put_bytes-at.ensures.ends, c.put_fraction-at.ensures.ends, c.requires)
 
 pub returns-clause-put : goal.returns-clause-put
 returns-clause-put c =
-    let same = c.self.view_is ∙ c.put_stamp-at.ensures.style in
-    let delta : c.args.self.now.delta ≡ true = ap (λ (s : Style). s.delta) (sym same) ∙ c.if-not-self.false in
-    let time : to_z w64 (of_z w64 c.in-Some.moment.time) ≡ c.in-Some.moment.time = omega (arith, ints) in
-    put_as (put_both (put_both (put_both c.put_byte-at.ensures c.put_stamp-at.ensures.put) c.put_two-at.ensures)
-    (put_both (put_both c.put_byte-at-2.ensures c.put_delta-at.ensures.put) c.put_two.ensures))
-    (part_delta c.args.self.now c.args.moment c.in-Some.moment c.args.last _ c.in-Some.is delta time)
+    let told = to_z w64 (of_z w64 c.in-Some.moment.time) in
+    let time : told ≡ c.in-Some.moment.time = omega (arith, ints) in
+    put_as (put_both (put_both (put_both c.put_byte-at.ensures c.put_bytes-at.ensures) c.put_fraction-at.ensures) c.put_end.ensures.put)
+    (ap (λ (x : List _). 91 ∷ x ++ 93 ∷ 32 ∷ delta_part c.args.self.now c.args.last told) c.in-Some-kept.ensures.stamp
+    ∙ whole_part c.args.self.now c.args.self.now c.args.moment c.in-Some.moment c.args.last told refl c.in-Some.is time)
+
+pub returns-clause-short : goal.returns-clause-short
+returns-clause-short c = omega (arith, length-take 8 c.in-Some-kept.kept.text, digits_long 9 c.in-Some-kept.kept.nanos, c.put_bytes-at.ensures.ends, c.put_fraction-at.ensures.ends, c.put_end.ensures.short)

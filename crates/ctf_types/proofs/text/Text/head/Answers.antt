@@ -19,6 +19,5 @@ returns-in_err-event_context g c =
 
 pub returns : goal.returns
 returns g c =
-    rw c.in_ok-planned.ensures
-    (head_made g.text c.args.self.now.order c.args.number c.args.self.now.trace c.args.id c.in_ok-packet_context.packet_context c.in_ok-event_header.event_header c.in_ok-event_context.event_context c.in_ok-moved.moved
-    c.requires.trace c.in_ok-packet_context.ensures c.in_ok-event_header.ensures c.in_ok-event_context.ensures c.in_ok-moved.ensures)
+    head_made g.text c.args.self.now.order c.args.number c.args.self.now.trace c.args.id c.in_ok-packet_context.packet_context c.in_ok-event_header.event_header c.in_ok-event_context.event_context c.in_ok-moved.moved
+    c.requires.trace c.in_ok-packet_context.ensures c.in_ok-event_header.ensures c.in_ok-event_context.ensures c.in_ok-moved.ensures

@@ -1,0 +1,149 @@
+-- Plans of event records that are made one field after the other.
+use Rattle.std.proofs.Common.{◌≡◌, ℕ, zero, suc, ◌+◌, ◌^◌, ◌<◌, ◌≤◌, List, [], ◌∷◌, ◌++◌, length, map, Option, Some, None, refl, sym, ap, subst, ◌∙◌, arith, append_assoc, append-nil}
+use Rattle.ctf_class.specs.declared.class.Class.{Class}
+use Rattle.ctf_class.specs.declared.class.Kind as kind
+use Rattle.ctf_class.specs.declared.class.Member.{Member}
+use Rattle.ctf_class.specs.declared.record_plan.Field.{Field}
+use Rattle.ctf_class.specs.declared.record_plan.Making.{Making}
+use Rattle.ctf_class.specs.declared.record_plan.Run.{Run}
+use Rattle.ctf_class.specs.declared.plain_number.PlainNumber.{PlainNumber}
+use Rattle.ctf_class.specs.Making.{IsOpen, IsMade, IsMadeOf, before_scope, with_number, with_field}
+use Rattle.ctf_class.specs.Records.{Slot, Scoped, later, slots, between, all_slots, values_in, AreScoped, and_scope, scopes_of, IsNumber, AreInRun, IsField, AreRuns, IsPlanOf, room_of}
+
+-- one number more behind the others
+numbers_more : (from span : ℕ) (ss : List Slot) (ns : List PlainNumber) (s : Slot) (rest : List Slot) (n : PlainNumber) → AreInRun from ss ns span (s ∷ rest) → IsNumber span s n → AreInRun from ss (ns ++ n ∷ []) (n.window.place + n.window.size) rest
+numbers_more from span ss [] s rest n are is =
+    subst (λ xs. AreInRun from xs (n ∷ []) (n.window.place + n.window.size) rest) are.1 (subst (λ f. IsNumber f s n) are.0 is, (refl, refl))
+numbers_more from span [] (y ∷ ns) s rest n are is = absurd are
+numbers_more from span (x ∷ ss) (y ∷ ns) s rest n are is = (are.0, numbers_more (y.window.place + y.window.size) span ss ns s rest n are.1 is)
+
+-- the room of one number more, and of a field behind the numbers
+room_number : (ns : List PlainNumber) (n : PlainNumber) → room_of (ns ++ n ∷ []) None ≡ room_of ns None + (length n.ready + 24)
+room_number [] n = omega arith
+room_number (x ∷ ns) n = let more = room_number ns n in omega (arith, more)
+
+room_field : (ns : List PlainNumber) (f : Field) → room_of ns (Some f) ≡ room_of ns None + (length f.ready + 66)
+room_field [] f = omega arith
+room_field (x ∷ ns) f = let more = room_field ns f in omega (arith, more)
+
+-- a field more in the open run
+open_number : (now : List Slot) (ns : List PlainNumber) (span : ℕ) (s : Slot) (n : PlainNumber) → IsOpen now ns span → IsNumber span s n → IsOpen (now ++ s ∷ []) (ns ++ n ∷ []) (n.window.place + n.window.size)
+open_number now ns span s n last is rest =
+    subst (λ xs. AreInRun 0 xs (ns ++ n ∷ []) (n.window.place + n.window.size) rest) (sym (append_assoc now (s ∷ []) rest)) (numbers_more 0 span (now ++ s ∷ rest) ns s rest n (last (s ∷ rest)) is)
+
+pub made_number : (done : List Slot) (s : Slot) (m : Making) (n : PlainNumber) → IsNumber m.span s n → n.window.place + n.window.size ≤ 2 ^ 33 → IsMade done m → IsMade (done ++ s ∷ []) (with_number m n)
+made_number done s m n is near made = record {
+  full = made.full;
+  now = made.now ++ s ∷ [];
+  are = ap (λ d. d ++ s ∷ []) made.are ∙ append_assoc made.full made.now (s ∷ []);
+  whole = made.whole;
+  last = open_number made.now m.numbers m.span s n made.last is;
+  room = ap (λ r. r + (length n.ready + 24)) made.room ∙ sym (room_number m.numbers n);
+  bounded = near;
+}
+
+-- the open run with a field behind it
+pub made_field : (done : List Slot) (s : Slot) (m : Making) (f : Field) → IsField s f → IsMade done m → IsMade (done ++ s ∷ []) (with_field m f)
+made_field done s m f is made = record {
+  full = done ++ s ∷ [];
+  now = [];
+  are = sym (append-nil (done ++ s ∷ []));
+  whole = λ rest rs others.
+      let run : Run = record { numbers = m.numbers; span = m.span; room = m.room + (length f.ready + 66); field = Some f } in
+      let room : run.room ≡ room_of m.numbers (Some f) = ap (λ r. r + (length f.ready + 66)) made.room ∙ sym (room_field m.numbers f) in
+      let whole : AreRuns (made.full ++ (made.now ++ s ∷ rest)) (m.runs ++ run ∷ rs) = made.whole (made.now ++ s ∷ rest) (run ∷ rs) (s ∷ rest, made.last (s ∷ rest), room, made.bounded, (is, others)) in
+      let slots_are : made.full ++ (made.now ++ s ∷ rest) ≡ (done ++ s ∷ []) ++ rest = sym (append_assoc made.full made.now (s ∷ rest)) ∙ ap (λ d. d ++ s ∷ rest) (sym made.are) ∙ sym (append_assoc done (s ∷ []) rest) in
+      subst (λ xs. AreRuns xs ((m.runs ++ run ∷ []) ++ rs)) slots_are (subst (AreRuns (made.full ++ (made.now ++ s ∷ rest))) (sym (append_assoc m.runs (run ∷ []) rs)) whole);
+  last = λ rest. (refl, refl);
+  room = refl;
+  bounded = omega arith;
+}
+
+-- nothing yet
+pub made_none : (m : Making) → m.runs ≡ [] → m.numbers ≡ [] → m.span ≡ 0 → m.room ≡ 24 → m.count ≡ 0 → IsMadeOf [] m
+made_none m runs numbers span room count = record {
+  scopes = [];
+  are = tt;
+  count = count;
+  made = record {
+    full = [];
+    now = [];
+    are = refl;
+    whole = λ rest rs others. subst (λ ns. AreRuns rest (ns ++ rs)) (sym runs) others;
+    last = λ rest. subst (λ ns. AreInRun 0 rest ns m.span rest) (sym numbers) (span, refl);
+    room = room ∙ ap (λ ns. room_of ns None) (sym numbers);
+    bounded = omega (arith, span);
+  };
+}
+
+-- the plan of what was made
+pub plan_of : (ks : List Class) (m : Making) (runs : List Run) → runs ≡ m.runs ++ record { numbers = m.numbers; span = m.span; room = m.room; field = None } ∷ [] → IsMadeOf ks m → IsPlanOf ks (record { runs = runs; count = m.count })
+plan_of ks m runs are of some =
+    let made = of.made in
+    let run : Run = record { numbers = m.numbers; span = m.span; room = m.room; field = None } in
+    let numbers : AreInRun 0 made.now m.numbers m.span [] = subst (λ xs. AreInRun 0 xs m.numbers m.span []) (append-nil made.now) (made.last []) in
+    let whole : AreRuns (made.full ++ made.now) (m.runs ++ run ∷ []) = made.whole made.now (run ∷ []) ([], numbers, made.room, made.bounded, refl) in
+    (of.scopes, of.are, of.count, subst (AreRuns (all_slots [] of.scopes)) (sym are) (subst (λ xs. AreRuns xs (m.runs ++ run ∷ [])) (sym made.are) whole))
+
+-- a scope more
+abbrev lead_of : List ℕ → List Scoped → List ℕ
+lead_of before [] = before
+lead_of before (s ∷ ss) = between
+
+lead_between : (ss : List Scoped) → lead_of between ss ≡ between
+lead_between [] = refl
+lead_between (s ∷ ss) = refl
+
+before_some : (n : ℕ) → 0 < n → before_scope n ≡ between
+before_some zero some = absurd (omega (arith, some))
+before_some (suc n) some = refl
+
+lead_before : (ss : List Scoped) → lead_of [] ss ≡ before_scope (values_in ss)
+lead_before [] = refl
+lead_before (s ∷ ss) = sym (before_some (values_in (s ∷ ss)) (omega arith))
+
+slots_more : (before : List ℕ) (ss : List Scoped) (s : Scoped) → all_slots before (ss ++ s ∷ []) ≡ all_slots before ss ++ slots (lead_of before ss) s
+slots_more before [] s = append-nil (slots before s)
+slots_more before (x ∷ ss) s =
+    ap (λ xs. slots before x ++ xs) (slots_more between ss s ∙ ap (λ l. all_slots between ss ++ slots l s) (lead_between ss)) ∙ sym (append_assoc (slots before x) (all_slots between ss) (slots between s))
+
+values_more : (ss : List Scoped) (s : Scoped) → values_in (ss ++ s ∷ []) ≡ values_in ss + (1 + length s.members)
+values_more [] s = omega arith
+values_more (x ∷ ss) s = let more = values_more ss s in omega (arith, more)
+
+scoped_more : (ks : List Class) (ss : List Scoped) (k : Class) (s : Scoped) → AreScoped ks ss → AreScoped (k ∷ []) (s ∷ []) → AreScoped (ks ++ k ∷ []) (ss ++ s ∷ [])
+scoped_more [] [] k s are one = one
+scoped_more [] (x ∷ ss) k s are one = absurd are
+scoped_more (j ∷ ks) [] k s are one = absurd are
+scoped_more (j ∷ ks) (x ∷ ss) k s are one = (are.0, are.1, are.2, are.3, scoped_more ks ss k s are.4 one)
+
+-- the count has no part in the runs
+made_counted : (done : List Slot) (m n : Making) → n ≡ record { runs = m.runs; numbers = m.numbers; span = m.span; room = m.room; count = n.count } → IsMade done m → IsMade done n
+made_counted done m n is made = subst (IsMade done) (sym is) (record { full = made.full; now = made.now; are = made.are; whole = made.whole; last = made.last; room = made.room; bounded = made.bounded })
+
+-- the first field of a scope, and then the later ones
+pub made_scope : (ks : List Class) (k : Class) (x : Member) (xs : List Member) (lead : List ℕ) (old first others new : Making) → k.kind ≡ kind.Structure (x ∷ xs) → k.align ≡ 8 → lead ≡ before_scope old.count ++ (123 ∷ 32 ∷ [])
+    → ((done : List Slot) → IsMade done old → IsMade (done ++ record { lead = lead; align = k.align; member = x } ∷ []) first)
+    → ((done : List Slot) → IsMade done first → IsMade (done ++ map later xs) others)
+    → new ≡ record { runs = others.runs; numbers = others.numbers; span = others.span; room = others.room; count = new.count } → new.count ≡ old.count + (length xs + 2) → IsMadeOf ks old → IsMadeOf (ks ++ k ∷ []) new
+made_scope ks k x xs lead old first others new is align leads begin more same count of =
+    let s : Scoped = record { align = k.align; members = x ∷ xs } in
+    let done = all_slots [] of.scopes in
+    let before : before_scope old.count ≡ lead_of [] of.scopes = ap before_scope of.count ∙ sym (lead_before of.scopes) in
+    let head : Slot = record { lead = lead; align = k.align; member = x } in
+    let first_is : head ≡ record { lead = lead_of [] of.scopes ++ (123 ∷ 32 ∷ []); align = k.align; member = x } = ap (λ l. record { lead = l; align = k.align; member = x }) (leads ∙ ap (λ l. l ++ (123 ∷ 32 ∷ [])) before) in
+    let slots_are : (done ++ head ∷ []) ++ map later xs ≡ all_slots [] (of.scopes ++ s ∷ []) = append_assoc done (head ∷ []) (map later xs) ∙ ap (λ h. done ++ (h ∷ map later xs)) first_is ∙ sym (slots_more [] of.scopes s) in
+    let values = values_more of.scopes s in
+    record {
+      scopes = of.scopes ++ s ∷ [];
+      are = scoped_more ks of.scopes k s of.are (is, refl, align, omega arith, tt);
+      count = omega (arith, count, of.count, values);
+      made = subst (λ d. IsMade d new) slots_are (made_counted _ others new same (more _ (begin done of.made)));
+    }
+
+-- the scopes of a record, one after the other
+pub scopes_are : (shared own : Option Class) (fields : Class) → ((and_scope shared []) ++ and_scope own []) ++ fields ∷ [] ≡ scopes_of shared own fields
+scopes_are None None fields = refl
+scopes_are None (Some o) fields = refl
+scopes_are (Some s) None fields = refl
+scopes_are (Some s) (Some o) fields = refl

@@ -1,0 +1,58 @@
+-- Plans of event records on their way (all own).
+use Rattle.std.specs.Prelude.{◌≡◌, ℕ, zero, suc, ◌+◌, ◌^◌, ◌≤◌, List, [], ◌∷◌, ◌++◌, length, Some, None}
+use Rattle.ctf_class.specs.declared.class.Class.{Class}
+use Rattle.ctf_class.specs.declared.record_plan.Field.{Field}
+use Rattle.ctf_class.specs.declared.record_plan.Making.{Making}
+use Rattle.ctf_class.specs.declared.record_plan.Run.{Run}
+use Rattle.ctf_class.specs.declared.plain_number.PlainNumber.{PlainNumber}
+use Rattle.ctf_class.specs.Records.{Slot, Scoped, between, all_slots, values_in, AreScoped, AreInRun, AreRuns, room_of}
+
+-- fields are these runs, whatever runs stand behind them
+abbrev pub RunsTo : List Slot → List Run → Type 0
+RunsTo full runs = (rest : List Slot) (rs : List Run) → AreRuns rest rs → AreRuns (full ++ rest) (runs ++ rs)
+
+-- fields are these numbers, whatever fields stand behind them
+abbrev pub IsOpen : List Slot → List PlainNumber → ℕ → Type 0
+IsOpen now numbers span = (rest : List Slot) → AreInRun 0 (now ++ rest) numbers span rest
+
+-- fields are the whole runs and the open one
+pub record IsMade (done : List Slot) (m : Making) : Type 0 where
+  pub full : List Slot
+  pub now : List Slot
+  pub are : done ≡ full ++ now
+  pub whole : RunsTo full m.runs
+  pub last : IsOpen now m.numbers m.span
+  pub room : m.room ≡ room_of m.numbers None
+  pub bounded : m.span ≤ 2 ^ 33
+
+-- so are those of the structures that classes are
+pub record IsMadeOf (ks : List Class) (m : Making) : Type 0 where
+  pub scopes : List Scoped
+  pub are : AreScoped ks scopes
+  pub count : m.count ≡ values_in scopes
+  pub made : IsMade (all_slots [] scopes) m
+
+-- what stands before the brace of a scope behind so many values
+abbrev pub before_scope : ℕ → List ℕ
+before_scope zero = []
+before_scope (suc n) = between
+
+-- with one number more in the open run
+abbrev pub with_number : Making → PlainNumber → Making
+with_number m n = record {
+  runs = m.runs;
+  numbers = m.numbers ++ n ∷ [];
+  span = n.window.place + n.window.size;
+  room = m.room + (length n.ready + 24);
+  count = m.count;
+}
+
+-- with a field behind the open run, which is whole then
+abbrev pub with_field : Making → Field → Making
+with_field m f = record {
+  runs = m.runs ++ record { numbers = m.numbers; span = m.span; room = m.room + (length f.ready + 66); field = Some f } ∷ [];
+  numbers = [];
+  span = 0;
+  room = 24;
+  count = m.count;
+}

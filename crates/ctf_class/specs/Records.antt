@@ -1,0 +1,125 @@
+-- Event records whose integers stand at fixed distances (all own). Bytes are written as numbers: 32 is a space, 44 a comma,
+-- 123 and 125 are `{` and `}`.
+use Rattle.std.specs.Prelude.{◌≡◌, ℕ, ◌+◌, ◌%◌, ◌<◌, ◌≤◌, ◌^◌, List, [], ◌∷◌, ◌++◌, map, length, max, Option, Some, None, ⊤}
+use Rattle.std.specs.Int.{next_multiple_of}
+use Rattle.ctf_bits.specs.declared.number.Order.TheVariants.{Le}
+use Rattle.ctf_class.specs.Names.{field_text}
+use Rattle.ctf_class.specs.declared.class.Class.{Class}
+use Rattle.ctf_class.specs.declared.class.Kind as kind
+use Rattle.ctf_class.specs.declared.class.Member.{Member}
+use Rattle.ctf_class.specs.declared.integer.Base.TheVariants.{Decimal}
+use Rattle.ctf_class.specs.declared.record_plan.Field.{Field}
+use Rattle.ctf_class.specs.declared.record_plan.RecordPlan.{RecordPlan}
+use Rattle.ctf_class.specs.declared.record_plan.Run.{Run}
+use Rattle.ctf_class.specs.declared.record_plan.Shown.{Shown}
+use Rattle.ctf_class.specs.declared.record_plan.Shown.TheVariants as shown
+use Rattle.ctf_class.specs.declared.route.Length.TheVariants.{Fixed}
+use Rattle.ctf_class.specs.declared.plain_number.PlainNumber.{PlainNumber}
+
+-- a field: what is printed between the value before it and its name, the alignment of the structure that it begins, or 1,
+-- and the member that it is of
+pub record Slot : Type 0 where
+  pub lead : List ℕ
+  pub align : ℕ
+  pub member : Member
+
+-- a structure's alignment and its members
+pub record Scoped : Type 0 where
+  pub align : ℕ
+  pub members : List Member
+
+-- a member behind the first
+abbrev pub later : Member → Slot
+later m = record { lead = 44 ∷ 32 ∷ []; align = 1; member = m }
+
+-- the fields of a structure, of which the first stands behind a text and a brace
+abbrev pub slots_of : List ℕ → ℕ → List Member → List Slot
+slots_of before align [] = []
+slots_of before align (m ∷ ms) = record { lead = before ++ (123 ∷ 32 ∷ []); align = align; member = m } ∷ map later ms
+
+abbrev pub slots : List ℕ → Scoped → List Slot
+slots before s = slots_of before s.align s.members
+
+-- what stands between two structures
+abbrev pub between : List ℕ
+between = 32 ∷ 125 ∷ 44 ∷ 32 ∷ []
+
+-- the fields of structures one behind the other
+abbrev pub all_slots : List ℕ → List Scoped → List Slot
+all_slots before [] = []
+all_slots before (s ∷ ss) = slots before s ++ all_slots between ss
+
+-- how many values structures have, themselves among them
+abbrev pub values_in : List Scoped → ℕ
+values_in [] = 0
+values_in (s ∷ ss) = 1 + length s.members + values_in ss
+
+-- classes are these structures, which begin at a byte and have members
+abbrev pub AreScoped : List Class → List Scoped → Type 0
+AreScoped [] [] = ⊤
+AreScoped [] (s ∷ ss) = ⊥
+AreScoped (k ∷ ks) [] = ⊥
+AreScoped (k ∷ ks) (s ∷ ss) = (k.kind ≡ kind.Structure s.members) × (k.align ≡ s.align) × (s.align ≡ 8) × (0 < length s.members) × AreScoped ks ss
+
+-- the scopes of an event record behind its header that have a class
+abbrev pub and_scope : Option Class → List Class → List Class
+and_scope None ks = ks
+and_scope (Some k) ks = k ∷ ks
+
+abbrev pub scopes_of : Option Class → Option Class → Class → List Class
+scopes_of shared own fields = and_scope shared (and_scope own (fields ∷ []))
+
+-- a field is an integer in decimal, little endian, behind this distance from a byte's first bit, where it stands wherever
+-- that byte is; and so it is read and begun
+pub record IsNumber (from : ℕ) (s : Slot) (n : PlainNumber) : Type 0 where
+  pub is : s.member.class.kind ≡ kind.Integer n.integer
+  pub decimal : n.integer.base ≡ Decimal
+  pub little : n.integer.order ≡ Le
+  pub begins : 8 % s.align ≡ 0
+  pub divides : 8 % s.member.class.align ≡ 0
+  pub window : n.window ≡ record { place = next_multiple_of (next_multiple_of from s.align) s.member.class.align; size = max 1 n.integer.size; is_signed = n.integer.is_signed }
+  pub ready : n.ready ≡ s.lead ++ field_text s.member.name
+
+-- so are the first of these fields, one behind the other, as far as a distance, and these are left
+abbrev pub AreInRun : ℕ → List Slot → List PlainNumber → ℕ → List Slot → Type 0
+AreInRun from ss [] span rest = (span ≡ from) × (rest ≡ ss)
+AreInRun from [] (n ∷ ns) span rest = ⊥
+AreInRun from (s ∷ ss) (n ∷ ns) span rest = IsNumber from s n × AreInRun (n.window.place + n.window.size) ss ns span rest
+
+-- what a member is shown as
+abbrev pub IsShown : Member → Shown → Type 0
+IsShown m shown.String = m.class.kind ≡ kind.String
+IsShown m (shown.Text count) = m.class.kind ≡ kind.Text (Fixed count)
+IsShown m (shown.Integer integer align) = (m.class.kind ≡ kind.Integer integer) × (align ≡ m.class.align)
+
+-- a field is shown so
+pub record IsField (s : Slot) (f : Field) : Type 0 where
+  pub align : f.align ≡ s.align
+  pub ready : f.ready ≡ s.lead ++ field_text s.member.name
+  pub shown : IsShown s.member f.shown
+
+-- the first of these fields is this one, if one is given, and this holds of the others
+abbrev pub Behind : List Slot → Option Field → (List Slot → Type 0) → Type 0
+Behind ss None Holds = Holds ss
+Behind [] (Some f) Holds = ⊥
+Behind (s ∷ ss) (Some f) Holds = IsField s f × Holds ss
+
+-- the room that numbers take in a line, in bytes: each text 24 more for its number, and 24 more
+abbrev pub numbers_room : List PlainNumber → ℕ
+numbers_room [] = 24
+numbers_room (n ∷ ns) = length n.ready + 24 + numbers_room ns
+
+-- the room that numbers and a field behind them take in a line, in bytes: each text 24 more, and a number 66 at the most
+abbrev pub room_of : List PlainNumber → Option Field → ℕ
+room_of [] None = 24
+room_of [] (Some f) = length f.ready + 90
+room_of (n ∷ ns) f = length n.ready + 24 + room_of ns f
+
+-- fields are these runs, one behind the other
+abbrev pub AreRuns : List Slot → List Run → Type 0
+AreRuns ss [] = ss ≡ []
+AreRuns ss (r ∷ rs) = (rest : List Slot) × AreInRun 0 ss r.numbers r.span rest × (r.room ≡ room_of r.numbers r.field) × (r.span ≤ 2 ^ 33) × Behind rest r.field (λ others. AreRuns others rs)
+
+-- a plan is one of these classes, if it has runs
+abbrev pub IsPlanOf : List Class → RecordPlan → Type 0
+IsPlanOf ks p = 0 < length p.runs → (ss : List Scoped) × AreScoped ks ss × (p.count ≡ values_in ss) × AreRuns (all_slots [] ss) p.runs

@@ -1,0 +1,15 @@
+//! Integers that are printed as they stand.
+
+use crate::integer::Integer;
+use crate::ready::Ready;
+use ctf_bits::Window;
+
+/// An integer in decimal, little endian, whose distance from the begin of its run is known (CTF 1.8.3, section 4.1.5).
+#[derive(Debug, Drop)]
+pub struct PlainNumber {
+    pub integer: Integer,
+    /// Where it stands behind that begin.
+    pub window: Window,
+    /// What is printed before it.
+    pub ready: Ready,
+}

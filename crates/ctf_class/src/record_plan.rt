@@ -1,0 +1,335 @@
+//! What is known of event records before they are read.
+
+ghost use Rattle.std.specs.Prelude.{◌≡◌, ◌+◌, ◌%◌, ◌∷◌, ◌++◌, [], ◌^◌, ◌≤◌, map, length, max, IsTrue, IfOk, IfSome, OnOk, option_copied};
+ghost use Rattle.std.specs.Int.{next_multiple_of};
+ghost use Rattle.ctf_bits.specs.declared.number.Order.TheVariants.{Le};
+ghost use Rattle.ctf_class.specs.Making.{IsMade, IsMadeOf, before_scope, with_number, with_field};
+ghost use Rattle.ctf_class.specs.Records.{Slot, IsNumber, IsShown, IsPlanOf, later, and_scope, scopes_of};
+ghost use Rattle.ctf_class.specs.declared.class.Kind as kinds;
+ghost use Rattle.ctf_class.specs.declared.integer.Base.TheVariants.{Decimal};
+
+use crate::align::Align;
+use crate::class::{Class, Kind, Member};
+use crate::integer::{Base, Integer};
+use crate::plain_number::PlainNumber;
+use crate::ready::Ready;
+use crate::route::Length;
+use ctf_bits::{Order, Window};
+use ctf_list::{List, NoMemory};
+use std::alloc::Global;
+use std::mem;
+
+/// How many bytes of a line a run may take where it gets one more number, so that buffers stay short.
+const MOST_ROOM: usize = 8192;
+
+/// The farthest distance of a number, in bits.
+const FARTHEST: u64 = 1 << 32;
+
+/// The longest text before a value, in bytes.
+const LONGEST_TEXT: usize = 1 << 16;
+
+/// How a field is shown that is none of the numbers of a run.
+#[derive(Debug, Drop)]
+pub enum Shown {
+    /// As a string (CTF 1.8.3, section 4.2.5).
+    String,
+    /// As a text of so many bytes.
+    Text(u64),
+    /// As an integer of this alignment.
+    Integer(Integer, Align),
+}
+
+/// A field behind the numbers of a run.
+#[derive(Debug, Drop)]
+pub struct Field {
+    /// What is printed before its value.
+    pub ready: Ready,
+    /// The alignment of the structure that it begins, or 1.
+    pub align: Align,
+    pub shown: Shown,
+}
+
+/// Integers in decimal, little endian, that stand one behind the other at fixed distances from a byte's first bit (CTF 1.8.3,
+/// section 4.1.5), and the field behind them, if there is one.
+#[derive(Debug, Drop)]
+pub struct Run {
+    pub numbers: List<PlainNumber>,
+    /// How many bits the numbers take.
+    pub span: u64,
+    /// How many bytes of a line it takes at the most, a string and a text but for what is printed before them, and 24 more.
+    pub room: usize,
+    pub field: Option<Field>,
+}
+
+/// The fields of an event record's scopes behind its header (CTF 1.8.3, section 6), one after the other, if all of them are
+/// structures of integers, strings and texts of fixed lengths that begin at a byte; else nothing.
+#[derive(Debug, Drop)]
+pub struct RecordPlan {
+    pub runs: List<Run>,
+    /// How many values these scopes have.
+    pub count: u64,
+}
+
+/// A plan on its way.
+#[derive(Drop)]
+struct Making {
+    /// The runs that are whole.
+    runs: List<Run>,
+    /// The numbers of the open run.
+    numbers: List<PlainNumber>,
+    span: u64,
+    room: usize,
+    /// How many values the scopes so far have.
+    count: u64,
+}
+
+impl RecordPlan {
+    /// The plan of records whose scopes have these classes: the stream event context, the event context, and the fields.
+    pub fn new(
+        alloc: Global,
+        shared: Option<&Class>,
+        own: Option<&Class>,
+        fields: &Class,
+    ) -> Result<RecordPlan, NoMemory>
+        ensures { IfOk result (IsPlanOf (scopes_of (option_copied shared.entry) (option_copied own.entry) fields.now)) }
+    {
+        let mut making = Making::new(alloc);
+        if making.add_optional(alloc, shared)?
+            && making.add_optional(alloc, own)?
+            && making.add_scope(alloc, fields)?
+        {
+            return making.finish();
+        }
+        Ok(RecordPlan {
+            runs: List::new(alloc),
+            count: 0,
+        })
+    }
+}
+
+impl Making {
+    /// A plan of no scopes.
+    fn new(alloc: Global) -> Making
+        ensures made { IsMadeOf [] result }
+        ensures few { result.room ≤ 2 ^ 18 }
+        ensures near { result.span ≤ 2 ^ 33 }
+    {
+        Making {
+            runs: List::new(alloc),
+            numbers: List::new(alloc),
+            span: 0,
+            room: 24,
+            count: 0,
+        }
+    }
+
+    /// The plan of the scopes that were added.
+    fn finish(self) -> Result<RecordPlan, NoMemory>
+        ensures { IfOk result (λ plan. (ks : List Class) → IsMadeOf ks self → IsPlanOf ks plan) }
+    {
+        let Making {
+            mut runs,
+            numbers,
+            span,
+            room,
+            count,
+        } = self;
+        runs.push(Run {
+            numbers,
+            span,
+            room,
+            field: None,
+        })?;
+        Ok(RecordPlan { runs, count })
+    }
+
+    /// Adds a scope if there is one. Whether that could be done.
+    fn add_optional(&mut self, alloc: Global, class: Option<&Class>) -> Result<bool, NoMemory>
+        requires few { self.old.room ≤ 2 ^ 18 }
+        requires near { self.old.span ≤ 2 ^ 33 }
+        ensures few { IfOk result (λ took. IsTrue took → self.new.room ≤ 2 ^ 18) }
+        ensures near { IfOk result (λ took. IsTrue took → self.new.span ≤ 2 ^ 33) }
+        ensures made { IfOk result (λ took. IsTrue took → (ks : List Class) → IsMadeOf ks self.old → IsMadeOf (ks ++ and_scope (option_copied class.entry) []) self.new) }
+    {
+        match class {
+            Some(class) => self.add_scope(alloc, class),
+            None => Ok(true),
+        }
+    }
+
+    /// Adds a scope. Whether that could be done.
+    fn add_scope(&mut self, alloc: Global, class: &Class) -> Result<bool, NoMemory>
+        requires few { self.old.room ≤ 2 ^ 18 }
+        requires near { self.old.span ≤ 2 ^ 33 }
+        ensures few { IfOk result (λ took. IsTrue took → self.new.room ≤ 2 ^ 18) }
+        ensures near { IfOk result (λ took. IsTrue took → self.new.span ≤ 2 ^ 33) }
+        ensures made { IfOk result (λ took. IsTrue took → (ks : List Class) → IsMadeOf ks self.old → IsMadeOf (ks ++ class.now ∷ []) self.new) }
+    {
+        let Kind::Structure { members } = &class.kind else {
+            return Ok(false);
+        };
+        let Some((first, others)) = members.as_slice().split_first() else {
+            return Ok(false);
+        };
+        let Some(count) = self.count.checked_add(others.len() as u64 + 2) else {
+            return Ok(false);
+        };
+        if class.align.bits() != 8 {
+            return Ok(false);
+        }
+        if !self.add_member(alloc, self.opening(), class.align, first)?
+            || !self.add_later(alloc, others)?
+        {
+            return Ok(false);
+        }
+        self.count = count;
+        Ok(true)
+    }
+
+    /// What is printed before the first field of the next scope.
+    fn opening(&self) -> &'static [u8]
+        ensures { result.now ≡ before_scope self.now.count ++ (123 ∷ 32 ∷ []) }
+    {
+        if self.count == 0 { b"{ " } else { b" }, { " }
+    }
+
+    /// Adds the members of a scope behind its first. Whether that could be done.
+    fn add_later(&mut self, alloc: Global, members: &[Member]) -> Result<bool, NoMemory>
+        requires few { self.old.room ≤ 2 ^ 18 }
+        requires near { self.old.span ≤ 2 ^ 33 }
+        ensures few { IfOk result (λ took. IsTrue took → self.new.room ≤ 2 ^ 18) }
+        ensures near { IfOk result (λ took. IsTrue took → self.new.span ≤ 2 ^ 33) }
+        ensures count { IfOk result (λ took. IsTrue took → self.new.count ≡ self.old.count) }
+        ensures made { IfOk result (λ took. IsTrue took → (done : List Slot) → IsMade done self.old → IsMade (done ++ map later members.now) self.new) }
+    {
+        let Some(anywhere) = Align::new(1) else {
+            return Ok(false);
+        };
+        for member in members {
+            if !self.add_member(alloc, b", ", anywhere, member)? {
+                return Ok(false);
+            }
+        }
+        Ok(true)
+    }
+
+    /// Adds a field, with this before its name. Whether that could be done.
+    fn add_member(
+        &mut self,
+        alloc: Global,
+        lead: &[u8],
+        align: Align,
+        member: &Member,
+    ) -> Result<bool, NoMemory>
+        requires few { self.old.room ≤ 2 ^ 18 }
+        requires near { self.old.span ≤ 2 ^ 33 }
+        ensures few { IfOk result (λ took. IsTrue took → self.new.room ≤ 2 ^ 18) }
+        ensures near { IfOk result (λ took. IsTrue took → self.new.span ≤ 2 ^ 33) }
+        ensures count { IfOk result (λ took. IsTrue took → self.new.count ≡ self.old.count) }
+        ensures made { IfOk result (λ took. IsTrue took → (done : List Slot) → IsMade done self.old → IsMade (done ++ record { lead = lead.now; align = align; member = member.now } ∷ []) self.new) }
+    {
+        let ready = member.name.behind(alloc, lead)?;
+        if ready.len() > LONGEST_TEXT {
+            return Ok(false);
+        }
+        if let Some((integer, window)) = self.as_number(&member.class, align) {
+            self.add_number(PlainNumber {
+                integer,
+                window,
+                ready,
+            })?;
+            return Ok(true);
+        }
+        let Some(shown) = shown_of(&member.class) else {
+            return Ok(false);
+        };
+        self.add_field(
+            alloc,
+            Field {
+                ready,
+                align,
+                shown,
+            },
+        )?;
+        Ok(true)
+    }
+
+    /// A field of a class as the next number of the open run, if it can be one. It begins a structure of this alignment, or 1.
+    fn as_number(&self, class: &Class, begin: Align) -> Option<(Integer, Window)>
+        requires { self.now.span ≤ 2 ^ 33 }
+        ensures is { IfSome result (λ found. class.now.kind ≡ kinds.Integer found.0) }
+        ensures decimal { IfSome result (λ found. found.0.base ≡ Decimal) }
+        ensures little { IfSome result (λ found. found.0.order ≡ Le) }
+        ensures begins { IfSome result (λ _. 8 % begin ≡ 0) }
+        ensures divides { IfSome result (λ _. 8 % class.now.align ≡ 0) }
+        ensures window { IfSome result (λ found. found.1 ≡ record { place = next_multiple_of (next_multiple_of self.now.span begin) class.now.align; size = max 1 found.0.size; is_signed = found.0.is_signed }) }
+        ensures near { IfSome result (λ found. found.1.place + found.1.size ≤ 2 ^ 33) }
+        ensures few { IfSome result (λ _. self.now.room ≤ MOST_ROOM) }
+    {
+        let Kind::Integer(integer) = &class.kind else {
+            return None;
+        };
+        if integer.base != Base::Decimal || integer.order != Order::Le || self.room > MOST_ROOM {
+            return None;
+        }
+        if 8 % begin.bits() != 0 || 8 % class.align.bits() != 0 {
+            return None;
+        }
+        let from = begin.up(self.span);
+        let place = class.align.up(from);
+        if place > FARTHEST {
+            return None;
+        }
+        let window = Window::new(place, integer.size.bits(), integer.is_signed)?;
+        Some((*integer, window))
+    }
+
+    /// One more number of the open run.
+    fn add_number(&mut self, number: PlainNumber) -> Result<(), NoMemory>
+        requires near { number.window.place + number.window.size ≤ 2 ^ 33 }
+        requires short { length number.ready ≤ LONGEST_TEXT }
+        requires few { self.old.room ≤ 2 ^ 18 }
+        ensures { OnOk result (self.new ≡ with_number self.old number) }
+    {
+        let span = number.window.end();
+        let room = number.ready.len() + 24;
+        self.numbers.push(number)?;
+        self.span = span;
+        self.room += room;
+        Ok(())
+    }
+
+    /// A field behind the open run, which is whole then.
+    fn add_field(&mut self, alloc: Global, field: Field) -> Result<(), NoMemory>
+        requires short { length field.ready ≤ LONGEST_TEXT }
+        requires few { self.old.room ≤ 2 ^ 18 }
+        ensures { OnOk result (self.new ≡ with_field self.old field) }
+    {
+        let room = self.room + (field.ready.len() + 66);
+        let numbers = mem::replace(&mut self.numbers, List::new(alloc));
+        self.runs.push(Run {
+            numbers,
+            span: self.span,
+            room,
+            field: Some(field),
+        })?;
+        self.span = 0;
+        self.room = 24;
+        Ok(())
+    }
+}
+
+/// How a field of a class is shown behind a run: an integer, a string or a text of a fixed length.
+fn shown_of(class: &Class) -> Option<Shown>
+    ensures { (m : Member) → m.class ≡ class.now → IfSome result (IsShown m) }
+{
+    match &class.kind {
+        Kind::Integer(integer) => Some(Shown::Integer(*integer, class.align)),
+        Kind::String => Some(Shown::String),
+        Kind::Text { length } => match length {
+            Length::Fixed(count) => Some(Shown::Text(*count)),
+            Length::Field(_) => None,
+        },
+        _ => None,
+    }
+}

@@ -1,0 +1,37 @@
+use Rattle.std.proofs.Common.{◌≡◌, ◌+◌, ◌<◌, ◌≤◌, ◌++◌, ◌∷◌, [], take, length, sym, subst, append-nil, rules, arith}
+use Rattle.std.specs.Int.{next_multiple_of}
+use Rattle.std.specs.List.{All}
+use Rattle.ctf_class.specs.Records.{AreRuns, all_slots, values_in}
+use Rattle.ctf_decode.specs.declared.scopes.TheConstants.{MOST_VALUES}
+use Rattle.ctf_text.specs.Records.{IsNear, PutsFields, PutsScopes}
+use Rattle.ctf_text.proofs.RecordsLemmas.{runs_near, fields_from, scopes_puts}
+use Rattle.ctf_text.proofs.planned_record.put_planned_record.Goals as goal
+
+pub put_runs-requires-clause-near : goal.put_runs-requires-clause-near
+put_runs-requires-clause-near c =
+    let plan = c.args.plan.now in
+    let some : 0 < length plan.runs = search (rules, arith) in
+    let is = c.requires.plan.1 some in
+    subst (All IsNear) (sym c.as_slice-runs.ensures) (runs_near (all_slots [] is.0) plan.runs is.3)
+
+pub returns-clause-puts : goal.returns-clause-puts
+returns-clause-puts c = λ classes several planned.
+    let plan = c.args.plan.now in
+    let bytes = c.args.packet.now in
+    let content = c.args.content in
+    let place = c.args.place in
+    let spent = c.args.spent in
+    let end = c.put_runs.new.place in
+    let before = take c.args.at c.args.buffer.now.items in
+    let after = take c.in_ok-text.text c.put_runs.new.buffer.items in
+    let some : 0 < length plan.runs = search (rules, arith) in
+    let is = planned some in
+    let slots = all_slots [] is.0 in
+    let puts = c.in_ok-text.ensures.puts slots (subst (AreRuns slots) (sym c.as_slice-runs.ensures) is.3) in
+    let line = puts.0 in
+    let begun : PutsFields slots bytes content (next_multiple_of place 8) end before line = subst (λ p. PutsFields slots bytes content p end before line) c.up-end.ensures.value puts.1 in
+    let few : spent + plan.count ≤ MOST_VALUES = search (rules, arith) in
+    let whole = scopes_puts classes is.0 [] bytes content place end spent before line several is.1 (fields_from classes is.0 [] bytes content place end before line several is.1 begun) (omega (arith, few, is.2)) in
+    subst (λ n. PutsScopes classes bytes content place spent end n before after) (let total : spent + values_in is.0 ≡ spent + plan.count = omega (arith, is.2) in total)
+    (subst (λ xs. PutsScopes classes bytes content place spent end (spent + values_in is.0) before xs) (sym puts.2)
+    (subst (λ xs. PutsScopes classes bytes content place spent end (spent + values_in is.0) xs (line ++ (32 ∷ 125 ∷ []))) (append-nil before) whole))

@@ -1,9 +1,0 @@
--- Integers whose distances are known beforehand (all own).
-use Rattle.std.specs.Prelude.{ℕ, List, ◌++◌}
-use Rattle.std.specs.Fmt.{signed_decimal}
-use Rattle.ctf_bits.specs.Placed.{number_behind}
-use Rattle.ctf_class.specs.declared.stretch.PlainNumber.{PlainNumber}
-
--- what is printed of one in a stretch that begins behind so many bytes
-abbrev pub plain_text : List ℕ → ℕ → PlainNumber → List ℕ
-plain_text packet first n = n.ready ++ signed_decimal (number_behind n.window packet first)
