@@ -1,8 +1,10 @@
-//! Decimal digits, two or three at a time.
+//! Decimal digits, two, three or four at a time.
 #![tactic(auto)]
 
+mod fours;
 mod pairs;
 mod triples;
 
+pub use fours::few_digits;
 pub use pairs::two_digits;
 pub use triples::three_digits;

@@ -1,11 +1,11 @@
 //! Numbers in decimal.
 
-ghost use Rattle.std.specs.Prelude.{◌≡◌, ◌+◌, ◌++◌, ◌<◌, ◌≤◌, length, take};
+ghost use Rattle.std.specs.Prelude.{◌≡◌, ◌+◌, ◌/◌, ◌++◌, ◌<◌, ◌≤◌, length, take};
 ghost use Rattle.std.specs.Fmt.{decimal, signed_decimal};
-ghost use Rattle.std.specs.Int.{w32, to_le_bytes};
-ghost use Rattle.ctf_text.specs.Digits.{four_digits};
+ghost use Rattle.std.specs.Int.{w32, to_le_bytes, leading_zeros};
+ghost use Rattle.ctf_digits.specs.Fours.{four};
 
-use ctf_digits::two_digits;
+use ctf_digits::{few_digits, two_digits};
 use itoa::{Buffer, write_digits};
 
 /// How many digits a number has in decimal.
@@ -91,8 +91,8 @@ fn put_many(number: u64, line: &mut [u8], at: usize) -> usize
     end
 }
 
-/// The same of a number of up to four digits. They are made in one word, so that no jump depends on how many there are:
-/// a processor foresees that badly.
+/// The same of a number of up to four digits. They are one word of a table, so that no jump depends on how many there are: a
+/// processor foresees that badly.
 #[inline(always)]
 fn put_few(number: u32, line: &mut [u8], at: usize) -> usize
     requires few { number < 10_000 }
@@ -101,9 +101,17 @@ fn put_few(number: u32, line: &mut [u8], at: usize) -> usize
     ensures end { result ≡ at + length (decimal number) }
     ensures near { result ≤ at + 4 }
 {
-    let missing = u32::from(number < 10) + u32::from(number < 100) + u32::from(number < 1000);
-    put_word(four_digits(number) >> (8 * missing), line, at);
-    at + 4 - missing as usize
+    let word = few_digits(number);
+    put_word(word, line, at);
+    at + 4 - missing_in(word)
+}
+
+/// How many of four digits a word does not have: as many zero bytes stand behind them.
+#[inline(always)]
+fn missing_in(word: u32) -> usize
+    ensures { result ≡ leading_zeros w32 word / 8 }
+{
+    (word.leading_zeros() / 8) as usize
 }
 
 /// Writes the bytes of a word, the lowest first.
@@ -123,7 +131,7 @@ fn put_word(word: u32, line: &mut [u8], at: usize)
 #[inline(always)]
 fn four_digits(number: u32) -> u32
     requires { number < 10_000 }
-    ensures { result ≡ four_digits number }
+    ensures { result ≡ four number }
 {
     u32::from(two_digits(number / 100)) + (u32::from(two_digits(number % 100)) << 16)
 }

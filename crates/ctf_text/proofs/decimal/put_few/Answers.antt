@@ -1,14 +1,21 @@
-use Rattle.std.proofs.Common.{◌≡◌, ◌+◌, arith}
-use Rattle.ctf_text.proofs.DecimalLemmas.{missing, few_digits, few_written}
+use Rattle.std.proofs.Common.{◌≡◌, ◌-◌, ◌+◌, ◌/◌, ◌++◌, ◌∙◌, take, arith, sym, subst}
+use Rattle.std.specs.Fmt.{decimal}
+use Rattle.std.specs.Int.{leading_zeros, w32}
+use Rattle.ctf_digits.specs.Fours.{missing, few}
+use Rattle.ctf_text.proofs.DecimalLemmas.{few_shown, few_written}
 use Rattle.ctf_text.proofs.decimal.put_few.Goals as goal
 
 pub returns-clause-text : goal.returns-clause-text
 returns-clause-text c =
-    let few : c.from.result + c.from-2.result + c.from-3.result ≡ missing c.args.number = λ i. c.from.ensures i + c.from-2.ensures i + c.from-3.ensures i in
-    few_written c.args.line.now c.put_word.new.line c.args.at c.args.number (c.from.result + c.from-2.result + c.from-3.result) few c.requires.few (omega (arith, c.requires.room)) (rw c.four_digits.ensures at c.put_word.ensures)
+    let n = c.args.number in
+    let at = c.args.at in
+    let line = c.put_word.new.line in
+    let gone : missing n ≡ c.missing_in.result = sym (c.missing_in.ensures ∙ (λ i. leading_zeros w32 (c.few_digits-word.ensures i) / 8) ∙ (few_shown n c.requires.few).2) in
+    subst (λ m. take (at + 4 - m) line ≡ take at c.args.line.now ++ decimal n) gone (few_written c.args.line.now line at n c.requires.few c.requires.room (rw c.few_digits-word.ensures at c.put_word.ensures))
 
 pub returns-clause-end : goal.returns-clause-end
 returns-clause-end c =
-    let few : c.from.result + c.from-2.result + c.from-3.result ≡ missing c.args.number = λ i. c.from.ensures i + c.from-2.ensures i + c.from-3.ensures i in
-    let shown = (few_digits c.args.number c.requires.few).1 in
-    omega (arith, few, shown)
+    let n = c.args.number in
+    let gone : missing n ≡ c.missing_in.result = sym (c.missing_in.ensures ∙ (λ i. leading_zeros w32 (c.few_digits-word.ensures i) / 8) ∙ (few_shown n c.requires.few).2) in
+    let shown = (few_shown n c.requires.few).1 in
+    omega (arith, gone, shown)

@@ -1,0 +1,15 @@
+-- Up to four decimal digits.
+use Rattle.std.specs.Prelude.{ℕ, ◌+◌, ◌*◌, ◌/◌, ◌%◌, ◌^◌, nat_lt}
+use mir.Val.{bool_byte}
+
+-- the digits of a number below 10000 as they are printed, with zeros in front, the first in the lowest byte (own)
+abbrev pub four : ℕ → ℕ
+four n = 48 + n / 1000 + (48 + n / 100 % 10) * 2 ^ 8 + (48 + n / 10 % 10) * 2 ^ 16 + (48 + n % 10) * 2 ^ 24
+
+-- how many of four digits it does not have (own)
+abbrev pub missing : ℕ → ℕ
+missing n = bool_byte (nat_lt n 10) + bool_byte (nat_lt n 100) + bool_byte (nat_lt n 1000)
+
+-- the digits that it has (own)
+abbrev pub few : ℕ → ℕ
+few n = four n / 2 ^ (8 * missing n)
