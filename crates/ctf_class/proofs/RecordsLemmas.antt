@@ -1,5 +1,6 @@
 -- Plans of event records that are made one field after the other.
-use Rattle.std.proofs.Common.{◌≡◌, ℕ, zero, suc, ◌+◌, ◌^◌, ◌<◌, ◌≤◌, List, [], ◌∷◌, ◌++◌, length, map, Option, Some, None, refl, sym, ap, subst, ◌∙◌, arith, append_assoc, append-nil}
+use Rattle.std.proofs.Common.{◌≡◌, ℕ, zero, suc, ◌+◌, ◌^◌, ◌<◌, ◌≤◌, List, [], ◌∷◌, ◌++◌, length, take, get_or, Option, Some, None, refl, sym, ap, subst, ◌∙◌, arith, append_assoc, append-nil}
+use Rattle.std.proofs.lemmas.List.{take_more, length-take-le}
 use Rattle.ctf_class.specs.declared.class.Class.{Class}
 use Rattle.ctf_class.specs.declared.class.Kind as kind
 use Rattle.ctf_class.specs.declared.class.Member.{Member}
@@ -8,7 +9,7 @@ use Rattle.ctf_class.specs.declared.record_plan.Making.{Making}
 use Rattle.ctf_class.specs.declared.record_plan.Run.{Run}
 use Rattle.ctf_class.specs.declared.plain_number.PlainNumber.{PlainNumber}
 use Rattle.ctf_class.specs.Making.{IsOpen, IsMade, IsMadeOf, before_scope, with_number, with_field}
-use Rattle.ctf_class.specs.Records.{Slot, Scoped, later, slots, between, all_slots, values_in, AreScoped, and_scope, scopes_of, IsNumber, AreInRun, IsField, AreRuns, IsPlanOf, room_of}
+use Rattle.ctf_class.specs.Records.{Slot, Scoped, later, laters, slots, between, all_slots, values_in, AreScoped, and_scope, scopes_of, IsNumber, AreInRun, IsField, AreRuns, IsPlanOf, room_of}
 
 -- one number more behind the others
 numbers_more : (from span : ℕ) (ss : List Slot) (ns : List PlainNumber) (s : Slot) (rest : List Slot) (n : PlainNumber) → AreInRun from ss ns span (s ∷ rest) → IsNumber span s n → AreInRun from ss (ns ++ n ∷ []) (n.window.place + n.window.size) rest
@@ -121,18 +122,30 @@ scoped_more (j ∷ ks) (x ∷ ss) k s are one = (are.0, are.1, are.2, are.3, sco
 made_counted : (done : List Slot) (m n : Making) → n ≡ record { runs = m.runs; numbers = m.numbers; span = m.span; room = m.room; count = n.count } → IsMade done m → IsMade done n
 made_counted done m n is made = subst (IsMade done) (sym is) (record { full = made.full; now = made.now; are = made.are; whole = made.whole; last = made.last; room = made.room; bounded = made.bounded })
 
+-- one member more
+laters_more : (i : ℕ) (xs : List Member) (m : Member) → laters i (xs ++ m ∷ []) ≡ laters i xs ++ later (i + length xs) m ∷ []
+laters_more i [] m = (let none : i ≡ i + 0 = omega arith in ap (λ k. later k m ∷ []) none)
+laters_more i (x ∷ xs) m =
+    let further : suc i + length xs ≡ i + suc (length xs) = omega arith in
+    ap (λ ss. later i x ∷ ss) (laters_more (suc i) xs m ∙ ap (λ k. laters (suc i) xs ++ later k m ∷ []) further)
+
+pub laters_on : (ms : List Member) (i : ℕ) (m : Member) → i < length ms → m ≡ get_or ms i m → laters 1 (take (i + 1) ms) ≡ laters 1 (take i ms) ++ later (i + 1) m ∷ []
+laters_on ms i m within is =
+    let count : 1 + length (take i ms) ≡ i + 1 = (let c = length-take-le i ms (omega (arith, within)) in omega (arith, c)) in
+    ap (laters 1) (take_more ms i m within ∙ ap (λ x. take i ms ++ x ∷ []) (sym is)) ∙ laters_more 1 (take i ms) m ∙ ap (λ k. laters 1 (take i ms) ++ later k m ∷ []) count
+
 -- the first field of a scope, and then the later ones
 pub made_scope : (ks : List Class) (k : Class) (x : Member) (xs : List Member) (lead : List ℕ) (old first others new : Making) → k.kind ≡ kind.Structure (x ∷ xs) → k.align ≡ 8 → lead ≡ before_scope old.count ++ (123 ∷ 32 ∷ [])
-    → ((done : List Slot) → IsMade done old → IsMade (done ++ record { lead = lead; align = k.align; member = x } ∷ []) first)
-    → ((done : List Slot) → IsMade done first → IsMade (done ++ map later xs) others)
+    → ((done : List Slot) → IsMade done old → IsMade (done ++ record { lead = lead; align = k.align; index = 0; member = x } ∷ []) first)
+    → ((done : List Slot) → IsMade done first → IsMade (done ++ laters 1 xs) others)
     → new ≡ record { runs = others.runs; numbers = others.numbers; span = others.span; room = others.room; count = new.count } → new.count ≡ old.count + (length xs + 2) → IsMadeOf ks old → IsMadeOf (ks ++ k ∷ []) new
 made_scope ks k x xs lead old first others new is align leads begin more same count of =
     let s : Scoped = record { align = k.align; members = x ∷ xs } in
     let done = all_slots [] of.scopes in
     let before : before_scope old.count ≡ lead_of [] of.scopes = ap before_scope of.count ∙ sym (lead_before of.scopes) in
-    let head : Slot = record { lead = lead; align = k.align; member = x } in
-    let first_is : head ≡ record { lead = lead_of [] of.scopes ++ (123 ∷ 32 ∷ []); align = k.align; member = x } = ap (λ l. record { lead = l; align = k.align; member = x }) (leads ∙ ap (λ l. l ++ (123 ∷ 32 ∷ [])) before) in
-    let slots_are : (done ++ head ∷ []) ++ map later xs ≡ all_slots [] (of.scopes ++ s ∷ []) = append_assoc done (head ∷ []) (map later xs) ∙ ap (λ h. done ++ (h ∷ map later xs)) first_is ∙ sym (slots_more [] of.scopes s) in
+    let head : Slot = record { lead = lead; align = k.align; index = 0; member = x } in
+    let first_is : head ≡ record { lead = lead_of [] of.scopes ++ (123 ∷ 32 ∷ []); align = k.align; index = 0; member = x } = ap (λ l. record { lead = l; align = k.align; index = 0; member = x }) (leads ∙ ap (λ l. l ++ (123 ∷ 32 ∷ [])) before) in
+    let slots_are : (done ++ head ∷ []) ++ laters 1 xs ≡ all_slots [] (of.scopes ++ s ∷ []) = append_assoc done (head ∷ []) (laters 1 xs) ∙ ap (λ h. done ++ (h ∷ laters 1 xs)) first_is ∙ sym (slots_more [] of.scopes s) in
     let values = values_more of.scopes s in
     record {
       scopes = of.scopes ++ s ∷ [];

@@ -1,6 +1,6 @@
 -- Event records whose integers stand at fixed distances (all own). Bytes are written as numbers: 32 is a space, 44 a comma,
 -- 123 and 125 are `{` and `}`.
-use Rattle.std.specs.Prelude.{◌≡◌, ℕ, ◌+◌, ◌%◌, ◌<◌, ◌≤◌, ◌^◌, List, [], ◌∷◌, ◌++◌, map, length, max, Option, Some, None, ⊤}
+use Rattle.std.specs.Prelude.{◌≡◌, ℕ, suc, ◌+◌, ◌%◌, ◌<◌, ◌≤◌, ◌^◌, List, [], ◌∷◌, ◌++◌, length, max, Option, Some, None, ⊤}
 use Rattle.std.specs.Int.{next_multiple_of}
 use Rattle.ctf_bits.specs.declared.number.Order.TheVariants.{Le}
 use Rattle.ctf_class.specs.Names.{field_text}
@@ -9,18 +9,24 @@ use Rattle.ctf_class.specs.declared.class.Kind as kind
 use Rattle.ctf_class.specs.declared.class.Member.{Member}
 use Rattle.ctf_class.specs.declared.integer.Base.TheVariants.{Decimal}
 use Rattle.ctf_class.specs.declared.record_plan.Field.{Field}
+use Rattle.ctf_class.specs.declared.record_plan.Many.{Many}
+use Rattle.ctf_class.specs.declared.record_plan.Many.TheVariants as many
 use Rattle.ctf_class.specs.declared.record_plan.RecordPlan.{RecordPlan}
 use Rattle.ctf_class.specs.declared.record_plan.Run.{Run}
 use Rattle.ctf_class.specs.declared.record_plan.Shown.{Shown}
 use Rattle.ctf_class.specs.declared.record_plan.Shown.TheVariants as shown
-use Rattle.ctf_class.specs.declared.route.Length.TheVariants.{Fixed}
+use Rattle.ctf_class.specs.declared.integer.Integer.{Integer}
+use Rattle.ctf_class.specs.declared.route.Length.TheVariants as lengths
+use Rattle.ctf_class.specs.declared.route.Origin.TheVariants.{Enclosing}
+use Rattle.ctf_class.specs.declared.route.Route.{Route}
 use Rattle.ctf_class.specs.declared.plain_number.PlainNumber.{PlainNumber}
 
 -- a field: what is printed between the value before it and its name, the alignment of the structure that it begins, or 1,
--- and the member that it is of
+-- how many members of its structure stand before it, and the member that it is of
 pub record Slot : Type 0 where
   pub lead : List ℕ
   pub align : ℕ
+  pub index : ℕ
   pub member : Member
 
 -- a structure's alignment and its members
@@ -28,14 +34,19 @@ pub record Scoped : Type 0 where
   pub align : ℕ
   pub members : List Member
 
--- a member behind the first
-abbrev pub later : Member → Slot
-later m = record { lead = 44 ∷ 32 ∷ []; align = 1; member = m }
+-- a member behind so many others
+abbrev pub later : ℕ → Member → Slot
+later i m = record { lead = 44 ∷ 32 ∷ []; align = 1; index = i; member = m }
+
+-- members one behind the other, the first of them behind so many others
+abbrev pub laters : ℕ → List Member → List Slot
+laters i [] = []
+laters i (m ∷ ms) = later i m ∷ laters (suc i) ms
 
 -- the fields of a structure, of which the first stands behind a text and a brace
 abbrev pub slots_of : List ℕ → ℕ → List Member → List Slot
 slots_of before align [] = []
-slots_of before align (m ∷ ms) = record { lead = before ++ (123 ∷ 32 ∷ []); align = align; member = m } ∷ map later ms
+slots_of before align (m ∷ ms) = record { lead = before ++ (123 ∷ 32 ∷ []); align = align; index = 0; member = m } ∷ laters 1 ms
 
 abbrev pub slots : List ℕ → Scoped → List Slot
 slots before s = slots_of before s.align s.members
@@ -86,17 +97,31 @@ AreInRun from ss [] span rest = (span ≡ from) × (rest ≡ ss)
 AreInRun from [] (n ∷ ns) span rest = ⊥
 AreInRun from (s ∷ ss) (n ∷ ns) span rest = IsNumber from s n × AreInRun (n.window.place + n.window.size) ss ns span rest
 
--- what a member is shown as
-abbrev pub IsShown : Member → Shown → Type 0
-IsShown m shown.String = m.class.kind ≡ kind.String
-IsShown m (shown.Text count) = m.class.kind ≡ kind.Text (Fixed count)
-IsShown m (shown.Integer integer align) = (m.class.kind ≡ kind.Integer integer) × (align ≡ m.class.align)
+-- a route leads to the member before the one of an index in the innermost structure
+abbrev pub LeadsBefore : Route → ℕ → Type 0
+LeadsBefore route index = (route.origin ≡ Enclosing 0) × ((step : ℕ) × (route.steps ≡ step ∷ []) × (index ≡ step + 1))
+
+-- a class is this integer of this alignment
+abbrev pub IsInteger : Class → Integer → ℕ → Type 0
+IsInteger k integer align = (k.kind ≡ kind.Integer integer) × (align ≡ k.align)
+
+-- a member behind so many others is one integer, or an array of integers
+abbrev pub AreIntegers : ℕ → Member → Integer → ℕ → Many → Type 0
+AreIntegers index m integer align many.One = IsInteger m.class integer align
+AreIntegers index m integer align (many.Fixed count) = (k : Class) × (m.class.kind ≡ kind.Array (lengths.Fixed count) k) × IsInteger k integer align
+AreIntegers index m integer align many.Counted = (route : Route) × (k : Class) × (m.class.kind ≡ kind.Array (lengths.Field route) k) × LeadsBefore route index × IsInteger k integer align
+
+-- what a member behind so many others is shown as
+abbrev pub IsShown : ℕ → Member → Shown → Type 0
+IsShown index m shown.String = m.class.kind ≡ kind.String
+IsShown index m (shown.Text count) = m.class.kind ≡ kind.Text (lengths.Fixed count)
+IsShown index m (shown.Integers are) = AreIntegers index m are.integer are.align are.many
 
 -- a field is shown so
 pub record IsField (s : Slot) (f : Field) : Type 0 where
   pub align : f.align ≡ s.align
   pub ready : f.ready ≡ s.lead ++ field_text s.member.name
-  pub shown : IsShown s.member f.shown
+  pub shown : IsShown s.index s.member f.shown
 
 -- the first of these fields is this one, if one is given, and this holds of the others
 abbrev pub Behind : List Slot → Option Field → (List Slot → Type 0) → Type 0

@@ -33,7 +33,7 @@ pub use integer::{Base, Integer};
 pub use label_name::LabelName;
 pub use plain_number::PlainNumber;
 pub use ready::Ready;
-pub use record_plan::{Field, RecordPlan, Run, Shown};
+pub use record_plan::{Field, Integers, Many, RecordPlan, Run, Shown};
 pub use route::{Length, Origin, Route, Scope};
 pub use span::{Choice, Label, Span};
 pub use trace::{Clock, EventClass, PlannedEvent, StreamClass, TraceClass};

@@ -1,10 +1,10 @@
 //! What is known of event records before they are read.
 
-ghost use Rattle.std.specs.Prelude.{◌≡◌, ◌+◌, ◌%◌, ◌∷◌, ◌++◌, [], ◌^◌, ◌≤◌, map, length, max, IsTrue, IfOk, IfSome, OnOk, option_copied};
+ghost use Rattle.std.specs.Prelude.{◌≡◌, ◌+◌, ◌%◌, ◌∷◌, ◌++◌, [], ◌^◌, ◌≤◌, length, max, IsTrue, IfOk, IfSome, OnOk, option_copied};
 ghost use Rattle.std.specs.Int.{next_multiple_of};
 ghost use Rattle.ctf_bits.specs.declared.number.Order.TheVariants.{Le};
 ghost use Rattle.ctf_class.specs.Making.{IsMade, IsMadeOf, before_scope, with_number, with_field};
-ghost use Rattle.ctf_class.specs.Records.{Slot, IsNumber, IsShown, IsPlanOf, later, and_scope, scopes_of};
+ghost use Rattle.ctf_class.specs.Records.{Slot, IsNumber, IsShown, IsPlanOf, laters, and_scope, scopes_of};
 ghost use Rattle.ctf_class.specs.declared.class.Kind as kinds;
 ghost use Rattle.ctf_class.specs.declared.integer.Base.TheVariants.{Decimal};
 
@@ -35,8 +35,26 @@ pub enum Shown {
     String,
     /// As a text of so many bytes.
     Text(u64),
-    /// As an integer of this alignment.
-    Integer(Integer, Align),
+    Integers(Integers),
+}
+
+/// An integer that is no number of a run, or an array of integers.
+#[derive(Debug, Drop)]
+pub struct Integers {
+    pub integer: Integer,
+    pub align: Align,
+    pub many: Many,
+}
+
+/// How many integers there are.
+#[derive(Clone, Copy, Debug)]
+pub enum Many {
+    /// One alone.
+    One,
+    /// An array of so many (CTF 1.8.3, section 4.2.3).
+    Fixed(u64),
+    /// An array of as many as the field before says (CTF 1.8.3, section 4.2.4).
+    Counted,
 }
 
 /// A field behind the numbers of a run.
@@ -62,11 +80,12 @@ pub struct Run {
 }
 
 /// The fields of an event record's scopes behind its header (CTF 1.8.3, section 6), one after the other, if all of them are
-/// structures of integers, strings and texts of fixed lengths that begin at a byte; else nothing.
+/// structures that begin at a byte, of integers, strings, texts of fixed lengths, and arrays of integers whose length is
+/// fixed or the field before; else nothing.
 #[derive(Debug, Drop)]
 pub struct RecordPlan {
     pub runs: List<Run>,
-    /// How many values these scopes have.
+    /// How many values these scopes have, without the elements of arrays.
     pub count: u64,
 }
 
@@ -177,7 +196,7 @@ impl Making {
         if class.align.bits() != 8 {
             return Ok(false);
         }
-        if !self.add_member(alloc, self.opening(), class.align, first)?
+        if !self.add_member(alloc, self.opening(), class.align, 0, first)?
             || !self.add_later(alloc, others)?
         {
             return Ok(false);
@@ -200,25 +219,26 @@ impl Making {
         ensures few { IfOk result (λ took. IsTrue took → self.new.room ≤ 2 ^ 18) }
         ensures near { IfOk result (λ took. IsTrue took → self.new.span ≤ 2 ^ 33) }
         ensures count { IfOk result (λ took. IsTrue took → self.new.count ≡ self.old.count) }
-        ensures made { IfOk result (λ took. IsTrue took → (done : List Slot) → IsMade done self.old → IsMade (done ++ map later members.now) self.new) }
+        ensures made { IfOk result (λ took. IsTrue took → (done : List Slot) → IsMade done self.old → IsMade (done ++ laters 1 members.now) self.new) }
     {
         let Some(anywhere) = Align::new(1) else {
             return Ok(false);
         };
-        for member in members {
-            if !self.add_member(alloc, b", ", anywhere, member)? {
+        for (i, member) in members.iter().enumerate() {
+            if !self.add_member(alloc, b", ", anywhere, i + 1, member)? {
                 return Ok(false);
             }
         }
         Ok(true)
     }
 
-    /// Adds a field, with this before its name. Whether that could be done.
+    /// Adds a field behind so many others of its structure, with this before its name. Whether that could be done.
     fn add_member(
         &mut self,
         alloc: Global,
         lead: &[u8],
         align: Align,
+        index: usize,
         member: &Member,
     ) -> Result<bool, NoMemory>
         requires few { self.old.room ≤ 2 ^ 18 }
@@ -226,7 +246,7 @@ impl Making {
         ensures few { IfOk result (λ took. IsTrue took → self.new.room ≤ 2 ^ 18) }
         ensures near { IfOk result (λ took. IsTrue took → self.new.span ≤ 2 ^ 33) }
         ensures count { IfOk result (λ took. IsTrue took → self.new.count ≡ self.old.count) }
-        ensures made { IfOk result (λ took. IsTrue took → (done : List Slot) → IsMade done self.old → IsMade (done ++ record { lead = lead.now; align = align; member = member.now } ∷ []) self.new) }
+        ensures made { IfOk result (λ took. IsTrue took → (done : List Slot) → IsMade done self.old → IsMade (done ++ record { lead = lead.now; align = align; index = index; member = member.now } ∷ []) self.new) }
     {
         let ready = member.name.behind(alloc, lead)?;
         if ready.len() > LONGEST_TEXT {
@@ -240,7 +260,7 @@ impl Making {
             })?;
             return Ok(true);
         }
-        let Some(shown) = shown_of(&member.class) else {
+        let Some(shown) = shown_of(&member.class, index) else {
             return Ok(false);
         };
         self.add_field(
@@ -319,17 +339,47 @@ impl Making {
     }
 }
 
-/// How a field of a class is shown behind a run: an integer, a string or a text of a fixed length.
-fn shown_of(class: &Class) -> Option<Shown>
-    ensures { (m : Member) → m.class ≡ class.now → IfSome result (IsShown m) }
+/// How a field of a class behind so many others of its structure is shown behind a run: an integer, a string, a text of a
+/// fixed length, or an array of integers whose length is fixed or the field before.
+fn shown_of(class: &Class, index: usize) -> Option<Shown>
+    ensures { (m : Member) → m.class ≡ class.now → IfSome result (IsShown index m) }
 {
     match &class.kind {
-        Kind::Integer(integer) => Some(Shown::Integer(*integer, class.align)),
+        Kind::Integer(integer) => Some(Shown::Integers(Integers {
+            integer: *integer,
+            align: class.align,
+            many: Many::One,
+        })),
         Kind::String => Some(Shown::String),
         Kind::Text { length } => match length {
             Length::Fixed(count) => Some(Shown::Text(*count)),
             Length::Field(_) => None,
         },
+        Kind::Array { length, element } => array_of(length, element.get(), index),
         _ => None,
     }
+}
+
+/// How an array of this length and this class of elements is shown.
+fn array_of(length: &Length, element: &Class, index: usize) -> Option<Shown>
+    ensures { (m : Member) → m.class.kind ≡ kinds.Array length.now element.now → IfSome result (IsShown index m) }
+{
+    let Kind::Integer(integer) = &element.kind else {
+        return None;
+    };
+    let many = match length {
+        Length::Fixed(count) => Many::Fixed(*count),
+        Length::Field(route) => {
+            if route.leads_before(index) {
+                Many::Counted
+            } else {
+                return None;
+            }
+        }
+    };
+    Some(Shown::Integers(Integers {
+        integer: *integer,
+        align: element.align,
+        many,
+    }))
 }

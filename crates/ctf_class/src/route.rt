@@ -1,5 +1,8 @@
 //! Where lengths and tags are found.
 
+ghost use Rattle.std.specs.Prelude.{IsTrue};
+ghost use Rattle.ctf_class.specs.Records.{LeadsBefore};
+
 use ctf_list::List;
 
 /// The scopes of a packet and of an event record, in the order in which they are decoded (CTF 1.8.3,
@@ -29,6 +32,21 @@ pub enum Origin {
 pub struct Route {
     pub origin: Origin,
     pub steps: List<u32>,
+}
+
+impl Route {
+    /// Whether it leads to the member before that of an index in the innermost structure.
+    pub fn leads_before(&self, index: usize) -> bool
+        ensures { IsTrue result → LeadsBefore self.now index }
+    {
+        let Origin::Enclosing(out) = self.origin else {
+            return false;
+        };
+        let [step] = self.steps.as_slice() else {
+            return false;
+        };
+        out == 0 && index > 0 && *step as usize == index - 1
+    }
 }
 
 /// How many elements an array has.

@@ -1,5 +1,5 @@
 -- Arrays that are shown where they stand, one element more at a time.
-use Rattle.std.proofs.Common.{◌≡◌, ℕ, suc, ◌+◌, ◌-◌, ◌<◌, ◌≤◌, cond, List, [], ◌∷◌, ◌++◌, length, Option, Some, None, IfSome, Ok, Err, rules, refl, sym, ap, subst, ◌∙◌, arith, append_assoc, append-nil, length-append}
+use Rattle.std.proofs.Common.{◌≡◌, ℕ, suc, ◌+◌, ◌-◌, ◌<◌, ◌≤◌, cond, List, [], ◌∷◌, ◌++◌, length, take, Option, Some, None, IfSome, Ok, Err, rules, refl, sym, ap, subst, ◌∙◌, arith, append_assoc, append-nil, length-append}
 use Rattle.std.specs.Prelude.{slice_get}
 use Rattle.std.specs.Int.{next_multiple_of}
 use Rattle.std.proofs.lemmas.Bool.{le-ltb}
@@ -27,9 +27,11 @@ use Rattle.ctf_decode.specs.declared.scopes.TheConstants.{MOST_VALUES}
 use Rattle.ctf_decode.proofs.Steps.{row_ok}
 use Rattle.ctf_decode.proofs.Views.{shape-Array}
 use Rattle.ctf_text.specs.Rows.{row, enclosed}
-use Rattle.ctf_text.specs.Standing.{among, LastIs, PutsOne, PutsNext, PutsElements, Counts, LeadsBefore}
+use Rattle.ctf_class.specs.Records.{LeadsBefore}
+use Rattle.ctf_text.specs.Standing.{among, LastIs, PutsOne, PutsNext, PutsElements, Counts, elements_text}
 use Rattle.ctf_text.specs.Texts.{Shown, Part, value_text, kind_text, part_text, member_part, element_text, element_texts, integer_text}
 use Rattle.ctf_text.specs.declared.standing.Before.{Before}
+use Rattle.ctf_text.specs.declared.standing.Next.{Next}
 use Rattle.ctf_text.proofs.StandingLemmas.{begins, form-is, value-is, member-is, form_integer, text_integer, last_of, mark_at, row_more}
 
 -- a length that is the member before
@@ -119,34 +121,51 @@ text-Array : (many : Length) (c : Class) → kind_text (kind.Array many c) ≡ (
 text-Array many c = search (rules, class.the_lemmas)
 
 -- the elements are the value of an array
-pub puts_array : (before : Before) (m : Member) (lead : ℕ) (many : Length) (k : Class) (i : Integer) (packet : List ℕ) (content place start count end text : ℕ) (line begun after name : List ℕ)
-    → m.class.kind ≡ kind.Array many k → k.kind ≡ kind.Integer i → start ≡ next_multiple_of place k.align → start ≤ content → Counts many before count → begun ≡ line ++ (lead ∷ 32 ∷ name) → name ≡ field_text m.name
-    → PutsElements (enclosed 91 93) k.align i count packet content start end begun after
-    → PutsNext before (form m.class) (λ v. lead ∷ 32 ∷ part_text (member_part m) v) packet content place line (record { place = end; text = text; more = count }) after
-puts_array before m lead many k i packet content place start count end text line begun after name is_array is_integer starts within counts wrote named elements spent room earlier env vs counted last =
+pub puts_integers : (before : Before) (many : Length) (a : ℕ) (i : Integer) (align : ℕ) (packet : List ℕ) (content place start count end text : ℕ) (line after : List ℕ)
+    → start ≡ next_multiple_of place align → start ≤ content → Counts many before count → PutsElements (enclosed 91 93) align i count packet content start end line after
+    → PutsNext before (forms.array a many (integer align i)) (elements_text i) packet content place line (record { place = end; text = text; more = count }) after
+puts_integers before many a i align packet content place start count end text line after starts within counts elements spent room earlier env vs counted last =
     let c = among packet content earlier in
     let e = vs ∷ env in
     let p = elements (spent + 1) (omega (arith, room)) earlier e in
-    let v = list (vals_of p.0) in
-    let inner = integer k.align i in
-    let class : form m.class ≡ forms.array m.class.align many inner =
-    form-is m.class ∙ ap (λ x. shape x m.class.align) is_array ∙ shape-Array many k m.class.align ∙ ap (forms.array m.class.align many) (sym (form_integer k i is_integer))
-    in
+    let inner = integer align i in
     let rest = λ (b n : ℕ). and_then (repeat (walk inner c e) n [] b (spent + 1)) as_list in
     let opened : open_at c start (rest start count) ≡ rest start count = ap (λ b. cond b (Err (past start)) (rest start count)) (le-ltb content start within) in
-    let walked : walk (form m.class) c e place spent ≡ Ok (v, end, spent + 1 + count) =
-    ap (λ f. walk f c e place spent) class ∙ (λ j. begin c spent (open_at c (sym starts j) (rest (sym starts j) (counts earlier env vs counted last j))))
-    ∙ begins c spent (open_at c start (rest start count)) (omega (arith, room)) ∙ opened ∙ ap (λ r. and_then r as_list) p.1
+    let walked : walk (forms.array a many inner) c e place spent ≡ Ok (list (vals_of p.0), end, spent + 1 + count) =
+    (λ j. begin c spent (open_at c (sym starts j) (rest (sym starts j) (counts earlier env vs counted last j)))) ∙ begins c spent (open_at c start (rest start count)) (omega (arith, room)) ∙ opened ∙ ap (λ r. and_then r as_list) p.1
     in
-    let texts = enclosed 91 93 (element_texts (integer_text i) 0 (vals_of p.0)) in
-    let shown : texts ≡ value_text m.class v =
-    ap (λ f. enclosed 91 93 (element_texts f 0 (vals_of p.0))) (text_integer k i is_integer) ∙ ap (λ f. f v) (sym (text-Array many k)) ∙ ap (λ x. kind_text x v) (sym is_array) ∙ ap (λ f. f v) (sym (value-is m.class))
-    in
-    let part : part_text (member_part m) v ≡ field_text m.name ++ value_text m.class v = ap (λ (x : Part). part_text x v) (member-is m) in (
-      v,
-      walked,
-      p.3 ∙ ap (λ xs. xs ++ texts) wrote ∙ append_assoc line (lead ∷ 32 ∷ name) texts ∙ (λ j. line ++ (lead ∷ 32 ∷ (named j ++ shown j))) ∙ ap (λ xs. line ++ (lead ∷ 32 ∷ xs)) (sym part),
-    )
+    (list (vals_of p.0), walked, p.3)
+
+-- the class of an array of integers, and what it shows
+pub form_array : (c k : Class) (many : Length) (i : Integer) → c.kind ≡ kind.Array many k → k.kind ≡ kind.Integer i → forms.array c.align many (integer k.align i) ≡ form c
+form_array c k many i is_array is_integer =
+    ap (forms.array c.align many) (form_integer k i is_integer) ∙ sym (form-is c ∙ ap (λ x. shape x c.align) is_array ∙ shape-Array many k c.align)
+
+pub text_array : (c k : Class) (many : Length) (i : Integer) → c.kind ≡ kind.Array many k → k.kind ≡ kind.Integer i → elements_text i ≡ value_text c
+text_array c k many i is_array is_integer =
+    let show : Shown → Shown = λ f v. enclosed 91 93 (element_texts f 0 (elements_in v)) in
+    ap show (text_integer k i is_integer) ∙ sym (text-Array many k) ∙ ap kind_text (sym is_array) ∙ sym (value-is c)
+
+-- the same value, as that of the class that it is of
+pub next_class : (r : Option Next) (before : Before) (k l : Form) (shown told : Shown) (packet : List ℕ) (content place : ℕ) (line after : List ℕ) → k ≡ l → shown ≡ told
+    → IfSome r (λ n. PutsNext before k shown packet content place line n (take n.text after)) → IfSome r (λ n. PutsNext before l told packet content place line n (take n.text after))
+next_class None before k l shown told packet content place line after forms_are texts_are puts = tt
+next_class (Some n) before k l shown told packet content place line after forms_are texts_are puts =
+    subst (λ t. PutsNext before l t packet content place line n (take n.text after)) texts_are (subst (λ f. PutsNext before f shown packet content place line n (take n.text after)) forms_are puts)
+
+-- a value behind its name is the member
+pub next_named : (before : Before) (m : Member) (lead : List ℕ) (packet : List ℕ) (content place : ℕ) (from line : List ℕ) (n : Next) (after name : List ℕ) → line ≡ from ++ (lead ++ name) → name ≡ field_text m.name → PutsNext before (form m.class) (value_text m.class) packet content place line n after
+    → PutsNext before (form m.class) (λ v. lead ++ part_text (member_part m) v) packet content place from n after
+next_named before m lead packet content place from line n after name wrote named puts spent room earlier env vs counted last =
+    let p = puts spent room earlier env vs counted last in
+    let text = value_text m.class p.0 in
+    let part : part_text (member_part m) p.0 ≡ field_text m.name ++ text = ap (λ (x : Part). part_text x p.0) (member-is m) in
+    (p.0, p.1, p.2 ∙ ap (λ xs. xs ++ text) wrote ∙ append_assoc from (lead ++ name) text ∙ ap (λ xs. from ++ xs) (append_assoc lead name text) ∙ ap (λ xs. from ++ (lead ++ (xs ++ text))) named ∙ ap (λ xs. from ++ (lead ++ xs)) (sym part))
+
+pub named_some : (r : Option Next) (before : Before) (m : Member) (lead : List ℕ) (packet : List ℕ) (content place : ℕ) (from line after name : List ℕ) → line ≡ from ++ (lead ++ name) → name ≡ field_text m.name → IfSome r (λ n. PutsNext before (form m.class) (value_text m.class) packet content place line n (take n.text after))
+    → IfSome r (λ n. PutsNext before (form m.class) (λ v. lead ++ part_text (member_part m) v) packet content place from n (take n.text after))
+named_some None before m lead packet content place from line after name wrote named puts = tt
+named_some (Some n) before m lead packet content place from line after name wrote named puts = next_named before m lead packet content place from line n (take n.text after) name wrote named puts
 
 -- an integer behind its index is an element
 pub puts_element : (a : ℕ) (i : Integer) (lead k : ℕ) (packet : List ℕ) (content place end : ℕ) (before line index after : List ℕ) → line ≡ before ++ (lead ∷ 32 ∷ index) → ((v : Val) → element_text (integer_text i) k v ≡ index ++ integer_text i v)

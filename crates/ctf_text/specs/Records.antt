@@ -1,24 +1,64 @@
 -- Event records that are written by their plan (all own).
-use Rattle.std.specs.Prelude.{◌≡◌, ℕ, ◌^◌, ◌≤◌, List, [], ◌∷◌, ◌++◌, codes}
+use Rattle.std.specs.Prelude.{◌≡◌, ℕ, zero, suc, pos, ◌+◌, ◌^◌, ◌≤◌, false, List, [], ◌∷◌, ◌++◌, Option, None, IfSome, codes}
 use Rattle.std.specs.Int.{next_multiple_of}
 use Rattle.std.specs.List.{All}
+use Rattle.ctf_bits.specs.Placed.{number_behind}
 use Rattle.ctf_class.specs.Records.{Slot, AreInRun, Behind, room_of}
 use Rattle.ctf_class.specs.declared.class.Class.{Class}
 use Rattle.ctf_class.specs.declared.record_plan.Run.{Run}
+use Rattle.ctf_class.specs.declared.plain_number.PlainNumber.{PlainNumber}
 use Rattle.ctf_decode.specs.Views.{form}
-use Rattle.ctf_text.specs.Standing.{Puts, PutsOne}
-use Rattle.ctf_text.specs.Texts.{value_text, part_text, member_part}
+use Rattle.ctf_text.specs.Standing.{Puts, PutsNext, StandsAsNumber}
+use Rattle.ctf_decode.specs.Forms.{Form}
+use Rattle.ctf_text.specs.Texts.{Shown, value_text, part_text, member_part}
+use Rattle.ctf_text.specs.declared.planned_record.Reach.{Reach}
+use Rattle.ctf_text.specs.declared.standing.Before.{Before}
 
--- a field's value stands from a place to another, whatever was decoded before, and what is printed of it follows a text
-abbrev pub PutsField : Slot → List ℕ → ℕ → ℕ → ℕ → List ℕ → List ℕ → Type 0
-PutsField s packet content place end before after =
-    (next_multiple_of place s.align ≤ content) × PutsOne (form s.member.class) (λ v. s.lead ++ part_text (member_part s.member) v) packet content (next_multiple_of place s.align) end before after
+-- How far fields came: where the next one could begin, how many values were begun in arrays, the number that stands last,
+-- if it is known, and what was written.
+pub record Reached : Type 0 where
+  pub place : ℕ
+  pub more : ℕ
+  pub last : Option ℕ
+  pub line : List ℕ
+
+-- as far as this, with this line, and no number is known
+abbrev pub reached : Reach → List ℕ → Reached
+reached r line = record { place = r.place; more = r.more; last = None; line = line }
+
+-- the same behind a number, if it is known
+abbrev pub behind_number : Reach → Option ℕ → List ℕ → Reached
+behind_number r last line = record { place = r.place; more = r.more; last = last; line = line }
+
+-- a member behind so many others, of which the last is a number, if it is known; the first of a structure has none before it
+abbrev pub behind : ℕ → Option ℕ → Before
+behind zero last = record { index = zero; number = None }
+behind (suc i) last = record { index = suc i; number = last }
+
+-- A field's value stands behind other fields, whatever was decoded before them, and what is printed of it follows what was
+-- written. If its number is known then, it is that.
+abbrev pub PutsField : Slot → List ℕ → ℕ → Reached → Reached → Type 0
+PutsField s packet content from to =
+    let begun = next_multiple_of from.place s.align in
+    (begun ≤ content) × (some : ℕ) × (to.more ≡ from.more + some)
+    × PutsNext (behind s.index from.last) (form s.member.class) (λ v. s.lead ++ part_text (member_part s.member) v) packet content begun from.line (record { place = to.place; text = 0; more = some }) to.line
+    × IfSome to.last (StandsAsNumber (form s.member.class) packet content begun)
 
 -- so do fields one behind the other
-abbrev pub PutsFields : List Slot → List ℕ → ℕ → ℕ → ℕ → List ℕ → List ℕ → Type 0
-PutsFields [] packet content place end before after = (end ≡ place) × (after ≡ before)
-PutsFields (s ∷ ss) packet content place end before after =
-    (mid : ℕ) × (text : List ℕ) × PutsField s packet content place mid before text × PutsFields ss packet content mid end text after
+abbrev pub PutsFields : List Slot → List ℕ → ℕ → Reached → Reached → Type 0
+PutsFields [] packet content from to = to ≡ from
+PutsFields (s ∷ ss) packet content from to = (mid : Reached) × PutsField s packet content from mid × PutsFields ss packet content mid to
+
+-- a value stands at the place that was reached, behind a number, if it is known, and so many others of its structure
+abbrev pub PutsOther : ℕ → Option ℕ → Form → Shown → List ℕ → ℕ → Reach → List ℕ → Reach → List ℕ → Type 0
+PutsOther index last k shown packet content from before to after =
+    (some : ℕ) × (to.more ≡ from.more + some) × PutsNext (behind index last) k shown packet content from.place before (record { place = to.place; text = 0; more = some }) after
+
+-- a number, if it is given, is the last one of a run that begins behind so many bytes, and unsigned
+abbrev pub IsLastNumber : Option ℕ → List PlainNumber → List ℕ → ℕ → Type 0
+IsLastNumber last [] packet first = last ≡ None
+IsLastNumber last (n ∷ []) packet first = IfSome last (λ v. (n.integer.is_signed ≡ false) × (number_behind n.window packet first ≡ pos v))
+IsLastNumber last (n ∷ (m ∷ ns)) packet first = IsLastNumber last (m ∷ ns) packet first
 
 -- a run takes the first of these fields, and these are left
 abbrev pub TakesRun : List Slot → Run → List Slot → Type 0

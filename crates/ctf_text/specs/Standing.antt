@@ -7,9 +7,8 @@ use Rattle.ctf_class.specs.declared.class.Kind.TheViews.{out-Kind}
 use Rattle.ctf_class.specs.declared.class.Member.{Member}
 use Rattle.ctf_class.specs.declared.integer.Integer.{Integer}
 use Rattle.ctf_class.specs.declared.route.Length.{Length}
-use Rattle.ctf_class.specs.declared.route.Origin.TheVariants.{Enclosing}
-use Rattle.ctf_class.specs.declared.route.Route.{Route}
 use Rattle.ctf_class.specs.declared.route.Scope.{Scope}
+use Rattle.ctf_decode.specs.Fields.{elements_in}
 use Rattle.ctf_decode.specs.Values.{Val, vals_of, unsigned}
 use Rattle.ctf_decode.specs.Forms.{Form, integer, parts_of}
 use Rattle.ctf_decode.specs.Input.{Input, Env}
@@ -17,6 +16,7 @@ use Rattle.ctf_decode.specs.Routes.{length_of}
 use Rattle.ctf_decode.specs.Views as views
 use Rattle.ctf_decode.specs.Walk.{walk, walk_members, repeat}
 use Rattle.ctf_decode.specs.declared.scopes.TheConstants.{MOST_VALUES}
+use Rattle.ctf_text.specs.Rows.{enclosed}
 use Rattle.ctf_text.specs.Texts.{Shown, member_part, member_texts, element_texts, integer_text}
 use Rattle.ctf_text.specs.declared.standing.Before.{Before}
 use Rattle.ctf_text.specs.declared.standing.MembersEnd.{MembersEnd}
@@ -70,13 +70,13 @@ abbrev pub StandsAsNumber : Form → List ℕ → ℕ → ℕ → ℕ → Type 0
 StandsAsNumber k packet content place n =
     (spent : ℕ) → spent < MOST_VALUES → (earlier : Scope → Option Val) (env : Env) → (end : ℕ) × (walk k (among packet content earlier) env place spent ≡ Ok (unsigned n, end, spent + 1))
 
--- a route leads to the member before the one of an index in the innermost structure
-abbrev pub LeadsBefore : Route → ℕ → Type 0
-LeadsBefore route index = (route.origin ≡ Enclosing 0) × ((step : ℕ) × (route.steps ≡ step ∷ []) × (index ≡ step + 1))
-
 -- an array of this length has so many elements behind the members of a structure
 abbrev pub Counts : Length → Before → ℕ → Type 0
 Counts many before n = (earlier : Scope → Option Val) (env : Env) (vs : List Val) → length vs ≡ before.index → LastIs before.number vs → length_of many earlier (vs ∷ env) ≡ n
+
+-- what is shown of an array of integers
+abbrev pub elements_text : Integer → Shown
+elements_text i v = enclosed 91 93 (element_texts (integer_text i) 0 (elements_in v))
 
 -- so many integers stand one behind the other, where there may be as many more, and they are shown as elements
 abbrev pub PutsElements : (List (List ℕ) → List ℕ) → ℕ → Integer → ℕ → List ℕ → ℕ → ℕ → ℕ → List ℕ → List ℕ → Type 0

@@ -1,19 +1,20 @@
 //! Texts of arrays of integers where they stand.
 
-ghost use Rattle.std.specs.Prelude.{◌≡◌, ◌+◌, ◌*◌, ◌^◌, ◌∷◌, [], ◌<◌, ◌≤◌, length, take, vec_len, IfSome, IsTrue};
+ghost use Rattle.std.specs.Prelude.{◌≡◌, ◌+◌, ◌*◌, ◌^◌, ◌∷◌, [], ◌<◌, ◌≤◌, length, take, vec_len, ℕ, IfSome};
 ghost use Rattle.std.specs.Int.{next_multiple_of};
 ghost use Rattle.ctf_class.specs.declared.class.Kind as kind;
+ghost use Rattle.ctf_class.specs.declared.route.Length.{Length};
 ghost use Rattle.ctf_decode.specs.Forms as forms;
 ghost use Rattle.ctf_decode.specs.Views.{form};
 ghost use Rattle.ctf_text.specs.Rows.{row, enclosed};
-ghost use Rattle.ctf_text.specs.Standing.{PutsOne, PutsNext, PutsElements, Counts, LeadsBefore};
+ghost use Rattle.ctf_text.specs.Standing.{PutsOne, PutsNext, PutsElements, Counts, elements_text};
 ghost use Rattle.ctf_text.specs.Texts as texts;
 
 use crate::element::put_index;
 use crate::mark::{put_end, put_nothing, put_ready};
 use crate::number::LONGEST_NUMBER;
 use crate::standing::{Before, Content, Ends, Next, put_integer};
-use ctf_class::{Align, Class, Integer, Kind, Length, Member, Origin, Route};
+use ctf_class::{Align, Class, Integer, Kind, Length, Member};
 use ctf_decode::MOST_VALUES;
 
 /// Writes a member that is an array of this length, if its elements are integers, behind a mark.
@@ -41,15 +42,35 @@ pub(crate) fn put_array(
         return None;
     };
     let count = count_of(length, before)?;
-    if count > MOST_VALUES {
-        return None;
-    }
-    let align = element.align;
-    let begin = begin_at(align, packet, place)?;
     let Ok(text) = put_ready(lead, member.name.ready(), LONGEST_NUMBER, buffer, at) else {
         return None;
     };
-    let ends = put_elements(integer, align, count, packet, begin, buffer, text)?;
+    put_integers(integer, element.align, count, packet, place, buffer, text)
+}
+
+/// Writes an array of so many integers.
+#[inline(never)]
+pub(crate) fn put_integers(
+    integer: &Integer,
+    align: Align,
+    count: u64,
+    packet: &Content<'_>,
+    place: u64,
+    buffer: &mut Vec<u8>,
+    at: usize,
+) -> Option<Next>
+    requires start { place ≤ packet.now.end }
+    requires index { at ≤ vec_len buffer.old }
+    ensures puts { (before : Before) (many : Length) (a : ℕ) → Counts many before count → IfSome result (λ n. PutsNext before (forms.array a many (forms.integer align integer.now)) (elements_text integer.now) packet.now.bytes.now packet.now.end place (take at buffer.old.items) n (take n.text buffer.new.items)) }
+    ensures within { IfSome result (λ n. n.place ≤ packet.now.end) }
+    ensures held { IfSome result (λ n. n.text ≤ vec_len buffer.new) }
+    ensures few { IfSome result (λ n. n.more ≤ MOST_VALUES) }
+{
+    if count > MOST_VALUES {
+        return None;
+    }
+    let begin = begin_at(align, packet, place)?;
+    let ends = put_elements(integer, align, count, packet, begin, buffer, at)?;
     Some(Next {
         place: ends.place,
         text: ends.text,
@@ -78,26 +99,13 @@ fn count_of(length: &Length, before: Before) -> Option<u64>
     match length {
         Length::Fixed(count) => Some(*count),
         Length::Field(route) => {
-            if leads_before(route, before.index) {
+            if route.leads_before(before.index) {
                 before.number
             } else {
                 None
             }
         }
     }
-}
-
-/// Whether a route leads to the member before that of an index in the innermost structure.
-fn leads_before(route: &Route, index: usize) -> bool
-    ensures { IsTrue result → LeadsBefore route.now index }
-{
-    let Origin::Enclosing(out) = route.origin else {
-        return false;
-    };
-    let [step] = route.steps.as_slice() else {
-        return false;
-    };
-    out == 0 && index > 0 && *step as usize == index - 1
 }
 
 /// Writes so many integers as the elements of an array.

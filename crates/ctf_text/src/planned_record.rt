@@ -1,24 +1,32 @@
 //! Texts of event records by their plans.
 
-ghost use Rattle.std.specs.Prelude.{List, ℕ, [], ◌∷◌, ◌≡◌, ◌+◌, ◌*◌, ◌/◌, ◌^◌, ◌++◌, ◌<◌, ◌≤◌, length, take, vec_len, IfSome};
+ghost use Rattle.std.specs.Prelude.{List, ℕ, [], ◌∷◌, ◌≡◌, ◌+◌, ◌*◌, ◌/◌, ◌^◌, ◌++◌, ◌<◌, ◌≤◌, length, take, vec_len, Option, IfSome};
 ghost use Rattle.std.specs.List.{All, flat_map};
-ghost use Rattle.ctf_class.specs.Records.{Slot, AreRuns, IsField, IsPlanOf, IsShown, numbers_room};
+ghost use Rattle.ctf_class.specs.Records.{Slot, AreIntegers, AreRuns, IsField, IsPlanOf, numbers_room};
 ghost use Rattle.ctf_class.specs.declared.class.Class.{Class};
 ghost use Rattle.ctf_class.specs.declared.class.Member.{Member};
-ghost use Rattle.ctf_decode.specs.Forms as forms;
 ghost use Rattle.ctf_decode.specs.Views.{form};
 ghost use Rattle.ctf_text.specs.Plain.{plain_text};
-ghost use Rattle.ctf_text.specs.Records.{IsNear, PutsField, PutsFields, PutsScopes, TakesRun};
-ghost use Rattle.ctf_text.specs.Standing.{PutsOne};
+ghost use Rattle.ctf_text.specs.Records.{IsNear, IsLastNumber, PutsField, PutsFields, PutsOther, PutsScopes, TakesRun, behind_number, reached};
 ghost use Rattle.ctf_text.specs.Texts as texts;
 
+use crate::array::put_integers;
 use crate::mark::put_end;
 use crate::plain_number::put_numbers;
 use crate::room::with_room;
-use crate::standing::{Content, Ends, Standing, put_fixed_text, put_integer, put_string};
+use crate::standing::{Content, Standing, put_fixed_text, put_integer, put_string};
 use ctf_bits::up;
-use ctf_class::{Align, Field, Integer, PlainNumber, Ready, RecordPlan, Run, Shown};
+use ctf_class::{Field, Integers, Many, PlainNumber, Ready, RecordPlan, Run, Shown};
 use ctf_decode::MOST_VALUES;
+
+/// How far fields came.
+#[derive(Clone, Copy, Debug)]
+pub(crate) struct Reach {
+    /// Where the next one could begin, in bits from the packet's first one.
+    place: u64,
+    /// How many values were begun in arrays.
+    more: u64,
+}
 
 /// Writes the scopes of the event record that stands at a place of a packet behind its header (CTF 1.8.3, section 6) at an
 /// index of a buffer, in bytes, by the plan of such records. The place and the content's end are in bits from the packet's
@@ -48,70 +56,81 @@ pub fn put_planned_record(
     ensures held { IfSome result (λ s. s.end ≤ vec_len buffer.new) }
 {
     let runs = plan.runs.as_slice();
-    let mut end = up(place, 8);
-    if runs.is_empty() || plan.count > MOST_VALUES - spent || end > content {
+    let begin = up(place, 8);
+    if runs.is_empty() || plan.count > MOST_VALUES - spent || begin > content {
         return None;
     }
     let packet = Content {
         bytes: packet,
         end: content,
     };
-    let text = put_runs(runs, &packet, &mut end, buffer, at)?;
+    let mut reach = Reach {
+        place: begin,
+        more: 0,
+    };
+    let text = put_runs(runs, &packet, &mut reach, buffer, at)?;
+    let spent = spent + plan.count + reach.more;
+    if spent > MOST_VALUES {
+        return None;
+    }
     Some(Standing {
-        place: end,
-        spent: spent + plan.count,
+        place: reach.place,
+        spent,
         end: text,
     })
 }
 
-/// Writes the fields of runs from a place on, and a brace, and gives the index behind them; the place is the one where they
-/// end then.
+/// Writes the fields of runs, and a brace, and gives the index behind them; `reach` tells how far they came then.
 #[inline(never)]
 fn put_runs(
     runs: &[Run],
     packet: &Content<'_>,
-    place: &mut u64,
+    reach: &mut Reach,
     buffer: &mut Vec<u8>,
     at: usize,
 ) -> Option<usize>
     requires near { All IsNear runs.now }
-    requires start { place.old ≤ packet.now.end }
+    requires start { reach.old.place ≤ packet.now.end }
+    requires few { reach.old.more ≤ MOST_VALUES }
     requires index { at ≤ vec_len buffer.old }
-    ensures puts { (slots : List Slot) → AreRuns slots runs.now → IfSome result (λ text. (line : List ℕ) × PutsFields slots packet.now.bytes.now packet.now.end place.old place.new (take at buffer.old.items) line × (take text buffer.new.items ≡ line ++ (32 ∷ 125 ∷ []))) }
-    ensures within { IfSome result (λ _. place.new ≤ packet.now.end) }
+    ensures puts { (slots : List Slot) → AreRuns slots runs.now → IfSome result (λ text. (line : List ℕ) × PutsFields slots packet.now.bytes.now packet.now.end (reached reach.old (take at buffer.old.items)) (reached reach.new line) × (take text buffer.new.items ≡ line ++ (32 ∷ 125 ∷ []))) }
+    ensures within { IfSome result (λ _. reach.new.place ≤ packet.now.end) }
+    ensures few { IfSome result (λ _. reach.new.more ≤ MOST_VALUES) }
     ensures held { IfSome result (λ text. text ≤ vec_len buffer.new) }
 {
-    let mut end = *place;
+    let mut so_far = *reach;
     let mut text = at;
     for run in runs {
-        let mut to = end;
+        let mut to = so_far;
         text = put_run(run, packet, &mut to, buffer, text)?;
-        end = to;
+        so_far = to;
     }
-    *place = end;
+    *reach = so_far;
     let Ok(text) = put_end(b'}', buffer, text) else {
         return None;
     };
     Some(text)
 }
 
-/// Writes the fields of a run from a place on, and gives the index behind them; the place is the one where they end then.
+/// Writes the fields of a run, and gives the index behind them; `reach` tells how far they came then.
 #[inline(always)]
 fn put_run(
     run: &Run,
     packet: &Content<'_>,
-    place: &mut u64,
+    reach: &mut Reach,
     buffer: &mut Vec<u8>,
     at: usize,
 ) -> Option<usize>
     requires near { IsNear run.now }
-    requires start { place.old ≤ packet.now.end }
+    requires start { reach.old.place ≤ packet.now.end }
+    requires few { reach.old.more ≤ MOST_VALUES }
     requires index { at ≤ vec_len buffer.old }
-    ensures puts { (slots others : List Slot) → TakesRun slots run.now others → IfSome result (λ text. (used : List Slot) × (slots ≡ used ++ others) × PutsFields used packet.now.bytes.now packet.now.end place.old place.new (take at buffer.old.items) (take text buffer.new.items)) }
-    ensures within { IfSome result (λ _. place.new ≤ packet.now.end) }
+    ensures puts { (slots others : List Slot) → TakesRun slots run.now others → IfSome result (λ text. (used : List Slot) × (slots ≡ used ++ others) × PutsFields used packet.now.bytes.now packet.now.end (reached reach.old (take at buffer.old.items)) (reached reach.new (take text buffer.new.items))) }
+    ensures within { IfSome result (λ _. reach.new.place ≤ packet.now.end) }
+    ensures few { IfSome result (λ _. reach.new.more ≤ MOST_VALUES) }
     ensures held { IfSome result (λ text. text ≤ vec_len buffer.new) }
 {
-    let begin = *place;
+    let begin = reach.place;
     if begin % 8 != 0 || run.span + 64 > packet.end - begin {
         return None;
     }
@@ -119,11 +138,12 @@ fn put_run(
         return None;
     }
     let first = (begin / 8) as usize;
-    let text = put_run_numbers(run.numbers.as_slice(), packet.bytes, first, buffer, at);
-    *place = begin + run.span;
+    let numbers = run.numbers.as_slice();
+    let text = put_run_numbers(numbers, packet.bytes, first, buffer, at);
+    reach.place = begin + run.span;
     match &run.field {
         None => Some(text),
-        Some(field) => put_field(field, packet, place, buffer, text),
+        Some(field) => put_field(field, numbers, first, packet, reach, buffer, text),
     }
 }
 
@@ -157,75 +177,108 @@ fn put_before(ready: &Ready, buffer: &mut Vec<u8>, at: usize) -> usize
     ready.put(buffer.as_mut_slice(), at)
 }
 
-/// Writes a field from a place on, and gives the index behind it; the place is the one where it ends then.
+/// Writes a field behind the numbers of a run that begins behind so many bytes, and gives the index behind it; `reach` tells
+/// how far it came then.
 #[inline(always)]
 fn put_field(
     field: &Field,
+    numbers: &[PlainNumber],
+    first: usize,
     packet: &Content<'_>,
-    place: &mut u64,
+    reach: &mut Reach,
     buffer: &mut Vec<u8>,
     at: usize,
 ) -> Option<usize>
-    requires start { place.old ≤ packet.now.end }
+    requires start { reach.old.place ≤ packet.now.end }
+    requires few { reach.old.more ≤ MOST_VALUES }
     requires room { at + length field.now.ready + 90 ≤ vec_len buffer.old }
-    ensures puts { (slot : Slot) → IsField slot field.now → IfSome result (λ text. PutsField slot packet.now.bytes.now packet.now.end place.old place.new (take at buffer.old.items) (take text buffer.new.items)) }
-    ensures within { IfSome result (λ _. place.new ≤ packet.now.end) }
+    requires held { All (λ n. first + n.window.place / 8 + 8 ≤ length packet.now.bytes.now) numbers.now }
+    ensures puts { (slot : Slot) → IsField slot field.now → IfSome result (λ text. (last : Option ℕ) × IsLastNumber last numbers.now packet.now.bytes.now first × PutsField slot packet.now.bytes.now packet.now.end (behind_number reach.old last (take at buffer.old.items)) (reached reach.new (take text buffer.new.items))) }
+    ensures within { IfSome result (λ _. reach.new.place ≤ packet.now.end) }
+    ensures few { IfSome result (λ _. reach.new.more ≤ MOST_VALUES) }
     ensures held { IfSome result (λ text. text ≤ vec_len buffer.new) }
 {
-    let begin = field.align.up(*place);
+    let begin = field.align.up(reach.place);
     if begin > packet.end {
         return None;
     }
     let text = put_before(&field.ready, buffer, at);
-    let ends = put_shown(&field.shown, packet, begin, buffer, text)?;
-    *place = ends.place;
-    Some(ends.text)
-}
-
-/// Writes the value of a field.
-#[inline(always)]
-fn put_shown(
-    shown: &Shown,
-    packet: &Content<'_>,
-    place: u64,
-    buffer: &mut Vec<u8>,
-    at: usize,
-) -> Option<Ends>
-    requires start { place ≤ packet.now.end }
-    requires room { at + 66 ≤ vec_len buffer.old }
-    ensures puts { (member : Member) → IsShown member shown.now → IfSome result (λ e. PutsOne (form member.class) (texts.value_text member.class) packet.now.bytes.now packet.now.end place e.place (take at buffer.old.items) (take e.text buffer.new.items)) }
-    ensures within { IfSome result (λ e. e.place ≤ packet.now.end) }
-    ensures held { IfSome result (λ e. e.text ≤ vec_len buffer.new) }
-{
-    match shown {
-        Shown::String => put_string(packet, place, buffer, at),
-        Shown::Text(count) => put_fixed_text(*count, packet, place, buffer, at),
-        Shown::Integer(integer, align) => {
-            put_other_integer(integer, *align, packet, place, buffer, at)
+    match &field.shown {
+        Shown::String => {
+            let ends = put_string(packet, begin, buffer, text)?;
+            reach.place = ends.place;
+            Some(ends.text)
+        }
+        Shown::Text(count) => {
+            let ends = put_fixed_text(*count, packet, begin, buffer, text)?;
+            reach.place = ends.place;
+            Some(ends.text)
+        }
+        Shown::Integers(are) => {
+            // A copy, so that the others do not go through memory.
+            let mut to = Reach {
+                place: begin,
+                more: reach.more,
+            };
+            let end = put_other(are, numbers, first, packet, &mut to, buffer, text)?;
+            *reach = to;
+            Some(end)
         }
     }
 }
 
-/// Writes an integer that is no number of a run.
+/// Writes integers that are none of the numbers of a run, but stand behind these, and gives the index behind them.
 #[inline(never)]
-fn put_other_integer(
-    integer: &Integer,
-    align: Align,
+fn put_other(
+    are: &Integers,
+    numbers: &[PlainNumber],
+    first: usize,
     packet: &Content<'_>,
-    place: u64,
+    reach: &mut Reach,
     buffer: &mut Vec<u8>,
     at: usize,
-) -> Option<Ends>
-    requires start { place ≤ packet.now.end }
+) -> Option<usize>
+    requires start { reach.old.place ≤ packet.now.end }
+    requires few { reach.old.more ≤ MOST_VALUES }
     requires room { at + 66 ≤ vec_len buffer.old }
-    ensures puts { IfSome result (λ e. PutsOne (forms.integer align integer.now) (texts.integer_text integer.now) packet.now.bytes.now packet.now.end place e.place (take at buffer.old.items) (take e.text buffer.new.items)) }
-    ensures within { IfSome result (λ e. e.place ≤ packet.now.end) }
-    ensures held { IfSome result (λ e. e.text ≤ vec_len buffer.new) }
+    requires held { All (λ n. first + n.window.place / 8 + 8 ≤ length packet.now.bytes.now) numbers.now }
+    ensures puts { (index : ℕ) (member : Member) → AreIntegers index member are.now.integer are.now.align are.now.many → IfSome result (λ text. (last : Option ℕ) × IsLastNumber last numbers.now packet.now.bytes.now first × PutsOther index last (form member.class) (texts.value_text member.class) packet.now.bytes.now packet.now.end reach.old (take at buffer.old.items) reach.new (take text buffer.new.items)) }
+    ensures within { IfSome result (λ _. reach.new.place ≤ packet.now.end) }
+    ensures few { IfSome result (λ _. reach.new.more ≤ MOST_VALUES) }
+    ensures held { IfSome result (λ text. text ≤ vec_len buffer.new) }
 {
-    let line = buffer.as_mut_slice();
-    let ends = put_integer(integer, align, packet, place, line, at)?;
-    Some(Ends {
-        place: ends.place,
-        text: ends.text,
-    })
+    let count = match are.many {
+        Many::One => {
+            let line = buffer.as_mut_slice();
+            let ends = put_integer(&are.integer, are.align, packet, reach.place, line, at)?;
+            reach.place = ends.place;
+            return Some(ends.text);
+        }
+        Many::Fixed(count) => count,
+        Many::Counted => last_number(numbers, packet.bytes, first)?,
+    };
+    let next = put_integers(&are.integer, are.align, count, packet, reach.place, buffer, at)?;
+    let more = reach.more + next.more;
+    if more > MOST_VALUES {
+        return None;
+    }
+    reach.place = next.place;
+    reach.more = more;
+    Some(next.text)
+}
+
+/// The last of the numbers of a run that begins behind so many bytes, if it is unsigned.
+fn last_number(numbers: &[PlainNumber], bytes: &[u8], first: usize) -> Option<u64>
+    requires held { All (λ n. first + n.window.place / 8 + 8 ≤ length bytes.now) numbers.now }
+    ensures { IsLastNumber result numbers.now bytes.now first }
+{
+    let count = numbers.len();
+    if count == 0 {
+        return None;
+    }
+    let last = &numbers[count - 1];
+    if last.integer.is_signed {
+        return None;
+    }
+    last.window.number(bytes, first)
 }

@@ -1,9 +1,22 @@
-use Rattle.std.proofs.Common.{take}
-use Rattle.ctf_text.proofs.ArrayLemmas.{puts_array}
+use Rattle.std.proofs.Common.{IfSome, ◌∷◌, [], take}
+use Rattle.ctf_decode.specs.Forms as forms
+use Rattle.ctf_decode.specs.Views.{form}
+use Rattle.ctf_text.specs.Standing.{elements_text}
+use Rattle.ctf_text.specs.Texts.{value_text}
+use Rattle.ctf_text.specs.declared.standing.Next.{Next}
+use Rattle.ctf_text.proofs.ArrayLemmas.{next_class, next_named, form_array, text_array, named_some}
 use Rattle.ctf_text.proofs.array.put_array.Goals as goal
 
 pub returns-clause-puts : goal.returns-clause-puts
 returns-clause-puts c =
-    let ends = c.in_ok-ends.ends in
-    puts_array c.args.before c.args.member.now c.args.lead c.args.length.now c.args.element.now c.in-Integer.integer c.args.packet.now.bytes.now c.args.packet.now.end c.args.place c.in_ok-begin.begin c.in_ok-count.count ends.place ends.text (take c.args.at c.args.buffer.now.items) (take c.in-Ok.text c.put_ready.new.buffer.items) (take ends.text c.put_elements.new.buffer.items) c.ready.result.now
-    c.requires.kind c.in-Integer.is c.in_ok-begin.ensures.begin c.in_ok-begin.ensures.within c.in_ok-count.ensures c.in-Ok.ensures.text c.ready.ensures c.in_ok-ends.ensures.puts
+    let m = c.args.member.now in
+    let k = c.args.element.now in
+    let many = c.args.length.now in
+    let i = c.in-Integer.integer in
+    let bytes = c.args.packet.now.bytes.now in
+    let content = c.args.packet.now.end in
+    let before = c.args.before in
+    let line = take c.in-Ok.text c.put_ready.new.buffer.items in
+    let after = c.put_integers.new.buffer.items in
+    named_some c.put_integers.result before m (c.args.lead ∷ 32 ∷ []) bytes content c.args.place (take c.args.at c.args.buffer.now.items) line after c.ready.result.now c.in-Ok.ensures.text c.ready.ensures
+    (next_class c.put_integers.result before (forms.array m.class.align many (forms.integer k.align i)) (form m.class) (elements_text i) (value_text m.class) bytes content c.args.place line after (form_array m.class k many i c.requires.kind c.in-Integer.is) (text_array m.class k many i c.requires.kind c.in-Integer.is) (c.put_integers.ensures.puts before many m.class.align c.in_ok-count.ensures))

@@ -1,10 +1,10 @@
-use Rattle.std.proofs.Common.{◌≡◌, ◌+◌, ◌<◌, ◌≤◌, ◌++◌, ◌∷◌, [], take, length, sym, subst, append-nil, rules, arith}
+use Rattle.std.proofs.Common.{◌≡◌, ◌+◌, ◌<◌, ◌≤◌, ◌++◌, ◌∷◌, [], None, take, length, sym, subst, append-nil, rules, arith}
 use Rattle.std.specs.Int.{next_multiple_of}
 use Rattle.std.specs.List.{All}
 use Rattle.ctf_class.specs.Records.{AreRuns, all_slots, values_in}
 use Rattle.ctf_decode.specs.declared.scopes.TheConstants.{MOST_VALUES}
-use Rattle.ctf_text.specs.Records.{IsNear, PutsFields, PutsScopes}
-use Rattle.ctf_text.proofs.RecordsLemmas.{runs_near, fields_from, scopes_puts}
+use Rattle.ctf_text.specs.Records.{IsNear, PutsFields, PutsScopes, reached}
+use Rattle.ctf_text.proofs.RecordsLemmas.{numbers_to, runs_near, fields_from, scopes_puts}
 use Rattle.ctf_text.proofs.planned_record.put_planned_record.Goals as goal
 
 pub put_runs-requires-clause-near : goal.put_runs-requires-clause-near
@@ -21,7 +21,7 @@ returns-clause-puts c = λ classes several planned.
     let content = c.args.content in
     let place = c.args.place in
     let spent = c.args.spent in
-    let end = c.put_runs.new.place in
+    let to = c.put_runs.new.reach in
     let before = take c.args.at c.args.buffer.now.items in
     let after = take c.in_ok-text.text c.put_runs.new.buffer.items in
     let some : 0 < length plan.runs = search (rules, arith) in
@@ -29,9 +29,10 @@ returns-clause-puts c = λ classes several planned.
     let slots = all_slots [] is.0 in
     let puts = c.in_ok-text.ensures.puts slots (subst (AreRuns slots) (sym c.as_slice-runs.ensures) is.3) in
     let line = puts.0 in
-    let begun : PutsFields slots bytes content (next_multiple_of place 8) end before line = subst (λ p. PutsFields slots bytes content p end before line) c.up-end.ensures.value puts.1 in
-    let few : spent + plan.count ≤ MOST_VALUES = search (rules, arith) in
-    let whole = scopes_puts classes is.0 [] bytes content place end spent before line several is.1 (fields_from classes is.0 [] bytes content place end before line several is.1 begun) (omega (arith, few, is.2)) in
-    subst (λ n. PutsScopes classes bytes content place spent end n before after) (let total : spent + values_in is.0 ≡ spent + plan.count = omega (arith, is.2) in total)
-    (subst (λ xs. PutsScopes classes bytes content place spent end (spent + values_in is.0) before xs) (sym puts.2)
-    (subst (λ xs. PutsScopes classes bytes content place spent end (spent + values_in is.0) xs (line ++ (32 ∷ 125 ∷ []))) (append-nil before) whole))
+    let begun : PutsFields slots bytes content (numbers_to (next_multiple_of place 8) 0 None before) (reached to line) = subst (λ p. PutsFields slots bytes content (numbers_to p 0 None before) (reached to line)) c.up-begin.ensures.value puts.1 in
+    let whole = scopes_puts classes is.0 [] bytes content spent (numbers_to place 0 None before) (reached to line) several is.1 (fields_from classes is.0 [] bytes content place 0 None before (reached to line) several is.1 begun) in
+    let total : spent + values_in is.0 + whole.0 ≡ spent + plan.count + to.more = omega (arith, is.2, whole.1) in
+    let few : spent + plan.count + to.more ≤ MOST_VALUES = search (rules, arith) in
+    subst (λ n. PutsScopes classes bytes content place spent to.place n before after) total
+    (subst (λ xs. PutsScopes classes bytes content place spent to.place (spent + values_in is.0 + whole.0) before xs) (sym puts.2)
+    (subst (λ xs. PutsScopes classes bytes content place spent to.place (spent + values_in is.0 + whole.0) xs (line ++ (32 ∷ 125 ∷ []))) (append-nil before) (whole.2 (omega (arith, few, total)))))

@@ -1,7 +1,7 @@
 use Rattle.std.proofs.Common.{◌≡◌, ◌+◌, ◌++◌, [], take, drop, sym, ap, subst, ◌∙◌, append_assoc, append-nil, arith}
 use Rattle.std.proofs.Math.ListN.{drop_of_length-le}
 use Rattle.ctf_class.specs.Records.{AreRuns}
-use Rattle.ctf_text.specs.Records.{PutsFields}
+use Rattle.ctf_text.specs.Records.{PutsFields, reached}
 use Rattle.ctf_text.proofs.NamesLemmas.{here}
 use Rattle.ctf_text.proofs.RecordsLemmas.{takes_first, fields_join}
 use Rattle.ctf_text.proofs.planned_record.put_runs.Goals as goal
@@ -19,12 +19,13 @@ loop-run-preserved c =
     let text = take c.in_ok-text.text c.put_run.new.buffer.items in
     record {
       within = c.in_ok-text.ensures.within;
+      few = c.in_ok-text.ensures.few;
       held = c.in_ok-text.ensures.held;
       puts = λ slots are.
           let w = l.invariant.puts slots are in
           let first = takes_first w.1 run (drop (k + 1) runs) (subst (AreRuns w.1) (here runs k run c.loop-run-test.true c.run-item.is) w.3) in
           let more = c.in_ok-text.ensures.puts w.1 first.0 first.1 in
-          (w.0 ++ more.0, first.0, w.2 ∙ ap (λ xs. w.0 ++ xs) more.1 ∙ sym (append_assoc w.0 more.0 first.0), first.2, fields_join bytes content w.0 more.0 c.args.place.now l.end c.put_run.new.place before line text w.4 more.2);
+          (w.0 ++ more.0, first.0, w.2 ∙ ap (λ xs. w.0 ++ xs) more.1 ∙ sym (append_assoc w.0 more.0 first.0), first.2, fields_join bytes content w.0 more.0 (reached c.args.reach.now before) (reached l.so_far line) (reached c.put_run.new.reach text) w.4 more.2);
     }
 
 pub returns-clause-puts : goal.returns-clause-puts
@@ -36,4 +37,4 @@ returns-clause-puts c = λ slots are.
     let none : w.1 ≡ [] = subst (AreRuns w.1) all w.3 in
     let whole : w.0 ≡ slots = sym (w.2 ∙ ap (λ xs. w.0 ++ xs) none ∙ append-nil w.0) in
     let line = take l.text l.buffer.items in
-    (line, subst (λ ss. PutsFields ss c.args.packet.now.bytes.now c.args.packet.now.end c.args.place.now l.end (take c.args.at c.args.buffer.now.items) line) whole w.4, c.in-Ok.ensures.text)
+    (line, subst (λ ss. PutsFields ss c.args.packet.now.bytes.now c.args.packet.now.end (reached c.args.reach.now (take c.args.at c.args.buffer.now.items)) (reached l.so_far line)) whole w.4, c.in-Ok.ensures.text)

@@ -1,0 +1,25 @@
+use Rattle.std.proofs.Common.{◌≡◌, ◌+◌, ◌∷◌, ◌++◌, ◌∙◌, [], take, IsTrue, sym, ap, subst, append_assoc, rules}
+use Rattle.ctf_class.specs.Making.{IsMade}
+use Rattle.ctf_class.specs.Records.{Slot, later, laters}
+use Rattle.ctf_class.proofs.RecordsLemmas.{laters_on}
+use Rattle.ctf_class.proofs.record_plan.Making.add_later.Goals as goal
+
+pub loop-i-preserved : goal.loop-i-preserved
+loop-i-preserved c =
+    let ms = c.args.members.now in
+    let i = c.loop-i.i in
+    let m = c.index-members-i.result in
+    let before = laters 1 (take i ms) in
+    let new = c.add_member.new.self in
+    let took : IsTrue c.in_ok-add_member.field-0 = search rules in
+    let one : c.in-Some.anywhere ≡ 1 = search rules in
+    let slot : Slot = record { lead = 44 ∷ 32 ∷ []; align = c.in-Some.anywhere; index = i + 1; member = m } in
+    let slot_is : slot ≡ later (i + 1) m = ap (λ a. record { lead = 44 ∷ 32 ∷ []; align = a; index = i + 1; member = m }) one in
+    record {
+      few = c.in_ok-add_member.ensures.few took;
+      near = c.in_ok-add_member.ensures.near took;
+      count = c.in_ok-add_member.ensures.count took ∙ c.loop-i.invariant.count;
+      made = λ done made.
+          let slots_are : (done ++ before) ++ slot ∷ [] ≡ done ++ laters 1 (take (i + 1) ms) = append_assoc done before (slot ∷ []) ∙ ap (λ s. done ++ (before ++ s ∷ [])) slot_is ∙ ap (λ ss. done ++ ss) (sym (laters_on ms i m c.loop-i-test.true c.index-members-i.is)) in
+          subst (λ ss. IsMade ss new) slots_are (c.in_ok-add_member.ensures.made took (done ++ before) (c.loop-i.invariant.made done made));
+    }
