@@ -295,10 +295,10 @@ scopes_puts (k ∷ (l ∷ ks)) (s ∷ (t ∷ ss)) opens packet content spent fro
     )
 
 -- the numbers of a run, in a buffer
-pub run_numbers : (ss rest : List Slot) (ns ms : List PlainNumber) (span first place content more : ℕ) (last : Option ℕ) (packet before line after : List ℕ) → AreInRun 0 ss ns span rest → ms ≡ ns → IsLastNumber last ms packet first → 8 * first ≡ place → place + span ≤ content → line ≡ before → after ≡ line ++ flat_map (plain_text packet first) ms
+pub run_numbers : (ss rest : List Slot) (ns ms : List PlainNumber) (span first place content more : ℕ) (last : Option ℕ) (packet before line after : List ℕ) → AreInRun 0 ss ns span rest → ms ≡ ns → IsLastNumber last ns packet first → 8 * first ≡ place → place + span ≤ content → line ≡ before → after ≡ line ++ flat_map (plain_text packet first) ms
     → (used : List Slot) × (ss ≡ used ++ rest) × PutsFields used packet content (numbers_to place more None before) (numbers_to (place + span) more last after)
 run_numbers ss rest ns ms span first place content more last packet before line after are same known starts within kept wrote =
-    let all = numbers_fields ss rest ns 0 span first place content more last packet before are (subst (λ xs. IsLastNumber last xs packet first) same known) starts within in
+    let all = numbers_fields ss rest ns 0 span first place content more last packet before are known starts within in
     let none : place + 0 ≡ place = omega arith in
     let text : before ++ flat_map (plain_text packet first) ns ≡ after = sym (wrote ∙ ap (λ xs. xs ++ flat_map (plain_text packet first) ms) kept ∙ ap (λ xs. before ++ flat_map (plain_text packet first) xs) same) in
     (all.0, all.1, subst (λ p. PutsFields all.0 packet content (numbers_to p more None before) (numbers_to (place + span) more last after)) none (subst (λ xs. PutsFields all.0 packet content (numbers_to (place + 0) more None before) (numbers_to (place + span) more last xs)) text all.2))

@@ -1,6 +1,6 @@
 //! Texts of event records by their plans.
 
-ghost use Rattle.std.specs.Prelude.{List, ℕ, [], ◌∷◌, ◌≡◌, ◌+◌, ◌*◌, ◌/◌, ◌^◌, ◌++◌, ◌<◌, ◌≤◌, length, take, vec_len, Option, IfSome};
+ghost use Rattle.std.specs.Prelude.{List, ℕ, [], ◌∷◌, ◌≡◌, ◌+◌, ◌*◌, ◌/◌, ◌^◌, ◌-◌, ◌++◌, ◌<◌, ◌≤◌, length, take, vec_len, Option, IfSome};
 ghost use Rattle.std.specs.List.{All, flat_map};
 ghost use Rattle.ctf_class.specs.Records.{Slot, AreIntegers, AreRuns, IsField, IsPlanOf, numbers_room};
 ghost use Rattle.ctf_class.specs.declared.class.Class.{Class};
@@ -57,7 +57,7 @@ pub fn put_planned_record(
 {
     let runs = plan.runs.as_slice();
     let begin = up(place, 8);
-    if runs.is_empty() || plan.count > MOST_VALUES - spent || begin > content {
+    if runs.is_empty() || begin > content {
         return None;
     }
     let packet = Content {
@@ -69,13 +69,13 @@ pub fn put_planned_record(
         more: 0,
     };
     let text = put_runs(runs, &packet, &mut reach, buffer, at)?;
-    let spent = spent + plan.count + reach.more;
-    if spent > MOST_VALUES {
+    let count = plan.count.checked_add(reach.more)?;
+    if count > MOST_VALUES - spent {
         return None;
     }
     Some(Standing {
         place: reach.place,
-        spent,
+        spent: spent + count,
         end: text,
     })
 }
@@ -138,12 +138,11 @@ fn put_run(
         return None;
     }
     let first = (begin / 8) as usize;
-    let numbers = run.numbers.as_slice();
-    let text = put_run_numbers(numbers, packet.bytes, first, buffer, at);
+    let text = put_run_numbers(run.numbers.as_slice(), packet.bytes, first, buffer, at);
     reach.place = begin + run.span;
     match &run.field {
         None => Some(text),
-        Some(field) => put_field(field, numbers, first, packet, reach, buffer, text),
+        Some(field) => put_field(field, run, packet, reach, buffer, text),
     }
 }
 
@@ -177,13 +176,12 @@ fn put_before(ready: &Ready, buffer: &mut Vec<u8>, at: usize) -> usize
     ready.put(buffer.as_mut_slice(), at)
 }
 
-/// Writes a field behind the numbers of a run that begins behind so many bytes, and gives the index behind it; `reach` tells
-/// how far it came then.
+/// Writes a field behind the numbers of a run, and gives the index behind it; `reach` tells how far these came, and how far
+/// the field came then.
 #[inline(always)]
 fn put_field(
     field: &Field,
-    numbers: &[PlainNumber],
-    first: usize,
+    run: &Run,
     packet: &Content<'_>,
     reach: &mut Reach,
     buffer: &mut Vec<u8>,
@@ -192,8 +190,9 @@ fn put_field(
     requires start { reach.old.place ≤ packet.now.end }
     requires few { reach.old.more ≤ MOST_VALUES }
     requires room { at + length field.now.ready + 90 ≤ vec_len buffer.old }
-    requires held { All (λ n. first + n.window.place / 8 + 8 ≤ length packet.now.bytes.now) numbers.now }
-    ensures puts { (slot : Slot) → IsField slot field.now → IfSome result (λ text. (last : Option ℕ) × IsLastNumber last numbers.now packet.now.bytes.now first × PutsField slot packet.now.bytes.now packet.now.end (behind_number reach.old last (take at buffer.old.items)) (reached reach.new (take text buffer.new.items))) }
+    requires run { run.now.span ≤ reach.old.place }
+    requires held { All (λ n. (reach.old.place - run.now.span) / 8 + n.window.place / 8 + 8 ≤ length packet.now.bytes.now) run.now.numbers }
+    ensures puts { (slot : Slot) → IsField slot field.now → IfSome result (λ text. (last : Option ℕ) × IsLastNumber last run.now.numbers packet.now.bytes.now ((reach.old.place - run.now.span) / 8) × PutsField slot packet.now.bytes.now packet.now.end (behind_number reach.old last (take at buffer.old.items)) (reached reach.new (take text buffer.new.items))) }
     ensures within { IfSome result (λ _. reach.new.place ≤ packet.now.end) }
     ensures few { IfSome result (λ _. reach.new.more ≤ MOST_VALUES) }
     ensures held { IfSome result (λ text. text ≤ vec_len buffer.new) }
@@ -215,11 +214,13 @@ fn put_field(
             Some(ends.text)
         }
         Shown::Integers(are) => {
+            let first = ((reach.place - run.span) / 8) as usize;
             // A copy, so that the others do not go through memory.
             let mut to = Reach {
                 place: begin,
                 more: reach.more,
             };
+            let numbers = run.numbers.as_slice();
             let end = put_other(are, numbers, first, packet, &mut to, buffer, text)?;
             *reach = to;
             Some(end)

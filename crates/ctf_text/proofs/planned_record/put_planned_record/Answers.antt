@@ -31,8 +31,10 @@ returns-clause-puts c = λ classes several planned.
     let line = puts.0 in
     let begun : PutsFields slots bytes content (numbers_to (next_multiple_of place 8) 0 None before) (reached to line) = subst (λ p. PutsFields slots bytes content (numbers_to p 0 None before) (reached to line)) c.up-begin.ensures.value puts.1 in
     let whole = scopes_puts classes is.0 [] bytes content spent (numbers_to place 0 None before) (reached to line) several is.1 (fields_from classes is.0 [] bytes content place 0 None before (reached to line) several is.1 begun) in
-    let total : spent + values_in is.0 + whole.0 ≡ spent + plan.count + to.more = omega (arith, is.2, whole.1) in
-    let few : spent + plan.count + to.more ≤ MOST_VALUES = search (rules, arith) in
+    let count = c.in_ok-count.count in
+    let sum : count ≡ plan.count + to.more = search rules in
+    let total : spent + values_in is.0 + whole.0 ≡ spent + count = omega (arith, is.2, whole.1, sum) in
+    let few : spent + count ≤ MOST_VALUES = search (rules, arith) in
     subst (λ n. PutsScopes classes bytes content place spent to.place n before after) total
     (subst (λ xs. PutsScopes classes bytes content place spent to.place (spent + values_in is.0 + whole.0) before xs) (sym puts.2)
     (subst (λ xs. PutsScopes classes bytes content place spent to.place (spent + values_in is.0 + whole.0) xs (line ++ (32 ∷ 125 ∷ []))) (append-nil before) (whole.2 (omega (arith, few, total)))))
