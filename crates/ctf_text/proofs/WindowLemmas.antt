@@ -1,18 +1,21 @@
 -- Texts by sixteen bytes at once.
-use Rattle.std.proofs.Common.{⊎_elim, ◌≡◌, ℕ, zero, suc, ◌+◌, ◌<◌, ◌≤◌, Bool, true, false, cond, List, [], ◌∷◌, ◌++◌, Option, Some, None, map, length, take, set, get_or, nat_eq, nat_lt, not, bit_or, refl, sym, ap, subst, ◌∙◌, arith, append_assoc}
-use Rattle.std.proofs.lemmas.Bool.{ltb-false, cases_lt}
+use Rattle.std.proofs.Common.{⊎_elim, ◌≡◌, ℕ, zero, suc, ◌+◌, ◌-◌, ◌<◌, ◌≤◌, Bool, true, false, cond, List, [], ◌∷◌, ◌++◌, Option, Some, None, map, length, take, drop, set, get_or, nat_eq, nat_lt, not, bit_or, refl, sym, ap, subst, ◌∙◌, arith, append_assoc}
+use Rattle.std.proofs.lemmas.Bool.{eqb-true, ltb-false, cases_lt}
 use Rattle.std.proofs.lemmas.Bool.Decides.{nat_tests}
 use Rattle.std.proofs.lemmas.Iterator.Adapters.{position_from-zero}
-use Rattle.std.proofs.lemmas.List.{get_or-map, get_or-take, take-take, length-take-le, take_more_set, length-set}
-use Rattle.std.proofs.Math.Seq.{take-append-add}
-use Rattle.std.proofs.lemmas.List.Elements.{All-head, All-tail, All-from_get_or}
+use Rattle.std.proofs.lemmas.List.{get_or-map, get_or-take, get_or-drop, take-take, take_all, take-append-le, length-drop, length-take-le, take_more_set}
+use Rattle.std.proofs.Math.Seq.{take-add, take-append-add}
+use Rattle.std.proofs.lemmas.List.Elements.{All-head, All-tail, All-append, All-from_get_or}
+use Rattle.std.proofs.lemmas.List.Quantifiers.{position-Some}
 use Rattle.std.proofs.lemmas.Nat.Bits.{bit_at_or, bit_at-zero}
 use Rattle.std.proofs.lemmas.Simd.{bit_mask_l, length-put_chunk, take_more_put_chunk}
 use Rattle.std.specs.Int.{bit_at}
 use Rattle.std.specs.List.{All, position, position_from, prefix_len, take_while}
 use Rattle.std.specs.Simd.Lanes.{mask_l, put_chunk}
 use Rattle.ctf_class.specs.Escapes.{shown_byte}
-use Rattle.ctf_text.proofs.TextLemmas.{IsPlain}
+use Rattle.ctf_class.specs.Names.{label_text}
+use Rattle.ctf_text.proofs.StandingLemmas.{same_front}
+use Rattle.ctf_text.proofs.TextLemmas.{IsPlain, plain_escaped}
 
 pub cond_zero : (b : Bool) → cond {A = ℕ} b 1 0 ≡ 0 → b ≡ false
 cond_zero true none = absurd (omega (arith, none))
@@ -91,29 +94,69 @@ first_zero_from (byte ∷ bytes) (suc n) from plain within there =
 pub first_zero : (bytes : List ℕ) (n : ℕ) → All IsPlain (take n bytes) → n < length bytes → get_or bytes n 0 ≡ 0 → position (λ x. nat_eq x 0) bytes ≡ Some n
 first_zero bytes n plain within there = position_from-zero (λ x. nat_eq x 0) bytes ∙ (first_zero_from bytes n 0 plain within there ∙ ap Some {x = 0 + n} (omega arith))
 
--- sixteen bytes are written behind a quote, and a quote over the first one that is not wanted
-pub window_written : (bytes line : List ℕ) (at count : ℕ) → 16 ≤ length bytes → count ≤ 16 → at + 18 ≤ length line
-    → take (at + count + 2) (set (put_chunk (at + 1) (set line at 34) (take 16 (take 16 bytes))) (at + 1 + count) 34) ≡ take at line ++ (34 ∷ (take count bytes ++ (34 ∷ [])))
+-- the bytes behind some
+abbrev pub behind : ℕ → List ℕ → List ℕ
+behind k bytes = take (length bytes - k) (drop k bytes)
+
+behind_is : (k : ℕ) (bytes : List ℕ) → behind k bytes ≡ drop k bytes
+behind_is k bytes = take_all (length bytes - k) (drop k bytes) (omega (arith, length-drop k bytes))
+
+take_behind : (bytes : List ℕ) (k n : ℕ) → take k bytes ++ take n (behind k bytes) ≡ take (k + n) bytes
+take_behind bytes k n = ap (λ xs. take k bytes ++ take n xs) (behind_is k bytes) ∙ sym (take-add k n bytes)
+
+-- bytes that are shown as they are behind others
+pub plain_behind : (bytes : List ℕ) (k n : ℕ) → All IsPlain (take k bytes) → All IsPlain (take n (behind k bytes)) → All IsPlain (take (k + n) bytes)
+plain_behind bytes k n front rest = subst (All IsPlain) (take_behind bytes k n) (All-append IsPlain (take k bytes) (take n (behind k bytes)) front rest)
+
+-- the first zero byte behind bytes that are shown as they are
+pub first_zero_behind : (bytes : List ℕ) (k n : ℕ) → All IsPlain (take k bytes) → All IsPlain (take n (behind k bytes)) → position (λ x. nat_eq x 0) (behind k bytes) ≡ Some n → position (λ x. nat_eq x 0) bytes ≡ Some (k + n)
+first_zero_behind bytes k n front rest first =
+    let found = position-Some (λ x. nat_eq x 0) (drop k bytes) n 0 (ap (position (λ x. nat_eq x 0)) (sym (behind_is k bytes)) ∙ first) in
+    let there : get_or bytes (k + n) 0 ≡ 0 = sym (get_or-drop k bytes n 0) ∙ eqb-true (get_or (drop k bytes) n 0) 0 found.1 in
+    first_zero bytes (k + n) (plain_behind bytes k n front rest) (omega (arith, found.0, length-drop k bytes)) there
+
+-- sixteen bytes are written, and a quote over the first one that is not wanted
+pub window_written : (bytes line : List ℕ) (at count : ℕ) → 16 ≤ length bytes → count ≤ 16 → at + 17 ≤ length line
+    → take (at + count + 1) (set (put_chunk at line (take 16 (take 16 bytes))) (at + count) 34) ≡ take at line ++ (take count bytes ++ (34 ∷ []))
 window_written bytes line at count enough few room =
-    let opened = set line at 34 in
     let piece = take 16 (take 16 bytes) in
     let front : piece ≡ take 16 bytes = take-take 16 16 bytes (omega arith) in
     let size : length piece ≡ 16 = ap length front ∙ length-take-le 16 bytes enough in
-    let long : length opened ≡ length line = length-set line at 34 in
-    let whole = put_chunk (at + 1) opened piece in
-    let stays : length whole ≡ length opened = length-put_chunk (at + 1) opened piece in
-    let first : take (at + 1) opened ≡ take at line ++ (34 ∷ []) = take_more_set line at 34 (omega arith) in
-    let stored : take (at + 17) whole ≡ take (at + 1) opened ++ piece = take_more_put_chunk (at + 1) opened piece (at + 17) (omega arith) (omega arith) in
-    let cut : take (at + 1 + count) (take (at + 17) whole) ≡ take (at + 1 + count) whole = take-take (at + 1 + count) (at + 17) whole (omega arith) in
-    let head : length (take (at + 1) opened) ≡ at + 1 = length-take-le (at + 1) opened (omega arith) in
-    let seam : take (length (take (at + 1) opened) + count) (take (at + 1) opened ++ piece) ≡ take (at + 1) opened ++ take count piece = take-append-add (take (at + 1) opened) piece count in
+    let whole = put_chunk at line piece in
+    let stays : length whole ≡ length line = length-put_chunk at line piece in
+    let stored : take (at + 16) whole ≡ take at line ++ piece = take_more_put_chunk at line piece (at + 16) (omega arith) (omega arith) in
+    let cut : take (at + count) (take (at + 16) whole) ≡ take (at + count) whole = take-take (at + count) (at + 16) whole (omega arith) in
+    let head : length (take at line) ≡ at = length-take-le at line (omega arith) in
+    let seam : take (length (take at line) + count) (take at line ++ piece) ≡ take at line ++ take count piece = take-append-add (take at line) piece count in
     let wanted : take count piece ≡ take count bytes = ap (take count) front ∙ take-take count 16 bytes few in
-    let upto : take (at + 1 + count) whole ≡ (take at line ++ (34 ∷ [])) ++ take count bytes =
-    sym cut ∙ ap (take (at + 1 + count)) stored ∙ ap (λ n. take (n + count) (take (at + 1) opened ++ piece)) (sym head) ∙ seam ∙ (λ j. first j ++ wanted j) in
-    let closed : take (at + 1 + count + 1) (set whole (at + 1 + count) 34) ≡ take (at + 1 + count) whole ++ (34 ∷ []) = take_more_set whole (at + 1 + count) 34 (omega arith) in
-    let end : at + count + 2 ≡ at + 1 + count + 1 = omega arith in
-    ap (λ n. take n (set whole (at + 1 + count) 34)) end ∙ closed ∙ ap (λ xs. xs ++ (34 ∷ [])) upto
-    ∙ append_assoc (take at line ++ (34 ∷ [])) (take count bytes) (34 ∷ []) ∙ append_assoc (take at line) (34 ∷ []) (take count bytes ++ (34 ∷ []))
+    let upto : take (at + count) whole ≡ take at line ++ take count bytes =
+    sym cut ∙ ap (take (at + count)) stored ∙ ap (λ n. take (n + count) (take at line ++ piece)) (sym head) ∙ seam ∙ ap (λ xs. take at line ++ xs) wanted in
+    take_more_set whole (at + count) 34 (omega arith) ∙ ap (λ xs. xs ++ (34 ∷ [])) upto ∙ append_assoc (take at line) (take count bytes) (34 ∷ [])
+
+-- a window is written over the quote behind another one
+pub windows_written : (bytes line mid after : List ℕ) (at k count : ℕ) → k ≤ length bytes → k ≤ count → at ≤ length line → take (at + k + 1) mid ≡ take at line ++ (take k bytes ++ (34 ∷ []))
+    → after ≡ take (at + k) mid ++ (take (count - k) (behind k bytes) ++ (34 ∷ [])) → after ≡ take at line ++ (take count bytes ++ (34 ∷ []))
+windows_written bytes line mid after at k count enough many room first last =
+    let cut : take (at + k) (take (at + k + 1) mid) ≡ take (at + k) mid = take-take (at + k) (at + k + 1) mid (omega arith) in
+    let head : length (take at line) ≡ at = length-take-le at line room in
+    let seam : take (length (take at line) + k) (take at line ++ (take k bytes ++ (34 ∷ []))) ≡ take at line ++ take k (take k bytes ++ (34 ∷ [])) = take-append-add (take at line) (take k bytes ++ (34 ∷ [])) k in
+    let size : length (take k bytes) ≡ k = length-take-le k bytes enough in
+    let front : take k (take k bytes ++ (34 ∷ [])) ≡ take k bytes = take-append-le k (take k bytes) (34 ∷ []) (omega arith) ∙ take-take k k bytes (omega arith) in
+    let upto : take (at + k) mid ≡ take at line ++ take k bytes =
+    sym cut ∙ ap (take (at + k)) first ∙ ap (λ n. take (n + k) (take at line ++ (take k bytes ++ (34 ∷ [])))) (sym head) ∙ seam ∙ ap (λ xs. take at line ++ xs) front in
+    let rest = take (count - k) (behind k bytes) in
+    let all : k + (count - k) ≡ count = omega arith in
+    let whole : take k bytes ++ rest ≡ take count bytes = take_behind bytes k (count - k) ∙ ap (λ n. take n bytes) all in
+    last ∙ ap (λ xs. xs ++ (rest ++ (34 ∷ []))) upto ∙ append_assoc (take at line) (take k bytes) (rest ++ (34 ∷ []))
+    ∙ ap (λ xs. take at line ++ xs) (sym (append_assoc (take k bytes) rest (34 ∷ [])) ∙ ap (λ xs. xs ++ (34 ∷ [])) whole)
+
+-- bytes that are shown as they are stand behind a quote, in a buffer whose line was written
+pub quoted : (bytes items line written : List ℕ) (at end count : ℕ) → line ≡ items → length written ≡ count → end ≤ count → at < length line → All IsPlain bytes
+    → take end written ≡ take (at + 1) (set line at 34) ++ (bytes ++ (34 ∷ [])) → take end (take count (written ++ drop (length written) items)) ≡ take at items ++ label_text bytes
+quoted bytes items line written at end count same long near within plain wrote =
+    sym (same_front end count count written items long (omega arith) near) ∙ wrote
+    ∙ ap (λ xs. xs ++ (bytes ++ (34 ∷ []))) (take_more_set line at 34 within) ∙ append_assoc (take at line) (34 ∷ []) (bytes ++ (34 ∷ []))
+    ∙ (λ j. take at (same j) ++ (34 ∷ (sym (plain_escaped bytes plain) j ++ (34 ∷ []))))
 
 -- a number that was found is the one that was given
 found : (is : Bool) (k n : ℕ) → cond {A = Option ℕ} is (Some k) None ≡ Some n → k ≡ n

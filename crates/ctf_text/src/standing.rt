@@ -1,7 +1,8 @@
 //! Texts of values where they stand, out of the packet's bits.
 
-ghost use Rattle.std.specs.Prelude.{ℕ, List, pos, ◌≡◌, true, false, ◌+◌, ◌*◌, ◌^◌, ◌++◌, ◌∷◌, ◌≤◌, ◌<◌, length, take, vec_len, IfSome, IsTrue};
+ghost use Rattle.std.specs.Prelude.{ℕ, List, pos, ◌≡◌, true, false, ◌+◌, ◌*◌, ◌^◌, ◌++◌, ◌∷◌, ◌≤◌, ◌<◌, Some, length, nat_eq, position, take, vec_len, IfSome, IsTrue};
 ghost use Rattle.ctf_bits.specs.Number.{number, signed_number};
+ghost use Rattle.ctf_class.specs.Names.{label_text};
 ghost use Rattle.ctf_class.specs.declared.class.Kind as kind;
 ghost use Rattle.ctf_class.specs.declared.route.Length.TheVariants.{Fixed};
 ghost use Rattle.ctf_decode.specs.Input.{bits_of};
@@ -16,7 +17,7 @@ use crate::array::put_array;
 use crate::mark::{put_end, put_nothing, put_ready};
 use crate::number::{LONGEST_NUMBER, put_signed_number, put_unsigned_number};
 use crate::text::put_quoted;
-use crate::window::{count_short, put_short};
+use crate::window::{count_longer, count_short, put_longer, put_short};
 use ctf_bits::{is_unsigned, sint_within, uint_within, up};
 use ctf_class::{Align, Class, Integer, Kind, Length, Member};
 use ctf_decode::{MOST_VALUES, before_zero, bytes_at, bytes_from, zero_in};
@@ -406,6 +407,23 @@ pub(crate) fn put_string(
             place: begin + 8 * (count as u64 + 1),
             text: put_short(bytes, count, buffer, at),
         });
+    }
+    put_longer_string(bytes, begin, buffer, at)
+}
+
+/// Writes the string that these bytes, which begin at this place, begin with. It stands out of the way of short ones.
+#[inline(never)]
+fn put_longer_string(bytes: &[u8], begin: u64, buffer: &mut Vec<u8>, at: usize) -> Option<Ends>
+    requires bounded { begin + 8 * length bytes.now ≤ 2 ^ 62 }
+    requires index { at ≤ vec_len buffer.old }
+    ensures puts { IfSome result (λ e. (n : ℕ) × (position (λ x. nat_eq x 0) bytes.now ≡ Some n) × (e.place ≡ begin + 8 * (n + 1)) × (take e.text buffer.new.items ≡ take at buffer.old.items ++ label_text (take n bytes.now))) }
+    ensures within { IfSome result (λ e. e.place ≤ begin + 8 * length bytes.now) }
+    ensures held { IfSome result (λ e. e.text ≤ vec_len buffer.new) }
+{
+    if let Some(count) = count_longer(bytes, buffer.len() - at) {
+        let place = begin + 8 * (count as u64 + 1);
+        let text = put_longer(bytes, count, buffer, at);
+        return Some(Ends { place, text });
     }
     let count = zero_in(bytes)?;
     let Ok(text) = put_quoted(&bytes[..count], buffer, at) else {

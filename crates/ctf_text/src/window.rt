@@ -1,6 +1,6 @@
 //! Short texts, sixteen bytes at once.
 
-ghost use Rattle.std.specs.Prelude.{◌≡◌, ℕ, ◌<◌, ◌+◌, ◌≤◌, ◌++◌, ◌∷◌, [], Some, length, vec_len, take, map, position, nat_eq, nat_lt, IfSome};
+ghost use Rattle.std.specs.Prelude.{◌≡◌, ℕ, ◌<◌, ◌+◌, ◌*◌, ◌≤◌, ◌++◌, ◌∷◌, [], Some, length, vec_len, take, map, position, nat_eq, nat_lt, IfSome};
 ghost use Rattle.std.specs.Int.{bit_at};
 ghost use Rattle.std.specs.List.{All};
 ghost use Rattle.std.specs.Simd.Lanes.{mask_l};
@@ -31,6 +31,23 @@ pub fn count_short(bytes: &[u8], room: usize) -> Option<usize>
         return None;
     }
     Some(count)
+}
+
+/// The same of sixteen to thirty-one bytes, by two windows.
+#[inline(always)]
+pub fn count_longer(bytes: &[u8], room: usize) -> Option<usize>
+    ensures first { IfSome result (λ n. position (λ x. nat_eq x 0) bytes.now ≡ Some n) }
+    ensures plain { IfSome result (λ n. All (λ byte. shown_byte byte ≡ byte ∷ []) (take n bytes.now)) }
+    ensures few { IfSome result (λ n. n < 2 * WINDOW) }
+    ensures many { IfSome result (λ n. WINDOW ≤ n) }
+    ensures window { IfSome result (λ _. 2 * WINDOW ≤ length bytes.now) }
+    ensures room { IfSome result (λ _. 2 * WINDOW + 2 ≤ room) }
+{
+    if bytes.len() < WINDOW || room < WINDOW || count_plain(bytes) < WINDOW {
+        return None;
+    }
+    let rest = count_short(&bytes[WINDOW..], room - WINDOW)?;
+    Some(WINDOW + rest)
 }
 
 /// How many of sixteen bytes stand before the first one that may be escaped.
@@ -82,21 +99,40 @@ pub fn put_short(bytes: &[u8], count: usize, buffer: &mut Vec<u8>, at: usize) ->
     ensures text { take result buffer.new.items ≡ take at buffer.old.items ++ label_text (take count bytes.now) }
     ensures held { result ≤ vec_len buffer.new }
 {
-    put_window(bytes, count, buffer.as_mut_slice(), at)
+    let line = buffer.as_mut_slice();
+    line[at] = b'"';
+    put_window(bytes, count, line, at + 1)
 }
 
-/// The same in a line that has room. All sixteen are written, and the closing quote over the first one that is not wanted.
+/// The same of sixteen to thirty-two bytes, by two windows: the second one is written over the quote behind the first.
+#[inline(always)]
+pub fn put_longer(bytes: &[u8], count: usize, buffer: &mut Vec<u8>, at: usize) -> usize
+    requires plain { All (λ byte. shown_byte byte ≡ byte ∷ []) (take count bytes.now) }
+    requires few { count ≤ 2 * WINDOW }
+    requires many { WINDOW ≤ count }
+    requires window { 2 * WINDOW ≤ length bytes.now }
+    requires room { at + 2 * WINDOW + 2 ≤ vec_len buffer.old }
+    ensures text { take result buffer.new.items ≡ take at buffer.old.items ++ label_text (take count bytes.now) }
+    ensures held { result ≤ vec_len buffer.new }
+{
+    let line = buffer.as_mut_slice();
+    line[at] = b'"';
+    put_window(bytes, WINDOW, line, at + 1);
+    let rest = &bytes[WINDOW..];
+    put_window(rest, count - WINDOW, line, at + 1 + WINDOW)
+}
+
+/// Writes the first of sixteen bytes and a closing quote in a line that has room. All sixteen are written, and the quote
+/// over the first one that is not wanted.
 #[inline(always)]
 fn put_window(bytes: &[u8], count: usize, line: &mut [u8], at: usize) -> usize
-    requires plain { All (λ byte. shown_byte byte ≡ byte ∷ []) (take count bytes.now) }
     requires few { count ≤ WINDOW }
     requires window { WINDOW ≤ length bytes.now }
-    requires room { at + WINDOW + 2 ≤ length line.old }
-    ensures text { take result line.new ≡ take at line.old ++ label_text (take count bytes.now) }
-    ensures end { result ≡ at + count + 2 }
+    requires room { at + WINDOW + 1 ≤ length line.old }
+    ensures text { take result line.new ≡ take at line.old ++ (take count bytes.now ++ (34 ∷ [])) }
+    ensures end { result ≡ at + count + 1 }
 {
-    line[at] = b'"';
-    u8x16::from_slice(&bytes[..WINDOW]).copy_to_slice(&mut line[at + 1..]);
-    line[at + 1 + count] = b'"';
-    at + count + 2
+    u8x16::from_slice(&bytes[..WINDOW]).copy_to_slice(&mut line[at..]);
+    line[at + count] = b'"';
+    at + count + 1
 }
