@@ -185,6 +185,17 @@ impl StreamClass {
         self.events.only()
     }
 
+    /// The event class, where there is just one, with the plan of its records.
+    #[inline(always)]
+    pub fn planned_only(&self) -> Option<PlannedEvent<'_>>
+        ensures event { IfSome result (λ p. only_item self.now.events ≡ Some p.event.now) }
+        ensures plan { IfSome result (λ p. IsPlanOf (scopes_of self.now.event_context p.event.now.context p.event.now.fields) p.plan.now) }
+    {
+        let event = self.events.only()?;
+        let plan = self.plans.as_slice().first()?;
+        Some(PlannedEvent { event, plan })
+    }
+
     /// The clock.
     pub fn clock(&self) -> Option<&Clock>
         ensures { option_copied result ≡ self.now.clock }

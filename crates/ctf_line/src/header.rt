@@ -15,7 +15,7 @@ use ctf_bits::{sint_within, uint_within};
 use ctf_class::{Align, Class, Integer, Kind, Member, RecordPlan};
 use ctf_clock::{Moment, Timeline};
 use ctf_decode::{MOST_VALUES, Value, chosen_by_first, named_id};
-use ctf_packet::{Head, OpenPacket, event_named, moved_by_integer};
+use ctf_packet::{Head, OpenPacket, moved_by_integer, planned_named};
 
 /// How far a header was told.
 #[derive(Clone, Copy, Debug)]
@@ -104,13 +104,14 @@ pub(crate) fn told_by_class<'a>(
     bytes: &[u8],
     clock: Option<Moment>,
     place: u64,
-) -> Option<ToldHead<'a>>
+) -> Option<PlannedHead<'a>>
     requires start { place ≤ packet.now.content }
     requires content { packet.now.content ≤ 2 ^ 62 }
     requires held { packet.now.content ≤ 8 * length bytes.now }
-    ensures tells { IfSome result (λ told. (shift : Shift) → packet.now.line ≡ (stream_form shift packet.now.stream.now).line → TellsHead packet.now.stream.now (stream_form shift packet.now.stream.now) bytes.now packet.now.content clock place told) }
-    ensures within { IfSome result (λ told. told.head.end ≤ packet.now.content) }
-    ensures few { IfSome result (λ told. told.spent ≤ MOST_VALUES) }
+    ensures tells { IfSome result (λ p. (shift : Shift) → packet.now.line ≡ (stream_form shift packet.now.stream.now).line → TellsHead packet.now.stream.now (stream_form shift packet.now.stream.now) bytes.now packet.now.content clock place p.told) }
+    ensures plan { IfSome result (λ p. IsPlanOf (scopes_of packet.now.stream.now.event_context p.told.head.event.now.context p.told.head.event.now.fields) p.plan.now) }
+    ensures within { IfSome result (λ p. p.told.head.end ≤ packet.now.content) }
+    ensures few { IfSome result (λ p. p.told.spent ≤ MOST_VALUES) }
 {
     let stream = packet.stream;
     let Some(class) = stream.event_header() else {
@@ -124,37 +125,47 @@ pub(crate) fn told_by_class<'a>(
         spent: 0,
     };
     let to = tell_header(line, class, bytes, packet.content, from)?;
-    let event = event_named(stream, to.id)?;
-    Some(ToldHead {
-        head: Head {
-            event,
-            clock: Some(to.clock),
-            end: to.place,
+    let planned = planned_named(stream, to.id)?;
+    let head = Head {
+        event: planned.event,
+        clock: Some(to.clock),
+        end: to.place,
+    };
+    Some(PlannedHead {
+        told: ToldHead {
+            head,
+            spent: to.spent,
         },
-        spent: to.spent,
+        plan: planned.plan,
     })
 }
 
 /// The header of an event record of a stream whose event records have none: it is of the only event class.
 #[inline(always)]
-fn told_bare<'a>(packet: &OpenPacket<'a>, clock: Option<Moment>, place: u64) -> Option<ToldHead<'a>>
+fn told_bare<'a>(
+    packet: &OpenPacket<'a>,
+    clock: Option<Moment>,
+    place: u64,
+) -> Option<PlannedHead<'a>>
     requires bare { packet.now.stream.now.event_header ≡ None }
-    ensures tells { (bytes : List ℕ) (content : ℕ) → IfSome result (λ told. (shift : Shift) → packet.now.line ≡ (stream_form shift packet.now.stream.now).line → TellsHead packet.now.stream.now (stream_form shift packet.now.stream.now) bytes content clock place told) }
-    ensures end { IfSome result (λ told. told.head.end ≡ place) }
-    ensures spent { IfSome result (λ told. told.spent ≡ 0) }
+    ensures tells { (bytes : List ℕ) (content : ℕ) → IfSome result (λ p. (shift : Shift) → packet.now.line ≡ (stream_form shift packet.now.stream.now).line → TellsHead packet.now.stream.now (stream_form shift packet.now.stream.now) bytes content clock place p.told) }
+    ensures plan { IfSome result (λ p. IsPlanOf (scopes_of packet.now.stream.now.event_context p.told.head.event.now.context p.told.head.event.now.fields) p.plan.now) }
+    ensures end { IfSome result (λ p. p.told.head.end ≡ place) }
+    ensures spent { IfSome result (λ p. p.told.spent ≡ 0) }
 {
-    let event = event_named(packet.stream, None)?;
+    let planned = planned_named(packet.stream, None)?;
     let clock = match &packet.line {
         Some(_line) => clock,
         None => None,
     };
-    Some(ToldHead {
-        head: Head {
-            event,
-            clock,
-            end: place,
-        },
-        spent: 0,
+    let head = Head {
+        event: planned.event,
+        clock,
+        end: place,
+    };
+    Some(PlannedHead {
+        told: ToldHead { head, spent: 0 },
+        plan: planned.plan,
     })
 }
 

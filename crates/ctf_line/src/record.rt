@@ -105,9 +105,10 @@ fn written_by_class<'a>(
     ensures text { IfSome result (λ r. IfSome r.text (λ end. end ≤ vec_len line.new)) }
 {
     *attempt = Attempt::Untold;
-    let told = told_by_class(packet, bytes, clock, place)?;
+    let planned = told_by_class(packet, bytes, clock, place)?;
     *attempt = Attempt::Unwritten;
-    let standing = put_record(packet, told.head, part, bytes, told.spent, place, line)?;
+    let told = planned.told;
+    let standing = put_planned_body(packet, told, planned.plan, part, bytes, place, line)?;
     Some(with_text(told.head, standing))
 }
 
@@ -144,10 +145,17 @@ pub fn next_line<'a>(
     if let Attempt::Open = attempt {
         keep_short(alloc, line);
         attempt = Attempt::Untold;
-        if let Some(told) = told_by_class(packet, bytes, clock, place) {
+        if let Some(planned) = told_by_class(packet, bytes, clock, place) {
             attempt = Attempt::Unwritten;
-            if let Some(standing) = put_record(
-                packet, told.head, part, bytes, told.spent, place, line,
+            let told = planned.told;
+            if let Some(standing) = put_planned_body(
+                packet,
+                told,
+                planned.plan,
+                part,
+                bytes,
+                place,
+                line,
             ) {
                 return Ok(with_text(told.head, standing));
             }
@@ -155,7 +163,7 @@ pub fn next_line<'a>(
     }
     let head = next_head(alloc, packet, bytes, clock, place, spares, scopes)?;
     if let Attempt::Untold = attempt {
-        if let Some(standing) = put_apart(packet, head, part, bytes, scopes.spent(), place, line) {
+        if let Some(standing) = put_record(packet, head, part, bytes, scopes.spent(), place, line) {
             return Ok(with_text(head, standing));
         }
     }
@@ -255,12 +263,13 @@ fn put_planned_body(
             return Some(all);
         }
     }
-    put_apart(packet, head, part, bytes, told.spent, place, line)
+    put_record(packet, head, part, bytes, told.spent, place, line)
 }
 
 /// Writes the text of the event record that begins at `place` at the front of a line, where the scopes behind its header
-/// stand in a form that can be shown without their values, and so many values were begun before.
-#[inline(always)]
+/// stand in a form that can be shown without their values, and so many values were begun before. It stands apart, out of
+/// the way of records that are written by a plan.
+#[inline(never)]
 fn put_record(
     packet: &OpenPacket<'_>,
     head: Head<'_>,
@@ -298,29 +307,6 @@ fn put_record(
         return None;
     }
     Some(all)
-}
-
-/// The same out of the way of most records.
-#[inline(never)]
-fn put_apart(
-    packet: &OpenPacket<'_>,
-    head: Head<'_>,
-    part: &[u8],
-    bytes: &[u8],
-    spent: u64,
-    place: u64,
-    line: &mut Vec<u8>,
-) -> Option<Standing>
-    requires start { head.end ≤ packet.now.content }
-    requires content { packet.now.content ≤ 2 ^ 62 }
-    requires held { packet.now.content ≤ 8 * length bytes.now }
-    requires few { spent ≤ MOST_VALUES }
-    ensures puts { IfSome result (λ s. PutsBody packet.now.stream.now head.entry.event.now part.now bytes.now packet.now.content head.entry.end spent s.place (take s.end line.new.items)) }
-    ensures within { IfSome result (λ s. s.place ≤ packet.now.content) }
-    ensures forward { IfSome result (λ s. place < s.place) }
-    ensures held { IfSome result (λ s. s.end ≤ vec_len line.new) }
-{
-    put_record(packet, head, part, bytes, spent, place, line)
 }
 
 /// Writes the text of a scope, if it has a class, and a comma behind it.

@@ -24,7 +24,7 @@ pub use laws::{packets_go_on, records_go_on, walk_finds_what_stands};
 pub use moves::{moved, moved_by_integer};
 pub use packet::{OpenPacket, placed};
 pub use reached::Reached;
-pub use record::{EventRecord, Head, event_named, next_head, next_record, put_body};
+pub use record::{EventRecord, Head, event_named, next_head, next_record, planned_named, put_body};
 pub use roles::{number_in, role};
 pub use scope::{cut_short, front_content, record_scope, scope_into};
 pub use sizes::{LONGEST_PACKET, Sizes, are_possible, sizes_checked, told_sizes};

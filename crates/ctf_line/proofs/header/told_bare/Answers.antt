@@ -9,6 +9,6 @@ pub returns-clause-tells : goal.returns-clause-tells
 returns-clause-tells c = λ bytes content shift has_line.
     let class = c.args.packet.now.stream.now in
     let clock = c.match-packet.clock in
-    let told : ToldHead = record { head = record { event = c.in_ok-event.event; clock = clock; end = c.args.place }; spent = 0 } in
+    let told : ToldHead = record { head = record { event = c.in_ok-planned.planned.event; clock = clock; end = c.args.place }; spent = 0 } in
     let kept : clock ≡ clock_kept c.args.packet.now.line c.args.clock = elim c.match-packet.branch [ in-Some w ↦ w.clock-is ∙ ap (λ l. clock_kept l c.args.clock) (sym w.in-Some.is) | in-None w ↦ w.clock-is ∙ ap (λ l. clock_kept l c.args.clock) (sym w.in-None.is) ] in
-    tells_bare class shift bytes content c.args.place c.args.clock told c.requires.bare (sym c.in_ok-event.ensures) (kept ∙ ap (λ l. clock_kept l c.args.clock) has_line) refl refl
+    tells_bare class shift bytes content c.args.place c.args.clock told c.requires.bare c.in_ok-planned.ensures.event (kept ∙ ap (λ l. clock_kept l c.args.clock) has_line) refl refl

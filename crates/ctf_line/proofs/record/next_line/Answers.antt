@@ -14,19 +14,19 @@ returns-in_err-head-clause-makes c = λ shift line.
     subst (λ r. Makes o.stream.now (record_at (opened_of shift (packet_values old) o) c.args.bytes.now c.args.clock c.args.place) c.args.part.now c.next_head.new.scopes c.match-attempt.line.items r) (sym is)
     (no_head shift o old c.args.bytes.now c.args.clock c.args.place c.next_head.new.scopes f (c.in_err-head.ensures.puts shift line))
 
-pub returns-in-Some-put_apart-clause-makes : goal.returns-in-Some-put_apart-clause-makes
-returns-in-Some-put_apart-clause-makes c = λ shift line.
+pub returns-in-Some-put_record-clause-makes : goal.returns-in-Some-put_record-clause-makes
+returns-in-Some-put_record-clause-makes c = λ shift line.
     let o = c.args.packet.now in
     let old = values_of c.args.scopes.now in
     let head = c.in_ok-head.head in
     let known = c.next_head.new.scopes in
-    let standing = c.in-Some-put_apart.standing in
-    let items = c.put_apart.new.line.items in
+    let standing = c.in-Some-put_record.standing in
+    let items = c.put_record.new.line.items in
     let text = take standing.end items in
-    let body = subst (λ n. PutsBody o.stream.now head.event.now c.args.part.now c.args.bytes.now o.content head.end n standing.place text) c.spent.ensures.value c.in-Some-put_apart.ensures.puts in
-    let made = c.with_text-in-Some-put_apart.result.record in
-    subst (λ t. Made o.stream.now (record_at (opened_of shift (packet_values old) o) c.args.bytes.now c.args.clock c.args.place) c.args.part.now known items made t) (sym c.with_text-in-Some-put_apart.ensures.text)
-    (text_made shift o old c.args.bytes.now c.args.part.now c.args.clock c.args.place head (values_of known) known.spent text standing.place made (c.in_ok-head.ensures.puts shift line) body c.in-Some-put_apart.ensures.forward c.with_text-in-Some-put_apart.ensures.record)
+    let body = subst (λ n. PutsBody o.stream.now head.event.now c.args.part.now c.args.bytes.now o.content head.end n standing.place text) c.spent.ensures.value c.in-Some-put_record.ensures.puts in
+    let made = c.with_text-in-Some-put_record.result.record in
+    subst (λ t. Made o.stream.now (record_at (opened_of shift (packet_values old) o) c.args.bytes.now c.args.clock c.args.place) c.args.part.now known items made t) (sym c.with_text-in-Some-put_record.ensures.text)
+    (text_made shift o old c.args.bytes.now c.args.part.now c.args.clock c.args.place head (values_of known) known.spent text standing.place made (c.in_ok-head.ensures.puts shift line) body c.in-Some-put_record.ensures.forward c.with_text-in-Some-put_record.ensures.record)
 
 pub returns-in_err-record-clause-makes : goal.returns-in_err-record-clause-makes
 returns-in_err-record-clause-makes c = λ shift line.
@@ -45,12 +45,12 @@ returns-clause-makes c = λ shift line.
     let known = c.next_head.new.scopes in
     value_made shift o old c.args.bytes.now c.args.part.now c.args.clock c.args.place c.in_ok-head.head (values_of known) known.spent c.valued.new.scopes c.in_ok-record.record (c.in_ok-head.ensures.puts shift line) c.in_ok-record.ensures.values
 
-pub returns-in-Some-put_record-clause-makes : goal.returns-in-Some-put_record-clause-makes
-returns-in-Some-put_record-clause-makes c = λ shift line.
+pub returns-in-Some-put_planned_body-clause-makes : goal.returns-in-Some-put_planned_body-clause-makes
+returns-in-Some-put_planned_body-clause-makes c = λ shift line.
     let o = c.args.packet.now in
     let old = values_of c.args.scopes.now in
-    let told = c.in-Some.told in
-    let standing = c.in-Some-put_record.standing in
-    let items = c.put_record.new.line.items in
+    let told = c.in-Some.planned.told in
+    let standing = c.in-Some-put_planned_body.standing in
+    let items = c.put_planned_body.new.line.items in
     subst (λ t. Made o.stream.now (record_at (opened_of shift (packet_values old) o) c.args.bytes.now c.args.clock c.args.place) c.args.part.now c.args.scopes.now items c.with_text.result.record t) (sym c.with_text.ensures.text)
-    (text_told shift o old c.args.bytes.now c.args.part.now c.args.clock c.args.place told (take standing.end items) standing.place c.with_text.result.record (c.in-Some.ensures.tells shift line) c.in-Some-put_record.ensures.puts c.in-Some-put_record.ensures.forward c.with_text.ensures.record)
+    (text_told shift o old c.args.bytes.now c.args.part.now c.args.clock c.args.place told (take standing.end items) standing.place c.with_text.result.record (c.in-Some.ensures.tells shift line) c.in-Some-put_planned_body.ensures.puts c.in-Some-put_planned_body.ensures.forward c.with_text.ensures.record)
