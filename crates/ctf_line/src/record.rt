@@ -48,8 +48,10 @@ pub enum Attempt {
 /// of its event records, and `short` what `short_header` gave for its stream class, or nothing. The text of the record stands
 /// at the front of `line` then: the host, the name and the scopes.
 ///
+/// By `short` and a plan of the record, which is fast; or `by_class`, for what can't be written so.
+///
 /// `None` where a class is another one than `put_standing` writes, where the record has a fault, and where memory is
-/// refused. The line is then any line, and `attempt` tells `next_line` how far the record came.
+/// refused. The line is then any line, and `attempt` tells `next_line` how far the record came by class.
 #[inline(always)]
 pub fn written_line<'a>(
     alloc: Global,
@@ -59,6 +61,7 @@ pub fn written_line<'a>(
     clock: Option<Moment>,
     place: u64,
     short: Option<&ShortHeader>,
+    by_class: bool,
     line: &mut Vec<u8>,
     attempt: &mut Attempt,
 ) -> Option<LineRecord<'a>>
@@ -72,21 +75,17 @@ pub fn written_line<'a>(
     ensures text { IfSome result (λ r. IfSome r.text (λ end. end ≤ vec_len line.new)) }
 {
     keep_short(alloc, line);
-    if let Some(short) = short {
-        if let Some(planned) = told_short(packet, short, bytes, clock, place) {
-            *attempt = Attempt::Unwritten;
-            let told = planned.told;
-            let standing = put_planned_body(packet, told, planned.plan, part, bytes, place, line)?;
-            return Some(with_text(told.head, standing));
-        }
+    if by_class {
+        return written_by_class(packet, part, bytes, clock, place, line, attempt);
     }
-    // This result gets a place of its own. Else the record of a usual header is made in that place, too, and copied.
-    let made = written_by_class(packet, part, bytes, clock, place, line, attempt)?;
-    Some(made)
+    let planned = told_short(packet, short?, bytes, clock, place)?;
+    let told = planned.told;
+    let standing = put_by_plan(packet, told, planned.plan, part, bytes, place, line)?;
+    Some(with_text(told.head, standing))
 }
 
-/// The same of a header that is told by its class. It stands apart, so that what a usual header tells goes through no memory.
-#[inline(never)]
+/// The same of a header that is told by its class.
+#[inline(always)]
 fn written_by_class<'a>(
     packet: &OpenPacket<'a>,
     part: &[u8],
@@ -107,9 +106,9 @@ fn written_by_class<'a>(
     *attempt = Attempt::Untold;
     let planned = told_by_class(packet, bytes, clock, place)?;
     *attempt = Attempt::Unwritten;
-    let told = planned.told;
-    let standing = put_planned_body(packet, told, planned.plan, part, bytes, place, line)?;
-    Some(with_text(told.head, standing))
+    let head = planned.told.head;
+    let standing = put_planned_body(packet, planned.told, planned.plan, part, bytes, place, line)?;
+    Some(with_text(head, standing))
 }
 
 /// The event record at a place of a packet, in bits from its first one, where `bytes` are the packet's and its clock
@@ -253,17 +252,46 @@ fn put_planned_body(
     ensures forward { IfSome result (λ s. place < s.place) }
     ensures held { IfSome result (λ s. s.end ≤ vec_len line.new) }
 {
+    if let Some(all) = put_by_plan(packet, told, plan, part, bytes, place, line) {
+        return Some(all);
+    }
+    put_record(packet, told.head, part, bytes, told.spent, place, line)
+}
+
+/// The same by the plan alone.
+#[inline(always)]
+fn put_by_plan(
+    packet: &OpenPacket<'_>,
+    told: ToldHead<'_>,
+    plan: &RecordPlan,
+    part: &[u8],
+    bytes: &[u8],
+    place: u64,
+    line: &mut Vec<u8>,
+) -> Option<Standing>
+    requires start { told.head.end ≤ packet.now.content }
+    requires content { packet.now.content ≤ 2 ^ 62 }
+    requires held { packet.now.content ≤ 8 * length bytes.now }
+    requires few { told.spent ≤ MOST_VALUES }
+    requires plan { IsPlanOf (scopes_of packet.now.stream.now.event_context told.head.event.now.context told.head.event.now.fields) plan.now }
+    ensures puts { IfSome result (λ s. PutsBody packet.now.stream.now told.entry.head.event.now part.now bytes.now packet.now.content told.entry.head.end told.entry.spent s.place (take s.end line.new.items)) }
+    ensures within { IfSome result (λ s. s.place ≤ packet.now.content) }
+    ensures forward { IfSome result (λ s. place < s.place) }
+    ensures held { IfSome result (λ s. s.end ≤ vec_len line.new) }
+{
     let head = told.head;
     let content = packet.content;
+    if plan.runs.is_empty() {
+        return None;
+    }
     let Ok(front) = put_front(&head.event.heading, part, line, 0) else {
         return None;
     };
-    if let Some(all) = put_planned_record(plan, bytes, content, head.end, told.spent, line, front) {
-        if all.place > place {
-            return Some(all);
-        }
+    let all = put_planned_record(plan, bytes, content, head.end, told.spent, line, front)?;
+    if all.place <= place {
+        return None;
     }
-    put_record(packet, head, part, bytes, told.spent, place, line)
+    Some(all)
 }
 
 /// Writes the text of the event record that begins at `place` at the front of a line, where the scopes behind its header

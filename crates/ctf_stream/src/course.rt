@@ -89,7 +89,12 @@ impl<'a> Course<'a> {
     /// The next item, if it is an event record of the packet at hand that can be shown without its values, where texts are
     /// asked for. `None` elsewhere: then only the line is another one, and `attempt` tells `advance` what was tried.
     #[inline(always)]
-    pub(crate) fn next_written(&mut self, alloc: Global, attempt: &mut Attempt) -> Option<Front<'a>>
+    pub(crate) fn next_written(
+        &mut self,
+        alloc: Global,
+        by_class: bool,
+        attempt: &mut Attempt,
+    ) -> Option<Front<'a>>
         requires stands { Stands self.old }
         requires part { HasPart self.old }
         ensures advances { (ending : Ending) (left : List ℕ) → IfSome result (λ front. Advances (coming_of ending left self.old) (coming_of ending left self.new) self.new.cut self.new.scopes self.new.buffer self.new.packet left (Ok (Some front))) }
@@ -113,6 +118,7 @@ impl<'a> Course<'a> {
             self.buffer.as_slice(),
             self.writes,
             self.part.as_slice(),
+            by_class,
             &mut self.line,
             attempt,
         )

@@ -72,6 +72,7 @@ impl<'a> Packet<'a> {
         bytes: &[u8],
         writes: bool,
         part: &[u8],
+        by_class: bool,
         line: &mut Vec<u8>,
         attempt: &mut Attempt,
     ) -> Option<Front<'a>>
@@ -101,6 +102,7 @@ impl<'a> Packet<'a> {
             before,
             begin,
             self.short.as_ref(),
+            by_class,
             line,
             attempt,
         )?;

@@ -147,18 +147,18 @@ impl<'a, S: Source + Drop> StreamReader<'a, S> {
             Head::Start => {}
         }
         let mut attempt = Attempt::Open;
-        if let Some(front) = self.course.next_written(self.alloc, &mut attempt) {
+        if let Some(front) = self.course.next_written(self.alloc, false, &mut attempt) {
             self.head = Head::Item(front);
             return;
         }
         self.head = Head::Start;
-        self.advance(attempt);
+        self.advance();
     }
 
-    /// Fetches the next item, where nothing stands in front. `attempt` tells what was tried of it. Mostly the next item is
-    /// one that `go_on` fetches itself, so this stands out of its way.
+    /// Fetches the next item, where nothing stands in front. Mostly the next item is one that `go_on` fetches itself, so this
+    /// stands out of its way.
     #[inline(never)]
-    fn advance(&mut self, attempt: Attempt)
+    fn advance(&mut self)
         requires { self.old.ahead ≡ start }
         ensures comes { IsTrue self.old.tells → OrRefused (coming self.old) (coming self.new) }
         ensures fetched { IsFetched self.new.ahead }
@@ -171,6 +171,11 @@ impl<'a, S: Source + Drop> StreamReader<'a, S> {
         ensures on_line { IsOnLine self.new }
         ensures all_taken { IsTrue self.old.tells → IsAllTaken self.new.ahead self.new.left }
     {
+        let mut attempt = Attempt::Open;
+        if let Some(front) = self.course.next_written(self.alloc, true, &mut attempt) {
+            self.head = Head::Item(front);
+            return;
+        }
         match self.course.advance(self.alloc, &mut self.source, attempt) {
             Ok(Some(front)) => self.head = Head::Item(front),
             Ok(None) => {
