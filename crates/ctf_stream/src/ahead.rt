@@ -1,11 +1,12 @@
 //! What stands in front of a reader.
 
-ghost use Rattle.std.specs.Prelude.{◌≡◌};
+ghost use Rattle.std.specs.Prelude.{◌≡◌, option_map};
 ghost use Rattle.ctf_stream.specs.Ahead.{told, time_in};
 
 use crate::packet::{Front, Packet};
 use crate::reader::{Head, StreamReader};
 use ctf_bits::Source;
+use ctf_clock::Moment;
 use ctf_packet::StreamFault;
 
 /// What stands in front of a reader.
@@ -19,16 +20,36 @@ pub enum Ahead {
     Fault(StreamFault),
 }
 
-/// The time of an item of a packet, in nanoseconds since the epoch.
+/// The time of an item of a packet, in nanoseconds since the epoch. Mostly it is an event record that was written.
+#[inline(always)]
 fn time_of(front: &Front, packet: &Packet) -> Option<i64>
     ensures { result ≡ time_in front.now packet.now }
 {
-    let clock = match front {
-        Front::Event(record) => record.clock,
-        Front::Written(written) => written.event.clock,
-        Front::Discarded(_) => packet.opened.clock,
-        Front::Lost(_) => packet.opened.clock,
-    };
+    if let Front::Written(written) = front {
+        return time_at(written.event.clock);
+    }
+    other_time(front, packet)
+}
+
+/// The same out of the way of written event records. In one `match` with these, it would be a table of jumps.
+#[cold]
+#[inline(never)]
+fn other_time(front: &Front, packet: &Packet) -> Option<i64>
+    ensures { result ≡ time_in front.now packet.now }
+{
+    match front {
+        Front::Event(record) => time_at(record.clock),
+        Front::Written(written) => time_at(written.event.clock),
+        Front::Discarded(_) => time_at(packet.opened.clock),
+        Front::Lost(_) => time_at(packet.opened.clock),
+    }
+}
+
+/// The time of a moment, if there is one.
+#[inline(always)]
+fn time_at(clock: Option<Moment>) -> Option<i64>
+    ensures { result ≡ option_map (λ m. m.time) clock }
+{
     match clock {
         Some(moment) => Some(moment.time),
         None => None,
