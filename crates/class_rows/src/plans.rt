@@ -1,8 +1,8 @@
 //! What is known of event records beforehand.
 
 use crate::traces::integer_of;
-use ctf_class::{Align, Class, FieldName, Kind, Member, RecordPlan};
-use ctf_list::{List, NoMemory};
+use ctf_class::{Align, Class, FieldName, Kind, Length, Member, Origin, RecordPlan, Route};
+use ctf_list::{Boxed, List, NoMemory};
 use std::alloc::Global;
 use std::test::Fail;
 
@@ -64,6 +64,42 @@ fn no_plan(rt: HostRuntime) -> Result<(), Fail> {
     };
     assert!(rt; has_no_plan(alloc, &nested)?);
     Ok(())
+}
+
+/// Arrays of integers stand in plans where their length is fixed or the field before.
+#[test]
+fn arrays(rt: HostRuntime) -> Result<(), Fail> {
+    let alloc = rt.alloc();
+    let (Some(fixed), Some(counted), Some(other)) = (
+        array(alloc, Length::Fixed(4))?,
+        array(alloc, member_at(alloc, 0)?)?,
+        array(alloc, member_at(alloc, 1)?)?,
+    ) else {
+        return Ok(());
+    };
+    for class in [&fixed, &counted] {
+        let plan = RecordPlan::new(alloc, None, None, class)?;
+        assert_eq!(rt; (plan.runs.as_slice().len(), plan.count), (2, 4));
+    }
+    assert!(rt; has_no_plan(alloc, &other)?);
+    Ok(())
+}
+
+/// A structure of a byte, an array of bytes and a word.
+fn array(alloc: Global, length: Length) -> Result<Option<Class>, NoMemory> {
+    let Some(byte) = integer_of(8) else {
+        return Ok(None);
+    };
+    let element = Boxed::new(alloc, byte)?;
+    structure(alloc, 8, Kind::Array { length, element })
+}
+
+/// A length that is a member of the innermost structure.
+fn member_at(alloc: Global, place: u32) -> Result<Length, NoMemory> {
+    Ok(Length::Field(Route {
+        origin: Origin::Enclosing(0),
+        steps: List::from_slice(alloc, &[place])?,
+    }))
 }
 
 /// Whether records of these fields have no plan.
