@@ -1,5 +1,5 @@
 -- What digits are worth (own).
-use Rattle.std.specs.Prelude.{ℕ, zero, suc, ◌+◌, ◌*◌, ◌/◌, ◌%◌, ◌^◌, List, [], ◌∷◌, ◌++◌}
+use Rattle.std.specs.Prelude.{ℕ, zero, suc, ◌/◌, ◌%◌, List, [], ◌∷◌, ◌++◌}
 
 -- what so many digits of a number are worth in base 16, the last of them last
 unfoldable pub sixteens : ℕ → ℕ → List ℕ

@@ -258,7 +258,15 @@ fn put_other(
         Many::Fixed(count) => count,
         Many::Counted => last_number(numbers, packet.bytes, first)?,
     };
-    let next = put_integers(&are.integer, are.align, count, packet, reach.place, buffer, at)?;
+    let next = put_integers(
+        &are.integer,
+        are.align,
+        count,
+        packet,
+        reach.place,
+        buffer,
+        at,
+    )?;
     let more = reach.more + next.more;
     if more > MOST_VALUES {
         return None;

@@ -1,10 +1,9 @@
-use Rattle.std.proofs.Common.{IfSome, ◌∷◌, [], take}
+use Rattle.std.proofs.Common.{◌∷◌, [], take}
 use Rattle.ctf_decode.specs.Forms as forms
 use Rattle.ctf_decode.specs.Views.{form}
 use Rattle.ctf_text.specs.Standing.{elements_text}
 use Rattle.ctf_text.specs.Texts.{value_text}
-use Rattle.ctf_text.specs.declared.standing.Next.{Next}
-use Rattle.ctf_text.proofs.ArrayLemmas.{next_class, next_named, form_array, text_array, named_some}
+use Rattle.ctf_text.proofs.ArrayLemmas.{next_class, form_array, text_array, named_some}
 use Rattle.ctf_text.proofs.array.put_array.Goals as goal
 
 pub returns-clause-puts : goal.returns-clause-puts

@@ -1,7 +1,7 @@
 use Rattle.std.proofs.Common.{◌≡◌, ◌-◌, ◌+◌, ◌/◌, ◌++◌, ◌∙◌, take, arith, sym, subst}
 use Rattle.std.specs.Fmt.{decimal}
 use Rattle.std.specs.Int.{leading_zeros, w32}
-use Rattle.ctf_digits.specs.Fours.{missing, few}
+use Rattle.ctf_digits.specs.Fours.{missing}
 use Rattle.ctf_text.proofs.DecimalLemmas.{few_shown, few_written}
 use Rattle.ctf_text.proofs.decimal.put_few.Goals as goal
 

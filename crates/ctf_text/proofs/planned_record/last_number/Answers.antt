@@ -1,5 +1,4 @@
-use Rattle.std.proofs.Common.{◌≡◌, ◌<◌, Some, None, pos, true, false, length, IfSome, refl, sym, rules, arith}
-use Rattle.ctf_bits.specs.Placed.{number_behind}
+use Rattle.std.proofs.Common.{◌<◌, length, arith}
 use Rattle.ctf_text.proofs.RecordsLemmas.{no_number, last_number}
 use Rattle.ctf_text.proofs.planned_record.last_number.Goals as goal
 

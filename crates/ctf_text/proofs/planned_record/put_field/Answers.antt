@@ -1,4 +1,4 @@
-use Rattle.std.proofs.Common.{◌≡◌, ◌-◌, ◌/◌, ◌≤◌, None, take, refl, sym, subst, arith}
+use Rattle.std.proofs.Common.{◌-◌, ◌/◌, ◌≤◌, None, take, refl, sym, subst, arith}
 use Rattle.ctf_class.specs.Records.{IsShown}
 use Rattle.ctf_class.specs.declared.route.Length.TheVariants.{Fixed}
 use Rattle.ctf_decode.specs.Forms as forms

@@ -51,8 +51,7 @@ returns-clause-puts c = λ index member are.
           let is = subst (AreIntegers index member i align) w.in-Fixed.is are in
           let many = lengths.Fixed w.in-Fixed.count in
           let k = is.0 in
-          let puts = c.in_ok-next.ensures.puts (behind index None) many class.align (λ earlier env vs counted last. sym w.count-is) in
-          (
+          let puts = c.in_ok-next.ensures.puts (behind index None) many class.align (λ earlier env vs counted last. sym w.count-is) in (
             None,
             no_number c.args.numbers.now bytes c.args.first,
             (
@@ -68,8 +67,7 @@ returns-clause-puts c = λ index member are.
           let k = is.1 in
           let last = Some c.match-are.count in
           let known : IsLastNumber last c.args.numbers.now bytes c.args.first = subst (λ o. IsLastNumber o c.args.numbers.now bytes c.args.first) (w.in_ok-count-in-Counted.was ∙ ap Some (sym w.count-is)) w.last_number.ensures in
-          let puts = c.in_ok-next.ensures.puts (behind index last) many class.align (counts_behind is.0 index c.match-are.count is.3) in
-          (
+          let puts = c.in_ok-next.ensures.puts (behind index last) many class.align (counts_behind is.0 index c.match-are.count is.3) in (
             last,
             known,
             (
