@@ -173,6 +173,46 @@ size_twice =
 pub size_twice_faults : told size_twice ≡ Attribute ∷ []
 size_twice_faults = refl
 
+-- trace { major = 1; minor = 8; byte_order = le; }; event { name = "n"; fields := struct { integer { size = 4294967304; } a; }; };
+abbrev pub size_beyond_32_bits : List Declaration
+size_beyond_32_bits =
+    le_trace
+    ∷ event_with (field (Integer (counts (codes "size") 4294967304 ∷ [])) (codes "a") ∷ [])
+    ∷ []
+
+pub size_beyond_32_bits_faults : told size_beyond_32_bits ≡ SizeOrAlignment ∷ []
+size_beyond_32_bits_faults = refl
+
+-- trace { major = 1; minor = 8; byte_order = le; }; event { name = "n"; fields := struct { integer { size = 65; size = 65; } a; }; };
+abbrev pub size_far_twice : List Declaration
+size_far_twice =
+    le_trace
+    ∷ event_with (field (Integer (counts (codes "size") 65 ∷ counts (codes "size") 65 ∷ [])) (codes "a") ∷ [])
+    ∷ []
+
+pub size_far_twice_faults : told size_far_twice ≡ Attribute ∷ SizeOrAlignment ∷ []
+size_far_twice_faults = refl
+
+-- trace { major = 1; minor = 8; byte_order = le; }; event { name = "n"; fields := struct { integer { size = 65; map = x; map = x; } a; }; };
+abbrev pub map_twice : List Declaration
+map_twice =
+    le_trace
+    ∷ event_with (field (Integer (counts (codes "size") 65 ∷ says (codes "map") (codes "x") ∷ says (codes "map") (codes "x") ∷ [])) (codes "a") ∷ [])
+    ∷ []
+
+pub map_twice_faults : told map_twice ≡ Attribute ∷ SizeOrAlignment ∷ []
+map_twice_faults = refl
+
+-- trace { major = 1; minor = 8; byte_order = le; }; event { name = "n"; fields := struct { integer { size = 65; signed = yes; } a; }; };
+abbrev pub size_far_and_sign : List Declaration
+size_far_and_sign =
+    le_trace
+    ∷ event_with (field (Integer (counts (codes "size") 65 ∷ says (codes "signed") (codes "yes") ∷ [])) (codes "a") ∷ [])
+    ∷ []
+
+pub size_far_and_sign_faults : told size_far_and_sign ≡ Attribute ∷ SizeOrAlignment ∷ []
+size_far_and_sign_faults = refl
+
 -- trace { major = 1; minor = 8; byte_order = le; }; event { name = "n"; fields := struct { integer { size = 8; align = 2147483648; } a; integer { size = 8; align = 1; } b; }; };
 abbrev pub align_far : List Declaration
 align_far =

@@ -1,13 +1,16 @@
-//! Which fault is told of a metadata text.
+//! What is told of a metadata text.
 
+use crate::count::classes_in;
 use ctf_meaning::ResolveFault;
 use ctf_types::resolve;
 use std::alloc::{AllocError, Global};
 use tsdl_parse::{SyntaxFault, parse};
 use tsdl_text::{Line, MetaFault, metadata_text, tokens};
+use tsdl_tree::Tree;
 
-/// The code of the fault that is told of a metadata text, with the line where it has one (`S2:1`), or
-/// `accepted`.
+/// Words about a metadata text: the code of its fault, with the line where it has one (`S2:1`), or `accepted`; how
+/// many declarations its tree has (`tree:2`), or the code of its fault (`tree:S2:1`); and how many classes
+/// its scopes have (`classes:5`).
 pub fn outcome(alloc: Global, bytes: &[u8]) -> Result<String, AllocError> {
     let text = match metadata_text(alloc, bytes) {
         Ok(text) => text,
@@ -17,13 +20,21 @@ pub fn outcome(alloc: Global, bytes: &[u8]) -> Result<String, AllocError> {
         Ok(tokens) => tokens,
         Err(fault) => return with_line(alloc, code_of_text(&fault), fault.line()),
     };
-    let tree = match parse(alloc, &tokens) {
-        Ok(tree) => tree,
-        Err(fault) => return with_line(alloc, code_of_syntax(&fault), fault.line()),
-    };
-    match resolve(alloc, &tree) {
-        Ok(_) => String::from_str(alloc, "accepted"),
-        Err(fault) => String::from_str(alloc, code_of_class(fault)),
+    match parse(alloc, &tokens) {
+        Ok(tree) => of_tree(alloc, &tree),
+        Err(fault) => {
+            let code = with_line(alloc, code_of_syntax(&fault), fault.line())?;
+            format!(in alloc; "{code} tree:{code}")
+        }
+    }
+}
+
+/// Words about a tree.
+fn of_tree(alloc: Global, tree: &Tree) -> Result<String, AllocError> {
+    let count = tree.declarations.len();
+    match resolve(alloc, tree) {
+        Ok(trace) => format!(in alloc; "accepted tree:{count} classes:{}", classes_in(&trace)),
+        Err(fault) => format!(in alloc; "{} tree:{count}", code_of_class(fault)),
     }
 }
 

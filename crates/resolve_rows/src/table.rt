@@ -1,36 +1,35 @@
-//! A table of metadata texts and their faults.
+//! Tables of metadata texts and what is told of them.
 //!
 //! A line that begins with `#` is a comment. A line `= FRONT ~ BACK` says what stands around the texts of the
-//! rows below it. A row is `FAULT TEXT`, where `FAULT` is a code, codes of which any may be told (`R3|R4`), or
-//! `accepted`; `FAULT*COUNT TEXT` has the text so many times.
+//! rows below it. A row is `WANTED TEXT`, where `WANTED` is one of the words that are told of the text, or several
+//! of which any may be told (`R3|R4`); where it is `class`, what the text declares is printed. A backquote in the
+//! text stands for the end of a line.
+//!
+//! `WANTED*COUNT TEXT` has the text so many times, and of a text `OPEN ~ INNER ~ CLOSE` or `OPEN ~ CLOSE` its
+//! ends, `OPEN` and `CLOSE`; `%` in them stands for the number of the repetition, from 0 on.
 
 use crate::outcome::outcome;
-use anyhow::{Result, bail};
-use std::alloc::{AllocError, Global};
+use crate::reading::put_text;
+use crate::row::{Around, Row, around_of};
+use anyhow::Result;
+use std::alloc::Global;
 use std::io::Write;
 
 /// What came of the rows.
 #[derive(Drop)]
 pub struct Rows {
     pub count: u64,
-    /// A line for each row with another fault.
-    pub others: Vec<u8>,
+    /// What is printed of rows: a line for each of which something else was told, and what texts declare.
+    pub lines: Vec<u8>,
 }
 
-/// What stands around the texts of rows.
-#[derive(Clone, Copy)]
-struct Around<'a> {
-    front: &'a str,
-    back: &'a str,
-}
-
-/// Resolves each row of a table.
+/// Reads and resolves each row of a table.
 pub fn checked(alloc: Global, table: &str) -> Result<Rows> {
     let mut around = Around {
         front: "",
         back: "",
     };
-    let mut others = Vec::new(alloc);
+    let mut lines = Vec::new(alloc);
     let mut count = 0u64;
     for line in table.lines() {
         if line.is_empty() || line.starts_with('#') {
@@ -39,53 +38,32 @@ pub fn checked(alloc: Global, table: &str) -> Result<Rows> {
         match line.strip_prefix("= ") {
             Some(pattern) => around = around_of(pattern)?,
             None => {
-                check(alloc, around, line, &mut others)?;
+                check(alloc, around, line, &mut lines)?;
                 count = count.saturating_add(1);
             }
         }
     }
-    Ok(Rows { count, others })
+    Ok(Rows { count, lines })
 }
 
-/// What stands around `~`.
-fn around_of(pattern: &str) -> Result<Around<'_>> {
-    match pattern.split_once('~') {
-        Some((front, back)) => Ok(Around { front, back }),
-        None => bail!("no ~ in {pattern}"),
+/// Resolves a row, and puts what it declares, or that something else was told of it than it wants.
+fn check(alloc: Global, around: Around<'_>, line: &str, lines: &mut Vec<u8>) -> Result<()> {
+    let row = Row::read(line)?;
+    let text = row.text(alloc, around)?;
+    let bytes = text.as_bytes();
+    if row.wanted == "class" {
+        writeln!(lines, "\n> {line}")?;
+        return put_text(alloc, lines, bytes);
     }
-}
-
-/// Resolves a row, and tells of it where its fault is another.
-fn check(alloc: Global, around: Around<'_>, line: &str, others: &mut Vec<u8>) -> Result<()> {
-    let Some((wanted, piece)) = line.split_once(' ') else {
-        bail!("no text in {line}");
-    };
-    let (codes, count) = match wanted.split_once('*') {
-        Some((codes, count)) => (codes, count.parse::<usize>()?),
-        None => (wanted, 1),
-    };
-    let text = text_of(alloc, around, piece, count)?;
-    let told = outcome(alloc, text.as_str().as_bytes())?;
-    if !is_among(told.as_str(), codes) {
-        writeln!(others, "{told} in place of {line}")?;
+    let told = outcome(alloc, bytes)?;
+    if !is_told(told.as_str(), row.wanted) {
+        writeln!(lines, "{told} in place of {line}")?;
     }
     Ok(())
 }
 
-/// The text of a row.
-fn text_of(
-    alloc: Global,
-    around: Around<'_>,
-    piece: &str,
-    count: usize,
-) -> Result<String, AllocError> {
-    let mut text = String::from_str(alloc, around.front)?;
-    text.push_str(piece.repeat(alloc, count)?.as_str())?;
-    text.push_str(around.back)?;
-    Ok(text)
-}
-
-/// Whether a code is one of those between bars.
-fn is_among(code: &str, codes: &str) -> bool {
-    codes.split('|').any(|one| one == code)
+/// Whether one of the words between bars is among the words that are told.
+fn is_told(told: &str, wanted: &str) -> bool {
+    told.split(' ')
+        .any(|word| wanted.split('|').any(|one| one == word))
 }

@@ -1,52 +1,38 @@
-//! Prints what runs over small traces write, and how they end; and then what sessions do, step by step (`session.rt`).
+//! Prints what small rows of several kinds come to: runs over traces, sessions, readers and merges of streams, and values.
 //!
-//! In `data/`, `rows` is a table of runs, and the other files are metadata and streams. A line that begins with `#` is
-//! a comment, each other line is a row, words with one space between them:
-//!
-//! - `--OPTION` is a word of the command line, where `_` stands for a space.
-//! - `NAME:FILE` is a trace of this name and the metadata in this file; `NAME:-` is a name without a trace.
-//! - Hexadecimal digits are the bytes of the next stream of the trace, `-` stands for none, and `@FILE` for those of a
-//!   file. Streams are called `s0`, `s1` and so on.
-//! - `in=MANNER` says how streams give their bytes, `out=MANNER` and `err=MANNER` how the output and the messages are
-//!   taken, and `both=MANNER` the two alike. A manner is `drip:N`, at most N bytes at a call, `fail:N`, N bytes and then a
-//!   failure, or `refuse:N`, no memory at the Nth call. Of a stream only the first two count.
-//!
-//! Behind a file, `*N` has it N times, `-N` leaves out its last N bytes, `+BYTES` has bytes behind it, and `@PLACE@BYTES`
-//! has other bytes at a place.
-//!
-//! Behind a row stand the lines of its output, its messages behind `! ` and its status behind `= `. A row whose
-//! last word ends in `FIRST..LAST` is run for each of these numbers. Then a line stands for each: how many bytes
-//! the output and the messages have, `other` where they are no beginning of those of the row without the last word, and the
-//! last message, `done` where the run did not fail. All of this is written down in `stdout`, from the rules of the
-//! format and of runs.
+//! Each word of the command line names a table in `data/`, whose rows are of one kind: `runs` (`run.rt`), `sessions`
+//! (`session.rt`), `readers` (`reader.rt`), `merges` (`merge.rt`), and `places` and `texts` (`value.rt`). The other files are
+//! metadata and streams. A line that begins with `#` is a comment, each other line is a row. What comes of each is written
+//! down in `stdout`, from the rules of the format, of runs and of the layout.
 #![tactic(auto)]
 
 mod bytes;
 mod manner;
-mod printing;
-mod row;
+mod merge;
+mod reader;
+mod reading;
+mod run;
 mod session;
-mod sink;
 mod source;
-mod told;
+mod value;
 
 use anyhow::{Result, bail};
+use std::rt::Files;
 use std::{env, fs};
 
 fn main(rt: HostRuntime) -> Result<()> {
-    let mut words = env::args(&rt)?.skip(1);
-    let (Some(runs), Some(sessions)) = (words.next(), words.next()) else {
-        bail!("usage: run_rows RUNS SESSIONS");
-    };
-    let runs = fs::read_to_string(&rt, runs.as_str())?;
-    for line in runs.lines().filter(|line| is_row(line)) {
-        println!(rt; "> {line}")?;
-        printing::print_row(&rt, line)?;
+    for table in env::args(&rt)?.skip(1) {
+        print_table(&rt, table.as_str())?;
     }
-    let sessions = fs::read_to_string(&rt, sessions.as_str())?;
-    for line in sessions.lines().filter(|line| is_row(line)) {
+    Ok(())
+}
+
+/// Prints each row of a table, and what comes of it.
+fn print_table<R: Files + Print + AllocGlobal>(rt: &R, table: &str) -> Result<()> {
+    let rows = fs::read_to_string(rt, table)?;
+    for line in rows.lines().filter(|line| is_row(line)) {
         println!(rt; "> {line}")?;
-        session::print_row(&rt, line)?;
+        print_row(rt, table, line)?;
     }
     Ok(())
 }
@@ -54,4 +40,17 @@ fn main(rt: HostRuntime) -> Result<()> {
 /// Whether a line of a table is a row.
 fn is_row(line: &str) -> bool {
     !line.is_empty() && !line.starts_with('#')
+}
+
+/// Prints what comes of a row.
+fn print_row<R: Files + Print + AllocGlobal>(rt: &R, table: &str, line: &str) -> Result<()> {
+    match table {
+        "runs" => run::print_row(rt, line),
+        "sessions" => session::print_row(rt, line),
+        "readers" => reader::print_row(rt, line),
+        "merges" => merge::print_row(rt, line),
+        "places" => value::print_row(rt, "places_metadata", line),
+        "texts" => value::print_row(rt, "texts_metadata", line),
+        _ => bail!("no table {table}"),
+    }
 }

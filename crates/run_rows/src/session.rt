@@ -1,7 +1,6 @@
-//! Prints what each step of sessions over small traces writes, and how many bytes each stream has given and holds.
+//! Sessions over small traces, step by step: what each step writes, and how many bytes each stream has given and holds.
 //!
-//! In `data/`, `sessions` is a table of sessions. A line that begins with `#` is a comment, each other line is a row, words
-//! with one space between them: a file of metadata, and then
+//! A row has words with one space between them: a file of metadata, and then
 //!
 //! - `--OPTION`, a word of the command line,
 //! - hexadecimal digits, the bytes of the next stream, or `@FILE`, those of a file; streams are called `s0`, `s1` and so on,
@@ -11,11 +10,10 @@
 //!
 //! Behind a row stand `new`, and for each step the lines that it wrote, its messages behind `! ` and its answer; with
 //! each of them stand the bytes that each stream has given and holds, `GIVEN/HELD`. Behind its end a session is asked
-//! for one step more. All of this is written down in `stdout`, from the rules of sessions.
+//! for one step more.
 
 mod crossing;
 mod row;
-mod source;
 mod step;
 mod steps;
 

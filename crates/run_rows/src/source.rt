@@ -22,6 +22,15 @@ impl<'a> RowSource<'a> {
             Manner::Whole | Manner::Refuse(_) => RowSource::Whole(SliceSource::new(bytes)),
         }
     }
+
+    /// How many bytes it has given.
+    pub fn given(&self) -> u64 {
+        match self {
+            RowSource::Whole(source) => source.given(),
+            RowSource::Drip(source) => source.given(),
+            RowSource::Fail(source) => source.given(),
+        }
+    }
 }
 
 impl<'a> Source for RowSource<'a> {

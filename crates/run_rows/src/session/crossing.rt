@@ -5,9 +5,9 @@
 //! from the first stream to the last.
 
 use crate::session::row::Row;
-use crate::session::source::RowSource;
 use crate::session::step::{Told, counts, step};
 use crate::session::steps::print_told;
+use crate::source::RowSource;
 use anyhow::Result;
 use ctf_session::Session;
 use std::alloc::{AllocError, Global};

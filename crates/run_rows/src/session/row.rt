@@ -1,8 +1,8 @@
 //! Rows of the table.
 
 use crate::bytes::stream_of;
+use crate::manner::Manner;
 use crate::session::crossing::crossing;
-use crate::session::source::Giving;
 use anyhow::{Result, bail};
 use std::fs;
 use std::rt::Files;
@@ -14,7 +14,8 @@ pub struct Row {
     pub streams: Vec<Vec<u8>>,
     /// The words of the command line.
     pub words: Vec<String>,
-    pub giving: Giving,
+    /// How streams give their bytes.
+    pub input: Manner,
     /// How many bytes of output a step can write.
     pub output: usize,
     /// How many bytes of messages a step can write.
@@ -34,7 +35,7 @@ pub fn row_of<R: Files + AllocGlobal>(rt: &R, line: &str) -> Result<Row> {
         metadata: fs::read(rt, metadata)?,
         streams: Vec::new(alloc),
         words: Vec::new(alloc),
-        giving: Giving::Drip(usize::MAX),
+        input: Manner::Whole,
         output: usize::MAX,
         messages: usize::MAX,
         crosses: false,
@@ -65,8 +66,8 @@ fn read_word<R: Files + AllocGlobal>(rt: &R, row: &mut Row, word: &str) -> Resul
 /// Sets how bytes are given or taken on a side.
 fn set_manner(row: &mut Row, side: &str, count: usize) -> Result<()> {
     match side {
-        "in=drip" => row.giving = Giving::Drip(count),
-        "in=fail" => row.giving = Giving::Fail(count),
+        "in=drip" => row.input = Manner::Drip(count),
+        "in=fail" => row.input = Manner::Fail(count),
         "out=fail" => row.output = count,
         "err=fail" => row.messages = count,
         _ => bail!("no side {side}"),

@@ -1,7 +1,7 @@
 //! A step of a session, and what a session's streams have given.
 
 use crate::session::row::Row;
-use crate::session::source::RowSource;
+use crate::source::RowSource;
 use ctf_bits::FailingSink;
 use ctf_session::{Outcome, Session, Step};
 use std::alloc::Global;

@@ -2,8 +2,8 @@
 
 use crate::session::crossing::print_crossing;
 use crate::session::row::Row;
-use crate::session::source::RowSource;
 use crate::session::step::{Told, counts, step};
+use crate::source::RowSource;
 use anyhow::Result;
 use ctf_class::TraceClass;
 use ctf_options::options_of;
@@ -30,7 +30,7 @@ pub fn print_session<R: Print + AllocGlobal>(rt: &R, class: &TraceClass, row: &R
 fn streams_of(alloc: Global, row: &Row) -> Result<Vec<(String, RowSource<'_>)>> {
     let mut streams = Vec::new(alloc);
     for (number, bytes) in row.streams.iter().enumerate() {
-        let source = RowSource::new(bytes, row.giving);
+        let source = RowSource::new(bytes, row.input);
         streams.push((format!(in alloc; "s{number}")?, source))?;
     }
     Ok(streams)

@@ -1,0 +1,154 @@
+//! Texts that are kept ready to be printed.
+//!
+//! - `escaped TEXT` is how a text is shown.
+//! - `ready TEXT` is a text behind three bytes of a line, and its length.
+//! - `field NAME` is the name of a member and what is printed for it, `copy NAME` those of its copy, `behind NAME LEAD` what is
+//!   printed for it behind a text, and `same NAME NAME` whether two names are equal.
+//! - `label NAME` is a label, what is printed for it, and whether it is equal to itself.
+//! - `heading HOST NAME` is a host, the name of an event class, and what is printed for both.
+
+ghost use Rattle.std.specs.Prelude.{◌≤◌};
+
+use crate::bytes::bytes_of;
+use crate::told::Told;
+use crate::words::Words;
+use anyhow::Result;
+use ctf_class::{FieldName, Heading, LabelName, Ready, escaped};
+use ctf_list::List;
+use std::alloc::Global;
+
+/// Puts what comes of a row of a text, a label or a heading.
+pub fn put_row(alloc: Global, told: &mut Told, kind: &str, words: &mut Words<'_>) -> Result<()> {
+    match kind {
+        "escaped" => put_escaped(alloc, told, &bytes_of(alloc, words.rest())?),
+        "ready" => put_ready_row(alloc, told, &bytes_of(alloc, words.rest())?),
+        "label" => put_label_row(alloc, told, words.rest()),
+        _ => put_heading_row(alloc, told, words),
+    }
+}
+
+/// Puts what comes of a row of the name of a member.
+pub fn put_field_row(
+    alloc: Global,
+    told: &mut Told,
+    kind: &str,
+    words: &mut Words<'_>,
+) -> Result<()> {
+    let name = field_of(alloc, words.word())?;
+    match kind {
+        "behind" => put_behind(alloc, told, words.word().as_bytes(), &name),
+        "same" => put_same(alloc, told, &name, words.word()),
+        "copy" => put_copy(told, &name),
+        _ => {
+            put_field(told, &name);
+            Ok(())
+        }
+    }
+}
+
+/// The bytes that a word names, as a list.
+fn list_of(alloc: Global, word: &str) -> Result<List<u8>> {
+    Ok(List::from_vec(bytes_of(alloc, word)?))
+}
+
+/// The name of a member.
+fn field_of(alloc: Global, word: &str) -> Result<FieldName> {
+    Ok(FieldName::new(alloc, list_of(alloc, word)?)?)
+}
+
+/// Puts how a text is shown.
+fn put_escaped(alloc: Global, told: &mut Told, bytes: &[u8]) -> Result<()> {
+    told.put(&escaped(alloc, bytes)?);
+    Ok(())
+}
+
+/// Puts a text behind three bytes of a line, and its length.
+fn put_ready_row(alloc: Global, told: &mut Told, bytes: &[u8]) -> Result<()> {
+    let ready = Ready::new(alloc, bytes)?;
+    put_ready(told, &ready, 3);
+    told.put(b", ");
+    told.number(ready.len() as i128);
+    told.put(b" bytes");
+    Ok(())
+}
+
+/// Puts the beginning of a line that has a text at an index, if there is room for it.
+fn put_ready(told: &mut Told, ready: &Ready, at: usize)
+    requires { at ≤ 3 }
+{
+    let mut line = [b'#'; 67];
+    if ready.len() <= 40 {
+        let end = ready.put(&mut line, at);
+        told.put(&line[..end]);
+    }
+}
+
+/// Puts what is printed, in brackets.
+fn put_printed(told: &mut Told, ready: &Ready) {
+    told.put(b" [");
+    put_ready(told, ready, 0);
+    told.put(b"]");
+}
+
+/// Puts a name and what is printed for it, in brackets.
+fn put_field(told: &mut Told, name: &FieldName) {
+    told.put(name.as_slice());
+    put_printed(told, name.ready());
+}
+
+/// Puts the copy of a name, and whether it is equal.
+fn put_copy(told: &mut Told, name: &FieldName) -> Result<()> {
+    let copy = name.clone()?;
+    put_field(told, &copy);
+    told.put(b" ");
+    told.answer(copy == *name);
+    Ok(())
+}
+
+/// Puts what is printed for a name behind a text.
+fn put_behind(alloc: Global, told: &mut Told, lead: &[u8], name: &FieldName) -> Result<()> {
+    put_printed(told, &name.behind(alloc, lead)?);
+    Ok(())
+}
+
+/// Puts whether two names are equal.
+fn put_same(alloc: Global, told: &mut Told, name: &FieldName, other: &str) -> Result<()> {
+    let other = field_of(alloc, other)?;
+    told.answer(*name == other);
+    Ok(())
+}
+
+/// Puts a label and what is printed for it.
+fn put_label_row(alloc: Global, told: &mut Told, word: &str) -> Result<()> {
+    let label = LabelName::new(alloc, list_of(alloc, word)?)?;
+    told.put(label.as_slice());
+    put_printed(told, label.ready());
+    told.put(b" ");
+    told.answer(label == label);
+    Ok(())
+}
+
+/// Puts a heading.
+fn put_heading_row(alloc: Global, told: &mut Told, words: &mut Words<'_>) -> Result<()> {
+    match words.word() {
+        "-" => put_heading(told, &heading_of(alloc, words.word(), None)?),
+        host => {
+            let host = list_of(alloc, host)?;
+            put_heading(told, &heading_of(alloc, words.word(), Some(host))?);
+        }
+    }
+    Ok(())
+}
+
+/// The heading of a host and of an event class.
+fn heading_of(alloc: Global, name: &str, host: Option<List<u8>>) -> Result<Heading> {
+    Ok(Heading::new(alloc, host, list_of(alloc, name)?)?)
+}
+
+/// Puts a host, a name, and what is printed for both.
+fn put_heading(told: &mut Told, heading: &Heading) {
+    told.put(heading.host().unwrap_or(b"-"));
+    told.put(b" ");
+    told.put(heading.name());
+    put_printed(told, heading.ready());
+}

@@ -1,0 +1,52 @@
+//! Integers whose place is known beforehand.
+//!
+//! `window PLACE SIZE KIND FIRST BYTES` is an integer, `u` or in two's complement `i`, behind the first bytes: its place, its
+//! end, its number if that is not below zero, and that of its bits in two's complement.
+
+use crate::told::Told;
+use crate::words::Words;
+use anyhow::{Result, bail};
+use ctf_bits::Window;
+use std::alloc::Global;
+
+/// Puts what comes of a row.
+pub fn put_row(alloc: Global, told: &mut Told, words: &mut Words<'_>) -> Result<()> {
+    let place = words.long()?;
+    let size = words.number()?;
+    let is_signed = words.word() == "i";
+    let first = words.count()?;
+    let bytes = hex::decode(alloc, words.word())?;
+    match window_of(place, size, is_signed) {
+        Some(window) => put_window(told, &window, &bytes, first),
+        None => {
+            told.put(b"none");
+            Ok(())
+        }
+    }
+}
+
+fn window_of(place: u64, size: u32, is_signed: bool) -> Option<Window> {
+    if size == 0 || size > 64 {
+        return None;
+    }
+    Window::new(place, size, is_signed)
+}
+
+/// Puts a window, and its number behind the first bytes.
+fn put_window(told: &mut Told, window: &Window, bytes: &[u8], first: usize) -> Result<()> {
+    let place = window.place();
+    if place > 1 << 32 || first as u128 + u128::from(place) / 8 + 8 > bytes.len() as u128 {
+        bail!("too few bytes");
+    }
+    told.number(i128::from(place));
+    told.put(b"..");
+    told.number(i128::from(window.end()));
+    told.put(b": ");
+    match window.number(bytes, first) {
+        Some(number) => told.number(i128::from(number)),
+        None => told.put(b"below zero"),
+    }
+    told.put(b", ");
+    told.number(i128::from(window.signed(bytes, first)));
+    Ok(())
+}

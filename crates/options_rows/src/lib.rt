@@ -1,5 +1,0 @@
-//! Rows of command lines and of names.
-#![tactic(auto)]
-
-#[cfg(test)]
-mod rows;
