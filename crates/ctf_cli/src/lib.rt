@@ -9,12 +9,18 @@ mod opening;
 mod printing;
 mod runtime;
 
+pub use ctf_bits::{FromRead, Sink, SliceSource, Source, ToWrite, VecSink};
+pub use ctf_class::{TraceClass, escaped};
+pub use ctf_clock::Shift;
+pub use ctf_log::line;
+pub use ctf_merge::Merge;
 pub use ctf_options::{Options, Usage, options_of, stream_names};
 pub use ctf_run::{
     LoadFault, Log, MergeFault, Outcome, RunFault, Session, Step, Streams, Trace, io_line, load,
     run,
 };
 pub use ctf_stamp::{ClockStyle, Style, Trim, Zone};
+pub use ctf_stream::{Event, Gap, Item, OwnedItem, StreamReader};
 pub use disk::{Disk, DiskStream};
 pub use folders::{FolderFault, Folders};
 pub use log_writer::LogWriter;

@@ -15,7 +15,7 @@ use std::alloc::{AllocError, AllocFailed, Global};
 use std::path::{Path, PathBuf};
 
 /// Why traces were not opened.
-#[derive(Debug, Drop)]
+#[derive(Drop)]
 pub enum Stop {
     /// A path cannot be read: its line.
     Unreadable(Vec<u8>),

@@ -1,7 +1,8 @@
 -- A merge, one call after the other.
-use Rattle.std.proofs.Common.{◌≡◌, ℕ, zero, suc, ◌≤◌, ◌<◌, inl, inr, Bool, true, false, cond, List, [], ◌∷◌, length, map, set, get_or, take, drop, ◌++◌, Some, None, refl, sym, ap, ◌∙◌, subst, arith}
+use Rattle.std.proofs.Common.{◌≡◌, ℕ, zero, suc, ◌≤◌, ◌<◌, inl, inr, Bool, true, false, cond, IsTrue, List, [], ◌∷◌, length, map, set, get_or, take, drop, ◌++◌, Some, None, refl, sym, ap, ◌∙◌, subst, arith}
 use Rattle.std.specs.List.{AllByRecursion, AllZip}
 use Rattle.std.proofs.lemmas.Grind.{common_steps}
+use Rattle.std.proofs.lemmas.Option.{slice_get_read}
 use Rattle.ctf_packet.specs.Classes.{Classes}
 use Rattle.ctf_packet.specs.Items.{Run, Item}
 use Rattle.ctf_packet.specs.declared.fault.StreamFault.{StreamFault}
@@ -10,7 +11,7 @@ use Rattle.ctf_stream.specs.Reader as reader
 use Rattle.ctf_stream.specs.Reader.{Reader, coming, rest_of, RoomTaken, with_ahead, behind_ahead, OrRefused, IsFetched}
 use Rattle.stream_laws.specs.Times.{is_before}
 use Rattle.ctf_merge.specs.Merged.{Merged, Placed, First, item, broken, nothing, later, least, with_first, first_of, head_of, run_at, advance, without_first, ends, then, merged}
-use Rattle.ctf_merge.specs.Merges.{Merge, coming_of, first_now, GoesOn, MergedOrRefused, EachFetched, EachTells, EachOnLine, EachAllTaken, Fetched, EachIsFetched, FetchedUpTo, room_of, RoomLeft, names_of, traces_of, writes_of, given_of}
+use Rattle.ctf_merge.specs.Merges.{Merge, coming_of, first_now, GoesOn, MergedOrRefused, EachFetched, EachTells, EachOnLine, EachAllTaken, Fetched, EachIsFetched, FetchedUpTo, room_of, RoomLeft, names_of, traces_of, writes_of, given_of, LeavesOne, EachComes}
 use Rattle.ctf_merge.specs.declared.fault.MergeFault.{MergeFault}
 use Rattle.ctf_merge.specs.declared.fault.MergeFault.TheVariants.{Stream}
 use Rattle.ctf_merge.specs.Finding.{Finds}
@@ -317,3 +318,17 @@ length-fetched [] [] each = refl
 length-fetched [] (s ∷ ss) each = absurd each
 length-fetched (r ∷ rs) [] each = absurd each
 length-fetched (r ∷ rs) (s ∷ ss) each = let more = length-fetched rs ss each.1 in omega (arith, more)
+
+-- the reader in front leaves its item behind
+pub leaves_one : (readers : List Reader) (n : ℕ) (x : Item Classes) (before after : Reader) → first_of (map (λ s. s.ahead) readers) ≡ item n x → before ≡ get_or readers n before
+    → IsFetched after.ahead → (IsTrue before.tells → OrRefused (rest_of before) (coming after)) → LeavesOne n readers (set readers n after)
+leaves_one readers n x before after first is fetched goes =
+    let at = front readers n x before first is in
+    record { before = before; after = after; left = x; at = slice_get_read readers (length readers) n before refl at.0 is; ahead = at.1; others = refl; fetched = fetched; goes_on = goes }
+
+-- what was to come of each reader that was fetched is to come
+pub comes_at_first : (old new : List Reader) → EachIsFetched old new → EachComes old new
+comes_at_first [] [] each = each
+comes_at_first [] (s ∷ ss) each = each
+comes_at_first (r ∷ rs) [] each = each
+comes_at_first (r ∷ rs) (s ∷ ss) each = (each.0.told, comes_at_first rs ss each.1)

@@ -1,5 +1,5 @@
 -- A merge as contracts see it.
-use Rattle.std.specs.Prelude.{◌≡◌, ℕ, zero, suc, ◌+◌, ◌≤◌, ◌<◌, ◌⊎◌, Bool, cond, IsTrue, List, [], ◌∷◌, length, map, ℤ, Option, Some, None, slice_get}
+use Rattle.std.specs.Prelude.{◌≡◌, ℕ, zero, suc, ◌+◌, ◌≤◌, ◌<◌, ◌⊎◌, Bool, cond, IsTrue, List, [], ◌∷◌, length, map, set, ℤ, Option, Some, None, slice_get}
 use Rattle.std.specs.List.{AllByRecursion, AllZip}
 use Rattle.ctf_class.specs.declared.trace.TraceClass.{TraceClass}
 use Rattle.ctf_packet.specs.Classes.{Classes}
@@ -7,7 +7,7 @@ use Rattle.ctf_packet.specs.Items.{Item}
 use Rattle.ctf_packet.specs.declared.fault.StreamFault.TheVariants as faults
 use Rattle.ctf_stream.specs.Ahead.{time_of}
 use Rattle.ctf_stream.specs.Reader as reader
-use Rattle.ctf_stream.specs.Reader.{Reader, coming, IsFetched, IsOnLine, IsAllTaken, OrRefused}
+use Rattle.ctf_stream.specs.Reader.{Reader, coming, rest_of, IsFetched, IsOnLine, IsAllTaken, OrRefused}
 use Rattle.stream_laws.specs.Times.{NotBefore, Rises}
 use Rattle.ctf_merge.specs.Merged.{Merged, Placed, First, item, broken, nothing, first_of, ends, then, merged, PlacedRise}
 use Rattle.ctf_merge.specs.declared.fault.MergeFault.{MergeFault}
@@ -148,3 +148,25 @@ abbrev pub RoomLeft : First → ℕ → ℕ → Type 0
 RoomLeft (item i x) old new = new < old
 RoomLeft (broken i f) old new = new ≡ old
 RoomLeft nothing old new = new ≡ old
+
+-- The reader of this number has left the item in front of it behind: what was behind that is to come, unless a growth was
+-- refused. Each other reader is as it was.
+pub record LeavesOne (number : ℕ) (old new : List Reader) : Type 0 where
+  pub before : Reader
+  pub after : Reader
+  pub left : Item Classes
+  pub at : slice_get old number ≡ Some before
+  pub ahead : before.ahead ≡ reader.item left
+  pub others : new ≡ set old number after
+  pub fetched : IsFetched after.ahead
+  pub goes_on : IsTrue before.tells → OrRefused (rest_of before) (coming after)
+
+-- the reader of the item in front has left it behind; where none is in front, each reader is as it was
+abbrev pub LeavesFront : First → List Reader → List Reader → Type 0
+LeavesFront (item i x) old new = LeavesOne i old new
+LeavesFront (broken i f) old new = new ≡ old
+LeavesFront nothing old new = new ≡ old
+
+-- what is to come of each reader is what was to come of it, unless a growth was refused
+abbrev pub EachComes : List Reader → List Reader → Type 0
+EachComes old new = AllZip (λ r s. IsTrue r.tells → OrRefused (coming r) (coming s)) old new

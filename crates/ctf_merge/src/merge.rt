@@ -5,7 +5,7 @@ ghost use Rattle.ctf_stream.specs.Owned as owned;
 ghost use Rattle.ctf_stream.specs.Reader.{coming, rest_of, HasItem, OrRefused, IsFetched, IsOnLine, IsAllTaken};
 ghost use Rattle.ctf_merge.specs.Merged.{merged};
 ghost use Rattle.ctf_merge.specs.Given.{Gives, GivesFirst, GivesFront, GivesRoom};
-ghost use Rattle.ctf_merge.specs.Merges.{coming_of, first_now, number_in, fault_in, names_of, traces_of, writes_of, given_of, room_of, MergedOrRefused, ComingRises, EachRises, EachFetched, EachTells, EachOnLine, EachAllTaken, Fetched, EachIsFetched, GoesOn, IsNext, RoomLeft};
+ghost use Rattle.ctf_merge.specs.Merges.{coming_of, first_now, number_in, fault_in, names_of, traces_of, writes_of, given_of, room_of, MergedOrRefused, ComingRises, EachRises, EachFetched, EachTells, EachOnLine, EachAllTaken, Fetched, EachIsFetched, GoesOn, IsNext, RoomLeft, LeavesOne, LeavesFront, EachComes};
 ghost use Rattle.ctf_merge.specs.Finding.{Finds};
 ghost use Rattle.ctf_merge.specs.Stages.{going, is_over, stage_of, Stands};
 ghost use Rattle.ctf_merge.specs.Turns.{turn_at, fault_at};
@@ -21,7 +21,7 @@ use std::alloc::Global;
 use std::marker::Model;
 
 /// What comes first of several streams.
-#[derive(Clone, Copy, Debug, PartialEq, Eq)]
+#[derive(Clone, Copy)]
 enum First {
     /// The item of the stream of this number.
     Item(usize),
@@ -31,7 +31,7 @@ enum First {
 }
 
 /// How far a merge has come.
-#[derive(Clone, Copy, Debug, PartialEq, Eq)]
+#[derive(Clone, Copy)]
 pub(crate) enum Stage {
     /// The first item comes next, or the end.
     Going,
@@ -111,7 +111,7 @@ fn give<'a, S: Source + Drop>(
     requires { HasItem reader.old.ahead }
     ensures told { GivesFront reader.old.ahead result }
     ensures of { owned.GivesOf reader.old.trace reader.old.name result }
-    ensures goes_on { IsTrue reader.old.tells → OnOk result (OrRefused (rest_of reader.old) (coming reader.new)) }
+    ensures goes_on { IsTrue reader.old.tells → OrRefused (rest_of reader.old) (coming reader.new) }
     ensures fetched { IsFetched reader.new.ahead }
     ensures room { owned.GivesRoom reader.old.room reader.new.room result }
     ensures trace { reader.new.trace ≡ reader.old.trace }
@@ -175,6 +175,8 @@ impl<'a, S: Source + Drop> Merge<'a, S> {
     /// of what was to come of the readers.
     pub fn new(alloc: Global, readers: Vec<StreamReader<'a, S>>) -> Result<Merge<'a, S>, NoMemory>
         ensures told { IfOk result (λ m. EachTells readers.entry.items → MergedOrRefused (merged (map coming readers.entry.items)) (coming_of m)) }
+        ensures each { IfOk result (λ m. EachComes readers.entry.items m.readers) }
+        ensures fetched { IfOk result (λ m. EachFetched m.readers) }
         ensures rises { IfOk result (λ m. EachTells readers.entry.items → EachRises readers.entry.items → ComingRises m) }
         ensures open { IfOk result (λ m. m.over ≡ false) }
         ensures names { IfOk result (λ m. names_of m.readers ≡ names_of readers.entry.items) }
@@ -243,6 +245,7 @@ impl<'a, S: Source + Drop> Merge<'a, S> {
     pub fn leave(&mut self, number: usize)
         requires { IsNext self.old number }
         ensures goes_on { EachTells self.old.readers → GoesOn (coming_of self.old) (coming_of self.new) }
+        ensures each { LeavesOne number self.old.readers self.new.readers }
         ensures rises { EachTells self.old.readers → ComingRises self.old → ComingRises self.new }
         ensures names { names_of self.new.readers ≡ names_of self.old.readers }
         ensures traces { traces_of self.new.readers ≡ traces_of self.old.readers }
@@ -268,6 +271,7 @@ impl<'a, S: Source + Drop> Merge<'a, S> {
     /// behind, and then nothing comes. The end stays.
     pub fn go_on(&mut self)
         ensures goes_on { EachTells self.old.readers → GoesOn (coming_of self.old) (coming_of self.new) }
+        ensures each { LeavesFront (first_now self.old) self.old.readers self.new.readers }
         ensures rises { EachTells self.old.readers → ComingRises self.old → ComingRises self.new }
         ensures names { names_of self.new.readers ≡ names_of self.old.readers }
         ensures traces { traces_of self.new.readers ≡ traces_of self.old.readers }
@@ -300,6 +304,7 @@ impl<'a, S: Source + Drop> Merge<'a, S> {
     /// An error is the fault of a stream behind the items before, F1 to F11, F13, F14 or `NoMemory`, with its number.
     pub fn next(&mut self) -> Result<Option<OwnedItem<'a>>, MergeFault>
         ensures gives { EachTells self.old.readers → Gives (coming_of self.old) (coming_of self.new) result }
+        ensures each { LeavesFront (first_now self.old) self.old.readers self.new.readers }
         ensures rises { EachTells self.old.readers → ComingRises self.old → ComingRises self.new }
 
         // Of any sources: what stood in front is told, behind a fault nothing comes, the end stays, and an item that is

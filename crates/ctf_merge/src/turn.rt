@@ -13,7 +13,7 @@ const NUMBER_BITS: u32 = 63;
 ///
 /// Both are kept in one number, so that one comparison tells which of two turns comes first. The time fills the upper one of
 /// its words, and below it a bit tells whether there is one.
-#[derive(Debug, Drop)]
+#[derive(Drop)]
 pub(crate) struct Turn {
     key: u128,
 }

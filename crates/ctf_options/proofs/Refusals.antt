@@ -1,5 +1,5 @@
 -- What clap promises of the command.
-use Rattle.std.proofs.Common.{◌≡◌, ◌∙◌, ℕ, true, List, [], ◌∷◌, refl, sym, ap, subst, inl, inr, drop, take, length, ◌-◌, map, String, arith, take_all}
+use Rattle.std.proofs.Common.{◌≡◌, ◌∙◌, ℕ, true, false, List, [], ◌∷◌, refl, sym, ap, subst, inl, inr, drop, take, length, ◌-◌, map, String, arith, take_all}
 use Rattle.std.proofs.lemmas.Grind.{common_steps}
 use Rattle.std.specs.List.{list_any}
 use Rattle.std.specs.String.{string_bytes}
@@ -45,18 +45,19 @@ stopped app words error e h = subst (λ (a : App). HasKind (fault_of a words) er
 
 -- why clap refused the words
 pub refused : (words : List (List ℕ)) (error : Error) (usage : Usage) → (kind_of error ≡ OutOfMemory → usage ≡ NoMemory)
-    → (usage ≡ Help → asks_help words ≡ true) → (usage ≡ Help → kind_of error ≡ DisplayHelp) → HasKind (faults words) error → IsClapRefusal words usage
-refused words error Help memory help kind (inl e) = absurd (unlike (memory e))
+    → (usage ≡ Help → asks_help words ≡ true) → (usage ≡ Help → kind_of error ≡ DisplayHelp) → (usage ≡ Bad → kind_of error ≡ DisplayHelp → asks_help words ≡ false)
+    → HasKind (faults words) error → IsClapRefusal words usage
+refused words error Help memory help kind bad (inl e) = absurd (unlike (memory e))
   where
     unlike : Help ≡ NoMemory → ⊥
     unlike e = grind (arith, common_steps, e)
-refused words error Help memory help kind (inr among) = (subst (λ (k : ErrorKind). IsAmong k (faults words)) (kind refl) among, help refl)
-refused words error Bad memory help kind (inl e) = absurd (unlike (memory e))
+refused words error Help memory help kind bad (inr among) = (subst (λ (k : ErrorKind). IsAmong k (faults words)) (kind refl) among, help refl)
+refused words error Bad memory help kind bad (inl e) = absurd (unlike (memory e))
   where
     unlike : Bad ≡ NoMemory → ⊥
     unlike e = grind (arith, common_steps, e)
-refused words error Bad memory help kind (inr among) = (kind_of error, among)
-refused words error NoMemory memory help kind h = tt
+refused words error Bad memory help kind bad (inr among) = (kind_of error, among, bad refl)
+refused words error NoMemory memory help kind bad h = tt
 
 -- the words behind the first
 pub asked : {Z : Type 0} (words : List (String Z)) → list_any (λ word. is_help (string_bytes word)) (take (length words - 1) (drop 1 words)) ≡ asks_help (map string_bytes words)

@@ -9,7 +9,7 @@ use crate::time::dotted;
 use jiff::civil::DateTime;
 
 /// The parts of a date, as they are written.
-#[derive(Clone, Copy, Debug)]
+#[derive(Clone, Copy)]
 pub(crate) struct Day {
     pub(crate) year: u16,
     pub(crate) month: u8,
@@ -17,7 +17,7 @@ pub(crate) struct Day {
 }
 
 /// The parts of a time of day, as they are written.
-#[derive(Clone, Copy, Debug)]
+#[derive(Clone, Copy)]
 pub(crate) struct Clock {
     pub(crate) hour: u8,
     pub(crate) minute: u8,

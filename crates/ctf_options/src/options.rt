@@ -5,7 +5,7 @@ use ctf_list::{List, Text};
 use ctf_stamp::{Style, Trim};
 
 /// What the words of a command line ask for.
-#[derive(Debug, Drop)]
+#[derive(Drop)]
 pub struct Options {
     /// The folders that hold the traces, 1 to 1,024 of them.
     pub dirs: List<Text>,

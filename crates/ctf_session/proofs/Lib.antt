@@ -5,3 +5,4 @@ pub mod Fronts
 pub mod Stepping
 pub mod Opened
 pub mod Printed
+pub mod Passing

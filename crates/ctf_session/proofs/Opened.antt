@@ -4,7 +4,7 @@ use Rattle.std.proofs.lemmas.List.{append-nil, map-append}
 use Rattle.std.specs.declared.alloc.Global.{Global}
 use Rattle.ctf_class.specs.declared.trace.TraceClass.{TraceClass}
 use Rattle.ctf_clock.specs.declared.moment.Shift.{Shift}
-use Rattle.ctf_merge.specs.Merges.{EachRises, EachTells, EachOnLine, EachAllTaken, names_of, given_of}
+use Rattle.ctf_merge.specs.Merges.{EachRises, EachComes, EachTells, EachOnLine, EachAllTaken, names_of, given_of}
 use Rattle.ctf_packet.specs.Classes.{Classes, trace_form}
 use Rattle.ctf_packet.specs.Items.{Run}
 use Rattle.ctf_stream.specs.Reader.{Reader, coming}
@@ -12,6 +12,7 @@ use Rattle.stream_laws.specs.Times.{Rises}
 use Rattle.stream_laws.proofs.Rising.{run_rises}
 use Rattle.ctf_session.specs.Inputs.{Given, Input, input_of, inputs_from, run_in, AllTell}
 use Rattle.ctf_session.specs.Opening.{Opens, EachOpens}
+use Rattle.ctf_session.specs.Passing.{EachMeans}
 use Rattle.ctf_session.specs.declared.input.Streams.{Streams}
 
 module _ (shift : Shift) where
@@ -100,3 +101,10 @@ same_trace given number class (s ∷ ss) = ap (λ ns. number ∷ ns) (same_trace
 -- one trace more, of this number
 pub inputs_at : {S : Type 0} (given : S → Given) (ts : List (Streams S)) (t : Streams S) (k : ℕ) → k ≡ length ts → inputs_from given 0 (ts ++ t ∷ []) ≡ inputs_from given 0 ts ++ map (input_of given k t.class.now) t.streams.items
 inputs_at given ts t k is = inputs_more given 0 ts t ∙ ap (λ n. inputs_from given 0 ts ++ map (input_of given n t.class.now) t.streams.items) (omega (arith, is))
+
+-- what is to come of each reader is what was to come of it when it was opened
+pub each_means : (old new : List Reader) → EachTells old → EachComes old new → EachMeans (map coming old) new
+each_means [] [] tells each = tt
+each_means [] (s ∷ ss) tells each = absurd each
+each_means (r ∷ rs) [] tells each = absurd each
+each_means (r ∷ rs) (s ∷ ss) tells each = (each.0 tells.0, each_means rs ss tells.1 each.1)

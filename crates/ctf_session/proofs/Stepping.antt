@@ -4,9 +4,11 @@ use Rattle.std.proofs.lemmas.List.{append-nil}
 use Rattle.std.proofs.lemmas.Int.{ints}
 use Rattle.stream_laws.specs.Times.{NotBefore}
 use Rattle.ctf_merge.specs.Merged.{Merged, Placed, ends, then, PlacedRise}
-use Rattle.ctf_merge.specs.Merges.{MergedOrRefused, GoesOn}
+use Rattle.ctf_merge.specs.Merges.{Merge, MergedOrRefused, GoesOn, IsNext, LeavesOne, coming_of}
 use Rattle.ctf_merge.specs.declared.fault.MergeFault.TheVariants.{Stream}
 use Rattle.ctf_outcome.specs.Lines.{stream_line}
+use Rattle.ctf_packet.specs.Classes.{Classes}
+use Rattle.ctf_packet.specs.Items.{Item}
 use Rattle.ctf_packet.specs.declared.fault.StreamFault.{StreamFault}
 use Rattle.ctf_packet.specs.declared.fault.StreamFault.TheVariants as streams
 use Rattle.ctf_outcome.specs.declared.outcome.Outcome.{Outcome}
@@ -16,12 +18,15 @@ use Rattle.ctf_stamp.specs.declared.trim.Trim.{Trim}
 use Rattle.ctf_stamp.specs.declared.trim.Verdict.{Verdict}
 use Rattle.ctf_stamp.specs.declared.trim.Verdict.TheVariants.{Before, Within, After}
 use Rattle.ctf_stream.specs.Ahead.{time_of}
+use Rattle.ctf_stream.specs.Reader as reader
+use Rattle.ctf_stream.specs.Reader.{Reader}
 use Rattle.stream_laws.proofs.Later.{not_less, at_most}
 use Rattle.ctf_session.specs.Answers.{Setting, verdict, is_after, text_of, fault_line}
 use Rattle.ctf_session.specs.Printing.{TellsFault}
-use Rattle.ctf_session.specs.Endings.{stop_outcome}
+use Rattle.ctf_session.specs.Endings.{stop_outcome, ended_by}
+use Rattle.ctf_session.specs.declared.step.Ending.{Ending}
 use Rattle.ctf_session.specs.Sessions.{left_by}
-use Rattle.ctf_session.specs.Steps.{Session, Goes, Ends, EndsBy, EachAfter, shown_text, last_shown, next_texts}
+use Rattle.ctf_session.specs.Steps.{Session, LeavesFirst, Goes, Ends, EndsBy, EachAfter, shown_text, last_shown, next_texts}
 use Rattle.ctf_session.specs.declared.step.Stop.{Stop}
 use Rattle.ctf_session.specs.declared.step.Stop.TheVariants as stops
 use Rattle.ctf_session.specs.Writing.{no_texts, Written, Writes, WritesParts}
@@ -74,6 +79,31 @@ each_after setting low (x ∷ xs) h rise =
 
 pub open_coming : (ended : Option Outcome) (m : Merged) → ended ≡ None → left_by ended m ≡ m
 open_coming ended m e = rw e refl
+
+-- ---- the item that is left behind is the first one to come
+
+abbrev head_in : Option Reader → reader.Ahead
+head_in None = reader.start
+head_in (Some r) = r.ahead
+
+abbrev item_in : Item Classes → reader.Ahead → Item Classes
+item_in x reader.start = x
+item_in x (reader.item y) = y
+item_in x reader.ended = x
+item_in x (reader.fault f) = x
+
+same_left : (m : Merge) (n : ℕ) (new : List Reader) (is : IsNext m n) (it : LeavesOne n m.readers new) → is.next ≡ it.left
+same_left m n new is it = ap (item_in is.next) (sym is.ahead ∙ ap head_in (sym is.at ∙ it.at) ∙ it.ahead)
+
+pub not_ended : (ended : Option Ending) → ((e : Ending) → ended ≡ Some e → ⊥) → ended_by ended ≡ None
+not_ended None open_ = refl
+not_ended (Some e) open_ = absurd (open_ e refl)
+
+pub leaves_first : (ended : Option Outcome) (m : Merge) (n : ℕ) (new : List Reader) → ended ≡ None → IsNext m n → LeavesOne n m.readers new
+    → LeavesFirst (left_by ended (coming_of m)) m.readers new
+leaves_first ended m n new open_ is it =
+    let first_is = ap (λ (x : Item Classes). then (record { number = n; item = x }) is.rest) (same_left m n new is it) in
+    record { number = n; leaves = it; first = λ tells. (is.rest, open_coming ended (coming_of m) open_ ∙ is.coming tells ∙ first_is) }
 
 pub Writes-none : (out err : List ℕ) → Writes (written out out err err) no_texts
 Writes-none out err = record { output = sym (append-nil out); messages = sym (append-nil err) }

@@ -7,3 +7,5 @@ pub mod Steps
 pub mod Endings
 pub mod Printing
 pub mod Sessions
+pub mod Passing
+pub mod Laws

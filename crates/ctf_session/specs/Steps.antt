@@ -2,7 +2,7 @@
 use Rattle.std.specs.Prelude.{◌≡◌, ℕ, ℤ, ◌<◌, ◌⊎◌, true, false, List, [], ◌∷◌, Option, Some, None}
 use Rattle.ctf_bits.specs.Count.{one_more}
 use Rattle.ctf_merge.specs.Merged.{Merged, Placed, then, PlacedRise}
-use Rattle.ctf_merge.specs.Merges.{MergedOrRefused, EachTells}
+use Rattle.ctf_merge.specs.Merges.{MergedOrRefused, EachTells, LeavesOne}
 use Rattle.ctf_merge.specs.declared.fault.MergeFault.{MergeFault}
 use Rattle.ctf_outcome.specs.Table as table
 use Rattle.ctf_outcome.specs.declared.outcome.Outcome.{Outcome}
@@ -114,10 +114,16 @@ abbrev pub RoomAfter : Step → ℕ → ℕ → Type 0
 RoomAfter steps.Went old new = new < old
 RoomAfter (steps.Ended o) old new = new ≡ old
 
--- a step that ended took nothing from a source
-abbrev pub ReadersAfter : Step → List Reader → List Reader → Type 0
-ReadersAfter steps.Went old new = Unit {0}
-ReadersAfter (steps.Ended o) old new = new ≡ old
+-- The reader of one stream leaves its item behind, the first of what is to come. Each other reader is as it was.
+pub record LeavesFirst (coming : Merged) (old new : List Reader) : Type 0 where
+  pub number : ℕ
+  pub leaves : LeavesOne number old new
+  pub first : EachTells old → (rest : Merged) × (coming ≡ then (record { number = number; item = leaves.left }) rest)
+
+-- a step that went left the first item behind; one that ended took nothing from a source
+abbrev pub ReadersAfter : Step → Merged → List Reader → List Reader → Type 0
+ReadersAfter steps.Went coming old new = LeavesFirst coming old new
+ReadersAfter (steps.Ended o) coming old new = new ≡ old
 
 -- ---- the counts of both sinks
 

@@ -3,6 +3,7 @@
 
 mod front;
 mod input;
+mod laws;
 mod log;
 mod opening;
 mod printing;
@@ -13,6 +14,7 @@ mod writing;
 pub use ctf_merge::MergeFault;
 pub use ctf_outcome::{LoadFault, Outcome, RunFault, io_line};
 pub use input::Streams;
+pub use laws::bytes_given;
 pub use log::Log;
 pub use printing::say;
 pub use session::{Session, print_all};

@@ -3,7 +3,8 @@
 ghost use Rattle.std.specs.Prelude.{◌≡◌, Bool, true, IsTrue, OnOk};
 ghost use Rattle.ctf_session.specs.Putting.{failures_put, refusals_put};
 
-use ctf_bits::{DripSink, FailingSink, Sink, SinkFault, VecSink};
+use ctf_bits::{DripSink, FailingSink, Sink, SinkFault, ToWrite, VecSink};
+use std::io::Write;
 
 /// A sink for the lines of a log. What it accepted it may hold back for a while.
 pub trait Log: Sink {
@@ -36,6 +37,14 @@ impl Log for FailingSink {
 }
 
 impl Log for DripSink {
+    ghost settled = { λ _. true };
+
+    fn settle(&mut self) -> Result<(), SinkFault> {
+        Ok(())
+    }
+}
+
+impl<W: Write> Log for ToWrite<W> {
     ghost settled = { λ _. true };
 
     fn settle(&mut self) -> Result<(), SinkFault> {

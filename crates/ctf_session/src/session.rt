@@ -2,9 +2,10 @@
 
 ghost use Rattle.std.specs.Prelude.{◌≡◌, ◌⊎◌, [], ℕ, IsTrue, IfOk, Some, None, map, length, MatchOption, slice_get, get_or};
 ghost use Rattle.ctf_merge.specs.Merged.{merged};
-ghost use Rattle.ctf_merge.specs.Merges.{MergedOrRefused, EachTells, EachOnLine, EachAllTaken, given_of};
+ghost use Rattle.ctf_merge.specs.Merges.{MergedOrRefused, EachFetched, EachTells, EachOnLine, EachAllTaken, given_of};
 ghost use Rattle.ctf_session.specs.Inputs.{inputs_from, run_in, AllTell};
 ghost use Rattle.ctf_session.specs.Endings as endings;
+ghost use Rattle.ctf_session.specs.Passing.{EachMeans};
 ghost use Rattle.ctf_session.specs.Printing.{TellsFault};
 ghost use Rattle.ctf_session.specs.Steps.{answer_of, Tells, Steps, IsRepeated, EndedBy, CountsAfterStep, CountsAfter, IsNamedStep, IsNamed, Answered, RoomAfter, ReadersAfter, EndsBy};
 
@@ -85,6 +86,11 @@ impl<'a, S: Source + Drop> Session<'a, S> {
             AllTell inputs → IfOk result (λ s. given_of s.readers ≡ map (λ i. length i.given.bytes) inputs) }
         ensures on_line { IfOk result (λ s. EachOnLine s.readers) }
         ensures all_taken { AllTell (inputs_from (λ s. record { tells = S.tells s; bytes = S.left s; ending = S.ending s }) 0 traces.entry.items) → IfOk result (λ s. EachAllTaken s.readers) }
+
+        // What is to come of each stream is what its bytes mean.
+        ensures fetched { IfOk result (λ s. EachFetched s.readers) }
+        ensures streams { let inputs = inputs_from (λ s. record { tells = S.tells s; bytes = S.left s; ending = S.ending s }) 0 traces.entry.items in
+            AllTell inputs → IfOk result (λ s. EachMeans (map (run_in options.now.shift) inputs) s.readers) }
     {
         // What is before a beginning is shown nowhere, and its values are made faster than its text.
         let writes = options.trim.begin.is_none();
@@ -123,9 +129,9 @@ impl<'a, S: Source + Drop> Session<'a, S> {
         // No message is written while lines are held back.
         ensures settled { (err.new ≡ err.old) ⊎ IsTrue (W.settled out.new) }
 
-        // Of any sources: a step that went took room; one that ended took nothing from a source.
+        // Of any sources: a step that went took room and left the first item behind; one that ended took nothing from a source.
         ensures room { RoomAfter result self.old.room self.new.room }
-        ensures readers { ReadersAfter result self.old.readers self.new.readers }
+        ensures readers { ReadersAfter result self.old.coming self.old.readers self.new.readers }
 
         // The bytes taken are those that the sources gave, and no more than the items in front need.
         ensures tells { Tells self.old → Tells self.new }

@@ -7,7 +7,7 @@ use ctf_outcome::{Outcome, RunFault};
 use ctf_packet::StreamFault;
 
 /// What a step of a session did.
-#[derive(Debug, PartialEq, Eq, Drop)]
+#[derive(Drop)]
 pub enum Step {
     /// It left one item behind: its line or its message was written, or it was before the beginning.
     Went,
@@ -16,7 +16,7 @@ pub enum Step {
 }
 
 /// What stops the writing of a text.
-#[derive(Clone, Copy, Debug, PartialEq, Eq)]
+#[derive(Clone, Copy)]
 pub enum Stop {
     WriteFailed,
     NoMemory,
@@ -35,7 +35,7 @@ impl Stop {
 }
 
 /// How a session ended.
-#[derive(Clone, Copy, Debug, PartialEq, Eq)]
+#[derive(Clone, Copy)]
 pub(crate) enum Ending {
     Done,
     /// A stream of the trace of this number goes no further.

@@ -9,7 +9,7 @@ use Rattle.ctf_packet.specs.Scopes.{Values}
 use Rattle.ctf_packet.specs.Views.{values_of, packet_values}
 use Rattle.ctf_packet.specs.declared.fault.StreamFault.{StreamFault}
 use Rattle.ctf_stream.specs.Coming.{opened_in, left_in, item_in, room_in, HoldsFront}
-use Rattle.ctf_stream.specs.Fetching.{OrNoMemory, behind_packet, FetchedAt}
+use Rattle.ctf_stream.specs.Fetching.{OrNoMemory, most_taken, behind_packet, FetchedAt}
 use Rattle.ctf_stream.specs.declared.cut.CutPoint.{CutPoint}
 use Rattle.ctf_stream.specs.declared.packet.Packet.{Packet}
 use Rattle.ctf_stream.specs.declared.packet.Front.{Front}
@@ -28,10 +28,6 @@ coming_at cut ending left known bytes (Some p) =
 -- what is to come, where so much is left of the stream
 abbrev pub coming_of : Ending → List ℕ → Course → Run Classes
 coming_of ending left c = coming_at c.cut ending left c.scopes c.buffer c.packet
-
--- how many bytes may be taken, at the most: a packet that begins at the longest stream's end, and one byte (own)
-abbrev pub most_taken : ℕ
-most_taken = 2 ^ 60 + 2 ^ 28 + 1
 
 -- between two packets nothing is held, and no byte was taken beyond
 pub record Between (cut : CutPoint) (bytes : List ℕ) (taken : ℕ) : Type 0 where

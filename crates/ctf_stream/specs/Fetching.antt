@@ -23,6 +23,10 @@ use Rattle.ctf_stream.specs.declared.cut.Opening.{Opening}
 abbrev pub longest_bytes : ℕ
 longest_bytes = 2 ^ 28
 
+-- how many bytes may be taken of a stream, at the most: a packet that begins at the longest stream's end, and one byte (own)
+abbrev pub most_taken : ℕ
+most_taken = 2 ^ 60 + 2 ^ 28 + 1
+
 -- what follows a packet at whose end the clock came so far
 abbrev pub behind_packet : TraceForm Classes → Ending → Opened Classes → List ℕ → Option Moment → Run Classes
 behind_packet trace ending packet left clock = from_bytes trace ending (Some (reached_behind packet clock)) packet.end left

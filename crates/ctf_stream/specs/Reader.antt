@@ -5,7 +5,7 @@ use Rattle.ctf_packet.specs.Classes.{Classes}
 use Rattle.ctf_packet.specs.Items.{Run, Item, event, discarded, lost, stops, before}
 use Rattle.ctf_packet.specs.declared.fault.StreamFault.{StreamFault}
 use Rattle.ctf_packet.specs.declared.fault.StreamFault.TheVariants as faults
-use Rattle.ctf_stream.specs.Fetching.{longest_bytes}
+use Rattle.ctf_stream.specs.Fetching.{longest_bytes, most_taken}
 
 -- what stands in front
 pub data Ahead : Type 0 where
@@ -118,7 +118,7 @@ OnLine ended taken cut held = (taken ≡ cut) × (held ≡ 0)
 OnLine (fault f) taken cut held = (cut ≤ taken) × (taken ≤ cut + longest_bytes + 1) × (held ≡ 0)
 
 abbrev pub IsOnLine : Reader → Type 0
-IsOnLine r = OnLine r.ahead r.taken r.cut r.held
+IsOnLine r = OnLine r.ahead r.taken r.cut r.held × (r.taken ≤ most_taken)
 
 -- at the end all bytes were taken
 abbrev pub IsAllTaken : Ahead → List ℕ → Type 0

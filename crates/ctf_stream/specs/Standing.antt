@@ -1,8 +1,8 @@
 -- A reader's parts, as contracts see the whole.
 use Rattle.std.specs.Prelude.{◌≡◌, ℕ, ◌+◌, ◌≤◌, [], Option, Some, None, IsSome}
 use Rattle.ctf_stream.specs.Coming.{item_in}
-use Rattle.ctf_stream.specs.Fetching.{longest_bytes}
-use Rattle.ctf_stream.specs.Course.{most_taken, Stands, HasPart, HoldsIn}
+use Rattle.ctf_stream.specs.Fetching.{longest_bytes, most_taken}
+use Rattle.ctf_stream.specs.Course.{Stands, HasPart, HoldsIn}
 use Rattle.ctf_stream.specs.Reader.{Ahead, start, item, ended, fault}
 use Rattle.ctf_stream.specs.declared.packet.Packet.{Packet}
 use Rattle.ctf_stream.specs.declared.packet.Front.{Front}

@@ -10,7 +10,7 @@ use ctf_clock::Moment;
 use ctf_packet::StreamFault;
 
 /// What stands in front of a reader.
-#[derive(Clone, Copy, Debug, PartialEq, Eq)]
+#[derive(Clone, Copy)]
 pub enum Ahead {
     /// Nothing was fetched yet.
     Start,

@@ -14,7 +14,7 @@ use std::marker::Model;
 const CHUNK: usize = 65_536;
 
 /// The bytes that came so far. Contracts see them.
-#[derive(Debug, Drop)]
+#[derive(Drop)]
 pub(crate) struct Buffer {
     /// Behind those that came stand bytes of earlier packets, or zeros.
     bytes: Vec<u8>,
@@ -32,7 +32,7 @@ impl Model for Buffer {
 }
 
 /// Whether as many bytes came as were asked for.
-#[derive(Clone, Copy, Debug, PartialEq, Eq)]
+#[derive(Clone, Copy)]
 pub(crate) enum Filled {
     Whole,
     /// The stream ended before.

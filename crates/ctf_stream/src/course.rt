@@ -9,8 +9,8 @@ ghost use Rattle.ctf_packet.specs.Views.{opened_of};
 ghost use Rattle.ctf_stream.specs.Coming.{TakesRoom};
 ghost use Rattle.ctf_stream.specs.Shown.{Tells, IsMadeTold, IsAsked};
 ghost use Rattle.ctf_stream.specs.Standing.{item_at};
-ghost use Rattle.ctf_stream.specs.Fetching.{longest_bytes};
-ghost use Rattle.ctf_stream.specs.Course.{coming_of, most_taken, Stands, room_of, StepsWithin, Enters, EntersRoom, Advances, IsOfPacket, HasPart, HoldsIn, HoldsFound};
+ghost use Rattle.ctf_stream.specs.Fetching.{longest_bytes, most_taken};
+ghost use Rattle.ctf_stream.specs.Course.{coming_of, Stands, room_of, StepsWithin, Enters, EntersRoom, Advances, IsOfPacket, HasPart, HoldsIn, HoldsFound};
 
 use crate::buffer::Buffer;
 use crate::cut::CutPoint;
@@ -25,7 +25,7 @@ use ctf_packet::{OpenPacket, Reached, Spares, StreamFault};
 use std::alloc::Global;
 
 /// How far a stream was read.
-#[derive(Debug, Drop)]
+#[derive(Drop)]
 pub(crate) struct Course<'a> {
     /// Where the packet at hand begins, or the next one.
     pub(crate) cut: CutPoint<'a>,

@@ -28,7 +28,7 @@ const LONGEST_BYTES: usize = 268_435_456;
 const LONGEST_STREAM: u64 = 1 << 60;
 
 /// A place between two packets of a stream.
-#[derive(Clone, Copy, Debug)]
+#[derive(Clone, Copy)]
 pub(crate) struct CutPoint<'a> {
     pub(crate) trace: &'a TraceClass,
     pub(crate) shift: Shift,
@@ -39,7 +39,7 @@ pub(crate) struct CutPoint<'a> {
 }
 
 /// A packet whose header and context were decoded.
-#[derive(Clone, Copy, Debug)]
+#[derive(Clone, Copy)]
 pub(crate) struct Opening<'a> {
     begun: Begun<'a>,
     /// In bits. `None` where it tells none, and is the rest of its stream.

@@ -8,7 +8,7 @@ use ctf_clock::Moment;
 use ctf_decode::{Scopes, Value};
 
 /// An item of a stream.
-#[derive(Clone, Copy, Debug)]
+#[derive(Clone, Copy)]
 pub enum Item<'r> {
     Event(Event<'r>),
     /// Event records that the tracer discarded before a packet.
@@ -18,7 +18,7 @@ pub enum Item<'r> {
 }
 
 /// An event record (CTF 1.8.3, section 6), with its classes.
-#[derive(Clone, Copy, Debug)]
+#[derive(Clone, Copy)]
 pub struct Event<'r> {
     pub trace: &'r TraceClass,
     pub stream: &'r StreamClass,
@@ -32,7 +32,7 @@ pub struct Event<'r> {
 }
 
 /// What a tracer did not write before a packet.
-#[derive(Clone, Copy, Debug)]
+#[derive(Clone, Copy)]
 pub struct Gap<'r> {
     /// How many event records or packets, at least one.
     pub count: u64,
@@ -47,7 +47,7 @@ pub struct Gap<'r> {
 }
 
 /// An event record (CTF 1.8.3, section 6), as the text that stands for it.
-#[derive(Clone, Copy, Debug)]
+#[derive(Clone, Copy)]
 pub struct EventText<'r> {
     /// The clock behind its header, where the stream has one.
     pub moment: Option<Moment>,
@@ -56,7 +56,7 @@ pub struct EventText<'r> {
 }
 
 /// What a reader tells of the item in front of it.
-#[derive(Clone, Copy, Debug)]
+#[derive(Clone, Copy)]
 pub enum Told<'r> {
     /// The item, with its values.
     Item(Item<'r>),
@@ -90,5 +90,27 @@ impl<'r> Event<'r> {
         ensures { option_copied result ≡ value_at self.now.scopes.now scope }
     {
         self.scopes.get(scope)
+    }
+}
+
+impl<'r> Gap<'r> {
+    /// The time behind the context of the packet that follows, in nanoseconds since the epoch.
+    pub fn time(&self) -> Option<i64>
+        ensures { result ≡ option_map (λ m. m.time) self.now.moment }
+    {
+        match self.moment {
+            None => None,
+            Some(moment) => Some(moment.time),
+        }
+    }
+
+    /// The value of the clock there, in cycles.
+    pub fn cycles(&self) -> Option<u64>
+        ensures { result ≡ option_map (λ m. m.cycles) self.now.moment }
+    {
+        match self.moment {
+            None => None,
+            Some(moment) => Some(moment.cycles),
+        }
     }
 }

@@ -13,7 +13,7 @@ use ctf_decode::{Scopes, Value};
 use ctf_list::Text;
 
 /// An item of a stream, by value.
-#[derive(Debug, Drop)]
+#[derive(Drop)]
 pub enum OwnedItem<'a> {
     Event(OwnedEvent<'a>),
     /// Event records that the tracer discarded before a packet.
@@ -23,7 +23,7 @@ pub enum OwnedItem<'a> {
 }
 
 /// An event record (CTF 1.8.3, section 6), with its classes.
-#[derive(Debug, Drop)]
+#[derive(Drop)]
 pub struct OwnedEvent<'a> {
     pub trace: &'a TraceClass,
     pub stream: &'a StreamClass,
@@ -35,7 +35,7 @@ pub struct OwnedEvent<'a> {
 }
 
 /// What a tracer did not write before a packet.
-#[derive(Debug, Drop)]
+#[derive(Drop)]
 pub struct OwnedGap {
     /// How many event records or packets, at least one.
     pub count: u64,

@@ -19,7 +19,7 @@ use ctf_packet::{EventRecord, OpenPacket, Spares, StreamFault, next_record};
 use std::alloc::Global;
 
 /// A packet whose items are told one after the other.
-#[derive(Debug, Drop)]
+#[derive(Drop)]
 pub(crate) struct Packet<'a> {
     pub(crate) opened: OpenPacket<'a>,
     /// What was looked at of the class of its event headers.
@@ -35,7 +35,7 @@ pub(crate) struct Packet<'a> {
 }
 
 /// The item of a packet that stands in front.
-#[derive(Clone, Copy, Debug)]
+#[derive(Clone, Copy)]
 pub(crate) enum Front<'a> {
     /// An event record, whose values are those of the scopes.
     Event(EventRecord<'a>),
@@ -48,7 +48,7 @@ pub(crate) enum Front<'a> {
 }
 
 /// An event record whose text stands in front of a line, and where it was read.
-#[derive(Clone, Copy, Debug)]
+#[derive(Clone, Copy)]
 pub(crate) struct WrittenRecord<'a> {
     pub(crate) event: EventRecord<'a>,
     /// Where it begins, in bits from the packet's first one.

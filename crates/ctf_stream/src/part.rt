@@ -13,7 +13,7 @@ use std::marker::Model;
 
 /// The part that the lines of a packet's event records share, in memory that is kept from packet to packet.
 /// Contracts see its text.
-#[derive(Debug, Drop)]
+#[derive(Drop)]
 pub(crate) struct PacketPart {
     /// Behind the text stand any bytes.
     bytes: Vec<u8>,

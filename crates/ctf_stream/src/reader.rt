@@ -24,7 +24,7 @@ use std::alloc::Global;
 use std::marker::Model;
 
 /// What stands in front.
-#[derive(Debug, Drop)]
+#[derive(Drop)]
 pub(crate) enum Head<'a> {
     /// Nothing was fetched yet, or the item was given away.
     Start,

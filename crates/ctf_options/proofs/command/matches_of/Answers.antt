@@ -17,5 +17,5 @@ returns-in-Err c =
     let words = map string_bytes c.args.words.now in
     let e : c.kind.result ≡ kind_of c.in-Err.error = c.kind.ensures in
     refused words c.in-Err.error c.refusal.result
-    (λ out. c.refusal.ensures.memory (e ∙ out)) c.refusal.ensures.help (λ help. sym e ∙ c.refusal.ensures.kind help)
+    (λ out. c.refusal.ensures.memory (e ∙ out)) c.refusal.ensures.help (λ help. sym e ∙ c.refusal.ensures.kind help) (λ is shows. c.refusal.ensures.bad is (e ∙ shows))
     (stopped (app_of c.in_ok-command.command) words c.in-Err.error c.in_ok-command.ensures c.in-Err.ensures.kinds)

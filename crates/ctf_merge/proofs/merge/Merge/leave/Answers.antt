@@ -5,7 +5,7 @@ use Rattle.ctf_stream.specs.Reader.{IsFetched}
 use Rattle.ctf_stream.specs.declared.ahead.Ahead.{Ahead}
 use Rattle.ctf_merge.specs.Stages.{is_over, stage_of}
 use Rattle.ctf_merge.specs.Turns.{turn_at, fault_at}
-use Rattle.ctf_merge.proofs.Going.{each_at, each_set, map-kept, room-front, goes-item}
+use Rattle.ctf_merge.proofs.Going.{each_at, each_set, map-kept, room-front, goes-item, leaves_one}
 use Rattle.ctf_merge.proofs.Lining.{next_front, next_going, turn_within, stands_again, stage_open}
 use Rattle.ctf_merge.proofs.Rising.{rises_on}
 use Rattle.ctf_merge.proofs.merge.Merge.leave.Goals as goal
@@ -56,6 +56,12 @@ returns-clause-goes_on g c =
     rw (← c.self.view_is) (λ tells.
     goes-item _ c.args.number at.0 c.index_mut-reader.result.now c.go_on.new.self (is_over c.meet.new.self) open_ c.self.invariant.fetched at.1.first is
     (c.go_on.ensures.goes_on (each_at (λ r. IsTrue r.tells) c.self.inside.readers.items c.args.number c.index_mut-reader.result.now at.1.within is tells)))
+
+pub returns-clause-each : goal.returns-clause-each
+returns-clause-each g c =
+    let at = next_front c.args.self.now c.self.inside.readers.items c.self.inside.stage c.args.number c.self.view_is c.requires in
+    rw (← c.self.view_is)
+    (leaves_one c.self.inside.readers.items c.args.number at.0 c.index_mut-reader.result.now c.go_on.new.self at.1.heads c.index_mut-reader.ensures.value c.go_on.ensures.fetched c.go_on.ensures.goes_on)
 
 pub returns-clause-rises : goal.returns-clause-rises
 returns-clause-rises g c = λ tells rises. rises_on _ _ (returns-clause-goes_on g c tells) rises

@@ -4,7 +4,7 @@ use Rattle.ctf_merge.specs.Merged.{Merged, merged}
 use Rattle.ctf_merge.specs.Merges.{EachIsFetched, MergedOrRefused}
 use Rattle.ctf_merge.specs.Stages.{Stands}
 use Rattle.ctf_merge.proofs.Lining.{open_coming}
-use Rattle.ctf_merge.proofs.Going.{written, length-fetched, told_at_first, each_fetched, tells_at_first, names_at_first, traces_at_first, writes_at_first, given_at_first, on_line_at_first, all_taken_at_first}
+use Rattle.ctf_merge.proofs.Going.{written, length-fetched, told_at_first, each_fetched, tells_at_first, names_at_first, traces_at_first, writes_at_first, given_at_first, on_line_at_first, all_taken_at_first, comes_at_first}
 use Rattle.ctf_merge.proofs.Rising.{rises_at_first}
 use Rattle.ctf_merge.proofs.merge.Merge.new.Goals as goal
 
@@ -25,6 +25,14 @@ pub returns-clause-told : goal.returns-clause-told
 returns-clause-told g c = λ tells.
     subst (λ (m : Merged). MergedOrRefused (merged (map coming c.args.readers.items)) m) (sym (open_coming _ c.in_ok-turns.stage c.in_ok-turns.ensures.open))
     (told_at_first _ _ tells (readers_are c.args.readers.items c.deref_mut.result.now c.fetch_each.new.readers c.args.readers.len c.deref_mut.ensures.value c.args.readers.ok.0 c.fetch_each.ensures))
+
+pub returns-clause-each : goal.returns-clause-each
+returns-clause-each g c =
+    comes_at_first _ _ (readers_are c.args.readers.items c.deref_mut.result.now c.fetch_each.new.readers c.args.readers.len c.deref_mut.ensures.value c.args.readers.ok.0 c.fetch_each.ensures)
+
+pub returns-clause-fetched : goal.returns-clause-fetched
+returns-clause-fetched g c =
+    each_fetched _ _ (readers_are c.args.readers.items c.deref_mut.result.now c.fetch_each.new.readers c.args.readers.len c.deref_mut.ensures.value c.args.readers.ok.0 c.fetch_each.ensures)
 
 pub returns-clause-rises : goal.returns-clause-rises
 returns-clause-rises g c = λ tells each. rises_at_first _ _ (returns-clause-told g c tells) each

@@ -1,14 +1,15 @@
-use Rattle.std.proofs.Common.{◌≡◌, ◌<◌, ◌+◌, length, set, IsTrue, Option, Ok, refl, ap, ◌∙◌, subst, arith}
+use Rattle.std.proofs.Common.{◌≡◌, ◌<◌, ◌+◌, length, set, IsTrue, Option, Ok, refl, sym, ap, ◌∙◌, subst, arith}
+use Rattle.ctf_merge.specs.Merged.{First}
 use Rattle.ctf_packet.specs.declared.fault.StreamFault.{StreamFault}
 use Rattle.ctf_stream.specs.Ahead.{told}
 use Rattle.ctf_stream.specs.Reader.{IsFetched}
 use Rattle.ctf_stream.specs.declared.ahead.Ahead.{Ahead}
 use Rattle.ctf_merge.specs.Given.{Gives, GivesFirst, GivesRoom}
-use Rattle.ctf_merge.specs.Merges.{Merge, EachTells, coming_of, room_of}
+use Rattle.ctf_merge.specs.Merges.{Merge, EachTells, LeavesFront, coming_of, room_of}
 use Rattle.ctf_merge.specs.Stages.{is_over, stage_of}
 use Rattle.ctf_merge.specs.Turns.{turn_at, fault_at}
 use Rattle.ctf_merge.proofs.Giving.{has_item, first_given, gives_item, refused_told, gives_refused, gives_broken, gives_nothing, room_given, room_kept, rises_given}
-use Rattle.ctf_merge.proofs.Going.{each_at, each_set, map-kept, goes-item}
+use Rattle.ctf_merge.proofs.Going.{each_at, each_set, map-kept, goes-item, leaves_one}
 use Rattle.ctf_merge.proofs.Lining.{turn_front, turn_within, stands_again, stage_open, first_going, first_broken, no_turn, lined_going}
 use Rattle.ctf_merge.proofs.merge.Merge.next.Goals as goal
 
@@ -150,3 +151,23 @@ returns-in-Broken-clause-gives g c =
     let m : Merge = record { readers = c.self.inside.readers.items; over = is_over c.self.inside.stage } in
     let is = first_broken m c.self.inside.readers.items c.self.inside.stage c.self.inside.turns c.in-Broken.number c.in-Broken.fault refl c.in-Broken.is c.self.invariant.stands in
     rw (← c.self.view_is) (λ tells. gives_broken m c.in-Broken.number c.in-Broken.fault c.self.invariant.fetched is)
+
+pub returns-in-Ok-clause-each : goal.returns-in-Ok-clause-each
+returns-in-Ok-clause-each g c =
+    let m : Merge = record { readers = c.self.inside.readers.items; over = is_over c.self.inside.stage } in
+    let at = turn_front c.self.inside.readers.items c.self.inside.stage c.self.inside.turns c.in-Some.number c.in-Going.is c.self.invariant.stands c.in-Some.ensures.first in
+    let leaves = leaves_one m.readers c.in-Some.number at.0 c.index_mut-reader.result.now c.give.new.reader at.1.heads c.index_mut-reader.ensures.value c.give.ensures.fetched c.give.ensures.goes_on in
+    rw (← c.self.view_is) (subst (λ (f : First). LeavesFront f m.readers (set m.readers c.in-Some.number c.give.new.reader)) (sym at.1.first) leaves)
+
+pub returns-in-Err-clause-each : goal.returns-in-Err-clause-each
+returns-in-Err-clause-each g c =
+    let m : Merge = record { readers = c.self.inside.readers.items; over = is_over c.self.inside.stage } in
+    let at = turn_front c.self.inside.readers.items c.self.inside.stage c.self.inside.turns c.in-Some.number c.in-Going.is c.self.invariant.stands c.in-Some.ensures.first in
+    let leaves = leaves_one m.readers c.in-Some.number at.0 c.index_mut-reader.result.now c.give.new.reader at.1.heads c.index_mut-reader.ensures.value c.give.ensures.fetched c.give.ensures.goes_on in
+    rw (← c.self.view_is) (subst (λ (f : First). LeavesFront f m.readers (set m.readers c.in-Some.number c.give.new.reader)) (sym at.1.first) leaves)
+
+pub returns-in-None-clause-each : goal.returns-in-None-clause-each
+returns-in-None-clause-each g c =
+    let m : Merge = record { readers = c.self.inside.readers.items; over = is_over c.self.inside.stage } in
+    let is = first_going m c.self.inside.readers.items c.self.inside.stage _ refl c.in-Going.is (no_turn _ c.self.inside.turns (lined_going c.self.inside.stage _ c.self.inside.turns c.in-Going.is c.self.invariant.stands) c.in-None.ensures.none) in
+    rw (← c.self.view_is) (subst (λ (f : First). LeavesFront f m.readers m.readers) (sym is) refl)

@@ -1,7 +1,8 @@
 use Rattle.std.proofs.Common.{refl, ◌∙◌, subst}
 use Rattle.ctf_merge.specs.Merged.{merged}
 use Rattle.ctf_merge.specs.Merges.{MergedOrRefused, coming_of}
-use Rattle.ctf_session.proofs.Opened.{runs_of, names_are, each_tells, given_is, each_on_line, each_all_taken, each_rises}
+use Rattle.ctf_session.specs.Passing.{EachMeans}
+use Rattle.ctf_session.proofs.Opened.{runs_of, names_are, each_tells, given_is, each_on_line, each_all_taken, each_rises, each_means}
 use Rattle.ctf_session.proofs.session.Session.new.Goals as goal
 
 pub returns-clause-told : goal.returns-clause-told
@@ -35,3 +36,9 @@ pub returns-clause-all_taken : goal.returns-clause-all_taken
 returns-clause-all_taken g c = λ tells.
     let opened = c.in_ok-readers.ensures.opened in
     c.in_ok-merge.ensures.all_taken (each_tells c.args.options.now.shift _ c.in_ok-readers.readers.items opened tells) (each_all_taken c.args.options.now.shift _ c.in_ok-readers.readers.items opened)
+
+pub returns-clause-streams : goal.returns-clause-streams
+returns-clause-streams g c = λ tells.
+    let opened = c.in_ok-readers.ensures.opened in
+    subst (λ runs. EachMeans runs c.in_ok-merge.merge.readers) (runs_of c.args.options.now.shift _ c.in_ok-readers.readers.items opened tells)
+    (each_means _ _ (each_tells c.args.options.now.shift _ c.in_ok-readers.readers.items opened tells) c.in_ok-merge.ensures.each)

@@ -2,7 +2,7 @@ use Rattle.std.proofs.Common.{sym, refl, ap, ◌∙◌, subst, None}
 use Rattle.ctf_merge.specs.Merged.{Merged, PlacedRise}
 use Rattle.ctf_merge.specs.Merges.{coming_of}
 use Rattle.ctf_stamp.specs.Trims.{verdict_of}
-use Rattle.ctf_session.proofs.Stepping.{open_coming, went, ended_after, Writes-none, still_rises, rises_left}
+use Rattle.ctf_session.proofs.Stepping.{open_coming, leaves_first, not_ended, went, ended_after, Writes-none, still_rises, rises_left}
 use Rattle.ctf_session.proofs.session.Session.step.Goals as goal
 
 pub returns-in-After-clause-steps : goal.returns-in-After-clause-steps
@@ -41,3 +41,11 @@ returns-in-Ok-clause-tells g c = rw (← c.self.view_is) (λ tells.
       rises = rises_left _ (coming_of c.self.inside.merge) (coming_of c.leave-in-Ok.new.self) tells.rises
           (still_rises (coming_of c.self.inside.merge) (coming_of c.leave-in-Ok.new.self) _ is.rest (is.coming tells.sources) (c.leave-in-Ok.ensures.goes_on tells.sources));
     })
+
+pub returns-in-Before-clause-readers : goal.returns-in-Before-clause-readers
+returns-in-Before-clause-readers g c = rw (← c.self.view_is)
+    (leaves_first _ c.self.inside.merge c.in-Some-next_stream.number c.leave.new.self.readers (not_ended c.self.inside.ended c.in_default.not-Some) c.in-Some-next_stream.ensures.item c.leave.ensures.each)
+
+pub returns-in-Ok-clause-readers : goal.returns-in-Ok-clause-readers
+returns-in-Ok-clause-readers g c = rw (← c.self.view_is)
+    (leaves_first _ c.self.inside.merge c.in-Some-next_stream.number c.leave-in-Ok.new.self.readers (not_ended c.self.inside.ended c.in_default.not-Some) c.in-Some-next_stream.ensures.item c.leave-in-Ok.ensures.each)
