@@ -10,7 +10,7 @@ use crate::naming::{is_two_words, is_word};
 use tsdl_tree::{BlockEntry, Path};
 
 /// A name with a meaning in a block (CTF 1.8.3, section 7.4 and appendix C.2).
-#[derive(Clone, Copy, Debug, PartialEq, Eq)]
+#[derive(Clone, Copy)]
 pub enum EntryName {
     /// `major`
     Major,

@@ -19,7 +19,7 @@ use std::alloc::Global;
 use tsdl_tree::BlockEntry;
 
 /// What the settings of an `event` block say (CTF 1.8.3, section 7.4 and appendix C.2).
-#[derive(Debug, Drop, PartialEq, Eq)]
+#[derive(Drop)]
 pub struct Event {
     /// 0 where the block has none.
     pub id: u64,

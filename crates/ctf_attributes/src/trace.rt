@@ -31,7 +31,7 @@ const MAJOR: u64 = 1;
 const MINOR: u64 = 8;
 
 /// What the settings of a `trace` block say (CTF 1.8.3, section 7.4 and appendix C.2).
-#[derive(Clone, Copy, Debug, PartialEq, Eq)]
+#[derive(Clone, Copy)]
 pub struct Trace {
     /// The native byte order.
     pub order: Order,

@@ -11,7 +11,7 @@ use std::marker::Model;
 
 /// Where a little endian integer stands behind the first bit of a byte, if it lies in the eight bytes from its own first one
 /// on (CTF 1.8.3, section 4.1.5). Contracts see its place and its size, in bits, and whether it is in two's complement.
-#[derive(Debug, Drop)]
+#[derive(Drop)]
 pub struct Window {
     /// How many bytes stand before its first one.
     bytes: usize,

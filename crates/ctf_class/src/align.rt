@@ -12,7 +12,7 @@ const LAST_EXPONENT: u32 = 31;
 
 /// An alignment in bits: a power of two from 1 to 2^31 (CTF 1.8.3, section 4.1.2). Contracts see the
 /// number.
-#[derive(Clone, Copy, Debug, PartialEq, Eq)]
+#[derive(Clone, Copy)]
 pub struct Align {
     bits: u32,
 }

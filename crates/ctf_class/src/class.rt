@@ -9,7 +9,7 @@ use ctf_list::{Boxed, List, Shared};
 
 /// A field class.
 #[cycle(class)]
-#[derive(Debug, Drop, PartialEq, Eq)]
+#[derive(Drop)]
 pub struct Class {
     /// Where a field of it begins: at a multiple of this, counted from the packet's first bit.
     pub align: Align,
@@ -22,7 +22,7 @@ pub struct Class {
 
 /// What a field class is.
 #[cycle(class)]
-#[derive(Debug, Drop, PartialEq, Eq)]
+#[derive(Drop)]
 pub enum Kind {
     /// CTF 1.8.3, section 4.1.5.
     Integer(Integer),
@@ -58,7 +58,7 @@ pub enum Kind {
 
 /// A member of a structure or an option of a variant.
 #[cycle(class)]
-#[derive(Debug, Drop, PartialEq, Eq)]
+#[derive(Drop)]
 pub struct Member {
     pub name: FieldName,
     pub class: Class,

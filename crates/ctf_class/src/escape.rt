@@ -4,7 +4,7 @@ ghost use Rattle.std.specs.Prelude.{◌≡◌, ◌++◌, ◌∷◌, [], ◌<◌,
 ghost use Rattle.ctf_class.specs.Escapes.{escaped, shown_byte, hex_digit};
 
 use ctf_list::NoMemory;
-use std::alloc::Global;
+use std::alloc::{AllocError, Global};
 
 /// A text as it is shown: `"`, `\`, newline, tab and carriage return behind a `\`, other bytes below 0x20
 /// and 0x7F as `\x` and two digits, and each other byte as it is.
@@ -42,21 +42,20 @@ fn is_plain(byte: u8) -> bool
 
 /// Appends one byte as it is shown.
 #[tactic(auto, unfolding(crate::specs::Escapes::shown_byte))]
-fn put_escape(text: &mut Vec<u8>, byte: u8) -> Result<(), NoMemory>
+fn put_escape(text: &mut Vec<u8>, byte: u8) -> Result<(), AllocError>
     ensures { OnOk result (text.new.items ≡ text.old.items ++ shown_byte byte) }
 {
     match byte {
-        b'"' => text.extend_from_slice(b"\\\"")?,
-        b'\\' => text.extend_from_slice(b"\\\\")?,
-        b'\n' => text.extend_from_slice(b"\\n")?,
-        b'\t' => text.extend_from_slice(b"\\t")?,
-        b'\r' => text.extend_from_slice(b"\\r")?,
+        b'"' => text.extend_from_slice(b"\\\""),
+        b'\\' => text.extend_from_slice(b"\\\\"),
+        b'\n' => text.extend_from_slice(b"\\n"),
+        b'\t' => text.extend_from_slice(b"\\t"),
+        b'\r' => text.extend_from_slice(b"\\r"),
         0..=0x1F | 0x7F => {
-            text.extend_from_slice(&[b'\\', b'x', hex_digit(byte / 16), hex_digit(byte % 16)])?
+            text.extend_from_slice(&[b'\\', b'x', hex_digit(byte / 16), hex_digit(byte % 16)])
         }
-        _ => text.push(byte)?,
+        _ => text.extend_from_slice(&[byte]),
     }
-    Ok(())
 }
 
 /// The digit of a number from 0 to 15, in lower case.

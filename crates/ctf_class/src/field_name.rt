@@ -12,7 +12,7 @@ use std::marker::Model;
 
 /// The name of a member or an option. Contracts see its bytes, as they are written. Its copies share
 /// them, and the long part of what is printed for it.
-#[derive(Debug, Drop)]
+#[derive(Drop)]
 pub struct FieldName {
     /// What is printed before the value.
     ready: Ready,
@@ -38,10 +38,7 @@ impl FieldName {
     pub fn new(alloc: Global, name: List<u8>) -> Result<FieldName, NoMemory>
         ensures { IfOk result (λ field. field ≡ name) }
     {
-        let mut text = Vec::new(alloc);
-        text.extend_from_slice(shown(name.as_slice()))?;
-        text.extend_from_slice(b" = ")?;
-        let ready = Ready::new(alloc, text.as_slice())?;
+        let ready = ready_behind(alloc, b"", name.as_slice())?;
         let name = Shared::new(alloc, name)?;
         Ok(FieldName { ready, name })
     }
@@ -50,11 +47,7 @@ impl FieldName {
     pub fn behind(&self, alloc: Global, lead: &[u8]) -> Result<Ready, NoMemory>
         ensures { IfOk result (λ ready. ready ≡ lead.now ++ field_text self.now) }
     {
-        let mut text = Vec::new(alloc);
-        text.extend_from_slice(lead)?;
-        text.extend_from_slice(shown(self.as_slice()))?;
-        text.extend_from_slice(b" = ")?;
-        Ok(Ready::new(alloc, text.as_slice())?)
+        ready_behind(alloc, lead, self.as_slice())
     }
 
     /// The name as it is written.
@@ -95,6 +88,17 @@ impl PartialEq for FieldName {
 
 impl Eq for FieldName {
     ghost laws = { nat_list_eq_equiv };
+}
+
+/// What is printed before a value, behind a text.
+fn ready_behind(alloc: Global, lead: &[u8], name: &[u8]) -> Result<Ready, NoMemory>
+    ensures { IfOk result (λ ready. ready ≡ lead.now ++ field_text name.now) }
+{
+    let mut text = Vec::new(alloc);
+    text.extend_from_slice(lead)?;
+    text.extend_from_slice(shown(name))?;
+    text.extend_from_slice(b" = ")?;
+    Ready::new(alloc, text.as_slice())
 }
 
 /// The part of a name that is shown.

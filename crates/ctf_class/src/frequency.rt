@@ -5,7 +5,7 @@ ghost use Rattle.std.specs.Prelude.{◌≡◌, ◌≤◌, SomeIff};
 use std::marker::Model;
 
 /// Cycles a second, from 1 to 2^64 - 1 (CTF 1.8.3, section 8). Contracts see the number.
-#[derive(Clone, Copy, Debug, PartialEq, Eq)]
+#[derive(Clone, Copy)]
 pub struct Frequency {
     cycles: u64,
 }

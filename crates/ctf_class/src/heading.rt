@@ -10,7 +10,7 @@ use std::alloc::Global;
 use std::marker::Model;
 
 /// The host of the trace, if it has one, and the name of an event class. Contracts see both.
-#[derive(Debug, Drop)]
+#[derive(Drop)]
 pub struct Heading {
     host: Option<List<u8>>,
     name: List<u8>,

@@ -20,7 +20,7 @@ pub trait HasId {
 }
 
 /// Where the first item of each number stands.
-#[derive(Debug, Drop)]
+#[derive(Drop)]
 enum Places {
     /// The items have the numbers 0, 1, 2 and so on.
     Counted,
@@ -30,7 +30,7 @@ enum Places {
 
 /// Items in an order of their own, each found by its number without a walk. Contracts see the list of
 /// the items.
-#[derive(Debug, Drop)]
+#[derive(Drop)]
 pub struct Indexed<T: HasId> {
     items: List<T>,
     places: Places,

@@ -4,7 +4,7 @@ use crate::width::Width;
 use ctf_bits::Order;
 
 /// The base in which a number is shown (CTF 1.8.3, section 4.1.5).
-#[derive(Clone, Copy, Debug, PartialEq, Eq)]
+#[derive(Clone, Copy)]
 pub enum Base {
     Binary,
     Octal,
@@ -13,7 +13,7 @@ pub enum Base {
 }
 
 /// What is known of an integer but where it stands (CTF 1.8.3, section 4.1.5).
-#[derive(Clone, Copy, Debug, PartialEq, Eq)]
+#[derive(Clone, Copy)]
 pub struct Integer {
     pub size: Width,
     pub is_signed: bool,

@@ -5,7 +5,7 @@ use crate::ready::Ready;
 use ctf_bits::Window;
 
 /// An integer in decimal, little endian, whose distance from the begin of its run is known (CTF 1.8.3, section 4.1.5).
-#[derive(Debug, Drop)]
+#[derive(Drop)]
 pub struct PlainNumber {
     pub integer: Integer,
     /// Where it stands behind that begin.

@@ -14,7 +14,7 @@ const HEAD: usize = 24;
 
 /// A text in words of eight bytes, so that it is written by whole words. The first three stand in it, so that a
 /// short text is written at once: no jump depends on its length. Contracts see its bytes.
-#[derive(Debug, Drop)]
+#[derive(Drop)]
 pub struct Ready {
     /// Eight bytes each, the first of them in the lowest bits, filled up with zeros.
     first: u64,

@@ -29,7 +29,7 @@ const FARTHEST: u64 = 1 << 32;
 const LONGEST_TEXT: usize = 1 << 16;
 
 /// How a field is shown that is none of the numbers of a run.
-#[derive(Debug, Drop)]
+#[derive(Drop)]
 pub enum Shown {
     /// As a string (CTF 1.8.3, section 4.2.5).
     String,
@@ -39,7 +39,7 @@ pub enum Shown {
 }
 
 /// An integer that is no number of a run, or an array of integers.
-#[derive(Debug, Drop)]
+#[derive(Drop)]
 pub struct Integers {
     pub integer: Integer,
     pub align: Align,
@@ -47,7 +47,7 @@ pub struct Integers {
 }
 
 /// How many integers there are.
-#[derive(Clone, Copy, Debug)]
+#[derive(Clone, Copy)]
 pub enum Many {
     /// One alone.
     One,
@@ -58,7 +58,7 @@ pub enum Many {
 }
 
 /// A field behind the numbers of a run.
-#[derive(Debug, Drop)]
+#[derive(Drop)]
 pub struct Field {
     /// What is printed before its value.
     pub ready: Ready,
@@ -69,7 +69,7 @@ pub struct Field {
 
 /// Integers in decimal, little endian, that stand one behind the other at fixed distances from a byte's first bit (CTF 1.8.3,
 /// section 4.1.5), and the field behind them, if there is one.
-#[derive(Debug, Drop)]
+#[derive(Drop)]
 pub struct Run {
     pub numbers: List<PlainNumber>,
     /// How many bits the numbers take.
@@ -82,7 +82,7 @@ pub struct Run {
 /// The fields of an event record's scopes behind its header (CTF 1.8.3, section 6), one after the other, if all of them are
 /// structures that begin at a byte, of integers, strings, texts of fixed lengths, and arrays of integers whose length is
 /// fixed or the field before; else nothing.
-#[derive(Debug, Drop)]
+#[derive(Drop)]
 pub struct RecordPlan {
     pub runs: List<Run>,
     /// How many values these scopes have, without the elements of arrays.

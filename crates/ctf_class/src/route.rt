@@ -7,7 +7,7 @@ use ctf_list::List;
 
 /// The scopes of a packet and of an event record, in the order in which they are decoded (CTF 1.8.3,
 /// section 7.3.2).
-#[derive(Clone, Copy, Debug, PartialEq, Eq)]
+#[derive(Clone, Copy)]
 pub enum Scope {
     PacketHeader,
     PacketContext,
@@ -18,7 +18,7 @@ pub enum Scope {
 }
 
 /// Where a route begins.
-#[derive(Clone, Copy, Debug, PartialEq, Eq)]
+#[derive(Clone, Copy)]
 pub enum Origin {
     /// A structure around the class, 0 being the innermost.
     Enclosing(u32),
@@ -28,7 +28,7 @@ pub enum Origin {
 
 /// The way to a length or a tag: a member of the structure at the origin, a member of that one, and so
 /// on, by their places.
-#[derive(Debug, Drop, PartialEq, Eq)]
+#[derive(Drop)]
 pub struct Route {
     pub origin: Origin,
     pub steps: List<u32>,
@@ -50,7 +50,7 @@ impl Route {
 }
 
 /// How many elements an array has.
-#[derive(Debug, Drop, PartialEq, Eq)]
+#[derive(Drop)]
 pub enum Length {
     /// As many as the class says (CTF 1.8.3, section 4.2.3).
     Fixed(u64),

@@ -6,7 +6,7 @@ use crate::label_name::LabelName;
 
 /// The numbers from `first` to `last`, both included (CTF 1.8.3, section 4.1.8). Some of them may lie
 /// outside of what an enumeration's container holds.
-#[derive(Clone, Copy, Debug, PartialEq, Eq)]
+#[derive(Clone, Copy)]
 pub struct Span {
     pub first: i128,
     pub last: i128,
@@ -22,14 +22,14 @@ impl Span {
 }
 
 /// A label of an enumeration, with numbers that it covers.
-#[derive(Debug, Drop, PartialEq, Eq)]
+#[derive(Drop)]
 pub struct Label {
     pub name: LabelName,
     pub span: Span,
 }
 
 /// The option that some of a tag's numbers name.
-#[derive(Clone, Copy, Debug, PartialEq, Eq)]
+#[derive(Clone, Copy)]
 pub struct Choice {
     pub span: Span,
     /// The option's place among the variant's options.

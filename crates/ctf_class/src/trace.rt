@@ -15,7 +15,7 @@ use std::alloc::Global;
 use std::marker::Model;
 
 /// A clock (CTF 1.8.3, section 8).
-#[derive(Debug, Drop, PartialEq, Eq)]
+#[derive(Drop)]
 pub struct Clock {
     pub name: List<u8>,
     pub frequency: Frequency,
@@ -26,7 +26,7 @@ pub struct Clock {
 }
 
 /// An event class (CTF 1.8.3, sections 6 and 7.4).
-#[derive(Debug, Drop)]
+#[derive(Drop)]
 pub struct EventClass {
     pub id: u64,
     pub heading: Heading,
@@ -35,7 +35,7 @@ pub struct EventClass {
 }
 
 /// A stream class (CTF 1.8.3, sections 3 and 7.4). Contracts see its parts; with them it keeps the plans of its event records.
-#[derive(Debug, Drop)]
+#[derive(Drop)]
 pub struct StreamClass {
     id: u64,
     packet_context: Option<Class>,
@@ -51,7 +51,7 @@ pub struct StreamClass {
 }
 
 /// An event class, with the plan of its records.
-#[derive(Clone, Copy, Debug)]
+#[derive(Clone, Copy)]
 pub struct PlannedEvent<'a> {
     pub event: &'a EventClass,
     pub plan: &'a RecordPlan,
@@ -79,7 +79,7 @@ impl Model for StreamClass {
 }
 
 /// A trace class (CTF 1.8.3, sections 2 and 7.4).
-#[derive(Debug, Drop)]
+#[derive(Drop)]
 pub struct TraceClass {
     pub uuid: Option<[u8; 16]>,
     pub host: Option<List<u8>>,

@@ -1,7 +1,7 @@
 //! Points in time.
 
 /// A value of a clock, and the time that it tells.
-#[derive(Clone, Copy, Debug, PartialEq, Eq)]
+#[derive(Clone, Copy)]
 pub struct Moment {
     /// In cycles of the clock.
     pub cycles: u64,
@@ -10,7 +10,7 @@ pub struct Moment {
 }
 
 /// What is added to each time.
-#[derive(Clone, Copy, Debug, PartialEq, Eq)]
+#[derive(Clone, Copy)]
 pub struct Shift {
     pub seconds: i64,
     pub nanos: i64,

@@ -14,7 +14,7 @@ const NANOS_A_SECOND: i128 = 1_000_000_000;
 
 /// How the cycles of a clock become nanoseconds since the epoch (CTF 1.8.3, section 8). Contracts see
 /// where it starts, in nanoseconds, its offset in cycles, and its frequency.
-#[derive(Clone, Copy, Debug)]
+#[derive(Clone, Copy)]
 pub struct Timeline {
     start: i128,
     offset: i64,

@@ -23,7 +23,7 @@ use std::alloc::Global;
 use tsdl_tree::BlockKind;
 
 /// The class that a declaration gives to a scope.
-#[derive(Debug, Drop)]
+#[derive(Drop)]
 pub struct ScopeShape {
     pub scope: Scope,
     pub shape: Known,

@@ -92,21 +92,30 @@ abbrev pub moved_in : Integer → Val → List (ℕ × ℕ)
 moved_in i v = if i.is_moving then (if i.is_signed then signed_pair i.size v else unsigned_pair i.size v) else []
 
 abbrev mutual
-  -- the width and the unsigned number of each integer that sets the clock, at any depth, in the order of
-  -- decoding (own)
-  pub moved : Form → Val → List (ℕ × ℕ)
-  moved (integer a i) v = moved_in i v
-  moved (structure a ps) v = member_moved ps (members_in v)
-  moved (variant a tag choices ps) v = of_choice (choice_in v) (λ i w. option_moved ps i w)
-  moved (array a many k) v = of_each (moved k) (elements_in v)
-  moved _ v = []
+  -- what is said of each integer of a value, at any depth, in the order of decoding (own)
+  pub of_integers : {A : Type 0} → (Integer → Val → List A) → Form → Val → List A
+  of_integers f (integer a i) v = f i v
+  of_integers f (structure a ps) v = of_members f ps (members_in v)
+  of_integers f (variant a tag choices ps) v = of_choice (choice_in v) (λ i w. of_option f ps i w)
+  of_integers f (array a many k) v = of_each (of_integers f k) (elements_in v)
+  of_integers f _ v = []
 
-  pub member_moved : Parts → Vals → List (ℕ × ℕ)
-  member_moved no_parts vs = []
-  member_moved (part name k ps) no_vals = []
-  member_moved (part name k ps) (more_vals v vs) = moved k v ++ member_moved ps vs
+  pub of_members : {A : Type 0} → (Integer → Val → List A) → Parts → Vals → List A
+  of_members f no_parts vs = []
+  of_members f (part name k ps) no_vals = []
+  of_members f (part name k ps) (more_vals v vs) = of_integers f k v ++ of_members f ps vs
 
-  pub option_moved : Parts → ℕ → Val → List (ℕ × ℕ)
-  option_moved no_parts i v = []
-  option_moved (part name k ps) zero v = moved k v
-  option_moved (part name k ps) (suc i) v = option_moved ps i v
+  pub of_option : {A : Type 0} → (Integer → Val → List A) → Parts → ℕ → Val → List A
+  of_option f no_parts i v = []
+  of_option f (part name k ps) zero v = of_integers f k v
+  of_option f (part name k ps) (suc i) v = of_option f ps i v
+
+-- the width and the unsigned number of each integer that sets the clock and is held by its width
+abbrev pub moved : Form → Val → List (ℕ × ℕ)
+moved = of_integers moved_in
+
+abbrev pub member_moved : Parts → Vals → List (ℕ × ℕ)
+member_moved = of_members moved_in
+
+abbrev pub option_moved : Parts → ℕ → Val → List (ℕ × ℕ)
+option_moved = of_option moved_in

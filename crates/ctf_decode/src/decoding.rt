@@ -17,7 +17,7 @@ use ctf_class::Class;
 use std::alloc::Global;
 
 /// A decoded value.
-#[derive(Debug, Drop, PartialEq, Eq)]
+#[derive(Drop)]
 pub struct Decoded {
     pub value: Value,
     /// The place where it ends, in bits from the packet's first one.

@@ -14,7 +14,7 @@ use ctf_class::Class;
 use std::alloc::Global;
 
 /// What a beginning of a packet holds.
-#[derive(Debug, Drop, PartialEq, Eq)]
+#[derive(Drop)]
 pub enum Front {
     /// A value that stands there, and so in the whole packet.
     Done(Decoded),

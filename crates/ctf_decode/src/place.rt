@@ -28,7 +28,7 @@ pub enum Frame<'a> {
 }
 
 /// How far decoding has come.
-#[derive(Clone, Copy, Debug, PartialEq, Eq)]
+#[derive(Clone, Copy, PartialEq, Eq)]
 pub struct Reached {
     /// The place where the last value ends, in bits from the packet's first one.
     pub end: u64,
@@ -48,7 +48,7 @@ pub struct Cursor {
 }
 
 /// No value was decoded. The cursor has the fault.
-#[derive(Clone, Copy, Debug, PartialEq, Eq)]
+#[derive(Clone, Copy)]
 pub struct Stopped;
 
 impl Cursor {

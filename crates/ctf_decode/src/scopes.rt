@@ -13,7 +13,7 @@ use std::marker::Model;
 pub const MOST_VALUES: u64 = 16_777_216;
 
 /// The values decoded so far, by scope, and how many values were begun for them. Contracts see both.
-#[derive(Debug, Drop)]
+#[derive(Drop)]
 pub struct Scopes {
     packet_header: Slot,
     packet_context: Slot,

@@ -9,7 +9,7 @@ use std::mem;
 
 /// A place for a value, which keeps the memory of one that is no longer there. Contracts see the value,
 /// if there is one.
-#[derive(Debug, Drop)]
+#[derive(Drop)]
 pub(crate) struct Slot {
     value: Value,
     is_there: bool,

@@ -3,7 +3,7 @@
 use ctf_list::{Boxed, List};
 
 /// A value of a field class. The parts of a group and of a list stand in the order of the class.
-#[derive(Debug, Drop, PartialEq, Eq)]
+#[derive(Drop, PartialEq, Eq)]
 pub enum Value {
     /// CTF 1.8.3, section 4.1.5.
     Unsigned(u64),

@@ -3,7 +3,7 @@
 use ctf_packet::StreamFault;
 
 /// Why a header or a context goes no further.
-#[derive(Clone, Copy, Debug)]
+#[derive(Clone, Copy)]
 pub enum Stop {
     /// A packet of at least so many bits is needed.
     More(u128),

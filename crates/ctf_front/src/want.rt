@@ -4,7 +4,7 @@ use ctf_class::StreamClass;
 use ctf_packet::Sizes;
 
 /// A packet whose header and context were decoded.
-#[derive(Clone, Copy, Debug)]
+#[derive(Clone, Copy)]
 pub struct Begun<'a> {
     pub stream: &'a StreamClass,
     /// Where its context ends, in bits from the packet's first one.
@@ -12,7 +12,7 @@ pub struct Begun<'a> {
 }
 
 /// What a packet asks for, of which some first bytes are there.
-#[derive(Clone, Copy, Debug)]
+#[derive(Clone, Copy)]
 pub enum Want<'a> {
     /// A packet of at least so many bits: its header or context goes on.
     More(u128),

@@ -18,7 +18,7 @@ use ctf_decode::{MOST_VALUES, Value, chosen_by_first, named_id};
 use ctf_packet::{Head, OpenPacket, moved_by_integer, planned_named};
 
 /// How far a header was told.
-#[derive(Clone, Copy, Debug)]
+#[derive(Clone, Copy)]
 struct Telling {
     /// The last number of a member named `id`.
     id: Option<i128>,
@@ -30,28 +30,28 @@ struct Telling {
 }
 
 /// The number of a tag, and where it ends, in bits from the packet's first one.
-#[derive(Clone, Copy, Debug)]
+#[derive(Clone, Copy)]
 struct Tag {
     number: i128,
     place: u64,
 }
 
 /// Where an integer begins and ends, in bits from the packet's first one.
-#[derive(Clone, Copy, Debug)]
+#[derive(Clone, Copy)]
 struct Bits {
     begin: u64,
     end: u64,
 }
 
 /// A header that was told, and how many values were begun for it.
-#[derive(Clone, Copy, Debug)]
+#[derive(Clone, Copy)]
 pub(crate) struct ToldHead<'a> {
     pub(crate) head: Head<'a>,
     pub(crate) spent: u64,
 }
 
 /// The same, with the plan of the records of its event class.
-#[derive(Clone, Copy, Debug)]
+#[derive(Clone, Copy)]
 pub(crate) struct PlannedHead<'a> {
     pub(crate) told: ToldHead<'a>,
     pub(crate) plan: &'a RecordPlan,

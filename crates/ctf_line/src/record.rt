@@ -25,7 +25,7 @@ use std::alloc::Global;
 const LONGEST_KEPT: usize = 65_536;
 
 /// An event record that was read.
-#[derive(Clone, Copy, Debug)]
+#[derive(Clone, Copy)]
 pub struct LineRecord<'a> {
     pub record: EventRecord<'a>,
     /// The index behind its text, in bytes, where that was made. Else its values are in the scopes.
@@ -33,7 +33,7 @@ pub struct LineRecord<'a> {
 }
 
 /// How far an event record came on its way to a text.
-#[derive(Clone, Copy, Debug, PartialEq, Eq)]
+#[derive(Clone, Copy)]
 pub enum Attempt {
     /// Nothing was tried.
     Open,

@@ -22,7 +22,7 @@ pub(crate) const SHORT_VALUES: u64 = 5;
 ///
 /// The alignments of its parts divide its own, and it begins at a byte. So these stand at fixed places behind its begin, and
 /// the tag right there. Both integers are little endian and lie in eight bytes.
-#[derive(Debug, Drop)]
+#[derive(Drop)]
 pub struct ShortHeader {
     /// The alignment of the header.
     pub align: Align,
@@ -43,14 +43,14 @@ pub struct ShortHeader {
 }
 
 /// An unsigned integer, and its alignment.
-#[derive(Clone, Copy, Debug)]
+#[derive(Clone, Copy)]
 struct Field {
     align: Align,
     integer: Integer,
 }
 
 /// What such a header told.
-#[derive(Clone, Copy, Debug)]
+#[derive(Clone, Copy)]
 pub(crate) struct ShortTelling {
     /// The number of the event class.
     pub(crate) id: u64,

@@ -5,7 +5,7 @@ use ctf_class::{Align, Base, Width};
 use ctf_list::List;
 
 /// An integer as it is declared (CTF 1.8.3, section 4.1.5).
-#[derive(Debug, Drop, PartialEq, Eq)]
+#[derive(Drop)]
 pub struct DeclaredInteger {
     /// In bits.
     pub size: Width,

@@ -22,7 +22,7 @@ pub enum RunFault {
 }
 
 /// How a run ended.
-#[derive(Clone, Copy, Debug, PartialEq, Eq)]
+#[derive(Clone, Copy)]
 pub enum Outcome {
     /// Everything was printed.
     Done,

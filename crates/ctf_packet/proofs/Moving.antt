@@ -13,7 +13,8 @@ use Rattle.ctf_decode.specs.Views.{form, member_part, val}
 use Rattle.ctf_decode.specs.declared.value.Value as value
 use Rattle.ctf_decode.specs.declared.value.Value.{Value}
 use Rattle.ctf_decode.proofs.Views.{part-is}
-use Rattle.ctf_packet.specs.Moved.{low_bits, signed_pair, moved, member_moved, option_moved, of_each}
+use Rattle.ctf_decode.specs.Fields.{of_each}
+use Rattle.ctf_packet.specs.Moved.{low_bits, signed_pair, moved, member_moved, option_moved}
 use Rattle.ctf_packet.proofs.Named.{here, drop-all}
 
 through : (line : Line) (xs ys : List (ℕ × ℕ)) (ih : (n : Moment) → advanced_by line n (xs ++ ys) ≡ option_and_then (λ d. advanced_by line d ys) (advanced_by line n xs)) (o : Option Moment)

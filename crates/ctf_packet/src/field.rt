@@ -3,7 +3,7 @@
 use ctf_class::Width;
 
 /// An unsigned integer, with its width.
-#[derive(Clone, Copy, Debug, PartialEq, Eq)]
+#[derive(Clone, Copy)]
 pub struct Field {
     pub width: Width,
     pub number: u64,

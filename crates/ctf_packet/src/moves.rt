@@ -17,7 +17,7 @@ use ctf_clock::{Moment, Timeline};
 use ctf_decode::{Value, choice_in, elements_in, members_in, named_id};
 
 /// What was read of a value: the last number named `id`, and the clock.
-#[derive(Clone, Copy, Debug)]
+#[derive(Clone, Copy)]
 pub(crate) struct Told {
     pub(crate) id: Option<i128>,
     pub(crate) clock: Moment,
@@ -140,7 +140,7 @@ fn tell_member(line: &Timeline, class: &Class, value: &Value, told: &mut Told) -
 /// The same of elements.
 #[cycle(told)]
 fn tell_elements(line: &Timeline, element: &Class, values: &[Value], told: &mut Told) -> bool
-    ensures clock { behind result told.new ≡ advanced_by line.now told.old.clock (moved.of_each (moved.moved (form element.now)) (vals_of (map val values.now))) }
+    ensures clock { behind result told.new ≡ advanced_by line.now told.old.clock (fields.of_each (moved.moved (form element.now)) (vals_of (map val values.now))) }
     ensures id { IsTrue result → told.new.id ≡ last_or told.old.id (fields.of_each (fields.ids (form element.now)) (vals_of (map val values.now))) }
 {
     for value in values {
@@ -155,7 +155,7 @@ fn tell_elements(line: &Timeline, element: &Class, values: &[Value], told: &mut 
 #[cycle(told)]
 #[inline(always)]
 fn tell_option(line: &Timeline, options: &[Member], value: &Value, told: &mut Told) -> bool
-    ensures clock { behind result told.new ≡ advanced_by line.now told.old.clock (moved.of_choice (fields.choice_in (val value.now)) (λ i v. moved.option_moved (parts_of (map member_part options.now)) i v)) }
+    ensures clock { behind result told.new ≡ advanced_by line.now told.old.clock (fields.of_choice (fields.choice_in (val value.now)) (λ i v. moved.option_moved (parts_of (map member_part options.now)) i v)) }
     ensures id { IsTrue result → told.new.id ≡ last_or told.old.id (fields.of_choice (fields.choice_in (val value.now)) (λ i v. fields.option_ids (parts_of (map member_part options.now)) i v)) }
 {
     match choice_in(value) {

@@ -18,7 +18,7 @@ use ctf_clock::{Moment, Shift, Timeline};
 use ctf_decode::Value;
 
 /// A packet whose header and context were decoded, and whose bytes are there.
-#[derive(Clone, Copy, Debug)]
+#[derive(Clone, Copy)]
 pub struct OpenPacket<'a> {
     pub stream: &'a StreamClass,
     /// The times of the stream's clock, where it has one.

@@ -3,7 +3,7 @@
 use ctf_clock::Moment;
 
 /// What a stream has come to at the end of a packet.
-#[derive(Clone, Copy, Debug, PartialEq, Eq)]
+#[derive(Clone, Copy)]
 pub struct Reached {
     /// The number of the stream class of its packets.
     pub stream: u64,

@@ -21,7 +21,7 @@ use ctf_decode::{Scopes, Value};
 use std::alloc::Global;
 
 /// The header of an event record (CTF 1.8.3, section 6.1).
-#[derive(Clone, Copy, Debug)]
+#[derive(Clone, Copy)]
 pub struct Head<'a> {
     pub event: &'a EventClass,
     /// The clock behind it.
@@ -31,7 +31,7 @@ pub struct Head<'a> {
 }
 
 /// An event record.
-#[derive(Clone, Copy, Debug)]
+#[derive(Clone, Copy)]
 pub struct EventRecord<'a> {
     pub event: &'a EventClass,
     /// The clock behind its header.

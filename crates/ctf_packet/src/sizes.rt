@@ -12,7 +12,7 @@ use ctf_bits::{Ending, up};
 pub const LONGEST_PACKET: u64 = 2_147_483_648;
 
 /// The sizes of a packet and of its content, in bits.
-#[derive(Clone, Copy, Debug, PartialEq, Eq)]
+#[derive(Clone, Copy)]
 pub struct Sizes {
     pub packet: u64,
     pub content: u64,

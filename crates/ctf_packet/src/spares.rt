@@ -19,7 +19,7 @@ const MOST_KEPT: u64 = 256;
 
 /// Memory of event records that were decoded before, which is used for the next ones. What its values are
 /// means nothing.
-#[derive(Debug, Drop)]
+#[derive(Drop)]
 pub struct Spares {
     pub(crate) header: Value,
     pub(crate) shared: Value,
@@ -32,7 +32,7 @@ pub struct Spares {
 }
 
 /// Values of the scopes of one event class.
-#[derive(Debug, Drop)]
+#[derive(Drop)]
 pub(crate) struct SpareBody {
     pub(crate) own: Value,
     pub(crate) fields: Value,

@@ -12,7 +12,7 @@ use ctf_clock::{Moment, Timeline};
 use ctf_decode::{Value, last_id};
 
 /// What the header of an event record tells of it.
-#[derive(Clone, Copy, Debug)]
+#[derive(Clone, Copy)]
 pub(crate) struct HeaderTold {
     /// The number of its class, if there is one.
     pub(crate) id: Option<i128>,

@@ -6,7 +6,7 @@ ghost use Rattle.ctf_shape.specs.Stopped.{stopped};
 use ctf_class::Align;
 
 /// What is kept with a class, or with classes that stand beside one another.
-#[derive(Clone, Copy, Debug)]
+#[derive(Clone, Copy)]
 pub struct Facts {
     /// In bits.
     pub align: Align,

@@ -11,7 +11,7 @@ use std::alloc::Global;
 use std::collections::BTreeMap;
 
 /// Where the first of each name stands.
-#[derive(Debug, Drop)]
+#[derive(Drop)]
 pub struct Firsts {
     pub places: BTreeMap<Vec<u8>, usize>,
     /// Whether two names are the same.

@@ -24,7 +24,7 @@ use tsdl_tree::{Length, Path};
 const MOST_DEEP: u32 = 64;
 
 /// A class by its declaration, with what would take a walk over its parts.
-#[derive(Debug, Drop)]
+#[derive(Drop)]
 pub struct Known {
     shape: Shared<Shape>,
     facts: Facts,
@@ -32,7 +32,7 @@ pub struct Known {
 }
 
 /// A member of a structure or an option of a variant, which is to be made.
-#[derive(Debug, Drop)]
+#[derive(Drop)]
 pub struct Field {
     pub name: List<u8>,
     pub known: Known,

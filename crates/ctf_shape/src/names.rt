@@ -15,7 +15,7 @@ use std::marker::Model;
 const FEW: usize = 12;
 
 /// How names are found.
-#[derive(Debug, Drop)]
+#[derive(Drop)]
 enum Places {
     /// By a walk.
     Few,
@@ -24,7 +24,7 @@ enum Places {
 }
 
 /// Names in their order, each found without a long walk. Contracts see the list of the names.
-#[derive(Debug, Drop)]
+#[derive(Drop)]
 pub struct Names {
     names: List<FieldName>,
     places: Places,

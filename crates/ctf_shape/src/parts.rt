@@ -17,7 +17,7 @@ use ctf_meaning::ResolveFault;
 use std::alloc::Global;
 
 /// The names and the classes of members.
-#[derive(Debug, Drop)]
+#[derive(Drop)]
 struct Parts {
     names: List<List<u8>>,
     shapes: List<Shared<Shape>>,

@@ -12,7 +12,7 @@ use tsdl_tree::Path;
 
 /// A class by its declaration (CTF 1.8.3, section 4). Classes that are used in many places are shared.
 #[cycle(shape)]
-#[derive(Debug, Drop)]
+#[derive(Drop)]
 pub enum Shape {
     Integer(DeclaredInteger),
     Float,
@@ -46,7 +46,7 @@ pub enum Shape {
 /// The members of a structure or the options of a variant: each has a name and a class, which stand at
 /// one place.
 #[cycle(shape)]
-#[derive(Debug, Drop)]
+#[derive(Drop)]
 pub struct Members {
     names: Shared<Names>,
     shapes: Shared<List<Shared<Shape>>>,

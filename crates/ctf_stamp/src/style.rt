@@ -3,7 +3,7 @@
 use crate::zone::Zone;
 
 /// What a stamp shows.
-#[derive(Clone, Copy, Debug, Default, PartialEq, Eq)]
+#[derive(Clone, Copy, Default)]
 pub enum ClockStyle {
     /// `hh:mm:ss.nnnnnnnnn` in the zone.
     #[default]
@@ -17,7 +17,7 @@ pub enum ClockStyle {
 }
 
 /// How the times of lines are printed.
-#[derive(Clone, Copy, Debug)]
+#[derive(Clone, Copy)]
 pub struct Style {
     /// What a stamp shows.
     pub clock: ClockStyle,

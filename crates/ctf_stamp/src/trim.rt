@@ -4,14 +4,14 @@ ghost use Rattle.std.specs.Prelude.{◌≡◌};
 ghost use Rattle.ctf_stamp.specs.Trims.{verdict_of};
 
 /// The items between two times are wanted. Both are in nanoseconds since the epoch, and both are kept.
-#[derive(Clone, Copy, Debug, PartialEq, Eq)]
+#[derive(Clone, Copy)]
 pub struct Trim {
     pub begin: Option<i64>,
     pub end: Option<i64>,
 }
 
 /// Where an item stands to what is wanted.
-#[derive(Clone, Copy, Debug, PartialEq, Eq)]
+#[derive(Clone, Copy)]
 pub enum Verdict {
     Before,
     Within,

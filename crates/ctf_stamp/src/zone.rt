@@ -29,7 +29,7 @@ pub enum ZoneFault {
 }
 
 /// UTC or a POSIX rule. Contracts see it as jiff's zone.
-#[derive(Clone, Copy, Debug)]
+#[derive(Clone, Copy)]
 pub struct Zone {
     // None is UTC.
     rule: Option<posix::TimeZone>,

@@ -20,7 +20,7 @@ use ctf_class::{Field, Integers, Many, PlainNumber, Ready, RecordPlan, Run, Show
 use ctf_decode::MOST_VALUES;
 
 /// How far fields came.
-#[derive(Clone, Copy, Debug)]
+#[derive(Clone, Copy)]
 pub(crate) struct Reach {
     /// Where the next one could begin, in bits from the packet's first one.
     place: u64,

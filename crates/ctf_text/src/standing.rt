@@ -23,7 +23,7 @@ use ctf_class::{Align, Class, Integer, Kind, Length, Member};
 use ctf_decode::{MOST_VALUES, before_zero, bytes_at, bytes_from, zero_in};
 
 /// Where a structure ends whose text was written.
-#[derive(Clone, Copy, Debug, PartialEq, Eq)]
+#[derive(Clone, Copy)]
 pub struct Standing {
     /// Where its value ends, in bits from the packet's first one.
     pub place: u64,
@@ -34,7 +34,7 @@ pub struct Standing {
 }
 
 /// A packet's bytes, and the place in bits where its content ends.
-#[derive(Clone, Copy, Debug)]
+#[derive(Clone, Copy)]
 pub(crate) struct Content<'a> {
     pub(crate) bytes: &'a [u8],
     pub(crate) end: u64,
@@ -43,14 +43,14 @@ pub(crate) struct Content<'a> {
 }
 
 /// Where a value ends, in bits from the packet's first one, and the index behind its text.
-#[derive(Clone, Copy, Debug)]
+#[derive(Clone, Copy)]
 pub(crate) struct Ends {
     pub(crate) place: u64,
     pub(crate) text: usize,
 }
 
 /// Where an integer ends, in bits from the packet's first one, the index behind its text, and its bits.
-#[derive(Clone, Copy, Debug)]
+#[derive(Clone, Copy)]
 pub(crate) struct IntegerEnds {
     pub(crate) place: u64,
     pub(crate) text: usize,
@@ -58,7 +58,7 @@ pub(crate) struct IntegerEnds {
 }
 
 /// What stands before a member: so many others, of which the last is this number, if it is an unsigned integer.
-#[derive(Clone, Copy, Debug)]
+#[derive(Clone, Copy)]
 pub(crate) struct Before {
     pub(crate) index: usize,
     pub(crate) number: Option<u64>,
@@ -66,7 +66,7 @@ pub(crate) struct Before {
 
 /// Where a member ends, in bits from the packet's first one, the index behind its text, and how many values were begun in
 /// it.
-#[derive(Clone, Copy, Debug)]
+#[derive(Clone, Copy)]
 pub(crate) struct Next {
     pub(crate) place: u64,
     pub(crate) text: usize,
@@ -75,7 +75,7 @@ pub(crate) struct Next {
 
 /// Where members end, in bits from the packet's first one, the index behind their texts, and how many values were begun
 /// in them.
-#[derive(Clone, Copy, Debug)]
+#[derive(Clone, Copy)]
 pub(crate) struct MembersEnd {
     place: u64,
     text: usize,

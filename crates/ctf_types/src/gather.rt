@@ -10,7 +10,7 @@ use ctf_list::{List, NoMemory};
 use std::alloc::Global;
 
 /// What declarations give, by where it goes.
-#[derive(Debug, Drop)]
+#[derive(Drop)]
 pub struct Parts {
     /// The class of the packet header, of each trace block.
     pub headers: List<Option<Class>>,

@@ -10,7 +10,7 @@ use ctf_class::Scope;
 
 /// The numbers of the trace, stream and event block that declare the scopes around a class, where there
 /// are such (CTF 1.8.3, section 7.3.2).
-#[derive(Clone, Copy, Debug, PartialEq, Eq)]
+#[derive(Clone, Copy)]
 pub struct Home {
     pub trace: Option<usize>,
     pub stream: Option<usize>,

@@ -23,7 +23,7 @@ use ctf_meaning::ResolveFault;
 use std::alloc::{AllocError, Global};
 
 /// The clock of a stream class.
-#[derive(Debug, Drop)]
+#[derive(Drop)]
 pub struct MovedClock {
     /// The first that its integers move.
     pub clock: Option<Clock>,

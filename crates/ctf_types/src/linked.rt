@@ -8,7 +8,7 @@ use ctf_list::NoMemory;
 use std::alloc::Global;
 
 /// A stream class without its events.
-#[derive(Debug, Drop)]
+#[derive(Drop)]
 pub struct Head {
     pub id: u64,
     pub packet_context: Option<Class>,
@@ -22,7 +22,7 @@ pub struct Head {
 }
 
 /// What a declaration gives to the trace class, its classes where they stand.
-#[derive(Debug, Drop)]
+#[derive(Drop)]
 pub enum Linked {
     /// A trace block: the class of the packet header.
     Trace(Option<Class>),

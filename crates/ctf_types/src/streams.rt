@@ -15,7 +15,7 @@ use std::alloc::Global;
 use tsdl_tree::{BlockKind, Declaration};
 
 /// A stream.
-#[derive(Clone, Copy, Debug, PartialEq, Eq)]
+#[derive(Clone, Copy)]
 pub struct StreamAt {
     /// Its place among the streams.
     pub place: usize,

@@ -11,7 +11,7 @@ use std::alloc::Global;
 use tsdl_tree::{BlockKind, Declaration};
 
 /// A trace block: its number among the declarations, and what its settings say.
-#[derive(Clone, Copy, Debug, PartialEq, Eq)]
+#[derive(Clone, Copy)]
 pub struct TraceAt {
     pub number: usize,
     pub settings: Trace,

@@ -18,7 +18,7 @@ use Rattle.tsdl_grammar.specs.Repeats.{Listed}
 use Rattle.tsdl_grammar.specs.Grammar.{IsTypename, IsDeclarator, IsCompoundName, IsClass, IsPlain, IsCompound, IsBody, AreItems, IsItem, IsTypedecl}
 use Rattle.tsdl_grammar.specs.Spelling.{run}
 use Rattle.tsdl_grammar.specs.Steps.{Parse, loop, before_close}
-use Rattle.tsdl_grammar.specs.Reading.{fields_behind, compound_behind, compound_at, plain_at, class_at, alias_at, definition_at, typedecl_at, item_at, body_at}
+use Rattle.tsdl_grammar.specs.Reading.{declared_at, class_declared, fields_behind, compound_behind, compound_at, plain_at, class_at, alias_name_at, alias_at, definition_at, typedecl_at, item_at, body_at}
 use Rattle.tsdl_grammar.proofs.ComesTools.{Comes, comes_is, comes_then, deep_then, comes_as, comes_token, comes_more, comes_end, open_deep, open_is, not_empty, shorter, no_turn}
 use Rattle.tsdl_grammar.proofs.Room.{is_other}
 use Rattle.tsdl_grammar.proofs.ComesTokens.{no_run}
@@ -28,17 +28,21 @@ use Rattle.tsdl_grammar.proofs.CompleteClasses.{plain_integer, plain_floating_po
 
 -- ---- declarations of names
 
+declared_come : {c : Specifier} {ds : List Declarator} {us : List Token} (e : Token) (post : List Token) → Listed IsDeclarator ds us → Is s.Semicolon e → Comes (class_declared c (us ++ (e ∷ post))) ((c, ds), post)
+unfolding class_declared declared_at
+declared_come e post q l = comes_then _ (comes_then _ (declarators_come q e post l) (comes_token _ l (comes_is refl))) (comes_is refl)
+
 alias_comes : {t a e : Token} {c : Specifier} {n : Typename} (ts : List Token) {us : List Token} (body : Parse (List Item)) (d : ℕ) (post : List Token) → Is s.Typealias t → Is s.Assign a → IsTypename n us → Is s.Semicolon e
     → Comes (class_at body false d (ts ++ (a ∷ (us ++ (e ∷ post))))) (c, a ∷ (us ++ (e ∷ post))) → Comes (alias_at body d ((t ∷ (ts ++ (a ∷ (us ++ e ∷ [])))) ++ post)) (typedecls.Alias c n, post)
-unfolding alias_at
+unfolding alias_at alias_name_at
 alias_comes {e = e} ts body d post i j q l h =
-    rw (append_assoc, append_assoc) (comes_token _ i (comes_then _ h (comes_token _ j (comes_then _ (typename_comes q false (e ∷ post) (no_run post l refl)) (comes_token _ l (comes_is refl))))))
+    rw (append_assoc, append_assoc) (comes_token _ i (comes_then _ h (comes_then _ (comes_token _ j (comes_then _ (typename_comes q false (e ∷ post) (no_run post l refl)) (comes_token _ l (comes_is refl)))) (comes_is refl))))
 
 definition_comes : {t e : Token} {c : Specifier} {ds : List Declarator} (ts : List Token) {us : List Token} (body : Parse (List Item)) (d : ℕ) (post : List Token) → Is s.Typedef t → Listed IsDeclarator ds us → Is s.Semicolon e
     → Comes (class_at body true d (ts ++ (us ++ (e ∷ post)))) (c, us ++ (e ∷ post)) → Comes (definition_at body d ((t ∷ (ts ++ (us ++ e ∷ []))) ++ post)) (typedecls.Definition c ds, post)
 unfolding definition_at
 definition_comes {e = e} ts body d post i q l h =
-    rw (append_assoc, append_assoc) (comes_token _ i (comes_then _ h (comes_then _ (declarators_come q e post l) (comes_token _ l (comes_is refl)))))
+    rw (append_assoc, append_assoc) (comes_token _ i (comes_then _ h (comes_then _ (declared_come e post q l) (comes_is refl))))
 
 behind_comes : {e : Token} (n : Word) (c : Compound) (post : List Token) → Is s.Semicolon e → Comes (compound_behind (classes.Compound (Some n) c) (e ∷ post)) (typedecls.Compound n c, post)
 unfolding compound_behind
@@ -46,7 +50,7 @@ behind_comes n c post l = comes_token _ l (comes_is refl)
 
 fields_come : {c : Specifier} {ds : List Declarator} {us : List Token} (e : Token) (post : List Token) → Listed IsDeclarator ds us → Is s.Semicolon e → Comes (fields_behind c (us ++ (e ∷ post))) (items.Fields c ds, post)
 unfolding fields_behind
-fields_come e post q i = comes_then _ (declarators_come q e post i) (comes_token _ i (comes_is refl))
+fields_come e post q i = comes_then _ (declared_come e post q i) (comes_is refl)
 
 typedecl_alias : {t : Token} (ts : List Token) {x : TypeDeclaration × List Token} (body : Parse (List Item)) (d : ℕ) → Is s.Typealias t → Comes (alias_at body d (t ∷ ts)) x → Comes (typedecl_at body d (t ∷ ts)) x
 unfolding typedecl_at

@@ -228,6 +228,15 @@ pub reads_open : {B : Type 0} (d : ℕ) {e : ℕ} {ts : List Token} (f : List To
     → ((t : Token) (rest : List Token) → Is s.OpenBrace t → Reads (f rest) d e rest (λ y vs. Q y (t ∷ vs))) → Reads (open_at (suc d) ts >>= f) (suc d) e ts Q
 reads_open d {ts = ts} f next = rw (open_is d ts) (expect_reads s.OpenBrace f (λ t rest i. room_open i d rest) next)
 
+-- ---- semicolons
+
+-- up to a semicolon
+pub data Ended {A : Type 0} (P : A → List Token → Type 0) : A → List Token → Type 0 where
+  ended : {e : Token} {x : A} {ts : List Token} → P x ts → Is s.Semicolon e → Ended P x (ts ++ e ∷ [])
+
+pub reads_ended : {A : Type 0} {r : Result (A × List Token) Refusal} {d e : ℕ} {ts : List Token} {P : A → List Token → Type 0} → Reads r d e ts P → Reads (r >>= λ x. expect s.Semicolon x.1 >>= λ end. Ok (x.0, end)) d e ts (Ended P)
+reads_ended h = reads_then _ h (λ x rest us p. reads_token s.Semicolon _ refl (λ t rest i. reads_done (Ended.ended p i)))
+
 -- ---- repeats
 
 pub reads_loop : {A : Type 0} (go : List Token → Bool) (item : Parse A) {d : ℕ} (P : A → List Token → Type 0) → ((ts : List Token) → Reads (item ts) d d ts P) → (n : ℕ) (ts : List Token) → Reads (loop go item n ts) d d ts (Many P)

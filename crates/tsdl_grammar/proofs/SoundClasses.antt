@@ -3,18 +3,21 @@ use Rattle.std.proofs.Common.{ℕ, zero, suc, Bool, true, false, List, ◌∷◌
 use Rattle.std.proofs.lemmas.List.{append-nil}
 use Rattle.tsdl_text.specs.declared.token.Symbol.TheVariants as s
 use Rattle.tsdl_text.specs.declared.token.Token.{Token}
+use Rattle.tsdl_tree.specs.declared.tree.Typename.{Typename}
+use Rattle.tsdl_tree.specs.declared.tree.Declarator.{Declarator}
 use Rattle.tsdl_tree.specs.declared.tree.Reference.TheVariants as references
 use Rattle.tsdl_tree.specs.declared.tree.Specifier.{Specifier}
 use Rattle.tsdl_tree.specs.declared.tree.Specifier.TheVariants as classes
 use Rattle.tsdl_tree.specs.declared.tree.Compound.TheVariants as compounds
+use Rattle.tsdl_tree.specs.declared.tree.TypeDeclaration.TheVariants as typedecls
 use Rattle.tsdl_tree.specs.declared.tree.Item.{Item}
 use Rattle.tsdl_tree.specs.declared.tree.Item.TheVariants as items
 use Rattle.tsdl_grammar.specs.Terminals.{Word, Words, Is}
-use Rattle.tsdl_grammar.specs.Repeats.{Many, Optional}
-use Rattle.tsdl_grammar.specs.Grammar.{IsName, IsAlign, IsTag, IsContainer, IsCompoundName, IsClass, IsPlain, IsCompound, IsBody, AreItems, IsItem, IsTypedecl}
+use Rattle.tsdl_grammar.specs.Repeats.{Many, Listed, Optional}
+use Rattle.tsdl_grammar.specs.Grammar.{IsName, IsAlign, IsTag, IsContainer, IsTypename, IsDeclarator, IsCompoundName, IsClass, IsPlain, IsCompound, IsBody, AreItems, IsItem, IsTypedecl}
 use Rattle.tsdl_grammar.specs.Steps.{Parse, begins, begins_compound, begins_labels}
-use Rattle.tsdl_grammar.specs.Reading.{named_by, enum_at, integer_at, floating_point_at, string_at, fields_behind, compound_behind, struct_at, variant_at, compound_at, plain_at, class_at, alias_at, definition_at, typedecl_at, item_at, body_at}
-use Rattle.tsdl_grammar.proofs.ReadsTools.{Reads, reads_then, reads_last, reads_as, reads_done, reads_bad, reads_if, reads_token, reads_close, reads_past, reads_shut, reads_open, reads_loop, reads_optional}
+use Rattle.tsdl_grammar.specs.Reading.{named_by, enum_at, integer_at, floating_point_at, string_at, declared_at, class_declared, fields_behind, compound_behind, alias_name_at, struct_at, variant_at, compound_at, plain_at, class_at, alias_at, definition_at, typedecl_at, item_at, body_at}
+use Rattle.tsdl_grammar.proofs.ReadsTools.{Reads, Ended, reads_ended, reads_then, reads_last, reads_as, reads_done, reads_bad, reads_if, reads_token, reads_close, reads_past, reads_shut, reads_open, reads_loop, reads_optional}
 use Rattle.tsdl_grammar.proofs.Sound.{identifier_reads, attributes_read, typename_reads, declarators_read, align_reads, tag_reads, container_reads, labels_read}
 use Rattle.tsdl_grammar.proofs.CompleteCompounds.{IsEither}
 
@@ -46,9 +49,34 @@ string_reads d ts = reads_token s.String _ refl (λ t rest i. reads_if (begins s
 
 -- ---- what stands behind a class
 
+-- that class, with declarators up to their semicolon
+data IsDeclared (c : Specifier) : Specifier × List Declarator → List Token → Type 0 where
+  declared : {ds : List Declarator} {ts : List Token} → Ended (Listed IsDeclarator) ds ts → IsDeclared c (c, ds) ts
+
+class_declared_reads : {d : ℕ} (c : Specifier) (ts : List Token) → Reads (class_declared c ts) d d ts (IsDeclared c)
+unfolding class_declared declared_at
+class_declared_reads c ts = reads_last (λ ds. (c, ds)) (reads_ended (declarators_read ts)) (λ ds vs q. IsDeclared.declared q)
+
+fields_of : {c : Specifier} {x : Specifier × List Declarator} {us vs : List Token} → IsClass c us → IsDeclared c x vs → IsItem (items.Fields x.0 x.1) (us ++ vs)
+fields_of p (IsDeclared.declared (Ended.ended q i)) = IsItem.fields p q i
+
 fields_behind_read : {d : ℕ} {c : Specifier} {us : List Token} (ts : List Token) → IsClass c us → Reads (fields_behind c ts) d d ts (λ x vs. IsItem x (us ++ vs))
 unfolding fields_behind
-fields_behind_read ts p = reads_then _ (declarators_read ts) (λ ds rest vs q. reads_token s.Semicolon _ refl (λ e rest i. reads_done (IsItem.fields p q i)))
+fields_behind_read {c = c} ts p = reads_last (λ x. items.Fields x.0 x.1) (class_declared_reads c ts) (λ x vs q. fields_of p q)
+
+-- the name of an alias, up to its semicolon
+data IsAliasName : Typename → List Token → Type 0 where
+  name : {a : Token} {n : Typename} {ts : List Token} → Is s.Assign a → Ended IsTypename n ts → IsAliasName n (a ∷ ts)
+
+alias_name_reads : {d : ℕ} (ts : List Token) → Reads (alias_name_at ts) d d ts IsAliasName
+unfolding alias_name_at
+alias_name_reads ts = reads_token s.Assign _ refl (λ a rest i. reads_as (reads_ended (typename_reads false rest)) (λ n us q. IsAliasName.name i q))
+
+alias_of : {t : Token} {c : Specifier} {n : Typename} {us vs : List Token} → Is s.Typealias t → IsClass c us → IsAliasName n vs → IsTypedecl (typedecls.Alias c n) (t ∷ (us ++ vs))
+alias_of i p (IsAliasName.name j (Ended.ended q l)) = IsTypedecl.alias i p j q l
+
+definition_of : {t : Token} {c : Specifier} {x : Specifier × List Declarator} {us vs : List Token} → Is s.Typedef t → IsClass c us → IsDeclared c x vs → IsTypedecl (typedecls.Definition x.0 x.1) (t ∷ (us ++ vs))
+definition_of i p (IsDeclared.declared (Ended.ended q l)) = IsTypedecl.definition i p q l
 
 compound_behind_reads : {d : ℕ} {c : Specifier} {us : List Token} (ts : List Token) → IsEither c us → Reads (compound_behind c ts) d d ts (λ x vs. IsTypedecl x (us ++ vs))
 unfolding compound_behind
@@ -107,13 +135,13 @@ module _ (body : Parse (List Item)) (d : ℕ) (h : (ts : List Token) → Reads (
 
   alias_reads : (ts : List Token) → Reads (alias_at body d ts) d d ts IsTypedecl
   unfolding alias_at
-  alias_reads ts = reads_token s.Typealias _ refl (λ t rest i. reads_then _ (class_reads false rest) (λ c rest us p. reads_token s.Assign _ refl (λ a rest j. reads_then _ (typename_reads false rest) (λ ws rest vs q.
-      reads_token s.Semicolon _ refl (λ e rest l. reads_done (IsTypedecl.alias i p j q l))))))
+  alias_reads ts = reads_token s.Typealias _ refl (λ t rest i. reads_then _ (class_reads false rest) (λ c rest us p.
+      reads_last (λ n. typedecls.Alias c n) (alias_name_reads rest) (λ n vs q. alias_of i p q)))
 
   definition_reads : (ts : List Token) → Reads (definition_at body d ts) d d ts IsTypedecl
   unfolding definition_at
-  definition_reads ts = reads_token s.Typedef _ refl (λ t rest i. reads_then _ (class_reads true rest) (λ c rest us p. reads_then _ (declarators_read rest) (λ ds rest vs q.
-      reads_token s.Semicolon _ refl (λ e rest l. reads_done (IsTypedecl.definition i p q l)))))
+  definition_reads ts = reads_token s.Typedef _ refl (λ t rest i. reads_then _ (class_reads true rest) (λ c rest us p.
+      reads_last (λ x. typedecls.Definition x.0 x.1) (class_declared_reads c rest) (λ x vs q. definition_of i p q)))
 
   pub typedecl_reads : (ts : List Token) → Reads (typedecl_at body d ts) d d ts IsTypedecl
   unfolding typedecl_at

@@ -150,6 +150,13 @@ declarators_at ts = do
   more ← all (begins s.Comma) next_declarator_at first.1
   Ok (first.0 ∷ more.0, more.1)
 
+-- declarators up to their semicolon
+unfoldable pub declared_at : Parse (List Declarator)
+declared_at ts = do
+  ds ← declarators_at ts
+  e ← expect s.Semicolon ds.1
+  Ok (ds.0, e)
+
 -- ---- parts of compounds
 
 unfoldable pub align_at : Parse ℕ
@@ -245,16 +252,29 @@ string_at d ts = do
   rest ← expect s.String ts
   if begins s.OpenBrace rest then (attributes_at d rest >>= λ xs. Ok (classes.String xs.0, xs.1)) else Ok (classes.String [], rest)
 
+-- a class with the declarators behind it
+unfoldable pub class_declared : Specifier → Parse (Specifier × List Declarator)
+class_declared c ts = do
+  ds ← declared_at ts
+  Ok ((c, ds.0), ds.1)
+
 unfoldable pub fields_behind : Specifier → Parse Item
 fields_behind c ts = do
-  ds ← declarators_at ts
-  e ← expect s.Semicolon ds.1
-  Ok (items.Fields c ds.0, e)
+  x ← class_declared c ts
+  Ok (items.Fields x.0.0 x.0.1, x.1)
 
 -- the semicolon behind a compound with a name and a body
 unfoldable pub compound_behind : Specifier → Parse TypeDeclaration
 compound_behind (classes.Compound (Some n) c) ts = expect s.Semicolon ts >>= λ e. Ok (typedecls.Compound n c, e)
 compound_behind _ ts = Err bad
+
+-- the name of an alias, behind its class
+unfoldable pub alias_name_at : Parse Typename
+alias_name_at ts = do
+  a ← expect s.Assign ts
+  n ← typename_at false a
+  e ← expect s.Semicolon n.1
+  Ok (n.0, e)
 
 -- a declaration of names in the place of an item
 abbrev pub as_item : Result (TypeDeclaration × List Token) Refusal → Result (Item × List Token) Refusal
@@ -296,18 +316,15 @@ module _ (body : Parse (List Item)) where
   alias_at d ts = do
     rest ← expect s.Typealias ts
     c ← class_at false d rest
-    a ← expect s.Assign c.1
-    n ← typename_at false a
-    e ← expect s.Semicolon n.1
-    Ok (typedecls.Alias c.0 n.0, e)
+    n ← alias_name_at c.1
+    Ok (typedecls.Alias c.0 n.0, n.1)
 
   unfoldable pub definition_at : ℕ → Parse TypeDeclaration
   definition_at d ts = do
     rest ← expect s.Typedef ts
     c ← class_at true d rest
-    ds ← declarators_at c.1
-    e ← expect s.Semicolon ds.1
-    Ok (typedecls.Definition c.0 ds.0, e)
+    x ← class_declared c.0 c.1
+    Ok (typedecls.Definition x.0.0 x.0.1, x.1)
 
   unfoldable pub typedecl_at : ℕ → Parse TypeDeclaration
   typedecl_at d ts =

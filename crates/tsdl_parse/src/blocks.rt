@@ -9,7 +9,7 @@ use crate::classes::{class, type_declaration};
 use crate::failure::{Failure, Read};
 use crate::part::{Part, many};
 use crate::settings::{attributes, path, setting_behind};
-use crate::terminals::{begins, expect, goes_on, has_more, open};
+use crate::terminals::{begins, closed, expect, goes_on, has_more, open};
 use std::alloc::Global;
 use tsdl_text::{Symbol, Token};
 use tsdl_tree::{BlockEntry, BlockKind, Declaration, Path, TableKind};
@@ -38,7 +38,7 @@ fn class_behind<'t, 'a>(
 {
     let rest = expect(Symbol::Assign, tokens)?;
     let (class, rest) = class(alloc, false, depth, rest)?;
-    let rest = expect(Symbol::Semicolon, rest)?;
+    let (class, rest) = closed(class, Symbol::Semicolon, rest)?;
     Ok((BlockEntry::Class { name, class }, rest))
 }
 
@@ -123,8 +123,8 @@ fn block<'t, 'a>(
     let rest = open(depth, tokens)?;
     let inner = Entry { depth: depth - 1 };
     let (entries, rest) = many(alloc, &inner, rest)?;
-    let rest = expect(Symbol::CloseBrace, rest)?;
-    let rest = expect(Symbol::Semicolon, rest)?;
+    let (entries, rest) = closed(entries, Symbol::CloseBrace, rest)?;
+    let (entries, rest) = closed(entries, Symbol::Semicolon, rest)?;
     Ok((Declaration::Block { kind, entries }, rest))
 }
 
@@ -140,7 +140,7 @@ fn table<'t, 'a>(
     ensures shorter { IfOk result (λ x. length x.1.now < length tokens.now) }
 {
     let (settings, rest) = attributes(alloc, depth, tokens)?;
-    let rest = expect(Symbol::Semicolon, rest)?;
+    let (settings, rest) = closed(settings, Symbol::Semicolon, rest)?;
     Ok((Declaration::Table { kind, settings }, rest))
 }
 

@@ -3,20 +3,22 @@
 ghost use Rattle.std.specs.Prelude.{◌≡◌, ◌<◌, ◌≤◌, length, refl, IfOk};
 ghost use Rattle.tsdl_text.specs.declared.token.Symbol.TheVariants as s;
 ghost use Rattle.tsdl_grammar.specs.Steps.{all, begins, begins_compound, before_close};
-ghost use Rattle.tsdl_grammar.specs.Reading.{align_at, tag_at, integer_at, floating_point_at, string_at, fields_behind, compound_behind, struct_at, variant_at, compound_at, class_at, alias_at, definition_at, typedecl_at, item_at, body_at};
+ghost use Rattle.tsdl_grammar.specs.Reading.{align_at, tag_at, integer_at, floating_point_at, string_at, class_declared, fields_behind, compound_behind, struct_at, variant_at, compound_at, class_at, alias_name_at, alias_at, definition_at, typedecl_at, item_at, body_at};
 ghost use Rattle.tsdl_parse.specs.Gives.{Gives};
 
-use crate::declarators::declarators;
+use crate::declarators::declared;
 use crate::enums::enumeration;
 use crate::failure::{Failure, Read};
 use crate::part::{Part, at_most_one, start};
 use crate::settings::{attributes, path};
-use crate::terminals::{OwnName, begins, constant, expect, goes_on, open, past};
+use crate::terminals::{OwnName, begins, closed, constant, expect, goes_on, open, past};
 use crate::typenames::typename;
 use ctf_list::List;
 use std::alloc::Global;
 use tsdl_text::{Symbol, Token};
-use tsdl_tree::{Compound, Item, Path, Reference, Specifier, TypeDeclaration};
+use tsdl_tree::{
+    Compound, Declarator, Item, Path, Reference, Specifier, TypeDeclaration, Typename,
+};
 
 /// `align(n)`
 #[derive(Clone, Copy)]
@@ -38,8 +40,7 @@ impl Part for OwnAlign {
         let rest = expect(Symbol::Align, tokens)?;
         let rest = expect(Symbol::OpenParen, rest)?;
         let (align, rest) = constant(rest)?;
-        let rest = expect(Symbol::CloseParen, rest)?;
-        Ok((align, rest))
+        closed(align, Symbol::CloseParen, rest)
     }
 
     ghost stops = { λ _. refl };
@@ -64,8 +65,7 @@ impl Part for OwnTag {
     fn read<'t, 'a>(&self, alloc: Global, tokens: &'t [Token<'a>]) -> Read<'t, 'a, Path> {
         let rest = expect(Symbol::Less, tokens)?;
         let (tag, rest) = path(alloc, rest)?;
-        let rest = expect(Symbol::Greater, rest)?;
-        Ok((tag, rest))
+        closed(tag, Symbol::Greater, rest)
     }
 
     ghost stops = { λ _. refl };
@@ -120,7 +120,21 @@ fn string<'t, 'a>(alloc: Global, depth: u32, tokens: &'t [Token<'a>]) -> Read<'t
     Ok((Specifier::String(settings), rest))
 }
 
-/// `declarator, ..;` behind a class.
+/// A class, and `declarator, ..;` behind it.
+#[tactic(auto, unfolding(tsdl_grammar::specs::Reading::class_declared))]
+fn class_declared<'t, 'a>(
+    alloc: Global,
+    class: Specifier,
+    tokens: &'t [Token<'a>],
+) -> Read<'t, 'a, (Specifier, List<Declarator>)>
+    ensures reads { Gives (λ x. (x.0, x.1.now)) result (class_declared class tokens.now) }
+    ensures shorter { IfOk result (λ x. length x.1.now < length tokens.now) }
+{
+    let (declarators, rest) = declared(alloc, tokens)?;
+    Ok(((class, declarators), rest))
+}
+
+/// The fields that have a class.
 #[tactic(auto, unfolding(tsdl_grammar::specs::Reading::fields_behind))]
 fn fields_behind<'t, 'a>(
     alloc: Global,
@@ -130,9 +144,8 @@ fn fields_behind<'t, 'a>(
     ensures reads { Gives (λ x. (x.0, x.1.now)) result (fields_behind class tokens.now) }
     ensures shorter { IfOk result (λ x. length x.1.now < length tokens.now) }
 {
-    let (declarators, rest) = declarators(alloc, tokens)?;
-    let end = expect(Symbol::Semicolon, rest)?;
-    Ok((Item::Fields { class, declarators }, end))
+    let ((class, declarators), rest) = class_declared(alloc, class, tokens)?;
+    Ok((Item::Fields { class, declarators }, rest))
 }
 
 /// The semicolon behind a compound with a name and a body.
@@ -242,6 +255,17 @@ pub(crate) fn class<'t, 'a>(
     Ok((Specifier::Named(Reference::Plain(name)), rest))
 }
 
+/// `:= name;`
+#[tactic(auto, unfolding(tsdl_grammar::specs::Reading::alias_name_at))]
+fn alias_name<'t, 'a>(alloc: Global, tokens: &'t [Token<'a>]) -> Read<'t, 'a, Typename>
+    ensures reads { Gives (λ x. (x.0, x.1.now)) result (alias_name_at tokens.now) }
+    ensures shorter { IfOk result (λ x. length x.1.now < length tokens.now) }
+{
+    let rest = expect(Symbol::Assign, tokens)?;
+    let (name, rest) = typename(alloc, false, rest)?;
+    closed(name, Symbol::Semicolon, rest)
+}
+
 /// `typealias class := name;`
 #[cycle(classes)]
 #[tactic(auto, unfolding(tsdl_grammar::specs::Reading::alias_at))]
@@ -255,9 +279,7 @@ fn alias<'t, 'a>(
 {
     let rest = expect(Symbol::Typealias, tokens)?;
     let (class, rest) = class(alloc, false, depth, rest)?;
-    let rest = expect(Symbol::Assign, rest)?;
-    let (name, rest) = typename(alloc, false, rest)?;
-    let rest = expect(Symbol::Semicolon, rest)?;
+    let (name, rest) = alias_name(alloc, rest)?;
     Ok((TypeDeclaration::Alias { class, name }, rest))
 }
 
@@ -274,8 +296,7 @@ fn definition<'t, 'a>(
 {
     let rest = expect(Symbol::Typedef, tokens)?;
     let (class, rest) = class(alloc, true, depth, rest)?;
-    let (declarators, rest) = declarators(alloc, rest)?;
-    let rest = expect(Symbol::Semicolon, rest)?;
+    let ((class, declarators), rest) = class_declared(alloc, class, rest)?;
     Ok((TypeDeclaration::Definition { class, declarators }, rest))
 }
 
@@ -350,6 +371,5 @@ fn body<'t, 'a>(alloc: Global, depth: u32, tokens: &'t [Token<'a>]) -> Read<'t, 
 {
     let rest = open(depth, tokens)?;
     let (items, rest) = items(alloc, depth - 1, rest)?;
-    let rest = expect(Symbol::CloseBrace, rest)?;
-    Ok((items, rest))
+    closed(items, Symbol::CloseBrace, rest)
 }

@@ -3,13 +3,13 @@
 ghost use Rattle.std.specs.Prelude.{◌≡◌, ◌<◌, length, refl, IfOk};
 ghost use Rattle.tsdl_text.specs.declared.token.Symbol.TheVariants as s;
 ghost use Rattle.tsdl_grammar.specs.Steps.{begins};
-ghost use Rattle.tsdl_grammar.specs.Reading.{bound_at, length_at, declarator_at, next_declarator_at, declarators_at};
+ghost use Rattle.tsdl_grammar.specs.Reading.{bound_at, length_at, declarator_at, next_declarator_at, declarators_at, declared_at};
 ghost use Rattle.tsdl_parse.specs.Gives.{Gives};
 
 use crate::failure::{Failure, Read};
 use crate::part::{Part, many, more};
 use crate::settings::path;
-use crate::terminals::{begins, expect, identifier};
+use crate::terminals::{begins, closed, expect, identifier};
 use ctf_list::List;
 use std::alloc::Global;
 use tsdl_text::{Kind, Symbol, Token};
@@ -52,8 +52,7 @@ impl Part for Bracketed {
     fn read<'t, 'a>(&self, alloc: Global, tokens: &'t [Token<'a>]) -> Read<'t, 'a, Length> {
         let rest = expect(Symbol::OpenBracket, tokens)?;
         let (bound, rest) = bound(alloc, rest)?;
-        let rest = expect(Symbol::CloseBracket, rest)?;
-        Ok((bound, rest))
+        closed(bound, Symbol::CloseBracket, rest)
     }
 
     ghost stops = { λ _. refl };
@@ -96,13 +95,23 @@ impl Part for NextDeclarator {
 
 /// Declarators with commas between them.
 #[tactic(auto, unfolding(tsdl_grammar::specs::Reading::declarators_at))]
-pub(crate) fn declarators<'t, 'a>(
-    alloc: Global,
-    tokens: &'t [Token<'a>],
-) -> Read<'t, 'a, List<Declarator>>
+fn declarators<'t, 'a>(alloc: Global, tokens: &'t [Token<'a>]) -> Read<'t, 'a, List<Declarator>>
     ensures reads { Gives (λ x. (x.0, x.1.now)) result (declarators_at tokens.now) }
     ensures shorter { IfOk result (λ x. length x.1.now < length tokens.now) }
 {
     let (first, rest) = declarator(alloc, tokens)?;
     more(alloc, first, &NextDeclarator, rest)
+}
+
+/// `declarator, ..;`
+#[tactic(auto, unfolding(tsdl_grammar::specs::Reading::declared_at))]
+pub(crate) fn declared<'t, 'a>(
+    alloc: Global,
+    tokens: &'t [Token<'a>],
+) -> Read<'t, 'a, List<Declarator>>
+    ensures reads { Gives (λ x. (x.0, x.1.now)) result (declared_at tokens.now) }
+    ensures shorter { IfOk result (λ x. length x.1.now < length tokens.now) }
+{
+    let (declarators, rest) = declarators(alloc, tokens)?;
+    closed(declarators, Symbol::Semicolon, rest)
 }

@@ -8,7 +8,7 @@ use std::alloc::{AllocError, AllocFailed};
 use tsdl_text::Token;
 
 /// Why tokens could not be read.
-#[derive(Debug, Drop)]
+#[derive(Drop)]
 pub(crate) enum Failure {
     /// A growth was refused.
     NoMemory,

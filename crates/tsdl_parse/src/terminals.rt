@@ -4,6 +4,7 @@ ghost use Rattle.std.specs.Prelude.{◌≡◌, ◌<◌, ◌≤◌, length, optio
 ghost use Rattle.tsdl_grammar.specs.Steps.{after, expect, past, begins, begins_identifier, before_close, before_end, open_at};
 ghost use Rattle.tsdl_grammar.specs.Reading.{word_at, identifier_at, constant_at};
 ghost use Rattle.tsdl_parse.specs.Gives.{Gives};
+ghost use Rattle.tsdl_parse.specs.Front.{closed};
 
 use crate::failure::{Failure, Read};
 use crate::part::Part;
@@ -35,6 +36,21 @@ pub(crate) fn expect<'t, 'a>(
         Some(rest) => Ok(rest),
         None => Err(Failure::Syntax(tokens.len())),
     }
+}
+
+/// What was read before the symbol, which must come first, and what follows it.
+pub(crate) fn closed<'t, 'a, T: Drop>(
+    tree: T,
+    symbol: Symbol,
+    tokens: &'t [Token<'a>],
+) -> Read<'t, 'a, T>
+    ensures reads { Gives (λ x. (x.0, x.1.now)) result (closed symbol tree tokens.now) }
+    ensures tree { IfOk result (λ x. x.0 ≡ tree) }
+    ensures rest { Gives (λ x. x.1.now) result (expect symbol tokens.now) }
+    ensures shorter { IfOk result (λ x. length x.1.now < length tokens.now) }
+{
+    let rest = expect(symbol, tokens)?;
+    Ok((tree, rest))
 }
 
 /// What follows the symbol where it comes first, and otherwise all.

@@ -12,7 +12,7 @@ use std::alloc::Global;
 
 /// A token that is always spelled the same: first the keywords, of which the last thirteen may stand
 /// in the name of a type, then the punctuators.
-#[derive(Clone, Copy, Debug, PartialEq, Eq)]
+#[derive(Clone, Copy)]
 pub enum Symbol {
     Align,
     Callsite,
@@ -165,7 +165,7 @@ impl Symbol {
 }
 
 /// What a token is.
-#[derive(Clone, Copy, Debug, PartialEq, Eq)]
+#[derive(Clone, Copy)]
 pub enum Kind {
     /// A name that is no keyword.
     Identifier,
@@ -178,7 +178,7 @@ pub enum Kind {
 }
 
 /// A token, with its slice of the text, where the slice starts in the text, in bytes, and on which line.
-#[derive(Clone, Copy, Debug)]
+#[derive(Clone, Copy)]
 pub struct Token<'a> {
     pub kind: Kind,
     pub text: &'a [u8],

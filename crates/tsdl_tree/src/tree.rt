@@ -10,20 +10,20 @@ pub type Word = List<u8>;
 pub type Path = List<Word>;
 
 /// The words that name a class, as `unsigned long`.
-#[derive(Debug, Drop, PartialEq, Eq)]
+#[derive(Drop)]
 pub struct Typename {
     pub words: List<Word>,
 }
 
 /// A constant with its sign.
-#[derive(Clone, Copy, Debug, PartialEq, Eq)]
+#[derive(Clone, Copy)]
 pub struct Number {
     pub is_negative: bool,
     pub magnitude: u64,
 }
 
 /// What stands behind the `=` of a setting.
-#[derive(Debug, Drop, PartialEq, Eq)]
+#[derive(Drop)]
 pub enum Value {
     /// `8`, `+8` or `-8`
     Number(Number),
@@ -34,14 +34,14 @@ pub enum Value {
 }
 
 /// `name = value;`
-#[derive(Debug, Drop, PartialEq, Eq)]
+#[derive(Drop)]
 pub struct Setting {
     pub name: Path,
     pub value: Value,
 }
 
 /// What stands between the brackets of a declarator.
-#[derive(Debug, Drop, PartialEq, Eq)]
+#[derive(Drop)]
 pub enum Length {
     /// How many elements an array has.
     Constant(u64),
@@ -50,28 +50,28 @@ pub enum Length {
 }
 
 /// `name[length]..`
-#[derive(Debug, Drop, PartialEq, Eq)]
+#[derive(Drop)]
 pub struct Declarator {
     pub name: Word,
     pub lengths: List<Length>,
 }
 
 /// `first` or `first ... last`
-#[derive(Clone, Copy, Debug, PartialEq, Eq)]
+#[derive(Clone, Copy)]
 pub struct Span {
     pub first: Number,
     pub last: Option<Number>,
 }
 
 /// `name` or `name = span`
-#[derive(Debug, Drop, PartialEq, Eq)]
+#[derive(Drop)]
 pub struct Label {
     pub name: Word,
     pub span: Option<Span>,
 }
 
 /// What stands behind the `:` of an enumeration.
-#[derive(Debug, Drop, PartialEq, Eq)]
+#[derive(Drop)]
 pub enum Container {
     /// `integer { settings }`
     Integer(List<Setting>),
@@ -80,7 +80,7 @@ pub enum Container {
 }
 
 /// A class by its name. Names of the four kinds are different names.
-#[derive(Debug, Drop, PartialEq, Eq)]
+#[derive(Drop)]
 pub enum Reference {
     /// `unsigned long`
     Plain(Typename),
@@ -94,7 +94,7 @@ pub enum Reference {
 
 /// A class as it is written.
 #[cycle(tree)]
-#[derive(Debug, Drop, PartialEq, Eq)]
+#[derive(Drop)]
 pub enum Specifier {
     /// `integer { settings }`
     Integer(List<Setting>),
@@ -113,7 +113,7 @@ pub enum Specifier {
 
 /// The body of a compound, with what stands beside it.
 #[cycle(tree)]
-#[derive(Debug, Drop, PartialEq, Eq)]
+#[derive(Drop)]
 pub enum Compound {
     /// `struct { items } align(n)`, with the alignment in bits.
     Struct {
@@ -134,7 +134,7 @@ pub enum Compound {
 
 /// What stands in the body of a structure or a variant.
 #[cycle(tree)]
-#[derive(Debug, Drop, PartialEq, Eq)]
+#[derive(Drop)]
 pub enum Item {
     /// `class declarator, ..;`
     Fields {
@@ -147,7 +147,7 @@ pub enum Item {
 
 /// A declaration of one or more names for a class.
 #[cycle(tree)]
-#[derive(Debug, Drop, PartialEq, Eq)]
+#[derive(Drop)]
 pub enum TypeDeclaration {
     /// `typealias class := name;`
     Alias {
@@ -167,7 +167,7 @@ pub enum TypeDeclaration {
 }
 
 /// What stands in the braces of a trace, a stream or an event.
-#[derive(Debug, Drop, PartialEq, Eq)]
+#[derive(Drop)]
 pub enum BlockEntry {
     /// `name = value;`
     Setting(Setting),
@@ -178,7 +178,7 @@ pub enum BlockEntry {
 }
 
 /// The word before the braces of a block with classes.
-#[derive(Clone, Copy, Debug, PartialEq, Eq)]
+#[derive(Clone, Copy)]
 pub enum BlockKind {
     Trace,
     Stream,
@@ -186,7 +186,7 @@ pub enum BlockKind {
 }
 
 /// The word before the braces of a block of settings.
-#[derive(Clone, Copy, Debug, PartialEq, Eq)]
+#[derive(Clone, Copy)]
 pub enum TableKind {
     Clock,
     Env,
@@ -194,7 +194,7 @@ pub enum TableKind {
 }
 
 /// A block or a declaration of names, directly in the metadata.
-#[derive(Debug, Drop, PartialEq, Eq)]
+#[derive(Drop)]
 pub enum Declaration {
     /// A trace, a stream or an event.
     Block {
@@ -211,7 +211,7 @@ pub enum Declaration {
 }
 
 /// A metadata text. The place of a declaration is its number in its list.
-#[derive(Debug, Drop, PartialEq, Eq)]
+#[derive(Drop)]
 pub struct Tree {
     pub declarations: List<Declaration>,
 }

@@ -5,7 +5,8 @@ use Rattle.ctf_decode.specs.Values.{vals_of}
 use Rattle.ctf_decode.specs.Forms.{parts_of}
 use Rattle.ctf_decode.specs.Fields as fields
 use Rattle.ctf_decode.specs.Views.{form, member_part, val}
-use Rattle.ctf_packet.specs.Moved.{moved, of_each}
+use Rattle.ctf_decode.specs.Fields.{of_each}
+use Rattle.ctf_packet.specs.Moved.{moved}
 use Rattle.ctf_packet.proofs.Moving.{members}
 use Rattle.ctf_packet.proofs.moves.+told.Given as goal
 
