@@ -1,6 +1,6 @@
 #!/usr/bin/env python3
 """Writes a trace of STREAMS streams, one where the number is left out, of COUNT packets of SIZE bytes each, in the manner
-of LTTng, and prints what `bench` prints of its stream: packets.py COUNT SIZE FOLDER [STREAMS]."""
+of LTTng, and prints how many event records they have: packets.py COUNT SIZE FOLDER [STREAMS]."""
 
 import pathlib
 import random
@@ -94,7 +94,6 @@ class Block:
         self.data = bytearray()
         self.stamps: list[int] = []
         self.whole: list[tuple[int, int]] = []
-        self.classes = 0
         now = 0
         while len(self.stamps) < EVENTS_IN_A_BLOCK:
             now += rng.randrange(100, 2000)
@@ -109,7 +108,6 @@ class Block:
                 self.data += struct.pack("<I", number | now << 5)
             self.data += body
             self.stamps.append(now)
-            self.classes += number
 
     def at(self, cycles: int) -> bytes:
         """The block when the clock began it at so many cycles."""
@@ -118,13 +116,12 @@ class Block:
         return bytes(self.data)
 
 
-def write_stream(path: pathlib.Path, number: int, count: int, size: int) -> tuple[int, int]:
-    """Writes the stream of a number, and gives how many events it has and their sum."""
+def write_stream(path: pathlib.Path, number: int, count: int, size: int) -> int:
+    """Writes the stream of a number, and gives how many event records it has."""
     block = Block(size - HEAD, number + 1)
     blocks = (size - HEAD) // len(block.data)
     used = HEAD + blocks * len(block.data)
     cycles = 0
-    total = 0
     with open(path, "wb") as file:
         for packet in range(count):
             last = cycles + (blocks - 1) * CYCLES_OF_A_BLOCK
@@ -132,21 +129,16 @@ def write_stream(path: pathlib.Path, number: int, count: int, size: int) -> tupl
             file.write(struct.pack("<IIQQQQQQI", 0xC1FC1FC1, 0, begin, end, 8 * used, 8 * size, packet, 0, number))
             for _ in range(blocks):
                 file.write(block.at(cycles))
-                total += block.classes + sum(block.stamps) + cycles * len(block.stamps)
                 cycles += CYCLES_OF_A_BLOCK
             file.write(bytes(size - used))
-    return count * blocks * len(block.stamps), total
+    return count * blocks * len(block.stamps)
 
 
 def main(count: int, size: int, folder: str, streams: int = 1) -> None:
     to = pathlib.Path(folder)
     to.mkdir(parents=True, exist_ok=True)
     (to / "metadata").write_text(METADATA)
-    written = [write_stream(to / f"s{number}", number, count, size) for number in range(streams)]
-    print(f"events {sum(events for events, _ in written)}")
-    print("discarded 0")
-    print("lost 0")
-    print(f"sum {sum(total for _, total in written) % (1 << 64)}")
+    print(f"events {sum(write_stream(to / f's{number}', number, count, size) for number in range(streams))}")
 
 
 if __name__ == "__main__":
