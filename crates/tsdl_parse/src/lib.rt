@@ -17,5 +17,5 @@ mod terminals;
 mod typenames;
 
 pub use fault::SyntaxFault;
-pub use metadata::{BRACE_LIMIT, parse};
+pub use metadata::{BRACE_LIMIT, brace_limit, parse};
 pub use tsdl_grammar::laws;

@@ -19,6 +19,11 @@ use tsdl_tree::Tree;
 /// (Own, as a limit.)
 pub const BRACE_LIMIT: u32 = 64;
 
+/// The limit as a number: what contracts and definitions mean by its name.
+pub fn brace_limit()
+    ensures { BRACE_LIMIT ≡ 64 }
+{}
+
 /// The tree, or why there is none.
 #[tactic(auto, unfolding(tsdl_grammar::specs::Reading::tree_at))]
 fn tree(alloc: Global, tokens: &[Token<'_>]) -> Result<Tree, Failure>

@@ -1,6 +1,8 @@
 //! What holds of the definitions of texts and tokens alone. Each function does nothing; what it
 //! ensures is a law.
 
+ghost use Rattle.std.specs.Prelude.{◌≡◌};
+ghost use Rattle.tsdl_text.specs.declared.packet.TheConstants.{HEADER_LEN, MOST_BYTES};
 ghost use Rattle.tsdl_text.specs.Laws.{OneLexing, OneLine, LexesOrNot, NeverBoth, LinesNeverFall, StringsStand, SymbolsAreCompared, OneText, OneBreak, TextOrBroken, NeverBroken};
 
 /// A text has at most one list of tokens.
@@ -56,4 +58,14 @@ pub fn text_or_broken()
 /// Bytes are never both metadata of a text and broken.
 pub fn never_broken()
     ensures { NeverBroken }
+{}
+
+/// The limit of bytes as a number, 64 MiB: what contracts and definitions mean by its name.
+pub fn most_bytes()
+    ensures { MOST_BYTES ≡ 67108864 }
+{}
+
+/// The length of a packet's header as a number (CTF 1.8.3, 7.1).
+pub fn header_len()
+    ensures { HEADER_LEN ≡ 37 }
 {}
