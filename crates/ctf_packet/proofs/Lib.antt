@@ -11,3 +11,5 @@ pub mod Heads
 pub mod Forward
 pub mod Going
 pub mod Cutting
+pub mod Conforming
+pub mod Stamps

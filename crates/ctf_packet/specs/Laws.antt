@@ -2,11 +2,17 @@
 use Rattle.std.specs.Prelude.{◌≡◌, ℕ, ◌-◌, ◌<◌, ◌≤◌, nat_lt, if◌then◌else◌, List, [], ◌∷◌, drop, Option, Some}
 use Rattle.ctf_bits.specs.declared.source.Ending.{Ending}
 use Rattle.ctf_clock.specs.declared.moment.Moment.{Moment}
+use Rattle.ctf_class.specs.declared.integer.Integer.{Integer}
+use Rattle.ctf_decode.specs.Fields as fields
 use Rattle.ctf_decode.specs.Forms.{Form}
 use Rattle.ctf_decode.specs.Input.{Input, Env}
 use Rattle.ctf_decode.specs.Laws.{Is}
+use Rattle.ctf_decode.specs.Stands.{Stands}
+use Rattle.ctf_decode.specs.Values.{Val}
 use Rattle.ctf_decode.specs.Walk.{walk}
 use Rattle.ctf_packet.specs.Classes.{Classes, TraceForm}
+use Rattle.ctf_packet.specs.Moved.{moved_in, moved}
+use Rattle.ctf_packet.specs.Held.{IsWidth, IsHeld, HasWidths}
 use Rattle.ctf_packet.specs.Packets.{Opened, open_at, reached_behind}
 use Rattle.ctf_packet.specs.Records.{record_at}
 use Rattle.ctf_packet.specs.Items.{Run, stops, end_fault, longest_stream, recorded, from_place, opened, from_bytes}
@@ -16,6 +22,12 @@ use Rattle.ctf_packet.specs.declared.fault.StreamFault.TheVariants as faults
 -- the value or fault that packets and event records are made of is the one that stands
 abbrev pub WalkFindsWhatStands : Type 0
 WalkFindsWhatStands = (k : Form) (c : Input) (env : Env) (p s : ℕ) → Is k c env p s (walk k c env p s)
+
+-- The clock goes by the steps that ctf_decode's `moving` gives: of each integer whose value its width holds, and so of each
+-- value that stands.
+pub record ClockGoesByMoving : Type 0 where
+  pub of_integers : (i : Integer) (v : Val) → IsWidth i.size → IsHeld i.size v → moved_in i v ≡ fields.moved_in i v
+  pub of_values : (k : Form) (c : Input) (env : Env) (p : ℕ) (v : Val) (q : ℕ) → HasWidths k → Stands k c env p v q → moved k v ≡ fields.moved k v
 
 -- What comes from a place on is the event record there, and what comes from its end on; or its fault. Behind the
 -- content it is what follows.

@@ -1,4 +1,5 @@
 pub mod Moved
+pub mod Held
 pub mod Classes
 pub mod Scopes
 pub mod Roles

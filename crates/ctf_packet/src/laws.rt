@@ -1,10 +1,16 @@
 //! Laws of what streams mean.
 
-ghost use Rattle.ctf_packet.specs.Laws.{WalkFindsWhatStands, RecordsGoOn, PacketsGoOn};
+ghost use Rattle.ctf_packet.specs.Laws.{WalkFindsWhatStands, ClockGoesByMoving, RecordsGoOn, PacketsGoOn};
 
 /// The value or fault that packets and event records are made of is the one that stands.
 pub fn walk_finds_what_stands()
     ensures { WalkFindsWhatStands }
+{}
+
+/// The clock goes by the steps that `moving` gives, on each number that an integer's width holds and on each
+/// value that stands in a packet.
+pub fn clock_goes_by_moving()
+    ensures { ClockGoesByMoving }
 {}
 
 /// What comes from a place of a packet on is the event record there and what comes from its end on, or

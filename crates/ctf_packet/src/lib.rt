@@ -20,7 +20,7 @@ pub use clock::{clock_before, clock_behind, clock_until, discarded_since, lost_s
 pub use fault::StreamFault;
 pub use field::Field;
 pub use header::stream_checked;
-pub use laws::{packets_go_on, records_go_on, walk_finds_what_stands};
+pub use laws::{clock_goes_by_moving, packets_go_on, records_go_on, walk_finds_what_stands};
 pub use moves::{moved, moved_by_integer};
 pub use packet::{OpenPacket, placed};
 pub use reached::Reached;
