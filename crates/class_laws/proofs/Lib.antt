@@ -1,0 +1,4 @@
+pub mod Leading
+pub mod Resolving
+pub mod Denoted
+pub mod Reading

@@ -1,0 +1,6 @@
+//! Laws of the classes that metadata denote.
+#![tactic(auto)]
+
+mod laws;
+
+pub use laws::lengths_and_tags_are_found;
