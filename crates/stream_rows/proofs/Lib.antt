@@ -4,3 +4,4 @@ pub mod Gaps
 pub mod Sizes
 pub mod Ends
 pub mod Headers
+pub mod Scopes
