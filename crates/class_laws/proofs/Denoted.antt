@@ -63,19 +63,19 @@ pub record TraceLeads {C : Type 0} (t : TraceForm C) : Type 0 where
   pub header : LeadsIn t.packet_header (behind_of None None None None None)
   pub streams : Each (StreamLeads t.packet_header) t.streams
 
-mapped : {X Y : Type 0} (f : X → Y) (o : Option X) (y : Y) → option_map f o ≡ Some y → (x : X) × (o ≡ Some x) × (f x ≡ y)
+pub mapped : {X Y : Type 0} (f : X → Y) (o : Option X) (y : Y) → option_map f o ≡ Some y → (x : X) × (o ≡ Some x) × (f x ≡ y)
 mapped f None y e = absurd (none-some y e)
 mapped f (Some x) y e = (x, refl, same_Some (f x) y e)
 
 -- each of the values that are all there
-there_each : {Y : Type 0} (P : Y → Type 0) (os : List (Option Y)) (ys : List Y) → Each (λ o. (y : Y) → o ≡ Some y → P y) os → all_there os ≡ Some ys → Each P ys
+pub there_each : {Y : Type 0} (P : Y → Type 0) (os : List (Option Y)) (ys : List Y) → Each (λ o. (y : Y) → o ≡ Some y → P y) os → all_there os ≡ Some ys → Each P ys
 there_each P [] ys h e = subst (Each P) (same_Some [] ys e) tt
 there_each P (None ∷ os) ys h e = absurd (none-some ys e)
 there_each P (Some y ∷ os) ys h e =
     let rest = mapped (λ others. y ∷ others) (all_there os) ys e in
     subst (Each P) rest.2 (h.0 y refl, there_each P os rest.0 h.1 rest.1)
 
-each_all : {X : Type 0} (P : X → Type 0) → ((x : X) → P x) → (xs : List X) → Each P xs
+pub each_all : {X : Type 0} (P : X → Type 0) → ((x : X) → P x) → (xs : List X) → Each P xs
 each_all P h [] = tt
 each_all P h (x ∷ xs) = (h x, each_all P h xs)
 

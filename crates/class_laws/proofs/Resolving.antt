@@ -244,10 +244,10 @@ module _ (behind : Behind) where
 made : (s : Shape) (what : Kind) → form (class_by s what) ≡ shape what (align_of s)
 made s what = search (rules, class.the_lemmas)
 
-form_by : (s : Shape) (what : Kind) (c : Class) (k : Form) → Some (class_by s what) ≡ Some c → shape what (align_of s) ≡ k → form c ≡ k
+pub form_by : (s : Shape) (what : Kind) (c : Class) (k : Form) → Some (class_by s what) ≡ Some c → shape what (align_of s) ≡ k → form c ≡ k
 form_by s what c k e is = ap form (sym (same_Some (class_by s what) c e)) ∙ made s what ∙ is
 
-member_made : (word : Word) (c : Class) → member_part (named_by word c) ≡ (word, form c)
+pub member_made : (word : Word) (c : Class) → member_part (named_by word c) ≡ (word, form c)
 member_made word c = search (rules, class.the_lemmas)
 
 module _ (order : Order) (clocks : List Clock) where

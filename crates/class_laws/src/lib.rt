@@ -3,4 +3,4 @@
 
 mod laws;
 
-pub use laws::lengths_and_tags_are_found;
+pub use laws::{integers_are_sized, lengths_and_tags_are_found};
