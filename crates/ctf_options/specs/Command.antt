@@ -109,9 +109,13 @@ AreRefused rows = AreNoDirs rows
     (first_of (codes "end") rows) (first_of (codes "timerange") rows))
     ⊎ (shift_of (first_of (codes "clock-offset") rows) (first_of (codes "clock-offset-ns") rows) ≡ None))))
 
+-- clap refuses the words in this way, which is no call for help: where clap takes them for one, none of them is
+abbrev pub IsNoHelp : ErrorKind → List (List ℕ) → Type 0
+IsNoHelp kind words = kind ≡ DisplayHelp → asks_help words ≡ false
+
 -- clap refuses the words in some way that is no call for help
 abbrev pub ClapRefuses : List (List ℕ) → Type 0
-ClapRefuses words = (kind : ErrorKind) × IsAmong kind (faults words) × (kind ≡ DisplayHelp → asks_help words ≡ false)
+ClapRefuses words = (kind : ErrorKind) × IsAmong kind (faults words) × IsNoHelp kind words
 
 -- clap takes the words for a call for help, and one of them is
 abbrev pub AsksHelp : List (List ℕ) → Type 0

@@ -100,7 +100,7 @@ fn refusal(kind: ErrorKind, words: &[String]) -> Usage
     ensures memory { kind ≡ ErrorKind.OutOfMemory → result ≡ Usage.NoMemory }
     ensures help { result ≡ Usage.Help → commands.asks_help (map string_bytes words.now) ≡ true }
     ensures kind { result ≡ Usage.Help → kind ≡ ErrorKind.DisplayHelp }
-    ensures bad { result ≡ Usage.Bad → kind ≡ ErrorKind.DisplayHelp → commands.asks_help (map string_bytes words.now) ≡ false }
+    ensures bad { result ≡ Usage.Bad → commands.IsNoHelp kind (map string_bytes words.now) }
     ensures no_more { result ≡ Usage.NoMemory → kind ≡ ErrorKind.OutOfMemory }
 {
     match kind {
