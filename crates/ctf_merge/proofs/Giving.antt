@@ -1,5 +1,5 @@
 -- An item is given by value.
-use Rattle.std.proofs.Common.{◌≡◌, ℕ, zero, suc, ◌≤◌, ◌<◌, inl, inr, List, [], ◌∷◌, length, set, get_or, Option, Some, None, Result, Ok, Err, refl, sym, ap, ◌∙◌, subst, arith}
+use Rattle.std.proofs.Common.{◌≡◌, ℕ, zero, suc, ◌≤◌, ◌<◌, inl, inr, IsTrue, List, [], ◌∷◌, length, set, get_or, Option, Some, None, Result, Ok, Err, refl, sym, ap, ◌∙◌, subst, arith}
 use Rattle.ctf_packet.specs.Classes.{Classes}
 use Rattle.ctf_packet.specs.Items.{Item}
 use Rattle.ctf_packet.specs.declared.fault.StreamFault.{StreamFault}
@@ -7,14 +7,14 @@ use Rattle.ctf_packet.specs.declared.fault.StreamFault.TheVariants as faults
 use Rattle.ctf_stream.specs.Owned as owned
 use Rattle.ctf_stream.specs.Owned.{item_of, GivesOf, IsOf}
 use Rattle.ctf_stream.specs.Reader as reader
-use Rattle.ctf_stream.specs.Reader.{Reader, HasItem}
+use Rattle.ctf_stream.specs.Reader.{Reader, HasItem, IsFetched, OrRefused, coming, rest_of}
 use Rattle.ctf_stream.specs.declared.owned.OwnedItem.{OwnedItem}
 use Rattle.ctf_merge.specs.Merged.{Merged, Placed, First, item, broken, nothing, ends, then, PlacedRise}
-use Rattle.ctf_merge.specs.Merges.{Merge, coming_of, first_now, room_of, EachFetched, EachTells, GoesOn}
+use Rattle.ctf_merge.specs.Merges.{Merge, coming_of, first_now, room_of, EachFetched, EachTells, GoesOn, LeavesFront}
 use Rattle.ctf_merge.specs.Given.{Gives, GivesFirst, GivesFront, GivesRoom, IsTold}
 use Rattle.ctf_merge.specs.declared.fault.MergeFault.{MergeFault}
 use Rattle.ctf_merge.specs.declared.fault.MergeFault.TheVariants.{Stream}
-use Rattle.ctf_merge.proofs.Going.{InFront, front, coming-item, coming-broken, coming-nothing, room-set}
+use Rattle.ctf_merge.proofs.Going.{InFront, front, coming-item, coming-broken, coming-nothing, leaves_one, room-set}
 use Rattle.ctf_merge.proofs.Lining.{next_at}
 use Rattle.ctf_merge.proofs.Rising.{refused_rises, rest_rises}
 
@@ -50,6 +50,12 @@ gives_item m new h (Some y) tells told first goes =
       goes.behind_item (record { number = first.number; item = first.it.next }) first.it.rest here,
     )
 gives_item m new h None tells told first goes = absurd told
+
+-- the reader of the item in front has left it behind
+pub leaves_front : (m : Merge) (n : ℕ) (x : Item Classes) (before after : Reader) → InFront m n x → before ≡ get_or m.readers n before → IsFetched after.ahead
+    → (IsTrue before.tells → OrRefused (rest_of before) (coming after)) → LeavesFront (first_now m) m.readers (set m.readers n after)
+leaves_front m n x before after at is fetched goes =
+    subst (λ (f : First). LeavesFront f m.readers (set m.readers n after)) (sym at.first) (leaves_one m.readers n x before after at.heads is fetched goes)
 
 -- the growth that was refused for the item is told
 pub refused_told : (m : Merge) (n : ℕ) (x : Item Classes) (f : StreamFault) → first_now m ≡ item n x → f ≡ faults.NoMemory → IsTold (first_now m) (Stream n f)

@@ -7,3 +7,4 @@ pub mod Lining
 pub mod Rising
 pub mod Cutting
 pub mod Giving
+pub mod Heads

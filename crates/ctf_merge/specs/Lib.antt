@@ -1,6 +1,7 @@
 pub mod Merged
 pub mod Merges
 pub mod Given
+pub mod Heads
 pub mod Turns
 pub mod Keys
 pub mod Trees

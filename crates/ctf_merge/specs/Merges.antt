@@ -42,6 +42,10 @@ EachFetched readers = AllByRecursion (λ r. IsFetched r.ahead) readers
 abbrev pub EachRises : List Reader → Type 0
 EachRises readers = AllByRecursion (λ r. Rises None (coming r).items) readers
 
+-- no item is to come, where each source tells its bytes
+abbrev pub NoItemComes : Merge → Type 0
+NoItemComes m = EachTells m.readers → (coming_of m).items ≡ []
+
 -- the times of what is to come don't fall
 abbrev pub ComingRises : Merge → Type 0
 ComingRises m = PlacedRise None (coming_of m).items
@@ -63,9 +67,13 @@ traces_of readers = map (λ r. r.trace) readers
 abbrev pub writes_of : List Reader → List Bool
 writes_of readers = map (λ r. r.writes) readers
 
--- the bytes of each stream that were taken or are left
+-- how many bytes of a stream were taken or are left
+abbrev pub given_by : Reader → ℕ
+given_by r = r.taken + length r.left
+
+-- how many of each stream
 abbrev pub given_of : List Reader → List ℕ
-given_of readers = map (λ r. r.taken + length r.left) readers
+given_of readers = map given_by readers
 
 -- this fault is want of memory
 abbrev pub IsRefusal : MergeFault → Type 0

@@ -3,9 +3,11 @@
 ghost use Rattle.std.specs.Prelude.{◌≡◌, ◌+◌, ◌^◌, ◌<◌, [], length, map, set, IfOk, OnOk, OnErr, IfSome, IfNone, IsTrue, MatchOption, slice_get, None, true, false};
 ghost use Rattle.ctf_stream.specs.Owned as owned;
 ghost use Rattle.ctf_stream.specs.Reader.{coming, rest_of, HasItem, OrRefused, IsFetched, IsOnLine, IsAllTaken};
+ghost use Rattle.ctf_stream.specs.Shown.{IsMadeTold};
 ghost use Rattle.ctf_merge.specs.Merged.{merged};
 ghost use Rattle.ctf_merge.specs.Given.{Gives, GivesFirst, GivesFront, GivesRoom};
-ghost use Rattle.ctf_merge.specs.Merges.{coming_of, first_now, number_in, fault_in, names_of, traces_of, writes_of, given_of, room_of, MergedOrRefused, ComingRises, EachRises, EachFetched, EachTells, EachOnLine, EachAllTaken, Fetched, EachIsFetched, GoesOn, IsNext, RoomLeft, LeavesOne, LeavesFront, EachComes};
+ghost use Rattle.ctf_merge.specs.Heads.{ShowsHead};
+ghost use Rattle.ctf_merge.specs.Merges.{coming_of, first_now, number_in, fault_in, names_of, traces_of, writes_of, given_by, given_of, room_of, NoItemComes, MergedOrRefused, ComingRises, EachRises, EachFetched, EachTells, EachOnLine, EachAllTaken, Fetched, EachIsFetched, GoesOn, IsNext, RoomLeft, LeavesOne, LeavesFront, EachComes};
 ghost use Rattle.ctf_merge.specs.Finding.{Finds};
 ghost use Rattle.ctf_merge.specs.Stages.{going, is_over, stage_of, Stands};
 ghost use Rattle.ctf_merge.specs.Turns.{turn_at, fault_at};
@@ -16,7 +18,7 @@ use crate::turns::Turns;
 use ctf_bits::Source;
 use ctf_list::NoMemory;
 use ctf_packet::StreamFault;
-use ctf_stream::{Ahead, OwnedItem, StreamReader};
+use ctf_stream::{Ahead, OwnedItem, StreamReader, Told};
 use std::alloc::Global;
 use std::marker::Model;
 
@@ -118,7 +120,7 @@ fn give<'a, S: Source + Drop>(
     ensures writes { reader.new.writes ≡ reader.old.writes }
     ensures name { reader.new.name ≡ reader.old.name }
     ensures tells { IsTrue reader.old.tells → IsTrue reader.new.tells }
-    ensures counted { IsTrue reader.old.tells → reader.new.taken + length reader.new.left ≡ reader.old.taken + length reader.old.left }
+    ensures counted { IsTrue reader.old.tells → given_by reader.new ≡ given_by reader.old }
     ensures on_line { IsOnLine reader.new }
     ensures all_taken { IsTrue reader.old.tells → IsAllTaken reader.new.ahead reader.new.left }
 {
@@ -225,6 +227,18 @@ impl<'a, S: Source + Drop> Merge<'a, S> {
             First::Fault(_number, _fault) => None,
             First::Nothing => None,
         }
+    }
+
+    /// The item that comes next, by reference: with its values, or an event record as its text where its reader was asked for
+    /// texts and read it as that. `None` where a fault comes next, and at the end. No memory is taken.
+    pub fn head(&self) -> Option<Told<'_>>
+        ensures shows { ShowsHead self.now result }
+        ensures made { IfSome result IsMadeTold }
+        ensures none { IfNone result (NoItemComes self.now) }
+    {
+        let number = self.next_stream()?;
+        let reader = self.reader(number)?;
+        reader.told()
     }
 
     /// The fault that comes next.

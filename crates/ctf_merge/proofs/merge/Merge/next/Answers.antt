@@ -8,8 +8,8 @@ use Rattle.ctf_merge.specs.Given.{Gives, GivesFirst, GivesRoom}
 use Rattle.ctf_merge.specs.Merges.{Merge, EachTells, LeavesFront, coming_of, room_of}
 use Rattle.ctf_merge.specs.Stages.{is_over, stage_of}
 use Rattle.ctf_merge.specs.Turns.{turn_at, fault_at}
-use Rattle.ctf_merge.proofs.Giving.{has_item, first_given, gives_item, refused_told, gives_refused, gives_broken, gives_nothing, room_given, room_kept, rises_given}
-use Rattle.ctf_merge.proofs.Going.{each_at, each_set, map-kept, goes-item, leaves_one}
+use Rattle.ctf_merge.proofs.Giving.{has_item, first_given, gives_item, refused_told, gives_refused, gives_broken, gives_nothing, leaves_front, room_given, room_kept, rises_given}
+use Rattle.ctf_merge.proofs.Going.{each_at, each_set, map-kept, goes-item}
 use Rattle.ctf_merge.proofs.Lining.{turn_front, turn_within, stands_again, stage_open, first_going, first_broken, no_turn, lined_going}
 use Rattle.ctf_merge.proofs.merge.Merge.next.Goals as goal
 
@@ -156,15 +156,13 @@ pub returns-in-Ok-clause-each : goal.returns-in-Ok-clause-each
 returns-in-Ok-clause-each g c =
     let m : Merge = record { readers = c.self.inside.readers.items; over = is_over c.self.inside.stage } in
     let at = turn_front c.self.inside.readers.items c.self.inside.stage c.self.inside.turns c.in-Some.number c.in-Going.is c.self.invariant.stands c.in-Some.ensures.first in
-    let leaves = leaves_one m.readers c.in-Some.number at.0 c.index_mut-reader.result.now c.give.new.reader at.1.heads c.index_mut-reader.ensures.value c.give.ensures.fetched c.give.ensures.goes_on in
-    rw (← c.self.view_is) (subst (λ (f : First). LeavesFront f m.readers (set m.readers c.in-Some.number c.give.new.reader)) (sym at.1.first) leaves)
+    rw (← c.self.view_is) (leaves_front m c.in-Some.number at.0 c.index_mut-reader.result.now c.give.new.reader at.1 c.index_mut-reader.ensures.value c.give.ensures.fetched c.give.ensures.goes_on)
 
 pub returns-in-Err-clause-each : goal.returns-in-Err-clause-each
 returns-in-Err-clause-each g c =
     let m : Merge = record { readers = c.self.inside.readers.items; over = is_over c.self.inside.stage } in
     let at = turn_front c.self.inside.readers.items c.self.inside.stage c.self.inside.turns c.in-Some.number c.in-Going.is c.self.invariant.stands c.in-Some.ensures.first in
-    let leaves = leaves_one m.readers c.in-Some.number at.0 c.index_mut-reader.result.now c.give.new.reader at.1.heads c.index_mut-reader.ensures.value c.give.ensures.fetched c.give.ensures.goes_on in
-    rw (← c.self.view_is) (subst (λ (f : First). LeavesFront f m.readers (set m.readers c.in-Some.number c.give.new.reader)) (sym at.1.first) leaves)
+    rw (← c.self.view_is) (leaves_front m c.in-Some.number at.0 c.index_mut-reader.result.now c.give.new.reader at.1 c.index_mut-reader.ensures.value c.give.ensures.fetched c.give.ensures.goes_on)
 
 pub returns-in-None-clause-each : goal.returns-in-None-clause-each
 returns-in-None-clause-each g c =
