@@ -260,6 +260,7 @@ impl<'a, S: Source + Drop> Merge<'a, S> {
         requires { IsNext self.old number }
         ensures goes_on { EachTells self.old.readers → GoesOn (coming_of self.old) (coming_of self.new) }
         ensures each { LeavesOne number self.old.readers self.new.readers }
+        ensures fetched { EachFetched self.new.readers }
         ensures rises { EachTells self.old.readers → ComingRises self.old → ComingRises self.new }
         ensures names { names_of self.new.readers ≡ names_of self.old.readers }
         ensures traces { traces_of self.new.readers ≡ traces_of self.old.readers }
@@ -286,6 +287,7 @@ impl<'a, S: Source + Drop> Merge<'a, S> {
     pub fn go_on(&mut self)
         ensures goes_on { EachTells self.old.readers → GoesOn (coming_of self.old) (coming_of self.new) }
         ensures each { LeavesFront (first_now self.old) self.old.readers self.new.readers }
+        ensures fetched { EachFetched self.new.readers }
         ensures rises { EachTells self.old.readers → ComingRises self.old → ComingRises self.new }
         ensures names { names_of self.new.readers ≡ names_of self.old.readers }
         ensures traces { traces_of self.new.readers ≡ traces_of self.old.readers }
@@ -319,6 +321,7 @@ impl<'a, S: Source + Drop> Merge<'a, S> {
     pub fn next(&mut self) -> Result<Option<OwnedItem<'a>>, MergeFault>
         ensures gives { EachTells self.old.readers → Gives (coming_of self.old) (coming_of self.new) result }
         ensures each { LeavesFront (first_now self.old) self.old.readers self.new.readers }
+        ensures fetched { EachFetched self.new.readers }
         ensures rises { EachTells self.old.readers → ComingRises self.old → ComingRises self.new }
 
         // Of any sources: what stood in front is told, behind a fault nothing comes, the end stays, and an item that is

@@ -48,6 +48,9 @@ invariant_of-self g c =
       stands = stands_again c.self.inside.readers.items c.self.inside.stage c.meet.new.self c.self.inside.turns c.line_up-fault.new.turns c.args.number c.go_on.new.self going c.self.invariant.stands at.1.within turns_is next;
     }
 
+pub returns-clause-fetched : goal.returns-clause-fetched
+returns-clause-fetched g c = (invariant_of-self g c).fetched
+
 pub returns-clause-goes_on : goal.returns-clause-goes_on
 returns-clause-goes_on g c =
     let at = next_front c.args.self.now c.self.inside.readers.items c.self.inside.stage c.args.number c.self.view_is c.requires in
