@@ -38,7 +38,13 @@ abbrev pub plain_side_of : {S : Type 0} → (S → List ℕ) → (S → ℕ) →
 plain_side_of accepted failures refusals s = side_of accepted (λ s. true) failures refusals s
 
 abbrev pub written : Sides → Sides → Written
-written old new = record { old_output = old.out.accepted; new_output = new.out.accepted; old_messages = old.err.accepted; new_messages = new.err.accepted }
+written old new = record {
+  old_output = old.out.accepted;
+  new_output = new.out.accepted;
+  old_messages = old.err.accepted;
+  new_messages = new.err.accepted;
+  settled = new.out.settled;
+}
 
 abbrev pub counts_of : Sides → Counts
 counts_of s = record { out_failures = s.out.failures; out_refusals = s.out.refusals; err_failures = s.err.failures; err_refusals = s.err.refusals }

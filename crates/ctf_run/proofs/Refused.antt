@@ -1,5 +1,5 @@
 -- A run over traces of which one has a fault.
-use Rattle.std.proofs.Common.{◌≡◌, ℕ, zero, suc, List, [], ◌∷◌, cond, take, length, nat_lt, slice_get, Some, None, option_map, sym, ap, ◌∙◌, subst, arith, string_bytes}
+use Rattle.std.proofs.Common.{◌≡◌, ℕ, zero, suc, List, [], ◌∷◌, cond, take, length, nat_lt, slice_get, Option, Some, None, option_map, sym, ap, ◌∙◌, subst, arith, string_bytes}
 use Rattle.std.proofs.lemmas.List.{length-map}
 use Rattle.ctf_class.specs.declared.trace.TraceClass.{TraceClass}
 use Rattle.ctf_options.specs.declared.options.Options.{Options}
@@ -7,12 +7,16 @@ use Rattle.ctf_outcome.specs.Lines.{metadata_line}
 use Rattle.ctf_outcome.specs.declared.load.LoadFault.{LoadFault}
 use Rattle.ctf_outcome.specs.declared.outcome.Outcome.{Outcome}
 use Rattle.ctf_outcome.specs.declared.outcome.Outcome.TheVariants as outcomes
+use Rattle.ctf_outcome.specs.declared.outcome.RunFault.TheVariants as faults
+use Rattle.ctf_session.specs.Answers.{Answer}
 use Rattle.ctf_session.specs.Inputs.{Given}
-use Rattle.ctf_session.specs.Steps.{Answered}
-use Rattle.ctf_session.specs.Writing.{Written, Writes, WritesParts}
+use Rattle.ctf_session.specs.Steps.{Answered, SettledBy}
+use Rattle.ctf_session.specs.Writing.{Written, SaysSettled}
+use Rattle.ctf_session.proofs.Reaching.{stopped_first}
+use Rattle.ctf_session.proofs.Runs.{and_then-none}
 use Rattle.ctf_run.specs.Loaded.{IsFirstFault}
 use Rattle.ctf_run.specs.Loaded as loaded
-use Rattle.ctf_run.specs.Told.{name_at, TellsFault}
+use Rattle.ctf_run.specs.Told.{name_at, fault_texts, TellsFault}
 use Rattle.ctf_run.specs.Traces.{Trace, trace_of, traces_of, are_several, named, HaveClasses, refused, broken, Runs, answered}
 use Rattle.ctf_run.specs.declared.trace.Trace as declared
 
@@ -42,18 +46,22 @@ module _ {S : Type 0} (given : S → Given) where
       ap (λ o. cond (nat_lt 1 (length traces)) (option_map (λ u. string_bytes u.name) o) None) at
       ∙ ap (λ n. cond (nat_lt 1 n) (Some (string_bytes t.name)) None) (sym (length-map traces (trace_of given)))
 
-  told : (all : List Trace) (options : Options) (number : ℕ) (t : Trace) (fault : LoadFault) (outcome : Outcome) (w : Written) (traces : List (declared.Trace S)) → name_at traces number ≡ named (are_several all) t.name
-      → TellsFault traces number fault outcome w → Answered (refused (are_several all) number t.name fault) outcome w
-  told all options number t fault outcomes.Done w traces same tells = absurd tells
-  told all options number t fault (outcomes.Fault f) w traces same tells =
-      (ap outcomes.Fault tells.0, subst (λ n. Writes w (record { output = []; messages = metadata_line fault n })) same tells.1)
-  told all options number t fault outcomes.WriteFailed w traces same tells = subst (λ n. WritesParts w (record { output = []; messages = metadata_line fault n })) same tells
-  told all options number t fault outcomes.NoMemory w traces same tells = subst (λ n. WritesParts w (record { output = []; messages = metadata_line fault n })) same tells
+  -- the only piece of an answer
+  abbrev one_piece : (number : ℕ) (name : Option (List ℕ)) (fault : LoadFault) → Answer
+  one_piece number name fault = record { pieces = record { output = []; messages = metadata_line fault name } ∷ []; outcome = outcomes.Fault (faults.Metadata number fault) }
+
+  told : (number : ℕ) (fault : LoadFault) (outcome : Outcome) (w : Written) (traces : List (declared.Trace S)) → TellsFault traces number fault outcome w → SettledBy outcome w.settled → SaysSettled w
+      → Answered (one_piece number (name_at traces number) fault) outcome w
+  told number fault outcomes.Done w traces tells behind said = absurd tells
+  told number fault (outcomes.Fault f) w traces tells behind said =
+      (ap outcomes.Fault tells.0, record { wrote = rw and_then-none tells.1; settled = λ last. behind })
+  told number fault outcomes.WriteFailed w traces tells behind said = stopped_first (fault_texts traces number fault) [] w tells said
+  told number fault outcomes.NoMemory w traces tells behind said = stopped_first (fault_texts traces number fault) [] w tells said
 
   pub run_broken : (traces : List (declared.Trace S)) (options : Options) (number : ℕ) (fault : LoadFault) (outcome : Outcome) (w : Written) → IsFirstFault traces number fault
-      → TellsFault traces number fault outcome w → Runs (traces_of given traces) options outcome w
-  run_broken traces options number fault outcome w first tells = answered (record {
+      → TellsFault traces number fault outcome w → SettledBy outcome w.settled → SaysSettled w → Runs (traces_of given traces) options outcome w
+  run_broken traces options number fault outcome w first tells behind said = answered (record {
     answer = refused (are_several (traces_of given traces)) number (string_bytes first.trace.name) fault;
     is_answer = broken number (trace_of given first.trace) first.classes fault (trace_at traces number first.trace first.at) (have_first number traces first.classes first.before) first.broken first.named;
-    answered = told (traces_of given traces) options number (trace_of given first.trace) fault outcome w traces (named_so traces number first.trace first.at) tells;
+    answered = subst (λ name. Answered (one_piece number name fault) outcome w) (named_so traces number first.trace first.at) (told number fault outcome w traces tells behind said);
   })

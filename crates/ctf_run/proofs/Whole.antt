@@ -7,11 +7,11 @@ use Rattle.ctf_merge.specs.Merges.{MergedOrRefused}
 use Rattle.ctf_options.specs.declared.options.Options.{Options}
 use Rattle.ctf_outcome.specs.declared.outcome.Outcome.{Outcome}
 use Rattle.ctf_session.specs.Answers.{Setting, answer}
-use Rattle.ctf_session.specs.Inputs.{Input, run_in, AllTell}
+use Rattle.ctf_session.specs.Inputs.{Input, run_in, setting_of, AllTell}
 use Rattle.ctf_session.specs.Steps.{Session, Answered, IsNamed, answer_of}
 use Rattle.ctf_session.specs.Writing.{Written}
 use Rattle.ctf_session.proofs.Reaching.{answered_whole}
-use Rattle.ctf_run.specs.Traces.{Trace, Stream, input_of, inputs_from, are_several, HaveClasses, setting_of, printed, whole, EachTells, Runs, answered}
+use Rattle.ctf_run.specs.Traces.{Trace, Stream, input_of, inputs_from, are_several, HaveClasses, printed, whole, EachTells, Runs, answered}
 
 -- ---- sources that tell their bytes
 

@@ -21,7 +21,10 @@ pub data IsAnswerOfOne (t : Trace) (options : Options) : Answer → Type 0 where
   whole : (class : TraceClass) → Describes t.metadata class
       → IsAnswerOfOne t options (printed options (map (λ s. record { trace = 0; class = class; name = s.name; given = s.given }) t.streams))
   broken : (fault : LoadFault) → IsBroken t.metadata fault → is_refusal fault ≡ false
-      → IsAnswerOfOne t options (record { texts = record { output = []; messages = metadata_line fault None }; outcome = outcomes.Fault (faults.Metadata 0 fault) })
+      → IsAnswerOfOne t options (record {
+        pieces = record { output = []; messages = metadata_line fault None } ∷ [];
+        outcome = outcomes.Fault (faults.Metadata 0 fault);
+      })
 
 -- A list of one trace has the answers of that trace.
 abbrev pub OneTrace : Type 0

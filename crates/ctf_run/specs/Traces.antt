@@ -12,8 +12,8 @@ use Rattle.ctf_outcome.specs.declared.load.LoadFault.{LoadFault}
 use Rattle.ctf_outcome.specs.declared.outcome.Outcome.{Outcome}
 use Rattle.ctf_outcome.specs.declared.outcome.Outcome.TheVariants as outcomes
 use Rattle.ctf_outcome.specs.declared.outcome.RunFault.TheVariants as faults
-use Rattle.ctf_session.specs.Answers.{Setting, Answer, answer}
-use Rattle.ctf_session.specs.Inputs.{Given, Input, run_in}
+use Rattle.ctf_session.specs.Answers.{Answer, answer}
+use Rattle.ctf_session.specs.Inputs.{Given, Input, run_in, setting_of}
 use Rattle.ctf_session.specs.Steps.{Answered}
 use Rattle.ctf_session.specs.Writing.{Written}
 use Rattle.ctf_run.specs.declared.trace.Trace as declared
@@ -73,17 +73,16 @@ inputs_from several number (t ∷ ts) (class ∷ classes) = map (input_of severa
 abbrev pub HaveClasses : List Trace → List TraceClass → Type 0
 HaveClasses traces classes = AllZip (λ t class. Describes t.metadata class) traces classes
 
-abbrev pub setting_of : Options → List Input → Setting
-setting_of options inputs = record { trim = options.trim; style = options.style; traces = map (λ i. i.trace) inputs; names = map (λ i. i.name) inputs }
-
 -- what streams give: their items in one order, trimmed and printed
 abbrev pub printed : Options → List Input → Answer
 printed options inputs = answer (setting_of options inputs) None (merged (map (run_in options.shift) inputs))
 
 -- nothing but the line of a fault of the metadata of a trace
 abbrev pub refused : Bool → ℕ → List ℕ → LoadFault → Answer
-refused several number name fault =
-    record { texts = record { output = []; messages = metadata_line fault (named several name) }; outcome = outcomes.Fault (faults.Metadata number fault) }
+refused several number name fault = record {
+  pieces = record { output = []; messages = metadata_line fault (named several name) } ∷ [];
+  outcome = outcomes.Fault (faults.Metadata number fault);
+}
 
 -- What a run over traces is to write and to answer: where each has a class, what their streams give; else the fault of the
 -- first one that has none. Want of memory is no fault.
@@ -98,7 +97,7 @@ EachTells traces = AllByRecursion (λ t. AllByRecursion (λ s. IsTrue s.given.te
 
 -- ---- a run
 
--- what is to be answered was answered, and its texts were written
+-- what is to be answered was answered, and its pieces were written
 pub record IsAnswered (traces : List Trace) (options : Options) (outcome : Outcome) (w : Written) : Type 0 where
   pub answer : Answer
   pub is_answer : IsAnswer traces options answer
@@ -109,8 +108,8 @@ pub record IsSilent (w : Written) : Type 0 where
   pub output : w.new_output ≡ w.old_output
   pub messages : w.new_messages ≡ w.old_messages
 
--- A run gave an answer that is meant, and wrote it; where a write failed or a growth was refused, first parts of it. A
--- growth may be refused before the classes are known.
+-- A run gave an answer that is meant, and wrote it; where a write failed or a growth was refused, its first pieces, a first
+-- part of the next one, and nothing behind that. A growth may be refused before the classes are known.
 pub data Runs (traces : List Trace) (options : Options) (outcome : Outcome) (w : Written) : Type 0 where
   answered : IsAnswered traces options outcome w → Runs traces options outcome w
   silent : outcome ≡ outcomes.NoMemory → IsSilent w → Runs traces options outcome w

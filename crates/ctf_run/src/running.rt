@@ -1,7 +1,9 @@
 //! Runs over traces.
 
-ghost use Rattle.std.specs.Prelude.{◌≡◌, IsTrue, false};
-ghost use Rattle.ctf_session.specs.Steps.{CountsAfter, IsNamed};
+ghost use Rattle.std.specs.Prelude.{◌≡◌, ◌⊎◌, IsTrue, false};
+ghost use Rattle.ctf_session.specs.Inputs.{given_by};
+ghost use Rattle.ctf_session.specs.Steps.{counts_by, CountsAfter, SameForMessages, SettledBy, IsNamed};
+ghost use Rattle.ctf_session.specs.Writing.{written_by};
 ghost use Rattle.ctf_run.specs.Traces.{traces_of, EachTells, Runs};
 ghost use Rattle.ctf_outcome.specs.Table.{is_refusal};
 ghost use Rattle.ctf_run.specs.Told.{TellsFault};
@@ -24,17 +26,23 @@ pub fn run<S: Source + Drop, W: Log, E: Sink>(
     out: &mut W,
     err: &mut E,
 ) -> Outcome
-    // What the definition says of the bytes of the metadata and of the streams is written and answered, or a first part
-    // of it is written where a write fails or a growth is refused.
-    ensures runs { let all = traces_of (λ s. record { tells = S.tells s; bytes = S.left s; ending = S.ending s }) traces.items in
-        EachTells all → IsTrue (W.tells out.old) → IsTrue (E.tells err.old) → Runs all options.now result
-        (record { old_output = W.accepted out.old; new_output = W.accepted out.new; old_messages = E.accepted err.old; new_messages = E.accepted err.new }) }
+    // What the definition says of the bytes of the metadata and of the streams is written and answered. Where a write
+    // fails or a growth is refused, the first pieces of it are written, a first part of the next, and nothing behind it.
+    ensures runs { let all = traces_of (given_by S.tells S.left S.ending) traces.items in
+        let wrote = written_by W.accepted W.settled E.accepted in
+        EachTells all → IsTrue (W.tells out.old) → IsTrue (E.tells err.old)
+        → Runs all options.now result (wrote out.old err.old out.new err.new) }
 
     // No sink failed or was refused memory but the one that stopped the run, once.
-    ensures counts { CountsAfter result
-        (record { out_failures = W.failures out.old; out_refusals = W.refusals out.old; err_failures = E.failures err.old; err_refusals = E.refusals err.old })
-        (record { out_failures = W.failures out.new; out_refusals = W.refusals out.new; err_failures = E.failures err.new; err_refusals = E.refusals err.new }) }
+    ensures counts { let counts = counts_by W.failures W.refusals E.failures E.refusals in
+        CountsAfter result (counts out.old err.old) (counts out.new err.new) }
     ensures named { IsNamed result }
+
+    // Nothing of the log is held back behind the line of a fault, nor where the messages failed or were refused memory.
+    ensures behind { SettledBy result (W.settled out.new) }
+    ensures settled { let counts = counts_by W.failures W.refusals E.failures E.refusals in
+        SameForMessages (counts out.old err.old) (counts out.new err.new)
+        ⊎ IsTrue (W.settled out.new) }
     ensures out_tells { IsTrue (W.tells out.old) → IsTrue (W.tells out.new) }
     ensures err_tells { IsTrue (E.tells err.old) → IsTrue (E.tells err.new) }
 {
@@ -65,12 +73,14 @@ fn tell<S, W: Log, E: Sink>(
     err: &mut E,
 ) -> Outcome
     requires { is_refusal fault ≡ false }
-    ensures told { IsTrue (W.tells out.old) → IsTrue (E.tells err.old) → TellsFault traces.now trace fault result
-        (record { old_output = W.accepted out.old; new_output = W.accepted out.new; old_messages = E.accepted err.old; new_messages = E.accepted err.new }) }
-    ensures counts { CountsAfter result
-        (record { out_failures = W.failures out.old; out_refusals = W.refusals out.old; err_failures = E.failures err.old; err_refusals = E.refusals err.old })
-        (record { out_failures = W.failures out.new; out_refusals = W.refusals out.new; err_failures = E.failures err.new; err_refusals = E.refusals err.new }) }
+    ensures told { let wrote = written_by W.accepted W.settled E.accepted in
+        IsTrue (W.tells out.old) → IsTrue (E.tells err.old)
+        → TellsFault traces.now trace fault result (wrote out.old err.old out.new err.new) }
+    ensures counts { let counts = counts_by W.failures W.refusals E.failures E.refusals in
+        CountsAfter result (counts out.old err.old) (counts out.new err.new) }
     ensures named { IsNamed result }
+    ensures settled { (err.new ≡ err.old) ⊎ IsTrue (W.settled out.new) }
+    ensures behind { SettledBy result (W.settled out.new) }
     ensures out_tells { IsTrue (W.tells out.old) → IsTrue (W.tells out.new) }
     ensures err_tells { IsTrue (E.tells err.old) → IsTrue (E.tells err.new) }
 {

@@ -3,6 +3,7 @@ pub mod Runs
 pub mod Reaching
 pub mod Fronts
 pub mod Stepping
+pub mod Stopping
 pub mod Opened
 pub mod Printed
 pub mod Passing

@@ -21,12 +21,12 @@ use Rattle.ctf_stream.specs.Ahead.{time_of}
 use Rattle.ctf_stream.specs.Reader as reader
 use Rattle.ctf_stream.specs.Reader.{Reader}
 use Rattle.stream_laws.proofs.Later.{not_less, at_most}
-use Rattle.ctf_session.specs.Answers.{Setting, verdict, is_after, text_of, fault_line}
+use Rattle.ctf_session.specs.Answers.{Setting, verdict, is_after, is_within, text_of, fault_line}
 use Rattle.ctf_session.specs.Printing.{TellsFault}
 use Rattle.ctf_session.specs.Endings.{stop_outcome, ended_by}
 use Rattle.ctf_session.specs.declared.step.Ending.{Ending}
 use Rattle.ctf_session.specs.Sessions.{left_by}
-use Rattle.ctf_session.specs.Steps.{Session, LeavesFirst, Goes, Ends, EndsBy, EachAfter, shown_text, last_shown, next_texts}
+use Rattle.ctf_session.specs.Steps.{Session, IsQuietBy, LeavesFirst, Goes, Ends, EndsBy, EachAfter, shown_text, last_shown, next_texts}
 use Rattle.ctf_session.specs.declared.step.Stop.{Stop}
 use Rattle.ctf_session.specs.declared.step.Stop.TheVariants as stops
 use Rattle.ctf_session.specs.Writing.{no_texts, Written, Writes, WritesParts}
@@ -105,8 +105,8 @@ leaves_first ended m n new open_ is it =
     let first_is = ap (λ (x : Item Classes). then (record { number = n; item = x }) is.rest) (same_left m n new is it) in
     record { number = n; leaves = it; first = λ tells. (is.rest, open_coming ended (coming_of m) open_ ∙ is.coming tells ∙ first_is) }
 
-pub Writes-none : (out err : List ℕ) → Writes (written out out err err) no_texts
-Writes-none out err = record { output = sym (append-nil out); messages = sym (append-nil err) }
+pub Writes-none : (out err : List ℕ) (settled : Bool) → Writes (written out out err err settled) no_texts
+Writes-none out err settled = record { output = sym (append-nil out); messages = sym (append-nil err) }
 
 -- a step that went
 pub went : (old new : Session) (w : Written) (m n : Merged) (x : Placed) (rest : Merged) (v : Verdict) → old.coming ≡ m → new.coming ≡ n → m ≡ then x rest → GoesOn m n
@@ -122,25 +122,25 @@ went old new w m n x rest v e f shows goes_on is not_after wrote last = record {
 }
 
 -- a step that stopped at an item after the end
-pub ended_after : (old : Session) (m : Merged) (x : Placed) (rest : Merged) (out err : List ℕ) → old.coming ≡ m → m ≡ then x rest → PlacedRise None m.items → verdict old.setting x ≡ After
-    → Ends old outcomes.Done (written out out err err)
-ended_after old m x rest out err e shows rise is =
+pub ended_after : (old : Session) (m : Merged) (x : Placed) (rest : Merged) (out err : List ℕ) (settled : Bool) → old.coming ≡ m → m ≡ then x rest → PlacedRise None m.items → verdict old.setting x ≡ After
+    → Ends old outcomes.Done (written out out err err settled)
+ended_after old m x rest out err settled e shows rise is =
     let all : old.coming ≡ then x rest = e ∙ shows in
     let here : is_after (verdict old.setting x) ≡ true = ap is_after is in
     record {
       none_left = rw all (here, each_after old.setting (time_of x.item) rest.items here (subst (λ (n : Merged). PlacedRise None n.items) shows rise).1);
       outcome_is = rw all refl;
-      wrote = rw all (Writes-none out err);
+      wrote = rw all (Writes-none out err settled);
     }
 
 -- a step at the end
-pub ended_end : (old : Session) (m : Merged) (out err : List ℕ) → old.coming ≡ m → m.items ≡ [] → None ≡ m.fault → Ends old outcomes.Done (written out out err err)
-ended_end old m out err e none no_fault =
+pub ended_end : (old : Session) (m : Merged) (out err : List ℕ) (settled : Bool) → old.coming ≡ m → m.items ≡ [] → None ≡ m.fault → Ends old outcomes.Done (written out out err err settled)
+ended_end old m out err settled e none no_fault =
     let all : old.coming ≡ ends None = e ∙ rw (none, sym no_fault) refl in
     record {
       none_left = rw all tt;
       outcome_is = rw all refl;
-      wrote = rw all (Writes-none out err);
+      wrote = rw all (Writes-none out err settled);
     }
 
 -- a step that was stopped in an item's text
@@ -154,6 +154,13 @@ ended_stopped old m w x rest stop e shows is parts = by_stop stop
     by_stop : (s : Stop) → EndsBy old (stop_outcome s) w
     by_stop stops.WriteFailed = rw next parts
     by_stop stops.NoMemory = rw next parts
+
+-- such a step has something to write
+pub not_quiet : (setting : Setting) (coming m : Merged) (x : Placed) (rest : Merged) → coming ≡ m → m ≡ then x rest → verdict setting x ≡ Within → IsQuietBy setting coming.items coming.fault → ⊥
+not_quiet setting coming m x rest e shows is quiet =
+    let early : is_within (verdict setting x) ≡ false = subst (λ (n : Merged). IsQuietBy setting n.items n.fault) (e ∙ shows) quiet in
+    let within = sym (ap is_within is) ∙ early in
+    cc
 
 -- what is to come rises still
 pub still_rises : (m n : Merged) (x : Placed) (rest : Merged) → m ≡ then x rest → GoesOn m n → PlacedRise None m.items → PlacedRise None n.items

@@ -19,7 +19,7 @@ use Rattle.ctf_stamp.specs.declared.trim.Trim.{Trim}
 use Rattle.ctf_stamp.specs.declared.trim.Verdict.{Verdict}
 use Rattle.ctf_stamp.specs.declared.trim.Verdict.TheVariants.{Before, Within, After}
 use Rattle.ctf_stream.specs.Ahead.{time_of}
-use Rattle.ctf_session.specs.Writing.{Texts, no_texts, and_then}
+use Rattle.ctf_session.specs.Writing.{Texts, no_texts, joined}
 
 -- what a whole run goes by
 pub record Setting : Type 0 where
@@ -81,10 +81,6 @@ last_after last (event e) = or_last last (time_of (event e))
 last_after last (discarded g) = last
 last_after last (lost g) = last
 
-abbrev pub texts_of : Setting → Option ℤ → List Placed → Texts
-texts_of setting last [] = no_texts
-texts_of setting last (x ∷ xs) = and_then (text_of setting last x) (texts_of setting (last_after last x.item) xs)
-
 -- ---- how it ends
 
 -- the line of a fault of a stream; want of memory is no fault of a stream and has none
@@ -106,13 +102,28 @@ abbrev pub outcome_of : Setting → Option MergeFault → Outcome
 outcome_of setting None = Done
 outcome_of setting (Some fault) = Fault (fault_of setting fault)
 
+-- ---- the whole
+
+abbrev pub fault_pieces : Setting → Option MergeFault → List Texts
+fault_pieces setting None = []
+fault_pieces setting (Some fault) = fault_texts setting (Some fault) ∷ []
+
+-- the line or the message of each item, in their order, then the fault's line, if there is a fault
+abbrev pub pieces_of : Setting → Option ℤ → List Placed → Option MergeFault → List Texts
+pieces_of setting last [] fault = fault_pieces setting fault
+pieces_of setting last (x ∷ xs) fault = text_of setting last x ∷ pieces_of setting (last_after last x.item) xs fault
+
 pub record Answer : Type 0 where
-  pub texts : Texts
+  -- what is written, in the pieces in which it goes out: each to one of the sinks
+  pub pieces : List Texts
   pub outcome : Outcome
 
--- lines and messages in the order of the items, then the fault's line
+-- the whole output and all messages
+abbrev pub texts : Answer → Texts
+texts a = joined a.pieces
+
 abbrev pub answer_by : Setting → Option ℤ → Merged → Answer
-answer_by setting last m = record { texts = and_then (texts_of setting last m.items) (fault_texts setting m.fault); outcome = outcome_of setting m.fault }
+answer_by setting last m = record { pieces = pieces_of setting last m.items m.fault; outcome = outcome_of setting m.fault }
 
 -- What is written and answered for items up to the cut, and the fault at it, where an event record at a time was printed
 -- before, or none.

@@ -1,5 +1,5 @@
 -- What a step of a session does, and what a run of steps does.
-use Rattle.std.specs.Prelude.{◌≡◌, ℕ, ℤ, ◌<◌, ◌⊎◌, true, false, List, [], ◌∷◌, Option, Some, None}
+use Rattle.std.specs.Prelude.{◌≡◌, ℕ, ℤ, ◌<◌, ◌⊎◌, Bool, true, false, IsTrue, List, [], ◌∷◌, Option, Some, None}
 use Rattle.ctf_bits.specs.Count.{one_more}
 use Rattle.ctf_merge.specs.Merged.{Merged, Placed, then, PlacedRise}
 use Rattle.ctf_merge.specs.Merges.{MergedOrRefused, EachTells, LeavesOne}
@@ -13,8 +13,8 @@ use Rattle.ctf_packet.specs.declared.fault.StreamFault.TheVariants as streams
 use Rattle.ctf_stamp.specs.declared.trim.Verdict.{Verdict}
 use Rattle.ctf_stamp.specs.declared.trim.Verdict.TheVariants.{Before, Within, After}
 use Rattle.ctf_stream.specs.Reader.{Reader}
-use Rattle.ctf_session.specs.Answers.{Setting, Answer, answer, verdict, is_after, text_of, last_after, fault_texts, outcome_of}
-use Rattle.ctf_session.specs.Writing.{Texts, no_texts, Written, Writes, WritesParts}
+use Rattle.ctf_session.specs.Answers.{Setting, Answer, answer, verdict, is_after, is_within, text_of, last_after, fault_texts, outcome_of}
+use Rattle.ctf_session.specs.Writing.{Texts, no_texts, Written, Writes, WritesParts, Stopped, Finished}
 use Rattle.ctf_session.specs.declared.step.Step.{Step}
 use Rattle.ctf_session.specs.declared.step.Step.TheVariants as steps
 
@@ -96,6 +96,14 @@ EndsBy old (outcomes.Fault f) w = Ends old (outcomes.Fault f) w
 EndsBy old outcomes.WriteFailed w = WritesParts w (next_texts old)
 EndsBy old outcomes.NoMemory w = WritesParts w (next_texts old)
 
+-- nothing is to be written next: the first item is not within, or there is none and no fault
+abbrev pub IsQuietBy : Setting → List Placed → Option MergeFault → Type 0
+IsQuietBy setting [] fault = fault ≡ None
+IsQuietBy setting (x ∷ xs) fault = is_within (verdict setting x) ≡ false
+
+abbrev pub IsQuiet : Session → Type 0
+IsQuiet s = IsQuietBy s.setting s.coming.items s.coming.fault
+
 -- what a step did, by its answer
 abbrev pub Steps : Session → Step → Session → Written → Type 0
 Steps old steps.Went new w = Goes old new w
@@ -150,6 +158,33 @@ abbrev pub CountsAfterStep : Step → Counts → Counts → Type 0
 CountsAfterStep steps.Went old new = new ≡ old
 CountsAfterStep (steps.Ended o) old new = CountsAfter o old new
 
+-- the same by the sinks themselves
+module _ {O E : Type 0} (out_failures out_refusals : O → ℕ) (err_failures err_refusals : E → ℕ) where
+  abbrev pub counts_by : O → E → Counts
+  counts_by out err = record {
+    out_failures = out_failures out;
+    out_refusals = out_refusals out;
+    err_failures = err_failures err;
+    err_refusals = err_refusals err;
+  }
+
+-- ---- no message in front of a line
+
+-- behind the line of a fault nothing of the log is held back
+abbrev pub SettledBy : Outcome → Bool → Type 0
+SettledBy outcomes.Done settled = Unit {0}
+SettledBy (outcomes.Fault f) settled = IsTrue settled
+SettledBy outcomes.WriteFailed settled = Unit {0}
+SettledBy outcomes.NoMemory settled = Unit {0}
+
+abbrev pub SettledByStep : Step → Bool → Type 0
+SettledByStep steps.Went settled = Unit {0}
+SettledByStep (steps.Ended o) settled = SettledBy o settled
+
+-- the messages failed no more often, nor were they refused memory
+abbrev pub SameForMessages : Counts → Counts → Type 0
+SameForMessages old new = (new.err_failures ≡ old.err_failures) × (new.err_refusals ≡ old.err_refusals)
+
 -- ---- want of memory is no fault
 
 abbrev pub IsWant : RunFault → Type 0
@@ -169,9 +204,9 @@ IsNamedStep (steps.Ended o) = IsNamed o
 
 -- ---- a run
 
--- A run ends with the answer's outcome and wrote its texts, or first parts of them.
+-- A run ended with the answer's outcome and wrote all of its pieces; or it stopped in one of them.
 abbrev pub Answered : Answer → Outcome → Written → Type 0
-Answered a outcomes.Done w = (outcomes.Done ≡ a.outcome) × Writes w a.texts
-Answered a (outcomes.Fault f) w = (outcomes.Fault f ≡ a.outcome) × Writes w a.texts
-Answered a outcomes.WriteFailed w = WritesParts w a.texts
-Answered a outcomes.NoMemory w = WritesParts w a.texts
+Answered a outcomes.Done w = (outcomes.Done ≡ a.outcome) × Finished a.pieces w
+Answered a (outcomes.Fault f) w = (outcomes.Fault f ≡ a.outcome) × Finished a.pieces w
+Answered a outcomes.WriteFailed w = Stopped a.pieces w
+Answered a outcomes.NoMemory w = Stopped a.pieces w

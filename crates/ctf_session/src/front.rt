@@ -8,6 +8,8 @@ ghost use Rattle.ctf_packet.specs.Classes.{Classes};
 ghost use Rattle.ctf_packet.specs.Items.{Item};
 ghost use Rattle.ctf_session.specs.Answers as answers;
 ghost use Rattle.ctf_session.specs.Printing.{Prints, CountsAfterPrint, stop_in};
+ghost use Rattle.ctf_session.specs.Steps.{counts_by};
+ghost use Rattle.ctf_session.specs.Writing.{written_by};
 ghost use Rattle.ctf_stream.specs.Ahead as aheads;
 
 use crate::log::Log;
@@ -21,7 +23,8 @@ use ctf_stream::{Ahead, Told};
 /// The time of the item in front, that of the stream of this number, in nanoseconds since the epoch.
 pub(crate) fn front_time<'a, S: Source + Drop>(merge: &Merge<'a, S>, number: usize) -> Option<i64>
     requires { IsNext merge.now number }
-    ensures { (next : Item Classes) → first_now merge.now ≡ item number next → result ≡ aheads.time_of next }
+    ensures { (next : Item Classes) → first_now merge.now ≡ item number next
+        → result ≡ aheads.time_of next }
 {
     let Some(reader) = merge.reader(number) else {
         unreachable!()
@@ -45,13 +48,16 @@ pub(crate) fn print_front<'a, S: Source + Drop, W: Log, E: Sink>(
     err: &mut E,
 ) -> Result<Option<i64>, Stop>
     requires { IsNext merge.now number }
-    ensures prints { IsTrue (W.tells out.old) → IsTrue (E.tells err.old) → (next : Item Classes) → first_now merge.now ≡ item number next
-        → Prints (answers.by_kind next (line_of printer.old.style last (get_or (names_of merge.now.readers) number []) next)) (stop_in result)
-        (record { old_output = W.accepted out.old; new_output = W.accepted out.new; old_messages = E.accepted err.old; new_messages = E.accepted err.new }) }
-    ensures last { (next : Item Classes) → first_now merge.now ≡ item number next → IfOk result (λ l. l ≡ answers.last_after last next) }
-    ensures counts { CountsAfterPrint (stop_in result)
-        (record { out_failures = W.failures out.old; out_refusals = W.refusals out.old; err_failures = E.failures err.old; err_refusals = E.refusals err.old })
-        (record { out_failures = W.failures out.new; out_refusals = W.refusals out.new; err_failures = E.failures err.new; err_refusals = E.refusals err.new }) }
+    ensures prints { let wrote = written_by W.accepted W.settled E.accepted in
+        let name = get_or (names_of merge.now.readers) number [] in
+        IsTrue (W.tells out.old) → IsTrue (E.tells err.old)
+        → (next : Item Classes) → first_now merge.now ≡ item number next
+        → Prints (answers.by_kind next (line_of printer.old.style last name next)) (stop_in result)
+        (wrote out.old err.old out.new err.new) }
+    ensures last { (next : Item Classes) → first_now merge.now ≡ item number next
+        → IfOk result (λ l. l ≡ answers.last_after last next) }
+    ensures counts { let counts = counts_by W.failures W.refusals E.failures E.refusals in
+        CountsAfterPrint (stop_in result) (counts out.old err.old) (counts out.new err.new) }
     ensures settled { (err.new ≡ err.old) ⊎ IsTrue (W.settled out.new) }
     ensures style { printer.new.style ≡ printer.old.style }
     ensures out_tells { IsTrue (W.tells out.old) → IsTrue (W.tells out.new) }

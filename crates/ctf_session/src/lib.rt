@@ -14,7 +14,7 @@ mod writing;
 pub use ctf_merge::MergeFault;
 pub use ctf_outcome::{LoadFault, Outcome, RunFault, io_line};
 pub use input::Streams;
-pub use laws::bytes_given;
+pub use laws::{bytes_given, first_parts, whole_in_one};
 pub use log::Log;
 pub use printing::say;
 pub use session::{Session, print_all};

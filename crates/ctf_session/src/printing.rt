@@ -1,6 +1,6 @@
 //! The texts of a step, on their way to two sinks.
 
-ghost use Rattle.std.specs.Prelude.{◌≡◌, ◌⊎◌, ℕ, ℤ, [], List, IsTrue, Option, option_map};
+ghost use Rattle.std.specs.Prelude.{◌≡◌, ◌⊎◌, ℕ, ℤ, [], List, IsTrue, Option, None, option_map};
 ghost use Rattle.ctf_class.specs.declared.trace.TraceClass.{TraceClass};
 ghost use Rattle.ctf_line.specs.Texts.{event_text};
 ghost use Rattle.ctf_log.specs.Lines.{event_line, line_of};
@@ -10,6 +10,8 @@ ghost use Rattle.ctf_stream.specs.Shown.{item_of, IsOf};
 ghost use Rattle.ctf_session.specs.Answers as answers;
 ghost use Rattle.ctf_session.specs.Printing.{Prints, CountsAfterPrint};
 ghost use Rattle.ctf_session.specs.Printing as printing;
+ghost use Rattle.ctf_session.specs.Steps.{counts_by};
+ghost use Rattle.ctf_session.specs.Writing.{written_by};
 
 use crate::log::Log;
 use crate::step::Stop;
@@ -47,12 +49,14 @@ pub(crate) fn print_text<W: Log>(
     last: Option<i64>,
     out: &mut W,
 ) -> Option<Stop>
-    ensures prints { IsTrue (W.tells out.old) → (e : Event Classes) → event.now.moment ≡ e.clock → event.now.text.now ≡ event_text e → (messages : List ℕ)
+    ensures prints { let wrote = written_by W.accepted W.settled (λ text. text) in
+        IsTrue (W.tells out.old) → (e : Event Classes) → event.now.moment ≡ e.clock
+        → event.now.text.now ≡ event_text e → (messages : List ℕ)
         → Prints (record { output = event_line printer.old.style last e; messages = [] }) result
-        (record { old_output = W.accepted out.old; new_output = W.accepted out.new; old_messages = messages; new_messages = messages }) }
-    ensures counts { (failures refusals : ℕ) → CountsAfterPrint result
-        (record { out_failures = W.failures out.old; out_refusals = W.refusals out.old; err_failures = failures; err_refusals = refusals })
-        (record { out_failures = W.failures out.new; out_refusals = W.refusals out.new; err_failures = failures; err_refusals = refusals }) }
+        (wrote out.old messages out.new messages) }
+    ensures counts { (failures refusals : ℕ) →
+        let counts = counts_by W.failures W.refusals (λ _. failures) (λ _. refusals) in
+        CountsAfterPrint result (counts out.old out.old) (counts out.new out.new) }
     ensures style { printer.new.style ≡ printer.old.style }
     ensures tells { IsTrue (W.tells out.old) → IsTrue (W.tells out.new) }
 {
@@ -70,12 +74,14 @@ pub(crate) fn print<W: Log, E: Sink>(
     out: &mut W,
     err: &mut E,
 ) -> Option<Stop>
-    ensures prints { IsTrue (W.tells out.old) → IsTrue (E.tells err.old) → (trace : TraceClass) (name : List ℕ) (end length : ℕ) → IsOf trace name item.now
-        → Prints (answers.by_kind (item_of item.now end length) (line_of printer.old.style last name (item_of item.now end length))) result
-        (record { old_output = W.accepted out.old; new_output = W.accepted out.new; old_messages = E.accepted err.old; new_messages = E.accepted err.new }) }
-    ensures counts { CountsAfterPrint result
-        (record { out_failures = W.failures out.old; out_refusals = W.refusals out.old; err_failures = E.failures err.old; err_refusals = E.refusals err.old })
-        (record { out_failures = W.failures out.new; out_refusals = W.refusals out.new; err_failures = E.failures err.new; err_refusals = E.refusals err.new }) }
+    ensures prints { let wrote = written_by W.accepted W.settled E.accepted in
+        IsTrue (W.tells out.old) → IsTrue (E.tells err.old)
+        → (trace : TraceClass) (name : List ℕ) (end length : ℕ) → IsOf trace name item.now
+        → (let x = item_of item.now end length in
+        Prints (answers.by_kind x (line_of printer.old.style last name x)) result
+        (wrote out.old err.old out.new err.new)) }
+    ensures counts { let counts = counts_by W.failures W.refusals E.failures E.refusals in
+        CountsAfterPrint result (counts out.old err.old) (counts out.new err.new) }
     ensures settled { (err.new ≡ err.old) ⊎ IsTrue (W.settled out.new) }
     ensures style { printer.new.style ≡ printer.old.style }
     ensures out_tells { IsTrue (W.tells out.old) → IsTrue (W.tells out.new) }
@@ -93,12 +99,14 @@ pub(crate) fn print<W: Log, E: Sink>(
 
 /// Writes a message behind the whole log. It answers what stopped it.
 pub fn say<W: Log, E: Sink>(text: &[u8], out: &mut W, err: &mut E) -> Option<Stop>
-    ensures prints { IsTrue (W.tells out.old) → IsTrue (E.tells err.old) → Prints (record { output = []; messages = text.now }) result
-        (record { old_output = W.accepted out.old; new_output = W.accepted out.new; old_messages = E.accepted err.old; new_messages = E.accepted err.new }) }
-    ensures counts { CountsAfterPrint result
-        (record { out_failures = W.failures out.old; out_refusals = W.refusals out.old; err_failures = E.failures err.old; err_refusals = E.refusals err.old })
-        (record { out_failures = W.failures out.new; out_refusals = W.refusals out.new; err_failures = E.failures err.new; err_refusals = E.refusals err.new }) }
+    ensures prints { let wrote = written_by W.accepted W.settled E.accepted in
+        IsTrue (W.tells out.old) → IsTrue (E.tells err.old)
+        → Prints (record { output = []; messages = text.now }) result
+        (wrote out.old err.old out.new err.new) }
+    ensures counts { let counts = counts_by W.failures W.refusals E.failures E.refusals in
+        CountsAfterPrint result (counts out.old err.old) (counts out.new err.new) }
     ensures settled { (err.new ≡ err.old) ⊎ IsTrue (W.settled out.new) }
+    ensures behind { result ≡ None → IsTrue (W.settled out.new) }
     ensures out_tells { IsTrue (W.tells out.old) → IsTrue (W.tells out.new) }
     ensures err_tells { IsTrue (E.tells err.old) → IsTrue (E.tells err.new) }
 {

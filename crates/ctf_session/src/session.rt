@@ -1,13 +1,14 @@
 //! A run, a step at a time, over two sinks.
 
 ghost use Rattle.std.specs.Prelude.{◌≡◌, ◌⊎◌, [], ℕ, IsTrue, IfOk, Some, None, map, length, MatchOption, slice_get, get_or};
-ghost use Rattle.ctf_merge.specs.Merged.{merged};
+ghost use Rattle.ctf_merge.specs.Merged.{merged, ends};
 ghost use Rattle.ctf_merge.specs.Merges.{MergedOrRefused, EachFetched, EachTells, EachOnLine, EachAllTaken, given_of};
-ghost use Rattle.ctf_session.specs.Inputs.{inputs_from, run_in, AllTell};
+ghost use Rattle.ctf_session.specs.Inputs.{given_by, inputs_from, run_in, setting_of, AllTell};
 ghost use Rattle.ctf_session.specs.Endings as endings;
 ghost use Rattle.ctf_session.specs.Passing.{EachMeans};
 ghost use Rattle.ctf_session.specs.Printing.{TellsFault};
-ghost use Rattle.ctf_session.specs.Steps.{answer_of, Tells, Steps, IsRepeated, EndedBy, CountsAfterStep, CountsAfter, IsNamedStep, IsNamed, Answered, RoomAfter, ReadersAfter, EndsBy};
+ghost use Rattle.ctf_session.specs.Steps.{answer_of, Tells, Steps, IsQuiet, IsRepeated, EndedBy, counts_by, CountsAfterStep, CountsAfter, SameForMessages, SettledBy, SettledByStep, IsNamedStep, IsNamed, Answered, RoomAfter, ReadersAfter, EndsBy};
+ghost use Rattle.ctf_session.specs.Writing.{written_by};
 
 use crate::front::{front_time, print_front};
 use crate::input::Streams;
@@ -73,24 +74,35 @@ impl<'a, S: Source + Drop> Session<'a, S> {
         traces: Vec<Streams<'a, S>>,
         options: &Options,
     ) -> Result<Session<'a, S>, NoMemory>
-        ensures told { let inputs = inputs_from (λ s. record { tells = S.tells s; bytes = S.left s; ending = S.ending s }) 0 traces.entry.items in
-            AllTell inputs → IfOk result (λ s. MergedOrRefused (merged (map (run_in options.now.shift) inputs)) s.coming) }
-        ensures setting { let inputs = inputs_from (λ s. record { tells = S.tells s; bytes = S.left s; ending = S.ending s }) 0 traces.entry.items in
-            IfOk result (λ s. s.setting ≡ record { trim = options.now.trim; style = options.now.style; traces = map (λ i. i.trace) inputs; names = map (λ i. i.name) inputs }) }
+        ensures told { let given = given_by S.tells S.left S.ending in
+            let inputs = inputs_from given 0 traces.entry.items in
+            let whole = merged (map (run_in options.now.shift) inputs) in
+            AllTell inputs → IfOk result (λ s. MergedOrRefused whole s.coming) }
+        ensures setting { let given = given_by S.tells S.left S.ending in
+            let inputs = inputs_from given 0 traces.entry.items in
+            IfOk result (λ s. s.setting ≡ setting_of options.now inputs) }
         ensures begins { IfOk result (λ s. s.last ≡ None) }
         ensures open { IfOk result (λ s. s.ended ≡ None) }
 
         // The bytes taken are those that the sources gave, and no more than the items in front need.
-        ensures tells { AllTell (inputs_from (λ s. record { tells = S.tells s; bytes = S.left s; ending = S.ending s }) 0 traces.entry.items) → IfOk result (λ s. Tells s) }
-        ensures counted { let inputs = inputs_from (λ s. record { tells = S.tells s; bytes = S.left s; ending = S.ending s }) 0 traces.entry.items in
-            AllTell inputs → IfOk result (λ s. given_of s.readers ≡ map (λ i. length i.given.bytes) inputs) }
+        ensures tells { let given = given_by S.tells S.left S.ending in
+            let inputs = inputs_from given 0 traces.entry.items in
+            AllTell inputs → IfOk result (λ s. Tells s) }
+        ensures counted { let given = given_by S.tells S.left S.ending in
+            let inputs = inputs_from given 0 traces.entry.items in
+            AllTell inputs
+            → IfOk result (λ s. given_of s.readers ≡ map (λ i. length i.given.bytes) inputs) }
         ensures on_line { IfOk result (λ s. EachOnLine s.readers) }
-        ensures all_taken { AllTell (inputs_from (λ s. record { tells = S.tells s; bytes = S.left s; ending = S.ending s }) 0 traces.entry.items) → IfOk result (λ s. EachAllTaken s.readers) }
+        ensures all_taken { let given = given_by S.tells S.left S.ending in
+            let inputs = inputs_from given 0 traces.entry.items in
+            AllTell inputs → IfOk result (λ s. EachAllTaken s.readers) }
 
         // What is to come of each stream is what its bytes mean.
         ensures fetched { IfOk result (λ s. EachFetched s.readers) }
-        ensures streams { let inputs = inputs_from (λ s. record { tells = S.tells s; bytes = S.left s; ending = S.ending s }) 0 traces.entry.items in
-            AllTell inputs → IfOk result (λ s. EachMeans (map (run_in options.now.shift) inputs) s.readers) }
+        ensures streams { let given = given_by S.tells S.left S.ending in
+            let inputs = inputs_from given 0 traces.entry.items in
+            AllTell inputs
+            → IfOk result (λ s. EachMeans (map (run_in options.now.shift) inputs) s.readers) }
     {
         // What is before a beginning is shown nowhere, and its values are made faster than its text.
         let writes = options.trim.begin.is_none();
@@ -111,23 +123,29 @@ impl<'a, S: Source + Drop> Session<'a, S> {
     /// ends.
     pub fn step<W: Log, E: Sink>(&mut self, out: &mut W, err: &mut E) -> Step
         // One item and its text, or the end and the fault's line, or a first part of what comes next.
-        ensures steps { Tells self.old → self.old.ended ≡ None → IsTrue (W.tells out.old) → IsTrue (E.tells err.old) → Steps self.old result self.new
-            (record { old_output = W.accepted out.old; new_output = W.accepted out.new; old_messages = E.accepted err.old; new_messages = E.accepted err.new }) }
+        ensures steps { let wrote = written_by W.accepted W.settled E.accepted in
+            Tells self.old → self.old.ended ≡ None
+            → IsTrue (W.tells out.old) → IsTrue (E.tells err.old)
+            → Steps self.old result self.new (wrote out.old err.old out.new err.new) }
         ensures setting { self.new.setting ≡ self.old.setting }
 
         // An answer that it ended stays, and then nothing is written.
         ensures repeated { IsRepeated self.old.ended result }
-        ensures untouched { (o : Outcome) → self.old.ended ≡ Some o → (self.new ≡ self.old) × ((out.new ≡ out.old) × (err.new ≡ err.old)) }
+        ensures untouched { (o : Outcome) → self.old.ended ≡ Some o
+            → (self.new ≡ self.old) × ((out.new ≡ out.old) × (err.new ≡ err.old)) }
         ensures ends { EndedBy result self.new.ended }
 
         // No sink failed or was refused memory but the one that stopped the step, once.
-        ensures counts { self.old.ended ≡ None → CountsAfterStep result
-            (record { out_failures = W.failures out.old; out_refusals = W.refusals out.old; err_failures = E.failures err.old; err_refusals = E.refusals err.old })
-            (record { out_failures = W.failures out.new; out_refusals = W.refusals out.new; err_failures = E.failures err.new; err_refusals = E.refusals err.new }) }
+        ensures counts { let counts = counts_by W.failures W.refusals E.failures E.refusals in
+            self.old.ended ≡ None
+            → CountsAfterStep result (counts out.old err.old) (counts out.new err.new) }
         ensures named { self.old.ended ≡ None → IsNamedStep result }
 
-        // No message is written while lines are held back.
+        // No message is written while lines are held back, and where nothing is to be written no sink is touched.
         ensures settled { (err.new ≡ err.old) ⊎ IsTrue (W.settled out.new) }
+        ensures behind { self.old.ended ≡ None → SettledByStep result (W.settled out.new) }
+        ensures quiet { Tells self.old → self.old.ended ≡ None → IsQuiet self.old
+            → (out.new ≡ out.old) × (err.new ≡ err.old) }
 
         // Of any sources: a step that went took room and left the first item behind; one that ended took nothing from a source.
         ensures room { RoomAfter result self.old.room self.new.room }
@@ -135,9 +153,11 @@ impl<'a, S: Source + Drop> Session<'a, S> {
 
         // The bytes taken are those that the sources gave, and no more than the items in front need.
         ensures tells { Tells self.old → Tells self.new }
-        ensures counted { EachTells self.old.readers → given_of self.new.readers ≡ given_of self.old.readers }
+        ensures counted { EachTells self.old.readers
+            → given_of self.new.readers ≡ given_of self.old.readers }
         ensures on_line { EachOnLine self.old.readers → EachOnLine self.new.readers }
-        ensures all_taken { EachTells self.old.readers → EachAllTaken self.old.readers → EachAllTaken self.new.readers }
+        ensures all_taken { EachTells self.old.readers → EachAllTaken self.old.readers
+            → EachAllTaken self.new.readers }
         ensures out_tells { IsTrue (W.tells out.old) → IsTrue (W.tells out.new) }
         ensures err_tells { IsTrue (E.tells err.old) → IsTrue (E.tells err.new) }
     {
@@ -177,13 +197,18 @@ impl<'a, S: Source + Drop> Session<'a, S> {
 
     /// Tells how the run ends where no item comes: its fault's line, if there is one.
     fn end<W: Log, E: Sink>(&self, out: &mut W, err: &mut E) -> Ending
-        ensures ends { EachTells self.now.readers → self.now.ended ≡ None → self.now.coming.items ≡ [] → IsTrue (W.tells out.old) → IsTrue (E.tells err.old) → EndsBy self.now (endings.outcome_of result)
-            (record { old_output = W.accepted out.old; new_output = W.accepted out.new; old_messages = E.accepted err.old; new_messages = E.accepted err.new }) }
-        ensures counts { CountsAfter (endings.outcome_of result)
-            (record { out_failures = W.failures out.old; out_refusals = W.refusals out.old; err_failures = E.failures err.old; err_refusals = E.refusals err.old })
-            (record { out_failures = W.failures out.new; out_refusals = W.refusals out.new; err_failures = E.failures err.new; err_refusals = E.refusals err.new }) }
+        ensures ends { let wrote = written_by W.accepted W.settled E.accepted in
+            EachTells self.now.readers → self.now.ended ≡ None → self.now.coming.items ≡ []
+            → IsTrue (W.tells out.old) → IsTrue (E.tells err.old)
+            → EndsBy self.now (endings.outcome_of result) (wrote out.old err.old out.new err.new) }
+        ensures counts { let counts = counts_by W.failures W.refusals E.failures E.refusals in
+            let outcome = endings.outcome_of result in
+            CountsAfter outcome (counts out.old err.old) (counts out.new err.new) }
         ensures named { IsNamed (endings.outcome_of result) }
         ensures settled { (err.new ≡ err.old) ⊎ IsTrue (W.settled out.new) }
+        ensures behind { SettledBy (endings.outcome_of result) (W.settled out.new) }
+        ensures quiet { EachTells self.now.readers → self.now.ended ≡ None
+            → self.now.coming ≡ ends None → (out.new ≡ out.old) × (err.new ≡ err.old) }
         ensures out_tells { IsTrue (W.tells out.old) → IsTrue (W.tells out.new) }
         ensures err_tells { IsTrue (E.tells err.old) → IsTrue (E.tells err.new) }
     {
@@ -202,13 +227,16 @@ impl<'a, S: Source + Drop> Session<'a, S> {
         out: &mut W,
         err: &mut E,
     ) -> Ending
-        ensures told { IsTrue (W.tells out.old) → IsTrue (E.tells err.old) → TellsFault self.now.setting number fault (endings.outcome_of result)
-            (record { old_output = W.accepted out.old; new_output = W.accepted out.new; old_messages = E.accepted err.old; new_messages = E.accepted err.new }) }
-        ensures counts { CountsAfter (endings.outcome_of result)
-            (record { out_failures = W.failures out.old; out_refusals = W.refusals out.old; err_failures = E.failures err.old; err_refusals = E.refusals err.old })
-            (record { out_failures = W.failures out.new; out_refusals = W.refusals out.new; err_failures = E.failures err.new; err_refusals = E.refusals err.new }) }
+        ensures told { let wrote = written_by W.accepted W.settled E.accepted in
+            IsTrue (W.tells out.old) → IsTrue (E.tells err.old)
+            → TellsFault self.now.setting number fault (endings.outcome_of result)
+            (wrote out.old err.old out.new err.new) }
+        ensures counts { let counts = counts_by W.failures W.refusals E.failures E.refusals in
+            let outcome = endings.outcome_of result in
+            CountsAfter outcome (counts out.old err.old) (counts out.new err.new) }
         ensures named { IsNamed (endings.outcome_of result) }
         ensures settled { (err.new ≡ err.old) ⊎ IsTrue (W.settled out.new) }
+        ensures behind { SettledBy (endings.outcome_of result) (W.settled out.new) }
         ensures out_tells { IsTrue (W.tells out.old) → IsTrue (W.tells out.new) }
         ensures err_tells { IsTrue (E.tells err.old) → IsTrue (E.tells err.new) }
     {
@@ -246,7 +274,8 @@ impl<'a, S: Source + Drop> Session<'a, S> {
 
     /// The reader of one stream. No memory is taken.
     pub fn reader(&self, number: usize) -> Option<&StreamReader<'a, S>>
-        ensures { MatchOption result (slice_get self.now.readers number ≡ None) (λ r. slice_get self.now.readers number ≡ Some r.now) }
+        ensures { let found = slice_get self.now.readers number in
+            MatchOption result (found ≡ None) (λ r. found ≡ Some r.now) }
     {
         self.merge.reader(number)
     }
@@ -259,12 +288,19 @@ pub fn print_all<'a, S: Source + Drop, W: Log, E: Sink>(
     err: &mut E,
 ) -> Outcome
     requires { session.old.ended ≡ None }
-    ensures runs { Tells session.old → IsTrue (W.tells out.old) → IsTrue (E.tells err.old) → Answered (answer_of session.old) result
-        (record { old_output = W.accepted out.old; new_output = W.accepted out.new; old_messages = E.accepted err.old; new_messages = E.accepted err.new }) }
-    ensures counts { CountsAfter result
-        (record { out_failures = W.failures out.old; out_refusals = W.refusals out.old; err_failures = E.failures err.old; err_refusals = E.refusals err.old })
-        (record { out_failures = W.failures out.new; out_refusals = W.refusals out.new; err_failures = E.failures err.new; err_refusals = E.refusals err.new }) }
+    ensures runs { let wrote = written_by W.accepted W.settled E.accepted in
+        Tells session.old → IsTrue (W.tells out.old) → IsTrue (E.tells err.old)
+        → Answered (answer_of session.old) result (wrote out.old err.old out.new err.new) }
+    ensures counts { let counts = counts_by W.failures W.refusals E.failures E.refusals in
+        CountsAfter result (counts out.old err.old) (counts out.new err.new) }
     ensures named { IsNamed result }
+
+    // Of any sources and sinks: nothing of the log is held back behind the line of a fault, nor where the messages failed or
+    // were refused memory.
+    ensures behind { SettledBy result (W.settled out.new) }
+    ensures settled { let counts = counts_by W.failures W.refusals E.failures E.refusals in
+        SameForMessages (counts out.old err.old) (counts out.new err.new)
+        ⊎ IsTrue (W.settled out.new) }
     ensures ends { session.new.ended ≡ Some result }
     ensures out_tells { IsTrue (W.tells out.old) → IsTrue (W.tells out.new) }
     ensures err_tells { IsTrue (E.tells err.old) → IsTrue (E.tells err.new) }

@@ -1,6 +1,6 @@
 use Rattle.std.proofs.Common.{ap, refl, ◌∙◌}
 use Rattle.ctf_session.specs.Steps.{Counts}
-use Rattle.ctf_session.proofs.Reaching.{reaches-start, reaches-more, reaches-end}
+use Rattle.ctf_session.proofs.Reaching.{said, same_counts, reaches-start, reaches-more, reaches-end}
 use Rattle.ctf_session.proofs.session.print_all.Goals as goal
 
 pub loop-outcome-init : goal.loop-outcome-init
@@ -9,7 +9,7 @@ loop-outcome-init g c = record {
   tells = λ t. t;
   out_tells = λ t. t;
   err_tells = λ t. t;
-  reaches = λ a b d. reaches-start _ _ _;
+  reaches = λ a b d. reaches-start _ _ _ _;
   out_failures = refl;
   out_refusals = refl;
   err_failures = refl;
@@ -26,7 +26,8 @@ loop-outcome-preserved g c =
       tells = λ t. step.tells (before.tells t);
       out_tells = λ t. step.out_tells (before.out_tells t);
       err_tells = λ t. step.err_tells (before.err_tells t);
-      reaches = λ a b d. reaches-more _ _ _ _ _ _ _ _ _ (before.reaches a b d) (step.steps (before.tells a) before.open_still (before.out_tells b) (before.err_tells d)) step.setting;
+      reaches = λ a b d. reaches-more _ _ _ _ _ _ _ _ _ _ _ (before.reaches a b d) (step.steps (before.tells a) before.open_still (before.out_tells b) (before.err_tells d)) step.setting
+          (λ nothing. ap g.W.Log.settled (step.quiet (before.tells a) before.open_still nothing).0) (said g.E.Sink.accepted _ _ _ step.settled);
       out_failures = ap (λ (k : Counts). k.out_failures) counts ∙ before.out_failures;
       out_refusals = ap (λ (k : Counts). k.out_refusals) counts ∙ before.out_refusals;
       err_failures = ap (λ (k : Counts). k.err_failures) counts ∙ before.err_failures;
@@ -37,4 +38,10 @@ pub returns-in-Ended-clause-runs : goal.returns-in-Ended-clause-runs
 returns-in-Ended-clause-runs g c = λ a b d.
     let before = c.loop-outcome.invariant in
     let step = c.in-Ended.ensures in
-    reaches-end _ _ _ _ _ _ _ _ _ (step.named before.open_still) (before.reaches a b d) (step.steps (before.tells a) before.open_still (before.out_tells b) (before.err_tells d))
+    reaches-end _ _ _ _ _ _ _ _ _ _ _ (step.named before.open_still) (before.reaches a b d) (step.steps (before.tells a) before.open_still (before.out_tells b) (before.err_tells d))
+    (λ nothing. ap g.W.Log.settled (step.quiet (before.tells a) before.open_still nothing).0) (said g.E.Sink.accepted _ _ _ step.settled) (step.behind before.open_still)
+
+pub returns-in-Ended-clause-settled : goal.returns-in-Ended-clause-settled
+returns-in-Ended-clause-settled g c =
+    let before = c.loop-outcome.invariant in
+    same_counts g.E.Sink.failures g.E.Sink.refusals _ _ _ _ before.err_failures before.err_refusals c.in-Ended.ensures.settled

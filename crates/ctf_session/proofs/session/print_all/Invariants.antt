@@ -1,5 +1,6 @@
 use Rattle.std.proofs.Common.{◌≡◌, None, IsTrue}
 use Rattle.ctf_session.specs.Steps.{Tells}
+use Rattle.ctf_session.specs.Writing.{written_by}
 use Rattle.ctf_session.proofs.Reaching.{Reaches}
 use Rattle.ctf_session.proofs.session.print_all.Given as goal
 
@@ -10,7 +11,7 @@ invariant-loop-outcome g l = record {
   out_tells : IsTrue (g.W.Sink.tells l.initial.out) → IsTrue (g.W.Sink.tells l.out);
   err_tells : IsTrue (g.E.Sink.tells l.initial.err) → IsTrue (g.E.Sink.tells l.err);
   reaches : Tells l.initial.session → IsTrue (g.W.Sink.tells l.initial.out) → IsTrue (g.E.Sink.tells l.initial.err) → Reaches l.initial.session l.session
-      (record { old_output = g.W.Sink.accepted l.initial.out; new_output = g.W.Sink.accepted l.out; old_messages = g.E.Sink.accepted l.initial.err; new_messages = g.E.Sink.accepted l.err });
+      (written_by g.W.Sink.accepted g.W.Log.settled g.E.Sink.accepted l.initial.out l.initial.err l.out l.err);
   out_failures : g.W.Sink.failures l.out ≡ g.W.Sink.failures l.initial.out;
   out_refusals : g.W.Sink.refusals l.out ≡ g.W.Sink.refusals l.initial.out;
   err_failures : g.E.Sink.failures l.err ≡ g.E.Sink.failures l.initial.err;

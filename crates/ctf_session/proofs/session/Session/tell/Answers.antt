@@ -1,4 +1,4 @@
-use Rattle.std.proofs.Common.{ap}
+use Rattle.std.proofs.Common.{ap, refl}
 use Rattle.ctf_outcome.specs.declared.outcome.RunFault.TheVariants as faults
 use Rattle.ctf_session.proofs.Stepping.{line_is}
 use Rattle.ctf_session.proofs.session.Session.tell.Goals as goal
@@ -12,6 +12,7 @@ returns-in-None g c = record {
   counts = c.in-None.ensures.counts;
   named = c.in_default.not-NoMemory;
   settled = c.in-None.ensures.settled;
+  behind = c.in-None.ensures.behind refl;
   out_tells = c.in-None.ensures.out_tells;
   err_tells = c.in-None.ensures.err_tells;
 }
