@@ -7,3 +7,4 @@ pub mod Stopping
 pub mod Opened
 pub mod Printed
 pub mod Passing
+pub mod Within

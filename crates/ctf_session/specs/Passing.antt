@@ -1,5 +1,5 @@
 -- What streams have given of their bytes, and what of these is held.
-use Rattle.std.specs.Prelude.{◌≡◌, ℕ, ◌+◌, ◌≤◌, List, [], ◌∷◌, Option, Some, None}
+use Rattle.std.specs.Prelude.{◌≡◌, ℕ, ◌+◌, ◌≤◌, false, List, [], ◌∷◌, Option, Some, None}
 use Rattle.std.specs.List.{AllZip}
 use Rattle.ctf_merge.specs.Merged.{Placed, advance}
 use Rattle.ctf_merge.specs.Merges.{LeavesOne}
@@ -8,6 +8,7 @@ use Rattle.ctf_packet.specs.Items.{Run, Item}
 use Rattle.ctf_packet.specs.declared.fault.StreamFault.{StreamFault}
 use Rattle.ctf_stream.specs.Fetching.{longest_bytes}
 use Rattle.ctf_stream.specs.Reader.{Reader, coming, rest_of, OrRefused, packet_end, packet_length}
+use Rattle.ctf_session.specs.Answers.{Setting, verdict, is_after}
 
 -- what is to come of each reader is what its stream means, unless a growth was refused
 abbrev pub EachMeans : List (Run Classes) → List Reader → Type 0
@@ -33,3 +34,10 @@ without (x ∷ xs) runs = without xs (advance x.number runs)
 abbrev pub Pass : List Placed → List Reader → List Reader → Type 0
 Pass [] old new = new ≡ old
 Pass (x ∷ xs) old new = (next : List Reader) × (it : LeavesOne x.number old next) × (it.left ≡ x.item) × (coming it.after ≡ rest_of it.before) × Pass xs next new
+
+-- From these readers come those, each by one reader that leaves its item behind, none that stands after the end of what is
+-- asked for.
+pub data PassesWithin (setting : Setting) (old : List Reader) : List Reader → Type 0 where
+  still : PassesWithin setting old old
+  passed : (now new : List Reader) (x : Placed) → PassesWithin setting old now → (it : LeavesOne x.number now new) → it.left ≡ x.item
+      → is_after (verdict setting x) ≡ false → PassesWithin setting old new

@@ -1,7 +1,7 @@
 -- What a step of a session does, and what a run of steps does.
 use Rattle.std.specs.Prelude.{◌≡◌, ℕ, ℤ, ◌<◌, ◌⊎◌, Bool, true, false, IsTrue, List, [], ◌∷◌, Option, Some, None}
 use Rattle.ctf_bits.specs.Count.{one_more}
-use Rattle.ctf_merge.specs.Merged.{Merged, Placed, then, PlacedRise}
+use Rattle.ctf_merge.specs.Merged.{Merged, Placed, ends, then, PlacedRise}
 use Rattle.ctf_merge.specs.Merges.{MergedOrRefused, EachTells, LeavesOne}
 use Rattle.ctf_merge.specs.declared.fault.MergeFault.{MergeFault}
 use Rattle.ctf_outcome.specs.Table as table
@@ -132,6 +132,11 @@ pub record LeavesFirst (coming : Merged) (old new : List Reader) : Type 0 where
 abbrev pub ReadersAfter : Step → Merged → List Reader → List Reader → Type 0
 ReadersAfter steps.Went coming old new = LeavesFirst coming old new
 ReadersAfter (steps.Ended o) coming old new = new ≡ old
+
+-- behind an answer that it ended nothing is to come
+abbrev pub LeavesNothing : Step → Merged → Type 0
+LeavesNothing steps.Went coming = Unit {0}
+LeavesNothing (steps.Ended o) coming = coming ≡ ends None
 
 -- ---- the counts of both sinks
 

@@ -5,9 +5,9 @@ ghost use Rattle.ctf_merge.specs.Merged.{merged, ends};
 ghost use Rattle.ctf_merge.specs.Merges.{MergedOrRefused, EachFetched, EachTells, EachOnLine, EachAllTaken, given_of};
 ghost use Rattle.ctf_session.specs.Inputs.{given_by, inputs_from, run_in, setting_of, AllTell};
 ghost use Rattle.ctf_session.specs.Endings as endings;
-ghost use Rattle.ctf_session.specs.Passing.{EachMeans};
+ghost use Rattle.ctf_session.specs.Passing.{EachMeans, PassesWithin};
 ghost use Rattle.ctf_session.specs.Printing.{TellsFault};
-ghost use Rattle.ctf_session.specs.Steps.{answer_of, Tells, Steps, IsQuiet, IsRepeated, EndedBy, counts_by, CountsAfterStep, CountsAfter, SameForMessages, SettledBy, SettledByStep, IsNamedStep, IsNamed, Answered, RoomAfter, ReadersAfter, EndsBy};
+ghost use Rattle.ctf_session.specs.Steps.{answer_of, Tells, Steps, IsQuiet, IsRepeated, EndedBy, LeavesNothing, counts_by, CountsAfterStep, CountsAfter, SameForMessages, SettledBy, SettledByStep, IsNamedStep, IsNamed, Answered, RoomAfter, ReadersAfter, EndsBy};
 ghost use Rattle.ctf_session.specs.Writing.{written_by};
 
 use crate::front::{front_time, print_front};
@@ -134,6 +134,7 @@ impl<'a, S: Source + Drop> Session<'a, S> {
         ensures untouched { (o : Outcome) → self.old.ended ≡ Some o
             → (self.new ≡ self.old) × ((out.new ≡ out.old) × (err.new ≡ err.old)) }
         ensures ends { EndedBy result self.new.ended }
+        ensures nothing_left { self.old.ended ≡ None → LeavesNothing result self.new.coming }
 
         // No sink failed or was refused memory but the one that stopped the step, once.
         ensures counts { let counts = counts_by W.failures W.refusals E.failures E.refusals in
@@ -302,6 +303,18 @@ pub fn print_all<'a, S: Source + Drop, W: Log, E: Sink>(
         SameForMessages (counts out.old err.old) (counts out.new err.new)
         ⊎ IsTrue (W.settled out.new) }
     ensures ends { session.new.ended ≡ Some result }
+    ensures setting { session.new.setting ≡ session.old.setting }
+
+    // No stream is read on from an item after the end; the bytes taken are those that the sources gave, and no more than the
+    // items in front need.
+    ensures passes { Tells session.old → IsTrue (W.tells out.old) → IsTrue (E.tells err.old)
+        → PassesWithin session.old.setting session.old.readers session.new.readers }
+    ensures tells { Tells session.old → Tells session.new }
+    ensures counted { Tells session.old
+        → given_of session.new.readers ≡ given_of session.old.readers }
+    ensures on_line { EachOnLine session.old.readers → EachOnLine session.new.readers }
+    ensures all_taken { Tells session.old → EachAllTaken session.old.readers
+        → EachAllTaken session.new.readers }
     ensures out_tells { IsTrue (W.tells out.old) → IsTrue (W.tells out.new) }
     ensures err_tells { IsTrue (E.tells err.old) → IsTrue (E.tells err.new) }
 {

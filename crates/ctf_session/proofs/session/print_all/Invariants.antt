@@ -1,4 +1,6 @@
 use Rattle.std.proofs.Common.{◌≡◌, None, IsTrue}
+use Rattle.ctf_merge.specs.Merges.{EachOnLine, EachAllTaken, given_of}
+use Rattle.ctf_session.specs.Passing.{PassesWithin}
 use Rattle.ctf_session.specs.Steps.{Tells}
 use Rattle.ctf_session.specs.Writing.{written_by}
 use Rattle.ctf_session.proofs.Reaching.{Reaches}
@@ -7,6 +9,12 @@ use Rattle.ctf_session.proofs.session.print_all.Given as goal
 abbrev pub invariant-loop-outcome : goal.invariant-loop-outcome
 invariant-loop-outcome g l = record {
   open_still : l.session.ended ≡ None;
+  setting : l.session.setting ≡ l.initial.session.setting;
+  passes : Tells l.initial.session → IsTrue (g.W.Sink.tells l.initial.out) → IsTrue (g.E.Sink.tells l.initial.err)
+      → PassesWithin l.initial.session.setting l.initial.session.readers l.session.readers;
+  counted : Tells l.initial.session → given_of l.session.readers ≡ given_of l.initial.session.readers;
+  on_line : EachOnLine l.initial.session.readers → EachOnLine l.session.readers;
+  all_taken : Tells l.initial.session → EachAllTaken l.initial.session.readers → EachAllTaken l.session.readers;
   tells : Tells l.initial.session → Tells l.session;
   out_tells : IsTrue (g.W.Sink.tells l.initial.out) → IsTrue (g.W.Sink.tells l.out);
   err_tells : IsTrue (g.E.Sink.tells l.initial.err) → IsTrue (g.E.Sink.tells l.err);
