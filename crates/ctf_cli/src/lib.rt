@@ -10,17 +10,22 @@ mod printing;
 mod runtime;
 
 pub use ctf_bits::{FromRead, Sink, SliceSource, Source, ToWrite, VecSink};
-pub use ctf_class::{TraceClass, escaped};
-pub use ctf_clock::Shift;
+pub use ctf_class::{Class, EventClass, Kind, Member, Scope, StreamClass, TraceClass, escaped};
+pub use ctf_clock::{Moment, Shift};
+pub use ctf_decode::Value;
+pub use ctf_list::{List, NoMemory, Text};
 pub use ctf_log::line;
 pub use ctf_merge::Merge;
 pub use ctf_options::{Options, Usage, options_of, stream_names};
+pub use ctf_packet::StreamFault;
 pub use ctf_run::{
     LoadFault, Log, MergeFault, Outcome, RunFault, Session, Step, Streams, Trace, io_line, load,
     run,
 };
-pub use ctf_stamp::{ClockStyle, Style, Trim, Zone};
-pub use ctf_stream::{Event, Gap, Item, OwnedItem, StreamReader};
+pub use ctf_stamp::{ClockStyle, Style, Trim, Verdict, Zone};
+pub use ctf_stream::{
+    Event, EventText, Gap, Item, OwnedEvent, OwnedGap, OwnedItem, StreamReader, Told,
+};
 pub use disk::{Disk, DiskStream};
 pub use folders::{FolderFault, Folders};
 pub use log_writer::LogWriter;
