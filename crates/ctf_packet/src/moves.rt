@@ -1,16 +1,11 @@
 //! The clock behind a scope, and the number that it names.
 
-ghost use Rattle.std.specs.Prelude.{◌≡◌, ℕ, map, IsTrue};
-ghost use Rattle.std.specs.List.{last_or};
+ghost use Rattle.std.specs.Prelude.{◌≡◌};
 ghost use Rattle.std.specs.Int.{w64, cast_unsigned};
 ghost use Rattle.ctf_clock.specs.Clock.{advanced_by};
-ghost use Rattle.ctf_decode.specs.Values.{vals_of};
-ghost use Rattle.ctf_decode.specs.Forms as forms;
-ghost use Rattle.ctf_decode.specs.Forms.{parts_of};
-ghost use Rattle.ctf_decode.specs.Fields as fields;
-ghost use Rattle.ctf_decode.specs.Views.{form, member_part, val};
+ghost use Rattle.ctf_decode.specs.Views.{form, val};
 ghost use Rattle.ctf_packet.specs.Moved as moved;
-ghost use Rattle.ctf_packet.specs.Telling.{behind};
+ghost use Rattle.ctf_packet.specs.Telling.{Moves, KeepsLast, integer_moves, value_moves, member_moves, element_moves, option_moves, choice_moves, value_ids, member_ids, element_ids, option_ids, choice_ids};
 
 use ctf_class::{Class, Integer, Kind, Member};
 use ctf_clock::{Moment, Timeline};
@@ -43,8 +38,8 @@ pub fn moved(line: &Timeline, class: &Class, value: &Value, clock: Moment) -> Op
 #[cycle(told)]
 #[inline(never)]
 fn tell(line: &Timeline, class: &Class, value: &Value, told: &mut Told) -> bool
-    ensures clock { behind result told.new ≡ advanced_by line.now told.old.clock (moved.moved (form class.now) (val value.now)) }
-    ensures id { IsTrue result → told.new.id ≡ last_or told.old.id (fields.ids (form class.now) (val value.now)) }
+    ensures clock { Moves line.now (value_moves class.now value.now) told.old result told.new }
+    ensures id { KeepsLast (value_ids class.now value.now) told.old result told.new }
 {
     if let Kind::Structure { members } = &class.kind {
         return tell_members(line, members.as_slice(), members_in(value), told);
@@ -58,8 +53,8 @@ fn tell(line: &Timeline, class: &Class, value: &Value, told: &mut Told) -> bool
 /// The same of a scope. Mostly it is a structure, whose members are told without a call.
 #[inline(always)]
 pub(crate) fn tell_scope(line: &Timeline, class: &Class, value: &Value, told: &mut Told) -> bool
-    ensures clock { behind result told.new ≡ advanced_by line.now told.old.clock (moved.moved (form class.now) (val value.now)) }
-    ensures id { IsTrue result → told.new.id ≡ last_or told.old.id (fields.ids (form class.now) (val value.now)) }
+    ensures clock { Moves line.now (value_moves class.now value.now) told.old result told.new }
+    ensures id { KeepsLast (value_ids class.now value.now) told.old result told.new }
 {
     if let Kind::Structure { members } = &class.kind {
         return tell_members(line, members.as_slice(), members_in(value), told);
@@ -71,8 +66,8 @@ pub(crate) fn tell_scope(line: &Timeline, class: &Class, value: &Value, told: &m
 #[cycle(told)]
 #[inline(never)]
 fn tell_any(line: &Timeline, class: &Class, value: &Value, told: &mut Told) -> bool
-    ensures clock { behind result told.new ≡ advanced_by line.now told.old.clock (moved.moved (form class.now) (val value.now)) }
-    ensures id { IsTrue result → told.new.id ≡ last_or told.old.id (fields.ids (form class.now) (val value.now)) }
+    ensures clock { Moves line.now (value_moves class.now value.now) told.old result told.new }
+    ensures id { KeepsLast (value_ids class.now value.now) told.old result told.new }
 {
     match &class.kind {
         Kind::Integer(integer) => set_by(line, integer, value, told),
@@ -97,8 +92,8 @@ fn tell_any(line: &Timeline, class: &Class, value: &Value, told: &mut Told) -> b
 #[cycle(told)]
 #[inline(always)]
 fn tell_members(line: &Timeline, members: &[Member], values: &[Value], told: &mut Told) -> bool
-    ensures clock { behind result told.new ≡ advanced_by line.now told.old.clock (moved.member_moved (parts_of (map member_part members.now)) (vals_of (map val values.now))) }
-    ensures id { IsTrue result → told.new.id ≡ last_or told.old.id (fields.member_ids (parts_of (map member_part members.now)) (vals_of (map val values.now))) }
+    ensures clock { Moves line.now (member_moves members.now values.now) told.old result told.new }
+    ensures id { KeepsLast (member_ids members.now values.now) told.old result told.new }
 {
     for (i, member) in members.iter().enumerate() {
         if i >= values.len() {
@@ -117,8 +112,8 @@ fn tell_members(line: &Timeline, members: &[Member], values: &[Value], told: &mu
 #[cycle(told)]
 #[inline(always)]
 fn tell_member(line: &Timeline, class: &Class, value: &Value, told: &mut Told) -> bool
-    ensures clock { behind result told.new ≡ advanced_by line.now told.old.clock (moved.moved (form class.now) (val value.now)) }
-    ensures id { IsTrue result → told.new.id ≡ last_or told.old.id (fields.ids (form class.now) (val value.now)) }
+    ensures clock { Moves line.now (value_moves class.now value.now) told.old result told.new }
+    ensures id { KeepsLast (value_ids class.now value.now) told.old result told.new }
 {
     if let Kind::Integer(integer) = &class.kind {
         return set_by(line, integer, value, told);
@@ -140,8 +135,8 @@ fn tell_member(line: &Timeline, class: &Class, value: &Value, told: &mut Told) -
 /// The same of elements.
 #[cycle(told)]
 fn tell_elements(line: &Timeline, element: &Class, values: &[Value], told: &mut Told) -> bool
-    ensures clock { behind result told.new ≡ advanced_by line.now told.old.clock (fields.of_each (moved.moved (form element.now)) (vals_of (map val values.now))) }
-    ensures id { IsTrue result → told.new.id ≡ last_or told.old.id (fields.of_each (fields.ids (form element.now)) (vals_of (map val values.now))) }
+    ensures clock { Moves line.now (element_moves element.now values.now) told.old result told.new }
+    ensures id { KeepsLast (element_ids element.now values.now) told.old result told.new }
 {
     for value in values {
         if !tell(line, element, value, told) {
@@ -155,8 +150,8 @@ fn tell_elements(line: &Timeline, element: &Class, values: &[Value], told: &mut 
 #[cycle(told)]
 #[inline(always)]
 fn tell_option(line: &Timeline, options: &[Member], value: &Value, told: &mut Told) -> bool
-    ensures clock { behind result told.new ≡ advanced_by line.now told.old.clock (fields.of_choice (fields.choice_in (val value.now)) (λ i v. moved.option_moved (parts_of (map member_part options.now)) i v)) }
-    ensures id { IsTrue result → told.new.id ≡ last_or told.old.id (fields.of_choice (fields.choice_in (val value.now)) (λ i v. fields.option_ids (parts_of (map member_part options.now)) i v)) }
+    ensures clock { Moves line.now (choice_moves options.now value.now) told.old result told.new }
+    ensures id { KeepsLast (choice_ids options.now value.now) told.old result told.new }
 {
     match choice_in(value) {
         None => true,
@@ -174,8 +169,8 @@ fn tell_chosen(
     inner: &Value,
     told: &mut Told,
 ) -> bool
-    ensures clock { behind result told.new ≡ advanced_by line.now told.old.clock (moved.option_moved (parts_of (map member_part options.now)) i (val inner.now)) }
-    ensures id { IsTrue result → told.new.id ≡ last_or told.old.id (fields.option_ids (parts_of (map member_part options.now)) i (val inner.now)) }
+    ensures clock { Moves line.now (option_moves options.now i inner.now) told.old result told.new }
+    ensures id { KeepsLast (option_ids options.now i inner.now) told.old result told.new }
 {
     if i >= options.len() {
         return true;
@@ -186,7 +181,7 @@ fn tell_chosen(
 /// Sets the clock by an integer, if it is a moving one.
 #[inline(always)]
 fn set_by(line: &Timeline, integer: &Integer, value: &Value, told: &mut Told) -> bool
-    ensures clock { behind result told.new ≡ advanced_by line.now told.old.clock (moved.moved_in integer.now (val value.now)) }
+    ensures clock { Moves line.now (integer_moves integer.now value.now) told.old result told.new }
     ensures id { told.new.id ≡ told.old.id }
 {
     match moved_by_integer(line, integer, value, told.clock) {
