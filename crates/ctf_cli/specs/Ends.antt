@@ -1,5 +1,5 @@
 -- How the program ends, and what it wrote (own).
-use Rattle.std.specs.Prelude.{◌≡◌, ℕ, Bool, true, IsTrue, List, ◌++◌}
+use Rattle.std.specs.Prelude.{◌≡◌, ◌⊎◌, ℕ, Bool, true, IsTrue, List, ◌++◌}
 use Rattle.ctf_bits.specs.Count.{one_more}
 use Rattle.ctf_options.specs.Command.{GivesOptions, IsRefusal}
 use Rattle.ctf_options.specs.Texts.{usage_text}
@@ -10,7 +10,7 @@ use Rattle.ctf_outcome.specs.Outcomes.{outcome_text, status_of}
 use Rattle.ctf_outcome.specs.declared.outcome.Outcome.{Outcome}
 use Rattle.ctf_outcome.specs.declared.outcome.Outcome.TheVariants.{Done, Fault, WriteFailed, NoMemory}
 use Rattle.ctf_run.specs.Traces.{Trace, EachTells, Runs}
-use Rattle.ctf_session.specs.Steps.{Counts, CountsAfter}
+use Rattle.ctf_session.specs.Steps.{Counts, CountsAfter, SameForMessages, SettledBy}
 use Rattle.ctf_session.specs.Writing.{Written, WritesPart}
 use Rattle.ctf_cli.specs.Files.{Files}
 use Rattle.ctf_cli.specs.Traces.{AreTraces, AreBlocked}
@@ -97,13 +97,16 @@ pub data Settles (old new : Side) : Outcome → Outcome → Type 0 where
 
 -- ---- the program
 
--- A run over the traces; then the log is settled; then the line of how that ended is written.
+-- A run over the traces, in which nothing of the log is held back behind the line of a fault, nor where the messages failed or
+-- were refused memory; then the log is settled; then the line of how that ended is written.
 pub record Prints (traces : List Trace) (options : Options) (old new : Sides) (status : ℕ) : Type 0 where
   pub between : Sides
   pub outcome : Outcome
   pub told : Outcome
   pub runs : EachTells traces → Runs traces options outcome (written old between)
   pub counts : CountsAfter outcome (counts_of old) (counts_of between)
+  pub behind : SettledBy outcome between.out.settled
+  pub settled : SameForMessages (counts_of old) (counts_of between) ⊎ IsTrue between.out.settled
   pub settles : Settles between.out new.out outcome told
   pub says : Says (outcome_text told) between.err new.err
   pub status_is : status ≡ status_of told

@@ -17,7 +17,7 @@ use Rattle.ctf_session.proofs.Runs.{and_then-none}
 use Rattle.ctf_run.specs.Loaded.{IsFirstFault}
 use Rattle.ctf_run.specs.Loaded as loaded
 use Rattle.ctf_run.specs.Told.{name_at, fault_texts, TellsFault}
-use Rattle.ctf_run.specs.Traces.{Trace, trace_of, traces_of, are_several, named, HaveClasses, refused, broken, Runs, answered}
+use Rattle.ctf_run.specs.Traces.{trace_of, traces_of, are_several, named, HaveClasses, refused, broken, Runs, answered}
 use Rattle.ctf_run.specs.declared.trace.Trace as declared
 
 module _ {S : Type 0} (given : S → Given) where

@@ -179,8 +179,7 @@ module _ (o0 o1 o2 e0 e1 e2 : List ℕ) (s1 s2 : Bool) where
   end_left whole done now outcome named (exactly is) wrote ends so_far quiet behind =
       let told : Option MergeFault = told_by now.coming.items now.coming.fault in
       let all : whole ≡ add done (record { pieces = fault_pieces now.setting told; outcome = outcome_of now.setting told }) = is ∙ ap (add done) (answer-end now.setting now.last now.coming ends.none_left) in
-      let texts_are = joined-append done (fault_pieces now.setting told) ∙ ap (and_then (joined done)) (joined-fault now.setting told) in
-      (
+      let texts_are = joined-append done (fault_pieces now.setting told) ∙ ap (and_then (joined done)) (joined-fault now.setting told) in (
         ends.outcome_is ∙ sym (ap (λ (a : Answer). a.outcome) all),
         rw all (record {
           wrote = rw texts_are (Writes-more (joined done) (fault_texts now.setting told) wrote ends.wrote);

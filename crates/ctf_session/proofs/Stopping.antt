@@ -2,14 +2,14 @@
 use Rattle.std.proofs.Common.{◌≡◌, ◌⊎◌, inl, inr, ℕ, ℤ, List, [], ◌∷◌, ◌++◌, Option, Some, None, refl, sym, ap, ◌∙◌, subst}
 use Rattle.std.proofs.lemmas.List.{append-nil}
 use Rattle.std.specs.List.{AllByRecursion}
-use Rattle.ctf_merge.specs.Merged.{Merged, Placed}
+use Rattle.ctf_merge.specs.Merged.{Placed}
 use Rattle.ctf_merge.specs.declared.fault.MergeFault.{MergeFault}
 use Rattle.ctf_merge.specs.declared.fault.MergeFault.TheVariants as merges
 use Rattle.ctf_packet.specs.Classes.{Classes}
 use Rattle.ctf_packet.specs.Items.{Item, event, discarded, lost}
-use Rattle.ctf_session.specs.Answers.{Setting, answer, trimmed, by_kind, text_of, last_after, fault_pieces, pieces_of}
+use Rattle.ctf_session.specs.Answers.{Setting, answer, trimmed, by_kind, last_after, fault_pieces, pieces_of}
 use Rattle.ctf_session.specs.Laws.{FirstParts, OneSinkEach, WholeInOne}
-use Rattle.ctf_session.specs.Writing.{Texts, joined, first_of, behind, Written, WritesPart, WritesParts, Stopped}
+use Rattle.ctf_session.specs.Writing.{Texts, joined, first_of, behind, Written, WritesPart, WritesParts}
 use Rattle.ctf_session.proofs.Pieces.{WritesPart-after, WritesPart-longer}
 use Rattle.ctf_session.proofs.Runs.{joined-append}
 
