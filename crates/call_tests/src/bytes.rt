@@ -1,19 +1,20 @@
 //! The bytes of a row.
 
-use anyhow::Result;
 use std::alloc::Global;
 
 /// The bytes of a row: its text, with the bytes that stand in hexadecimal between backquotes.
-pub fn bytes_of(alloc: Global, row: &str) -> Result<Vec<u8>> {
+pub fn bytes_of(alloc: Global, row: &str) -> Option<Vec<u8>> {
     let mut bytes = Vec::new(alloc);
     let mut is_text = true;
     for part in row.split('`') {
         if is_text {
-            bytes.extend_from_slice(part.as_bytes())?;
+            bytes.extend_from_slice(part.as_bytes()).ok()?;
         } else {
-            bytes.extend_from_slice(&hex::decode(alloc, part)?)?;
+            bytes
+                .extend_from_slice(&hex::decode(alloc, part).ok()?)
+                .ok()?;
         }
         is_text = !is_text;
     }
-    Ok(bytes)
+    Some(bytes)
 }

@@ -4,7 +4,7 @@
 //! members, and `array:ALIGN:LENGTH` and `counted:ALIGN:PLACE` take the last class as their element: as many as are told, or
 //! as the member of this place says. A member is named by its word.
 
-use anyhow::{Result, bail};
+use crate::told::Told;
 use ctf_bits::Order;
 use ctf_class::{
     Align, Base, Class, FieldName, Integer, Kind, Length, Member, Origin, Route, Width,
@@ -13,30 +13,23 @@ use ctf_list::{Boxed, List};
 use std::alloc::Global;
 
 /// The classes that words name, as members.
-pub fn members_of(alloc: Global, words: &str) -> Result<Vec<Member>> {
+pub fn members_of(alloc: Global, words: &str) -> Option<Vec<Member>> {
     let mut members = Vec::new(alloc);
     for word in words.split(' ') {
-        put_class(alloc, &mut members, word)?;
+        add_class(alloc, &mut members, word)?;
     }
-    Ok(members)
+    Some(members)
 }
 
-/// Puts the class that a word names behind those before it, or around the last of them.
-fn put_class(alloc: Global, members: &mut Vec<Member>, word: &str) -> Result<()> {
-    let name = FieldName::new(alloc, List::from_slice(alloc, word.as_bytes())?)?;
-    let class = class_named(alloc, members, word)?;
-    members.push(Member { name, class })?;
-    Ok(())
-}
-
-/// The class that a word names, around the last ones.
-fn class_named(alloc: Global, members: &mut Vec<Member>, word: &str) -> Result<Class> {
-    let Some((kind, rest)) = word.split_once(':') else {
-        bail!("no such class");
-    };
+/// Adds the class that a word names behind those before it, or around the last of them.
+fn add_class(alloc: Global, members: &mut Vec<Member>, word: &str) -> Option<()> {
+    let (kind, rest) = word.split_once(':')?;
     let (align, number) = rest.split_once(':').unwrap_or((rest, "0"));
-    let align = align_of(align)?;
-    Ok(class(align, kind_of(alloc, members, kind, number)?))
+    let align = Align::new(align.parse::<u64>().ok()?)?;
+    let name = FieldName::new(alloc, List::from_slice(alloc, word.as_bytes()).ok()?).ok()?;
+    let kind = kind_of(alloc, members, kind, number.parse::<u64>().ok()?)?;
+    let class = class(align, kind);
+    members.push(Member { name, class }).ok()
 }
 
 /// A class, of which nothing here asks for its depth and its count.
@@ -49,29 +42,18 @@ pub fn class(align: Align, kind: Kind) -> Class {
     }
 }
 
-fn align_of(bits: &str) -> Result<Align> {
-    match Align::new(bits.parse::<u64>()?) {
-        Some(align) => Ok(align),
-        None => bail!("no such alignment"),
-    }
-}
-
 /// What a class is.
-fn kind_of(alloc: Global, members: &mut Vec<Member>, kind: &str, number: &str) -> Result<Kind> {
+fn kind_of(alloc: Global, members: &mut Vec<Member>, kind: &str, number: u64) -> Option<Kind> {
     match kind {
-        "integer" => integer_of(number),
-        "string" => Ok(Kind::String),
-        "struct" => structure_of(members, number.parse::<usize>()?),
-        "array" => array_of(alloc, members, Length::Fixed(number.parse::<u64>()?)),
-        "counted" => array_of(alloc, members, member_at(alloc, number.parse::<u32>()?)?),
-        _ => bail!("no such class"),
-    }
-}
-
-fn integer_of(bits: &str) -> Result<Kind> {
-    match integer(bits.parse::<u32>()?) {
-        Some(kind) => Ok(kind),
-        None => bail!("no such width"),
+        "integer" => integer(u32::try_from(number).ok()?),
+        "string" => Some(Kind::String),
+        "struct" => structure_of(members, usize::try_from(number).ok()?),
+        "array" => array_of(alloc, members, Length::Fixed(number)),
+        _ => array_of(
+            alloc,
+            members,
+            member_at(alloc, u32::try_from(number).ok()?)?,
+        ),
     }
 }
 
@@ -87,26 +69,51 @@ pub fn integer(bits: u32) -> Option<Kind> {
 }
 
 /// A structure of the last classes.
-fn structure_of(members: &mut Vec<Member>, count: usize) -> Result<Kind> {
-    let members = members.split_off(members.len().saturating_sub(count))?;
-    Ok(Kind::Structure {
+fn structure_of(members: &mut Vec<Member>, count: usize) -> Option<Kind> {
+    let members = members.split_off(members.len().saturating_sub(count)).ok()?;
+    Some(Kind::Structure {
         members: List::from_vec(members),
     })
 }
 
 /// An array of the last class.
-fn array_of(alloc: Global, members: &mut Vec<Member>, length: Length) -> Result<Kind> {
-    let Some(Member { name: _, class }) = members.pop() else {
-        bail!("no element");
-    };
-    let element = Boxed::new(alloc, class)?;
-    Ok(Kind::Array { length, element })
+fn array_of(alloc: Global, members: &mut Vec<Member>, length: Length) -> Option<Kind> {
+    let Member { name: _, class } = members.pop()?;
+    let element = Boxed::new(alloc, class).ok()?;
+    Some(Kind::Array { length, element })
 }
 
 /// A length that is a member of the innermost structure.
-fn member_at(alloc: Global, place: u32) -> Result<Length> {
-    Ok(Length::Field(Route {
+fn member_at(alloc: Global, place: u32) -> Option<Length> {
+    Some(Length::Field(Route {
         origin: Origin::Enclosing(0),
-        steps: List::from_slice(alloc, &[place])?,
+        steps: List::from_slice(alloc, &[place]).ok()?,
     }))
+}
+
+/// Puts the words of an integer or of a structure, behind a space each.
+#[cycle(put)]
+pub fn put_class(told: &mut Told, class: &Class) {
+    match &class.kind {
+        Kind::Integer(integer) => put_word(told, b" integer:", class, integer.size.bits() as usize),
+        Kind::Structure { members } => {
+            put_members(told, members.as_slice());
+            put_word(told, b" struct:", class, members.len());
+        }
+        _ => told.put(b" another class"),
+    }
+}
+
+#[cycle(put)]
+fn put_members(told: &mut Told, members: &[Member]) {
+    for member in members {
+        put_class(told, &member.class);
+    }
+}
+
+fn put_word(told: &mut Told, kind: &[u8], class: &Class, number: usize) {
+    told.put(kind);
+    told.number(i128::from(class.align.bits()));
+    told.put(b":");
+    told.number(number as i128);
 }

@@ -8,55 +8,65 @@
 
 use crate::told::Told;
 use crate::words::Words;
-use anyhow::Result;
 use ctf_list::Text;
 use ctf_options::{Options, Usage, options_of, stream_names};
 use ctf_stamp::{ClockStyle, Style, Trim};
 use std::alloc::Global;
 
-/// Puts what comes of a row.
-pub fn put_row(alloc: Global, told: &mut Told, kind: &str, words: &mut Words<'_>) -> Result<()> {
+/// Puts what comes of a row of a command line, and answers whether it is one.
+pub fn put_row(alloc: Global, told: &mut Told, kind: &str, words: &mut Words<'_>) -> Option<bool> {
     match kind {
-        "options" => put_options(alloc, told, &words_of(alloc, words.rest())?),
-        "folders" => put_folders(alloc, told, &folders(alloc, words.number()?)?),
+        "options" => put_options(alloc, told, kind, &words_of(alloc, words.rest())?),
+        "folders" => put_options(alloc, told, kind, &folders(alloc, words.number())?),
         "usage" => told.put(usage_of(words.word()).text()),
-        _ => put_names(told, &stream_names(alloc, names_of(alloc, words.rest())?)?),
+        "files" => put_names(
+            told,
+            &stream_names(alloc, names_of(alloc, words.rest())?).ok()?,
+        ),
+        _ => return Some(false),
     }
-    Ok(())
+    Some(true)
 }
 
 /// The words of a command line.
-fn words_of(alloc: Global, row: &str) -> Result<Vec<String>> {
+fn words_of(alloc: Global, row: &str) -> Option<Vec<String>> {
     let mut words = Vec::new(alloc);
-    words.push(String::from_str(alloc, "bt-ctf")?)?;
+    add_name(alloc, &mut words, "bt-ctf")?;
     for word in row.split("; ") {
-        words.push(String::from_str(alloc, word)?)?;
+        add_name(alloc, &mut words, word)?;
     }
-    Ok(words)
+    Some(words)
 }
 
 /// A command line with so many folders.
-fn folders(alloc: Global, count: u32) -> Result<Vec<String>> {
+fn folders(alloc: Global, count: u32) -> Option<Vec<String>> {
     let mut words = Vec::new(alloc);
-    words.push(String::from_str(alloc, "bt-ctf")?)?;
+    add_name(alloc, &mut words, "bt-ctf")?;
     for _ in 0..count {
-        words.push(String::from_str(alloc, "d")?)?;
+        add_name(alloc, &mut words, "d")?;
     }
-    Ok(words)
+    Some(words)
 }
 
-/// Puts what words ask for.
-fn put_options(alloc: Global, told: &mut Told, words: &[String]) {
-    match options_of(alloc, words) {
-        Ok(options) => put_asked(told, &options),
-        Err(usage) => told.put(word_of(usage)),
+fn names_of(alloc: Global, row: &str) -> Option<Vec<String>> {
+    let mut names = Vec::new(alloc);
+    for name in row.split(' ') {
+        add_name(alloc, &mut names, name)?;
     }
+    Some(names)
 }
 
-/// Puts how many folders words name.
-fn put_folders(alloc: Global, told: &mut Told, words: &[String]) {
+fn add_name(alloc: Global, names: &mut Vec<String>, name: &str) -> Option<()> {
+    names.push(String::from_str(alloc, name).ok()?).ok()
+}
+
+/// Puts what words ask for, or how many folders they name.
+fn put_options(alloc: Global, told: &mut Told, kind: &str, words: &[String]) {
     match options_of(alloc, words) {
-        Ok(options) => told.number(options.dirs.len() as i128),
+        Ok(options) => match kind {
+            "options" => put_asked(told, &options),
+            _ => told.number(options.dirs.len() as i128),
+        },
         Err(usage) => told.put(word_of(usage)),
     }
 }
@@ -116,14 +126,6 @@ fn usage_of(word: &str) -> Usage {
         "bad" => Usage::Bad,
         _ => Usage::NoMemory,
     }
-}
-
-fn names_of(alloc: Global, row: &str) -> Result<Vec<String>> {
-    let mut names = Vec::new(alloc);
-    for name in row.split(' ') {
-        names.push(String::from_str(alloc, name)?)?;
-    }
-    Ok(names)
 }
 
 /// Puts the names of streams.

@@ -7,7 +7,6 @@ ghost use Rattle.std.specs.Prelude.{◌≡◌};
 
 use crate::told::Told;
 use crate::words::Words;
-use anyhow::Result;
 use ctf_class::{HasId, Indexed};
 use ctf_list::List;
 use std::alloc::Global;
@@ -27,29 +26,27 @@ impl HasId for Marked {
     }
 }
 
-/// Puts what comes of a row.
-pub fn put_row(alloc: Global, told: &mut Told, words: &mut Words<'_>) -> Result<()> {
-    let items = items_of(alloc, words.word())?;
-    put_found(told, &items, words.long()?);
-    Ok(())
+/// Puts what comes of a row of items, and answers whether it is one.
+pub fn put_row(alloc: Global, told: &mut Told, kind: &str, words: &mut Words<'_>) -> Option<bool> {
+    if kind != "items" {
+        return Some(false);
+    }
+    let items = List::from_vec(in_order(alloc, words.word())?);
+    put_found(told, &Indexed::new(alloc, items).ok()?, words.long());
+    Some(true)
 }
 
 /// Items of these numbers.
-fn items_of(alloc: Global, numbers: &str) -> Result<Indexed<Marked>> {
-    let items = List::from_vec(in_order(alloc, numbers)?);
-    Ok(Indexed::new(alloc, items)?)
-}
-
-fn in_order(alloc: Global, numbers: &str) -> Result<Vec<Marked>> {
+fn in_order(alloc: Global, numbers: &str) -> Option<Vec<Marked>> {
     let mut items = Vec::new(alloc);
     if numbers != "-" {
         for word in numbers.split(',') {
-            let number = word.parse::<u64>()?;
+            let number = word.parse::<u64>().ok()?;
             let place = items.len();
-            items.push(Marked { number, place })?;
+            items.push(Marked { number, place }).ok()?;
         }
     }
-    Ok(items)
+    Some(items)
 }
 
 /// Puts what is found.

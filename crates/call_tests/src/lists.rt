@@ -5,34 +5,33 @@
 
 use crate::told::Told;
 use crate::words::Words;
-use anyhow::Result;
-use ctf_list::{List, NoMemory};
+use ctf_list::List;
 use std::alloc::Global;
 
-/// Puts what comes of a row.
-pub fn put_row(alloc: Global, told: &mut Told, kind: &str, words: &mut Words<'_>) -> Result<()> {
-    let mut list = List::from_slice(alloc, words.word().as_bytes())?;
-    match kind {
-        "pushed" => push_each(&mut list, words.word().as_bytes())?,
-        _ => list.extend_from_slice(words.word().as_bytes())?,
+/// Puts what comes of a row of lists, and answers whether it is one.
+pub fn put_row(alloc: Global, told: &mut Told, kind: &str, words: &mut Words<'_>) -> Option<bool> {
+    if kind != "pushed" && kind != "extended" {
+        return Some(false);
+    }
+    let mut list = List::from_slice(alloc, words.word().as_bytes()).ok()?;
+    let more = words.word().as_bytes();
+    if kind == "extended" {
+        list.extend_from_slice(more).ok()?;
+    } else {
+        for byte in more {
+            list.push(*byte).ok()?;
+        }
     }
     put_list(told, &list)
 }
 
-fn push_each(list: &mut List<u8>, bytes: &[u8]) -> Result<(), NoMemory> {
-    for byte in bytes {
-        list.push(*byte)?;
-    }
-    Ok(())
-}
-
 /// Puts a list, and whether its copy is equal.
-fn put_list(told: &mut Told, list: &List<u8>) -> Result<()> {
-    let copy = list.clone()?;
+fn put_list(told: &mut Told, list: &List<u8>) -> Option<bool> {
+    let copy = list.clone().ok()?;
     told.put(list.as_slice());
     told.put(b" ");
     told.number(list.len() as i128);
     told.put(b" ");
     told.answer(copy == *list);
-    Ok(())
+    Some(true)
 }

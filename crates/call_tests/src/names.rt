@@ -12,64 +12,57 @@ ghost use Rattle.std.specs.Prelude.{◌≤◌};
 use crate::bytes::bytes_of;
 use crate::told::Told;
 use crate::words::Words;
-use anyhow::Result;
 use ctf_class::{FieldName, Heading, LabelName, Ready, escaped};
 use ctf_list::List;
 use std::alloc::Global;
 
-/// Puts what comes of a row of a text, a label or a heading.
-pub fn put_row(alloc: Global, told: &mut Told, kind: &str, words: &mut Words<'_>) -> Result<()> {
+/// Puts what comes of a row of a text, a label or a heading, and answers whether it is one.
+pub fn put_row(alloc: Global, told: &mut Told, kind: &str, words: &mut Words<'_>) -> Option<bool> {
     match kind {
-        "escaped" => put_escaped(alloc, told, &bytes_of(alloc, words.rest())?),
-        "ready" => put_ready_row(alloc, told, &bytes_of(alloc, words.rest())?),
-        "label" => put_label_row(alloc, told, words.rest()),
-        _ => put_heading_row(alloc, told, words),
+        "escaped" => told.put(&escaped(alloc, &bytes_of(alloc, words.rest())?).ok()?),
+        "ready" => put_ready_row(alloc, told, &bytes_of(alloc, words.rest())?)?,
+        "label" => put_label_row(alloc, told, words.rest())?,
+        "heading" => put_heading_row(alloc, told, words)?,
+        _ => return Some(false),
     }
+    Some(true)
 }
 
-/// Puts what comes of a row of the name of a member.
+/// Puts what comes of a row of the name of a member, and answers whether it is one.
 pub fn put_field_row(
     alloc: Global,
     told: &mut Told,
     kind: &str,
     words: &mut Words<'_>,
-) -> Result<()> {
-    let name = field_of(alloc, words.word())?;
+) -> Option<bool> {
     match kind {
-        "behind" => put_behind(alloc, told, words.word().as_bytes(), &name),
-        "same" => put_same(alloc, told, &name, words.word()),
-        "copy" => put_copy(told, &name),
-        _ => {
-            put_field(told, &name);
-            Ok(())
-        }
+        "field" => put_field(told, &field_of(alloc, words.word())?),
+        "copy" => put_copy(told, &field_of(alloc, words.word())?)?,
+        "same" => put_same(alloc, told, words)?,
+        "behind" => put_behind(alloc, told, words)?,
+        _ => return Some(false),
     }
+    Some(true)
 }
 
 /// The bytes that a word names, as a list.
-fn list_of(alloc: Global, word: &str) -> Result<List<u8>> {
-    Ok(List::from_vec(bytes_of(alloc, word)?))
+fn list_of(alloc: Global, word: &str) -> Option<List<u8>> {
+    Some(List::from_vec(bytes_of(alloc, word)?))
 }
 
 /// The name of a member.
-fn field_of(alloc: Global, word: &str) -> Result<FieldName> {
-    Ok(FieldName::new(alloc, list_of(alloc, word)?)?)
-}
-
-/// Puts how a text is shown.
-fn put_escaped(alloc: Global, told: &mut Told, bytes: &[u8]) -> Result<()> {
-    told.put(&escaped(alloc, bytes)?);
-    Ok(())
+fn field_of(alloc: Global, word: &str) -> Option<FieldName> {
+    FieldName::new(alloc, list_of(alloc, word)?).ok()
 }
 
 /// Puts a text behind three bytes of a line, and its length.
-fn put_ready_row(alloc: Global, told: &mut Told, bytes: &[u8]) -> Result<()> {
-    let ready = Ready::new(alloc, bytes)?;
+fn put_ready_row(alloc: Global, told: &mut Told, bytes: &[u8]) -> Option<()> {
+    let ready = Ready::new(alloc, bytes).ok()?;
     put_ready(told, &ready, 3);
     told.put(b", ");
     told.number(ready.len() as i128);
     told.put(b" bytes");
-    Ok(())
+    Some(())
 }
 
 /// Puts the beginning of a line that has a text at an index, if there is room for it.
@@ -97,52 +90,49 @@ fn put_field(told: &mut Told, name: &FieldName) {
 }
 
 /// Puts the copy of a name, and whether it is equal.
-fn put_copy(told: &mut Told, name: &FieldName) -> Result<()> {
-    let copy = name.clone()?;
+fn put_copy(told: &mut Told, name: &FieldName) -> Option<()> {
+    let copy = name.clone().ok()?;
     put_field(told, &copy);
     told.put(b" ");
     told.answer(copy == *name);
-    Ok(())
+    Some(())
 }
 
 /// Puts what is printed for a name behind a text.
-fn put_behind(alloc: Global, told: &mut Told, lead: &[u8], name: &FieldName) -> Result<()> {
-    put_printed(told, &name.behind(alloc, lead)?);
-    Ok(())
+fn put_behind(alloc: Global, told: &mut Told, words: &mut Words<'_>) -> Option<()> {
+    let name = field_of(alloc, words.word())?;
+    let ready = name.behind(alloc, words.word().as_bytes()).ok()?;
+    put_printed(told, &ready);
+    Some(())
 }
 
 /// Puts whether two names are equal.
-fn put_same(alloc: Global, told: &mut Told, name: &FieldName, other: &str) -> Result<()> {
-    let other = field_of(alloc, other)?;
-    told.answer(*name == other);
-    Ok(())
+fn put_same(alloc: Global, told: &mut Told, words: &mut Words<'_>) -> Option<()> {
+    let name = field_of(alloc, words.word())?;
+    let other = field_of(alloc, words.word())?;
+    told.answer(name == other);
+    Some(())
 }
 
 /// Puts a label and what is printed for it.
-fn put_label_row(alloc: Global, told: &mut Told, word: &str) -> Result<()> {
-    let label = LabelName::new(alloc, list_of(alloc, word)?)?;
+fn put_label_row(alloc: Global, told: &mut Told, word: &str) -> Option<()> {
+    let label = LabelName::new(alloc, list_of(alloc, word)?).ok()?;
     told.put(label.as_slice());
     put_printed(told, label.ready());
     told.put(b" ");
     told.answer(label == label);
-    Ok(())
+    Some(())
 }
 
 /// Puts a heading.
-fn put_heading_row(alloc: Global, told: &mut Told, words: &mut Words<'_>) -> Result<()> {
-    match words.word() {
-        "-" => put_heading(told, &heading_of(alloc, words.word(), None)?),
-        host => {
-            let host = list_of(alloc, host)?;
-            put_heading(told, &heading_of(alloc, words.word(), Some(host))?);
-        }
-    }
-    Ok(())
-}
-
-/// The heading of a host and of an event class.
-fn heading_of(alloc: Global, name: &str, host: Option<List<u8>>) -> Result<Heading> {
-    Ok(Heading::new(alloc, host, list_of(alloc, name)?)?)
+fn put_heading_row(alloc: Global, told: &mut Told, words: &mut Words<'_>) -> Option<()> {
+    let host = match words.word() {
+        "-" => None,
+        host => Some(list_of(alloc, host)?),
+    };
+    let name = list_of(alloc, words.word())?;
+    put_heading(told, &Heading::new(alloc, host, name).ok()?);
+    Some(())
 }
 
 /// Puts a host, a name, and what is printed for both.

@@ -8,47 +8,43 @@
 use crate::classes::members_of;
 use crate::told::Told;
 use crate::words::Words;
-use anyhow::{Result, bail};
 use ctf_class::{Member, RecordPlan, Run};
 use std::alloc::Global;
 
-/// Puts what comes of a row.
-pub fn put_row(alloc: Global, told: &mut Told, kind: &str, words: &mut Words<'_>) -> Result<()> {
-    let members = members_of(alloc, words.rest())?;
-    match kind {
-        "size" => put_size(told, &members),
-        _ => put_plan(alloc, told, &members),
+/// Puts what comes of a row of a class, and answers whether it is one.
+pub fn put_row(alloc: Global, told: &mut Told, kind: &str, words: &mut Words<'_>) -> Option<bool> {
+    if kind != "size" && kind != "plan" {
+        return Some(false);
     }
-}
-
-/// Puts the size of the class.
-fn put_size(told: &mut Told, members: &[Member]) -> Result<()> {
-    let [member] = members else {
-        bail!("not one class");
-    };
-    told.optional(member.class.fixed_size().map(i128::from));
-    Ok(())
+    let members = members_of(alloc, words.rest())?;
+    match (kind, members.as_slice()) {
+        ("size", [member]) => told.optional(member.class.fixed_size().map(i128::from)),
+        ("plan", [fields]) => put_plan(alloc, told, None, None, fields),
+        ("plan", [shared, fields]) => put_plan(alloc, told, Some(shared), None, fields),
+        ("plan", [shared, own, fields]) => put_plan(alloc, told, Some(shared), Some(own), fields),
+        _ => return None,
+    }
+    Some(true)
 }
 
 /// Puts the plan of the scopes.
-fn put_plan(alloc: Global, told: &mut Told, members: &[Member]) -> Result<()> {
-    put_runs(told, &plan_of(alloc, members)?);
-    Ok(())
+fn put_plan(
+    alloc: Global,
+    told: &mut Told,
+    shared: Option<&Member>,
+    own: Option<&Member>,
+    fields: &Member,
+) {
+    let shared = shared.map(|member| &member.class);
+    let own = own.map(|member| &member.class);
+    match RecordPlan::new(alloc, shared, own, &fields.class) {
+        Ok(plan) => put_runs(told, &plan),
+        Err(_) => told.needs(false),
+    }
 }
 
-fn plan_of(alloc: Global, members: &[Member]) -> Result<RecordPlan> {
-    let plan = match members {
-        [fields] => RecordPlan::new(alloc, None, None, &fields.class),
-        [shared, fields] => RecordPlan::new(alloc, Some(&shared.class), None, &fields.class),
-        [shared, own, fields] => {
-            RecordPlan::new(alloc, Some(&shared.class), Some(&own.class), &fields.class)
-        }
-        _ => bail!("too many scopes"),
-    };
-    Ok(plan?)
-}
-
-fn put_runs(told: &mut Told, plan: &RecordPlan) {
+/// Puts how many values a plan has, and its runs.
+pub fn put_runs(told: &mut Told, plan: &RecordPlan) {
     told.number(i128::from(plan.count));
     told.put(b" values");
     for run in plan.runs.as_slice() {

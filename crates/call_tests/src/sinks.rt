@@ -4,9 +4,9 @@
 //! sink in memory, `drip:N` takes at most so many bytes at a call, `failing:N` so many bytes in all, `write` is a writer in
 //! memory, `silent` a writer that takes nothing, and `broken` one that fails.
 
+use crate::sources::counted;
 use crate::told::Told;
 use crate::words::Words;
-use anyhow::{Result, bail};
 use ctf_bits::{DripSink, FailingSink, Sink, SinkFault, ToWrite, VecSink};
 use std::alloc::Global;
 use std::io::{Error, ErrorKind, Write};
@@ -31,42 +31,22 @@ impl Write for Device {
     }
 }
 
-/// Puts what comes of a row.
-pub fn put_row(alloc: Global, told: &mut Told, words: &mut Words<'_>) -> Result<()> {
-    let kind = words.word();
-    let text = words.word().as_bytes();
-    match kind.split_once(':') {
-        Some((kind, count)) => put_counted(alloc, told, kind, count.parse::<usize>()?, text),
-        None => put_plain(alloc, told, kind, text),
+/// Puts what comes of a row of sinks, and answers whether it is one.
+pub fn put_row(alloc: Global, told: &mut Told, kind: &str, words: &mut Words<'_>) -> Option<bool> {
+    if kind != "sink" {
+        return Some(false);
     }
-}
-
-/// Puts what comes of a sink that has a count.
-fn put_counted(
-    alloc: Global,
-    told: &mut Told,
-    kind: &str,
-    count: usize,
-    text: &[u8],
-) -> Result<()> {
+    let (kind, count) = counted(words.word());
+    let text = words.word().as_bytes();
     match kind {
         "drip" => put_drip(told, DripSink::new(alloc, count), text),
         "failing" => put_failing(told, FailingSink::new(alloc, count), text),
-        _ => bail!("no such sink"),
-    }
-    Ok(())
-}
-
-/// Puts what comes of another sink.
-fn put_plain(alloc: Global, told: &mut Told, kind: &str, text: &[u8]) -> Result<()> {
-    match kind {
         "memory" => put_memory(told, VecSink::new(alloc), text),
         "write" => put_write(told, ToWrite::new(Vec::new(alloc)), text),
         "silent" => put_poured(told, &mut ToWrite::new(Device::Silent), text),
-        "broken" => put_poured(told, &mut ToWrite::new(Device::Broken), text),
-        _ => bail!("no such sink"),
+        _ => put_poured(told, &mut ToWrite::new(Device::Broken), text),
     }
-    Ok(())
+    Some(true)
 }
 
 fn put_drip(told: &mut Told, mut sink: DripSink, text: &[u8]) {

@@ -8,7 +8,6 @@ ghost use Rattle.std.specs.Prelude.{◌≡◌, ◌<◌, ◌≤◌, length};
 
 use crate::told::Told;
 use crate::words::Words;
-use anyhow::{Result, bail};
 use ctf_bits::{FailingSource, FromRead, PieceSource, SliceSource, Source, SourceFault};
 use std::io::{Cursor, Error, ErrorKind, Read};
 
@@ -31,46 +30,34 @@ impl Read for Device {
     }
 }
 
-/// Puts what comes of a row.
-pub fn put_row(told: &mut Told, words: &mut Words<'_>) -> Result<()> {
-    let kind = words.word();
-    let piece = words.count()?;
+/// Puts what comes of a row of sources, and answers whether it is one.
+pub fn put_row(told: &mut Told, kind: &str, words: &mut Words<'_>) -> Option<bool> {
+    if kind != "source" {
+        return Some(false);
+    }
+    let (kind, count) = counted(words.word());
+    let piece = words.count();
     let text = words.word().as_bytes();
     if piece == 0 || piece > 8 {
-        bail!("no such buffer");
+        return None;
     }
-    match kind.split_once(':') {
-        Some((kind, count)) => put_counted(told, kind, count.parse::<usize>()?, piece, text),
-        None => put_plain(told, kind, piece, text),
-    }
-}
-
-/// Puts what a source gives that has a count.
-fn put_counted(told: &mut Told, kind: &str, count: usize, piece: usize, text: &[u8]) -> Result<()>
-    requires some { 0 < piece }
-    requires small { piece ≤ 8 }
-{
     match kind {
         "pieces" => put_pieces(told, PieceSource::new(text, count), piece),
         "failing" => put_failing(told, FailingSource::new(text, count), piece),
-        _ => bail!("no such source"),
-    }
-    Ok(())
-}
-
-/// Puts what another source gives.
-fn put_plain(told: &mut Told, kind: &str, piece: usize, text: &[u8]) -> Result<()>
-    requires some { 0 < piece }
-    requires small { piece ≤ 8 }
-{
-    match kind {
         "slice" => put_slice(told, SliceSource::new(text), piece),
         "read" => put_drained(told, &mut FromRead::new(Cursor::new(text)), piece),
         "silent" => put_drained(told, &mut FromRead::new(Device::Silent), piece),
-        "broken" => put_drained(told, &mut FromRead::new(Device::Broken), piece),
-        _ => bail!("no such source"),
+        _ => put_drained(told, &mut FromRead::new(Device::Broken), piece),
     }
-    Ok(())
+    Some(true)
+}
+
+/// A kind, and its count where it has one.
+pub fn counted(word: &str) -> (&str, usize) {
+    match word.split_once(':') {
+        Some((kind, count)) => (kind, count.parse::<usize>().unwrap_or(0)),
+        None => (word, 0),
+    }
 }
 
 fn put_pieces(told: &mut Told, mut source: PieceSource<'_>, piece: usize)

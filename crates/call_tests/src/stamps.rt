@@ -10,56 +10,66 @@
 use crate::told::Told;
 use crate::words::Words;
 use crate::zones::zone_of;
-use anyhow::{Result, bail};
 use ctf_clock::Moment;
 use ctf_stamp::{ClockStyle, MOST_PART, Stamper, Style, append_part, append_stamp};
 use std::alloc::Global;
 
-/// Puts what comes of a row.
-pub fn put_row(alloc: Global, told: &mut Told, kind: &str, words: &mut Words<'_>) -> Result<()> {
-    let style = Style {
-        clock: clock_of(words.word())?,
-        zone: zone_of(alloc, words.word())?,
-        delta: kind != "stamp" && words.word() == "delta",
-    };
+/// Puts what comes of a row of stamps, and answers whether it is one.
+pub fn put_row(alloc: Global, told: &mut Told, kind: &str, words: &mut Words<'_>) -> Option<bool> {
     match kind {
-        "stamp" => put_stamp(alloc, told, &style, words.time()?),
-        "lines" => put_lines(told, &mut Stamper::new(style), words.word()),
-        _ => put_appended(alloc, told, &style, words),
+        "stamp" => {
+            let style = style_of(alloc, words, false)?;
+            put_stamp(alloc, told, &style, words.time())?;
+        }
+        "lines" => {
+            let style = style_of(alloc, words, true)?;
+            put_lines(told, &mut Stamper::new(style), words.word())?;
+        }
+        "appended" => {
+            let style = style_of(alloc, words, true)?;
+            put_appended(alloc, told, &style, words)?;
+        }
+        _ => return Some(false),
     }
+    Some(true)
 }
 
-fn clock_of(word: &str) -> Result<ClockStyle> {
-    match word {
-        "time" => Ok(ClockStyle::Time),
-        "date" => Ok(ClockStyle::Date),
-        "seconds" => Ok(ClockStyle::Seconds),
-        "cycles" => Ok(ClockStyle::Cycles),
-        _ => bail!("no such clock"),
-    }
+/// The style that words name.
+fn style_of(alloc: Global, words: &mut Words<'_>, has_delta: bool) -> Option<Style> {
+    let clock = match words.word() {
+        "time" => ClockStyle::Time,
+        "date" => ClockStyle::Date,
+        "seconds" => ClockStyle::Seconds,
+        _ => ClockStyle::Cycles,
+    };
+    Some(Style {
+        clock,
+        zone: zone_of(alloc, words.word())?,
+        delta: has_delta && words.word() == "delta",
+    })
 }
 
 /// Puts the stamp of a moment.
-fn put_stamp(alloc: Global, told: &mut Told, style: &Style, time: i64) -> Result<()> {
+fn put_stamp(alloc: Global, told: &mut Told, style: &Style, time: i64) -> Option<()> {
     let moment = Moment {
         cycles: 134_217_727,
         time,
     };
     let mut text = Vec::new(alloc);
-    append_stamp(&mut text, style, moment)?;
+    append_stamp(&mut text, style, moment).ok()?;
     told.put(&text);
-    Ok(())
+    Some(())
 }
 
 /// Puts how lines begin.
-fn put_lines(told: &mut Told, stamper: &mut Stamper, times: &str) -> Result<()> {
+fn put_lines(told: &mut Told, stamper: &mut Stamper, times: &str) -> Option<()> {
     let mut last = None;
     for time in times.split(',') {
-        let time = time.parse::<i64>()?;
+        let time = time.parse::<i64>().ok()?;
         put_part(told, stamper, time, last);
         last = Some(time);
     }
-    Ok(())
+    Some(())
 }
 
 /// Puts how one line begins, and a bar behind it.
@@ -80,25 +90,13 @@ fn put_appended(
     told: &mut Told,
     style: &Style,
     words: &mut Words<'_>,
-) -> Result<()> {
-    let time = time_of(words.word())?;
-    let last = time_of(words.word())?;
+) -> Option<()> {
+    let time = words.word().parse::<i64>().ok();
+    let last = words.word().parse::<i64>().ok();
+    let moment = time.map(|time| Moment { cycles: 0, time });
     let mut text = Vec::new(alloc);
-    append_part(
-        &mut text,
-        style,
-        time.map(|time| Moment { cycles: 0, time }),
-        last,
-    )?;
+    append_part(&mut text, style, moment, last).ok()?;
     told.put(&text);
     told.put(b"|");
-    Ok(())
-}
-
-/// A time; none for `-`.
-fn time_of(word: &str) -> Result<Option<i64>> {
-    match word {
-        "-" => Ok(None),
-        _ => Ok(Some(word.parse::<i64>()?)),
-    }
+    Some(())
 }

@@ -4,31 +4,24 @@
 //! - `packets BYTES` is the text of metadata, or the fault of its packets.
 
 use crate::told::Told;
-use anyhow::Result;
 use std::alloc::Global;
 use tsdl_text::{Kind, MetaFault, Token, metadata_text, tokens};
 
 /// Puts a line for each token of a text, or its fault.
-pub fn put_tokens(alloc: Global, told: &mut Told, text: &[u8]) -> Result<()> {
+pub fn put_tokens(alloc: Global, told: &mut Told, text: &[u8]) {
     match tokens(alloc, text) {
-        Ok(tokens) => put_each(alloc, told, tokens.as_slice()),
-        Err(fault) => {
-            put_fault(told, &fault);
-            Ok(())
+        Ok(tokens) => {
+            for token in tokens.as_slice() {
+                put_token(alloc, told, token);
+            }
         }
+        Err(fault) => put_fault(told, &fault),
     }
-}
-
-fn put_each(alloc: Global, told: &mut Told, tokens: &[Token<'_>]) -> Result<()> {
-    for token in tokens {
-        put_token(alloc, told, token)?;
-    }
-    Ok(())
 }
 
 /// Puts where a token starts, its line and what it is: `10 2 symbol struct`. The bytes that a string stands for are
 /// put in hexadecimal.
-fn put_token(alloc: Global, told: &mut Told, token: &Token<'_>) -> Result<()> {
+fn put_token(alloc: Global, told: &mut Told, token: &Token<'_>) {
     told.number(token.start as i128);
     told.put(b" ");
     told.number(token.line.number() as i128);
@@ -41,23 +34,23 @@ fn put_token(alloc: Global, told: &mut Told, token: &Token<'_>) -> Result<()> {
             told.put(b" constant ");
             told.number(i128::from(number));
         }
-        Kind::String => put_string(alloc, told, token)?,
+        Kind::String => put_string(alloc, told, token),
         Kind::Symbol(symbol) => {
             told.put(b" symbol ");
             told.put(symbol.spelling());
         }
     }
     told.put(b"\n");
-    Ok(())
 }
 
 /// Puts the bytes that a string stands for.
-fn put_string(alloc: Global, told: &mut Told, token: &Token<'_>) -> Result<()> {
+fn put_string(alloc: Global, told: &mut Told, token: &Token<'_>) {
     told.put(b" string");
-    if let Some(value) = token.string(alloc)? {
-        put_hexadecimal(told, &value);
+    match token.string(alloc) {
+        Ok(Some(value)) => put_hexadecimal(told, &value),
+        Ok(None) => {}
+        Err(_) => told.needs(false),
     }
-    Ok(())
 }
 
 fn put_hexadecimal(told: &mut Told, bytes: &[u8]) {

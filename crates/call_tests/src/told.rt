@@ -1,7 +1,7 @@
 //! What comes of a row.
 
-use anyhow::{Result, bail};
 use std::alloc::Global;
+use std::fmt::Display;
 use std::io::Write;
 
 /// A text on its way. What puts something has one way out: that a growth was refused is told at the end.
@@ -40,16 +40,27 @@ impl Told {
         }
     }
 
+    /// Puts what is printed for something.
+    pub fn shown<T: Display>(&mut self, what: &T) {
+        let is_put = write!(self.text, "{what}").is_ok();
+        self.is_whole = self.is_whole && is_put;
+    }
+
     /// Puts whether something is so.
     pub fn answer(&mut self, is_so: bool) {
         self.put(if is_so { b"true" } else { b"false" });
     }
 
+    /// Takes note of what a row needs: a growth that is not refused, and words that are those of a row.
+    pub fn needs(&mut self, is_so: bool) {
+        self.is_whole = self.is_whole && is_so;
+    }
+
     /// The text, if it is whole.
-    pub fn bytes(&self) -> Result<&[u8]> {
-        if !self.is_whole {
-            bail!("no memory");
+    pub fn into_text(self) -> Option<Vec<u8>> {
+        match self.is_whole {
+            true => Some(self.text),
+            false => None,
         }
-        Ok(&self.text)
     }
 }

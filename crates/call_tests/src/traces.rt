@@ -2,32 +2,37 @@
 //!
 //! - `event NUMBER NAME CONTEXT FIELDS` is an event class: its number, its name, its context and its fields, whose class is
 //!   named as `classes` says.
-//! - `stream NUMBER PACKET HEADER CONTEXT EVENTS EVENT` is a stream class with event classes of these numbers: its packet
-//!   context, its event header and its event context, the name of the event class of the number, the runs of that one's plan,
-//!   and the number of the only event class.
+//! - `stream NUMBER PACKET HEADER CONTEXT EVENTS EVENT` is a stream class with event classes of these numbers: its number, its
+//!   packet context, its event header and its event context, then the event class of the number and the only one, each with
+//!   its plan, as `plans` has it.
 //! - `trace HOST HEADER NUMBERS STREAM` is a trace class with stream classes of these numbers: its host, its packet header,
-//!   the event header of the stream class of the number, and that of the only stream class.
+//!   the stream class of the number and the only one.
+//!
+//! A class stands in a list, whose drop is a call.
 
-use crate::classes::{class, integer, members_of};
+use crate::classes::{class, integer, members_of, put_class};
+use crate::plans::put_runs;
 use crate::told::Told;
 use crate::words::Words;
-use anyhow::{Result, bail};
 use ctf_class::{
-    Align, Class, EventClass, Heading, Indexed, Kind, Member, PlannedEvent, StreamClass, TraceClass,
+    Align, Class, EventClass, HasId, Heading, Indexed, Member, PlannedEvent, StreamClass,
+    TraceClass,
 };
-use ctf_list::{List, NoMemory};
+use ctf_list::List;
 use std::alloc::Global;
 
 /// The fields of the event classes of streams.
 const FIELDS: &str = "integer:8:8 struct:8:1";
 
-/// Puts what comes of a row.
-pub fn put_row(alloc: Global, told: &mut Told, kind: &str, words: &mut Words<'_>) -> Result<()> {
+/// Puts what comes of a row of classes, and answers whether it is one.
+pub fn put_row(alloc: Global, told: &mut Told, kind: &str, words: &mut Words<'_>) -> Option<bool> {
     match kind {
-        "event" => put_event_row(alloc, told, words),
-        "stream" => put_stream_row(alloc, told, words),
-        _ => put_trace_row(alloc, told, words),
+        "event" => put_event_row(alloc, told, words)?,
+        "stream" => put_stream_row(alloc, told, words)?,
+        "trace" => put_trace_row(alloc, told, words)?,
+        _ => return Some(false),
     }
+    Some(true)
 }
 
 /// The class of an integer of so many bits.
@@ -38,39 +43,20 @@ fn scope(bits: u32) -> Option<Class> {
 /// Puts what a scope is, behind a space.
 fn put_scope(told: &mut Told, scope: Option<&Class>) {
     match scope {
-        Some(class) => put_kind(told, &class.kind),
+        Some(class) => put_class(told, class),
         None => told.put(b" none"),
     }
 }
 
-fn put_kind(told: &mut Told, kind: &Kind) {
-    match kind {
-        Kind::Integer(integer) => {
-            told.put(b" ");
-            told.number(i128::from(integer.size.bits()));
-            told.put(b" bits");
-        }
-        Kind::Structure { members } => {
-            told.put(b" ");
-            told.number(members.len() as i128);
-            told.put(b" members");
-        }
-        _ => told.put(b" another class"),
-    }
-}
-
 /// Puts an event class.
-fn put_event_row(alloc: Global, told: &mut Told, words: &mut Words<'_>) -> Result<()> {
-    put_event(told, &event_named(alloc, words)?);
-    Ok(())
-}
-
-/// The event class that words name.
-fn event_named(alloc: Global, words: &mut Words<'_>) -> Result<EventClass> {
-    let number = words.long()?;
+fn put_event_row(alloc: Global, told: &mut Told, words: &mut Words<'_>) -> Option<()> {
+    let number = words.long();
     let name = words.word();
-    let context = words.number()?;
-    event_of(alloc, number, name, context, words.rest())
+    let context = words.number();
+    let mut events = Vec::new(alloc);
+    add_event(alloc, &mut events, number, name, context, words.rest())?;
+    put_event(told, events.first()?);
+    Some(())
 }
 
 fn put_event(told: &mut Told, event: &EventClass) {
@@ -81,75 +67,78 @@ fn put_event(told: &mut Told, event: &EventClass) {
     put_scope(told, Some(event.fields()));
 }
 
-fn event_of(alloc: Global, id: u64, name: &str, context: u32, words: &str) -> Result<EventClass> {
-    let heading = heading_of(alloc, name)?;
-    Ok(EventClass {
+/// Adds an event class whose fields have the class that words name.
+fn add_event(
+    alloc: Global,
+    events: &mut Vec<EventClass>,
+    id: u64,
+    name: &str,
+    context: u32,
+    words: &str,
+) -> Option<()> {
+    let mut members = members_of(alloc, words)?;
+    let name = List::from_slice(alloc, name.as_bytes()).ok()?;
+    let heading = Heading::new(alloc, None, name).ok()?;
+    let Member { name: _, class } = members.pop()?;
+    let event = EventClass {
         id,
         heading,
         context: scope(context),
-        fields: fields_of(alloc, words)?,
-    })
+        fields: class,
+    };
+    events.push(event).ok()
 }
 
-fn heading_of(alloc: Global, name: &str) -> Result<Heading, NoMemory> {
-    let name = List::from_slice(alloc, name.as_bytes())?;
-    Heading::new(alloc, None, name)
+/// Puts a stream class, and event classes of it.
+fn put_stream_row(alloc: Global, told: &mut Told, words: &mut Words<'_>) -> Option<()> {
+    let id = words.long();
+    let scopes = [words.number(), words.number(), words.number()];
+    let mut streams = Vec::new(alloc);
+    add_stream(alloc, &mut streams, id, scopes, words.word())?;
+    let stream = streams.first()?;
+    let number = words.long();
+    put_stream(told, stream);
+    put_planned(
+        told,
+        b", event ",
+        stream.event(number),
+        stream.planned(number),
+    );
+    put_planned(told, b", only event ", stream.only(), stream.planned_only());
+    Some(())
 }
 
-/// The class that words name.
-fn fields_of(alloc: Global, words: &str) -> Result<Class> {
-    match members_of(alloc, words)?.pop() {
-        Some(Member { name: _, class }) => Ok(class),
-        None => bail!("no class"),
-    }
-}
-
-/// Puts a stream class.
-fn put_stream_row(alloc: Global, told: &mut Told, words: &mut Words<'_>) -> Result<()> {
-    let stream = stream_named(alloc, words)?;
-    put_stream(told, &stream, words.long()?);
-    Ok(())
-}
-
-/// The stream class that words name.
-fn stream_named(alloc: Global, words: &mut Words<'_>) -> Result<StreamClass> {
-    let number = words.long()?;
-    let scopes = scopes_of(words)?;
-    stream_of(alloc, number, scopes, words.word())
-}
-
-/// The bits of three scopes.
-fn scopes_of(words: &mut Words<'_>) -> Result<[u32; 3]> {
-    Ok([words.number()?, words.number()?, words.number()?])
-}
-
-fn stream_of(alloc: Global, id: u64, scopes: [u32; 3], events: &str) -> Result<StreamClass> {
-    let events = Indexed::new(alloc, List::from_vec(events_of(alloc, events)?))?;
+/// Adds a stream class with event classes of these numbers.
+fn add_stream(
+    alloc: Global,
+    streams: &mut Vec<StreamClass>,
+    id: u64,
+    scopes: [u32; 3],
+    numbers: &str,
+) -> Option<()> {
     let [packet, header, context] = scopes;
-    let (packet, header) = (scope(packet), scope(header));
-    Ok(StreamClass::new(alloc, id, packet, header, scope(context), None, events)?)
-}
-
-/// Event classes of these numbers.
-fn events_of(alloc: Global, numbers: &str) -> Result<Vec<EventClass>> {
     let mut events = Vec::new(alloc);
     if numbers != "-" {
         for number in numbers.split(',') {
-            put_tick(alloc, &mut events, number)?;
+            add_event(
+                alloc,
+                &mut events,
+                number.parse::<u64>().ok()?,
+                "tick",
+                0,
+                FIELDS,
+            )?;
         }
     }
-    Ok(events)
+    let events = Indexed::new(alloc, List::from_vec(events)).ok()?;
+    let (packet, header) = (scope(packet), scope(header));
+    let stream = StreamClass::new(alloc, id, packet, header, scope(context), None, events);
+    streams.push(stream.ok()?).ok()
 }
 
-/// Puts an event class of this number.
-fn put_tick(alloc: Global, events: &mut Vec<EventClass>, number: &str) -> Result<()> {
-    let number = number.parse::<u64>()?;
-    events.push(event_of(alloc, number, "tick", 0, FIELDS)?)?;
-    Ok(())
-}
-
-fn put_stream(told: &mut Told, stream: &StreamClass, event: u64) {
-    told.put(b"scopes");
+fn put_stream(told: &mut Told, stream: &StreamClass) {
+    told.number(i128::from(stream.id()));
+    told.put(b" scopes");
     put_scope(told, stream.packet_context());
     put_scope(told, stream.event_header());
     put_scope(told, stream.event_context());
@@ -158,89 +147,59 @@ fn put_stream(told: &mut Told, stream: &StreamClass, event: u64) {
     } else {
         b", no clock"
     });
-    put_found(told, stream, event);
-    put_only(told, stream);
 }
 
-/// Puts the event class of a number, and the runs of its plan.
-fn put_found(told: &mut Told, stream: &StreamClass, number: u64) {
-    if let Some(event) = stream.event(number) {
-        told.put(b", event ");
-        told.number(i128::from(event.id));
-        told.put(b" ");
-        told.put(event.name());
+/// Puts an event class, if there is one, and its plan.
+fn put_planned(
+    told: &mut Told,
+    lead: &[u8],
+    event: Option<&EventClass>,
+    planned: Option<PlannedEvent<'_>>,
+) {
+    if let Some(event) = event {
+        told.put(lead);
+        put_event(told, event);
     }
-    if let Some(planned) = stream.planned(number) {
-        put_runs(told, planned);
-    }
-}
-
-/// Puts the only event class.
-fn put_only(told: &mut Told, stream: &StreamClass) {
-    if let Some(event) = stream.only() {
-        told.put(b", only event ");
-        told.number(i128::from(event.id));
-    }
-    if let Some(planned) = stream.planned_only() {
-        put_runs(told, planned);
+    if let Some(planned) = planned {
+        told.put(b", plan ");
+        put_runs(told, planned.plan);
     }
 }
 
-fn put_runs(told: &mut Told, planned: PlannedEvent<'_>) {
-    told.put(b", ");
-    told.number(planned.plan.runs.len() as i128);
-    told.put(b" runs");
-}
-
-/// Puts a trace class.
-fn put_trace_row(alloc: Global, told: &mut Told, words: &mut Words<'_>) -> Result<()> {
-    let trace = trace_named(alloc, words)?;
-    put_trace(told, &trace, words.long()?);
-    Ok(())
-}
-
-/// The trace class that words name.
-fn trace_named(alloc: Global, words: &mut Words<'_>) -> Result<TraceClass> {
-    let host = words.word();
-    let header = words.number()?;
-    trace_of(alloc, host, header, words.word())
-}
-
-fn trace_of(alloc: Global, host: &str, header: u32, numbers: &str) -> Result<TraceClass> {
-    let streams = Indexed::new(alloc, List::from_vec(streams_of(alloc, numbers)?))?;
-    Ok(TraceClass {
+/// Puts a trace class, and stream classes of it.
+fn put_trace_row(alloc: Global, told: &mut Told, words: &mut Words<'_>) -> Option<()> {
+    let host = List::from_slice(alloc, words.word().as_bytes()).ok()?;
+    let header = words.number();
+    let mut streams = Vec::new(alloc);
+    for number in words.word().split(',') {
+        add_stream(
+            alloc,
+            &mut streams,
+            number.parse::<u64>().ok()?,
+            [32, 64, 0],
+            "-",
+        )?;
+    }
+    let streams = Indexed::new(alloc, List::from_vec(streams)).ok()?;
+    let trace = TraceClass {
         uuid: None,
-        host: Some(List::from_slice(alloc, host.as_bytes())?),
+        host: Some(host),
         packet_header: scope(header),
         streams,
-    })
-}
-
-/// Stream classes of these numbers.
-fn streams_of(alloc: Global, numbers: &str) -> Result<Vec<StreamClass>> {
-    let mut streams = Vec::new(alloc);
-    for number in numbers.split(',') {
-        put_empty(alloc, &mut streams, number)?;
-    }
-    Ok(streams)
-}
-
-/// Puts a stream class of this number.
-fn put_empty(alloc: Global, streams: &mut Vec<StreamClass>, number: &str) -> Result<()> {
-    let number = number.parse::<u64>()?;
-    streams.push(stream_of(alloc, number, [32, 64, 0], "-")?)?;
-    Ok(())
+    };
+    put_trace(told, &trace, words.long());
+    Some(())
 }
 
 fn put_trace(told: &mut Told, trace: &TraceClass, stream: u64) {
     told.put(trace.host().unwrap_or(b"-"));
     put_scope(told, trace.packet_header());
     if let Some(stream) = trace.stream(stream) {
-        told.put(b", stream");
-        put_scope(told, stream.event_header());
+        told.put(b", stream ");
+        put_stream(told, stream);
     }
     if let Some(stream) = trace.only() {
-        told.put(b", only stream");
-        put_scope(told, stream.event_header());
+        told.put(b", only stream ");
+        put_stream(told, stream);
     }
 }

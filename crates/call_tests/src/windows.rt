@@ -5,38 +5,34 @@
 
 use crate::told::Told;
 use crate::words::Words;
-use anyhow::{Result, bail};
 use ctf_bits::Window;
 use std::alloc::Global;
 
-/// Puts what comes of a row.
-pub fn put_row(alloc: Global, told: &mut Told, words: &mut Words<'_>) -> Result<()> {
-    let place = words.long()?;
-    let size = words.number()?;
-    let is_signed = words.word() == "i";
-    let first = words.count()?;
-    let bytes = hex::decode(alloc, words.word())?;
-    match window_of(place, size, is_signed) {
-        Some(window) => put_window(told, &window, &bytes, first),
-        None => {
-            told.put(b"none");
-            Ok(())
-        }
+/// Puts what comes of a row of windows, and answers whether it is one.
+pub fn put_row(alloc: Global, told: &mut Told, kind: &str, words: &mut Words<'_>) -> Option<bool> {
+    if kind != "window" {
+        return Some(false);
     }
-}
-
-fn window_of(place: u64, size: u32, is_signed: bool) -> Option<Window> {
+    let place = words.long();
+    let size = words.number();
+    let is_signed = words.word() == "i";
+    let first = words.count();
+    let bytes = hex::decode(alloc, words.word()).ok()?;
     if size == 0 || size > 64 {
         return None;
     }
-    Window::new(place, size, is_signed)
+    match Window::new(place, size, is_signed) {
+        Some(window) => put_window(told, &window, &bytes, first),
+        None => told.put(b"none"),
+    }
+    Some(true)
 }
 
-/// Puts a window, and its number behind the first bytes.
-fn put_window(told: &mut Told, window: &Window, bytes: &[u8], first: usize) -> Result<()> {
+/// Puts a window, and its number behind the first bytes, if there are enough.
+fn put_window(told: &mut Told, window: &Window, bytes: &[u8], first: usize) {
     let place = window.place();
     if place > 1 << 32 || first as u128 + u128::from(place) / 8 + 8 > bytes.len() as u128 {
-        bail!("too few bytes");
+        return;
     }
     told.number(i128::from(place));
     told.put(b"..");
@@ -48,5 +44,4 @@ fn put_window(told: &mut Told, window: &Window, bytes: &[u8], first: usize) -> R
     }
     told.put(b", ");
     told.number(i128::from(window.signed(bytes, first)));
-    Ok(())
 }

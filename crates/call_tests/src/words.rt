@@ -1,17 +1,20 @@
 //! The words of a row.
 
-use anyhow::Result;
-
 /// Words with one space between them, from the first that is not taken on.
 #[derive(Clone, Copy)]
 pub struct Words<'a> {
     rest: &'a str,
+    /// Whether a word was no number where one was wanted.
+    is_bad: bool,
 }
 
 impl<'a> Words<'a> {
     /// The words of a row.
     pub fn new(row: &'a str) -> Words<'a> {
-        Words { rest: row }
+        Words {
+            rest: row,
+            is_bad: false,
+        }
     }
 
     /// The next word, which is empty where none is left.
@@ -26,28 +29,43 @@ impl<'a> Words<'a> {
         self.rest
     }
 
+    /// Whether each word that was taken as a number is one. In the place of another word stands 0.
+    pub fn are_good(&self) -> bool {
+        !self.is_bad
+    }
+
     /// The next word as a number of 64 bits.
-    pub fn long(&mut self) -> Result<u64> {
-        Ok(self.word().parse::<u64>()?)
+    pub fn long(&mut self) -> u64 {
+        let number = self.word().parse::<u64>().ok();
+        self.is_bad = self.is_bad || number.is_none();
+        number.unwrap_or(0)
     }
 
     /// The next word as a number of 32 bits.
-    pub fn number(&mut self) -> Result<u32> {
-        Ok(self.word().parse::<u32>()?)
+    pub fn number(&mut self) -> u32 {
+        let number = self.word().parse::<u32>().ok();
+        self.is_bad = self.is_bad || number.is_none();
+        number.unwrap_or(0)
     }
 
     /// The next word as a count of what is in memory.
-    pub fn count(&mut self) -> Result<usize> {
-        Ok(self.word().parse::<usize>()?)
+    pub fn count(&mut self) -> usize {
+        let number = self.word().parse::<usize>().ok();
+        self.is_bad = self.is_bad || number.is_none();
+        number.unwrap_or(0)
     }
 
     /// The next word as a number that may be below zero.
-    pub fn signed(&mut self) -> Result<i128> {
-        Ok(self.word().parse::<i128>()?)
+    pub fn signed(&mut self) -> i128 {
+        let number = self.word().parse::<i128>().ok();
+        self.is_bad = self.is_bad || number.is_none();
+        number.unwrap_or(0)
     }
 
     /// The next word as a time, in nanoseconds.
-    pub fn time(&mut self) -> Result<i64> {
-        Ok(self.word().parse::<i64>()?)
+    pub fn time(&mut self) -> i64 {
+        let number = self.word().parse::<i64>().ok();
+        self.is_bad = self.is_bad || number.is_none();
+        number.unwrap_or(0)
     }
 }

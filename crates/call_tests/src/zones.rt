@@ -5,27 +5,29 @@
 
 use crate::told::Told;
 use crate::words::Words;
-use anyhow::Result;
 use ctf_stamp::{Zone, ZoneFault};
 use jiff::civil::DateTime;
 use std::alloc::Global;
 
-/// Puts what comes of a row.
-pub fn put_row(alloc: Global, told: &mut Told, kind: &str, words: &mut Words<'_>) -> Result<()> {
+/// Puts what comes of a row of zones, and answers whether it is one.
+pub fn put_row(alloc: Global, told: &mut Told, kind: &str, words: &mut Words<'_>) -> Option<bool> {
     match kind {
-        "zone" => {
-            told.put(answer_of(alloc, words.word()));
-            Ok(())
+        "zone" => told.put(answer_of(alloc, words.word())),
+        "instant" => {
+            let zone = zone_of(alloc, words.word())?;
+            let instant = zone.instant(alloc, civil_of(words)?).ok()?;
+            told.optional(instant.map(i128::from));
         }
-        _ => put_instant_row(alloc, told, words),
+        _ => return Some(false),
     }
+    Some(true)
 }
 
 /// The zone that a word names.
-pub fn zone_of(alloc: Global, word: &str) -> Result<Zone> {
+pub fn zone_of(alloc: Global, word: &str) -> Option<Zone> {
     match word {
-        "utc" => Ok(Zone::utc()),
-        _ => Ok(Zone::rule(alloc, word)?),
+        "utc" => Some(Zone::utc()),
+        _ => Zone::rule(alloc, word).ok(),
     }
 }
 
@@ -38,24 +40,16 @@ fn answer_of(alloc: Global, text: &str) -> &'static [u8] {
     }
 }
 
-/// Puts the instant of a civil time.
-fn put_instant_row(alloc: Global, told: &mut Told, words: &mut Words<'_>) -> Result<()> {
-    let zone = zone_of(alloc, words.word())?;
-    let civil = civil_of(words)?;
-    told.optional(zone.instant(alloc, civil)?.map(i128::from));
-    Ok(())
-}
-
 /// The civil time that words name.
-fn civil_of(words: &mut Words<'_>) -> Result<DateTime> {
-    let year = words.word().parse::<i16>()?;
+fn civil_of(words: &mut Words<'_>) -> Option<DateTime> {
+    let year = words.word().parse::<i16>().ok()?;
     let month = part_of(words)?;
     let day = part_of(words)?;
     let hour = part_of(words)?;
     let minute = part_of(words)?;
-    Ok(DateTime::new(year, month, day, hour, minute, 0, 0)?)
+    DateTime::new(year, month, day, hour, minute, 0, 0).ok()
 }
 
-fn part_of(words: &mut Words<'_>) -> Result<i8> {
-    Ok(words.word().parse::<i8>()?)
+fn part_of(words: &mut Words<'_>) -> Option<i8> {
+    words.word().parse::<i8>().ok()
 }

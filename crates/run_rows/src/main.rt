@@ -1,38 +1,42 @@
-//! Prints what small rows of several kinds come to: runs over traces, sessions, readers and merges of streams, and values.
+//! Prints what small rows come to: runs over traces, and sessions.
 //!
-//! Each word of the command line names a table in `data/`, whose rows are of one kind: `runs` (`run.rt`), `sessions`
-//! (`session.rt`), `readers` (`reader.rt`), `merges` (`merge.rt`), and `places` and `texts` (`value.rt`). The other files are
+//! Each word of the command line names a table in `data/`: `runs` (`run.rt`) or `sessions` (`session.rt`). The other files are
 //! metadata and streams. A line that begins with `#` is a comment, each other line is a row. What comes of each is written
 //! down in `stdout`, from the rules of the format, of runs and of the layout.
+//!
+//! What costs is where a value is dropped. So what puts something owns little and answers nothing; what is refused memory,
+//! and a row that is none, answers `None`, and is told by the status of the program.
 #![tactic(auto)]
 
 mod bytes;
 mod manner;
-mod merge;
-mod reader;
-mod reading;
 mod run;
 mod session;
+mod sink;
 mod source;
-mod value;
+mod told;
 
 use anyhow::{Result, bail};
+use std::io::Write;
 use std::rt::Files;
-use std::{env, fs};
+use std::{env, fs, io};
+use told::Told;
 
 fn main(rt: HostRuntime) -> Result<()> {
     for table in env::args(&rt)?.skip(1) {
-        print_table(&rt, table.as_str())?;
+        print_rows(&rt, table.as_str())?;
     }
     Ok(())
 }
 
 /// Prints each row of a table, and what comes of it.
-fn print_table<R: Files + Print + AllocGlobal>(rt: &R, table: &str) -> Result<()> {
+fn print_rows<R: Files + Print + AllocGlobal>(rt: &R, table: &str) -> Result<()> {
     let rows = fs::read_to_string(rt, table)?;
     for line in rows.lines().filter(|line| is_row(line)) {
-        println!(rt; "> {line}")?;
-        print_row(rt, table, line)?;
+        match row_text(rt, table, line) {
+            Some(text) => io::writer(rt).write_all(&text)?,
+            None => bail!("no row: {line}"),
+        }
     }
     Ok(())
 }
@@ -42,15 +46,14 @@ fn is_row(line: &str) -> bool {
     !line.is_empty() && !line.starts_with('#')
 }
 
-/// Prints what comes of a row.
-fn print_row<R: Files + Print + AllocGlobal>(rt: &R, table: &str, line: &str) -> Result<()> {
-    match table {
-        "runs" => run::print_row(rt, line),
-        "sessions" => session::print_row(rt, line),
-        "readers" => reader::print_row(rt, line),
-        "merges" => merge::print_row(rt, line),
-        "places" => value::print_row(rt, "places_metadata", line),
-        "texts" => value::print_row(rt, "texts_metadata", line),
-        _ => bail!("no table {table}"),
-    }
+/// A row, and what comes of it.
+fn row_text<R: Files + AllocGlobal>(rt: &R, table: &str, line: &str) -> Option<Vec<u8>> {
+    let mut told = Told::new(rt.alloc());
+    told.put_line(b"> ", line.as_bytes());
+    let is_row = match table {
+        "runs" => run::put_row(rt, &mut told, line),
+        _ => session::put_row(rt, &mut told, line),
+    };
+    told.needs(is_row.is_some());
+    told.into_text()
 }

@@ -4,36 +4,42 @@ ghost use Rattle.std.specs.Prelude.{[], false};
 ghost use Rattle.ctf_bits.specs.declared.source.Ending.TheVariants.{Clean};
 
 use crate::manner::Manner;
-use ctf_bits::{FailingSource, PieceSource, SliceSource, Source, SourceFault};
+use ctf_bits::{Source, SourceFault};
 
 /// Bytes that come as a row says it.
 #[derive(Drop)]
-pub enum RowSource<'a> {
-    Whole(SliceSource<'a>),
-    Drip(PieceSource<'a>),
-    Fail(FailingSource<'a>),
+pub struct RowSource {
+    bytes: Vec<u8>,
+    /// How many bytes it has given.
+    given: usize,
+    /// How many bytes it gives at a call, at the most.
+    piece: usize,
+    /// How many bytes it gives before it fails.
+    room: usize,
 }
 
-impl<'a> RowSource<'a> {
-    pub fn new(bytes: &'a [u8], manner: Manner) -> Self {
-        match manner {
-            Manner::Drip(count) => RowSource::Drip(PieceSource::new(bytes, count)),
-            Manner::Fail(count) => RowSource::Fail(FailingSource::new(bytes, count)),
-            Manner::Whole | Manner::Refuse(_) => RowSource::Whole(SliceSource::new(bytes)),
+impl RowSource {
+    pub fn new(bytes: Vec<u8>, manner: Manner) -> RowSource {
+        let (piece, room) = match manner {
+            Manner::Drip(count) => (count.max(1), usize::MAX),
+            Manner::Fail(count) => (usize::MAX, count.min(bytes.len())),
+            _ => (usize::MAX, usize::MAX),
+        };
+        RowSource {
+            bytes,
+            given: 0,
+            piece,
+            room,
         }
     }
 
     /// How many bytes it has given.
-    pub fn given(&self) -> u64 {
-        match self {
-            RowSource::Whole(source) => source.given(),
-            RowSource::Drip(source) => source.given(),
-            RowSource::Fail(source) => source.given(),
-        }
+    pub fn given(&self) -> usize {
+        self.given
     }
 }
 
-impl<'a> Source for RowSource<'a> {
+impl Source for RowSource {
     ghost tells = { λ _. false };
 
     ghost left = { λ _. [] };
@@ -41,10 +47,14 @@ impl<'a> Source for RowSource<'a> {
     ghost ending = { λ _. Clean };
 
     fn take(&mut self, buf: &mut [u8]) -> Result<usize, SourceFault> {
-        match self {
-            RowSource::Whole(source) => source.take(buf),
-            RowSource::Drip(source) => source.take(buf),
-            RowSource::Fail(source) => source.take(buf),
+        if self.room == 0 {
+            return Err(SourceFault::ReadFailed);
         }
+        let left = self.bytes.get(self.given..).unwrap_or(&[]);
+        let count = buf.len().min(left.len()).min(self.piece).min(self.room);
+        buf[..count].copy_from_slice(&left[..count]);
+        self.given = self.given.saturating_add(count);
+        self.room -= count;
+        Ok(count)
     }
 }

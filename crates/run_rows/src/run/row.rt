@@ -1,92 +1,109 @@
 //! Rows of the table.
 
-use crate::bytes::{bytes_of, stream_of};
-use crate::manner::{Manner, manner_of};
-use anyhow::{Result, bail};
+use crate::bytes::{add_stream, add_word, file_of};
+use crate::manner::{Manner, Manners, manners_of};
+use crate::run::Run;
+use crate::sink::RowSink;
+use crate::source::RowSource;
+use ctf_options::{Options, options_of};
+use ctf_run::{Trace, run};
 use std::alloc::Global;
 use std::rt::Files;
 
-/// What is run, and how.
-#[derive(Drop)]
-pub struct Row {
-    /// The words of the command line.
-    pub words: Vec<String>,
-    pub traces: Vec<RowTrace>,
-    pub input: Manner,
-    pub output: Manner,
-    pub messages: Manner,
+/// What comes of a run.
+pub fn run_of<R: Files + AllocGlobal>(rt: &R, line: &str) -> Option<Run> {
+    let manners = manners_of(line)?;
+    let words = words_of(rt.alloc(), line)?;
+    let traces = traces_of(rt, line, manners.input)?;
+    match options_of(rt.alloc(), &words) {
+        Ok(options) => Some(run_with(rt.alloc(), traces, &options, manners)),
+        Err(_) => None,
+    }
 }
 
-/// The metadata and the streams of a trace.
-#[derive(Drop)]
-pub struct RowTrace {
-    pub metadata: Vec<u8>,
-    pub streams: Vec<Vec<u8>>,
+/// Runs over traces.
+fn run_with(
+    alloc: Global,
+    traces: Vec<Trace<RowSource>>,
+    options: &Options,
+    manners: Manners,
+) -> Run {
+    let mut output = RowSink::new(alloc, manners.output);
+    let mut messages = RowSink::new(alloc, manners.messages);
+    let outcome = run(alloc, traces, options, &mut output, &mut messages);
+    Run {
+        output,
+        messages,
+        status: outcome.status(),
+        line: outcome.text(),
+    }
 }
 
-/// Reads a row.
-pub fn row_of<R: Files + AllocGlobal>(rt: &R, line: &str) -> Result<Row> {
-    let alloc = rt.alloc();
-    let mut row = Row {
-        words: Vec::new(alloc),
-        traces: Vec::new(alloc),
-        input: Manner::Whole,
-        output: Manner::Whole,
-        messages: Manner::Whole,
-    };
-    row.words.push(String::from_str(alloc, "bt-ctf")?)?;
+/// The words of the command line.
+fn words_of(alloc: Global, line: &str) -> Option<Vec<String>> {
+    let mut words = Vec::new(alloc);
+    add_word(alloc, &mut words, "bt-ctf")?;
     for word in line.split(' ') {
-        read_word(rt, &mut row, word)?;
+        if word.starts_with("--") {
+            add_word(alloc, &mut words, word)?;
+        } else if let Some((name, _)) = trace_in(word) {
+            add_word(alloc, &mut words, name)?;
+        }
     }
-    Ok(row)
+    Some(words)
 }
 
-/// Reads a word: an option, a manner, a trace or a stream.
-fn read_word<R: Files + AllocGlobal>(rt: &R, row: &mut Row, word: &str) -> Result<()> {
-    if word.starts_with("--") {
-        row.words.push(word.replace(rt.alloc(), "_", " ")?)?;
-        return Ok(());
+/// The name and the metadata of a trace that a word names.
+fn trace_in(word: &str) -> Option<(&str, &str)> {
+    match word.contains('=') {
+        true => None,
+        false => word.split_once(':'),
     }
-    if let Some((side, manner)) = word.split_once('=') {
-        return set_manner(row, side, manner_of(manner)?);
-    }
-    if let Some((name, metadata)) = word.split_once(':') {
-        row.words.push(String::from_str(rt.alloc(), name)?)?;
-        return add_trace(rt, &mut row.traces, metadata);
-    }
-    let Some(trace) = row.traces.last_mut() else {
-        bail!("no trace before {word}");
-    };
-    trace.streams.push(stream_of(rt, word)?)?;
-    Ok(())
 }
 
-/// Adds a trace with the metadata in a file; none for `-`.
+/// The traces, whose streams give their bytes in this manner.
+fn traces_of<R: Files + AllocGlobal>(
+    rt: &R,
+    line: &str,
+    manner: Manner,
+) -> Option<Vec<Trace<RowSource>>> {
+    let mut traces = Vec::new(rt.alloc());
+    for word in line.split(' ') {
+        if !word.starts_with("--") {
+            add_part(rt, &mut traces, word, manner)?;
+        }
+    }
+    Some(traces)
+}
+
+/// Adds the trace or the stream that a word names.
+fn add_part<R: Files + AllocGlobal>(
+    rt: &R,
+    traces: &mut Vec<Trace<RowSource>>,
+    word: &str,
+    manner: Manner,
+) -> Option<()> {
+    match trace_in(word) {
+        Some((_, "-")) => Some(()),
+        Some((name, metadata)) => add_trace(rt, traces, name, metadata),
+        None if word.contains('=') => Some(()),
+        None => add_stream(rt, &mut traces.last_mut()?.streams, word, manner),
+    }
+}
+
+/// Adds a trace of this name with the metadata in a file.
 fn add_trace<R: Files + AllocGlobal>(
     rt: &R,
-    traces: &mut Vec<RowTrace>,
+    traces: &mut Vec<Trace<RowSource>>,
+    name: &str,
     metadata: &str,
-) -> Result<()> {
-    if metadata != "-" {
-        traces.push(RowTrace {
-            metadata: bytes_of(rt, metadata)?,
-            streams: Vec::new(rt.alloc()),
-        })?;
-    }
-    Ok(())
-}
-
-/// Sets how bytes are given or taken on a side.
-fn set_manner(row: &mut Row, side: &str, manner: Manner) -> Result<()> {
-    match side {
-        "in" => row.input = manner,
-        "out" => row.output = manner,
-        "err" => row.messages = manner,
-        "both" => {
-            row.output = manner;
-            row.messages = manner;
-        }
-        _ => bail!("no side {side}"),
-    }
-    Ok(())
+) -> Option<()> {
+    let metadata = file_of(rt, metadata)?;
+    let name = String::from_str(rt.alloc(), name).ok()?;
+    let trace = Trace {
+        name,
+        metadata,
+        streams: Vec::new(rt.alloc()),
+    };
+    traces.push(trace).ok()
 }

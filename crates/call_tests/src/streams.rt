@@ -1,0 +1,66 @@
+//! Readers and merges of streams, call by call.
+//!
+//! A row has words with one space between them: a file of metadata, and then
+//!
+//! - hexadecimal digits, the bytes of a stream, `-` for none, or `@FILE`, those of a file. A file stands without its last
+//!   bytes behind `-`, with others behind them behind `+`, and with others at a place behind `@`,
+//! - `on`, `next` and `leave`, at most three calls that are made, `go_on`, `next` and of a merge `leave`, which is `go_on`
+//!   where no item comes first; the last one, or `on`, is made again up to the end or the fault, and once more behind that,
+//! - `in=drip:N`, where a source gives at most N bytes at a call, or `in=fail:N`, where it gives N bytes and then fails,
+//! - `shift=N`, nanoseconds that are added to each time,
+//! - `writing`, where event records are read as texts,
+//! - `values` and `part`, where those of an event record are shown: the values of its scopes, as `value/words.rt` has them, or
+//!   the text that the lines of its packet share.
+//!
+//! **Readers.** Each stream has a reader. Behind a row stand for each the name of the stream and then what each call tells,
+//! `gives` for what is given by value, each behind `GIVEN/HELD`: how many bytes the source has given and the reader holds. A
+//! moment is `CYCLES/TIME`, `-` where there is none. Where all bytes came at one call, a last line names the lengths of
+//! pieces in which they were given again and came to the same.
+//!
+//! **Merges.** Behind a row stands what comes first: a stream's number and the line of its item, a fault and the number of
+//! its stream, or the end. Then stand, for each call, what it gives by value, and what comes first behind it. Lines are those
+//! behind an event record at the epoch.
+
+mod bytes;
+mod items;
+mod merging;
+mod reading;
+mod row;
+
+use crate::told::Told;
+use bytes::{file_of, streams_of};
+use ctf_class::TraceClass;
+use ctf_load::load;
+use row::{Asked, asked_of};
+use std::rt::Files;
+
+/// Puts what the readers or the merge of a row do.
+pub fn put_row<R: Files + AllocGlobal>(
+    rt: &R,
+    told: &mut Told,
+    table: &str,
+    line: &str,
+) -> Option<()> {
+    let (metadata, words) = line.split_once(' ').unwrap_or((line, ""));
+    let metadata = file_of(rt, metadata)?;
+    match load(rt.alloc(), &metadata) {
+        Ok(trace) => put_streams(rt, told, table, &trace, words),
+        Err(_) => None,
+    }
+}
+
+/// Puts what the readers or the merge of the streams of a trace do.
+fn put_streams<R: Files + AllocGlobal>(
+    rt: &R,
+    told: &mut Told,
+    table: &str,
+    trace: &TraceClass,
+    words: &str,
+) -> Option<()> {
+    let asked = asked_of(words)?;
+    let streams = streams_of(rt, words)?;
+    match table {
+        "readers" => reading::put_readers(rt.alloc(), told, trace, &asked, &streams),
+        _ => merging::put_merge(rt.alloc(), told, trace, &asked, streams),
+    }
+}
