@@ -69,20 +69,14 @@ impl<'r> Event<'r> {
     pub fn time(&self) -> Option<i64>
         ensures { result ≡ option_map (λ m. m.time) self.now.moment }
     {
-        match self.moment {
-            None => None,
-            Some(moment) => Some(moment.time),
-        }
+        time_of(self.moment)
     }
 
     /// The value of the clock, in cycles.
     pub fn cycles(&self) -> Option<u64>
         ensures { result ≡ option_map (λ m. m.cycles) self.now.moment }
     {
-        match self.moment {
-            None => None,
-            Some(moment) => Some(moment.cycles),
-        }
+        cycles_of(self.moment)
     }
 
     /// The value of a scope, if it has a class.
@@ -98,19 +92,33 @@ impl<'r> Gap<'r> {
     pub fn time(&self) -> Option<i64>
         ensures { result ≡ option_map (λ m. m.time) self.now.moment }
     {
-        match self.moment {
-            None => None,
-            Some(moment) => Some(moment.time),
-        }
+        time_of(self.moment)
     }
 
     /// The value of the clock there, in cycles.
     pub fn cycles(&self) -> Option<u64>
         ensures { result ≡ option_map (λ m. m.cycles) self.now.moment }
     {
-        match self.moment {
-            None => None,
-            Some(moment) => Some(moment.cycles),
-        }
+        cycles_of(self.moment)
+    }
+}
+
+/// The time of a moment, in nanoseconds since the epoch.
+fn time_of(moment: Option<Moment>) -> Option<i64>
+    ensures { result ≡ option_map (λ m. m.time) moment }
+{
+    match moment {
+        None => None,
+        Some(moment) => Some(moment.time),
+    }
+}
+
+/// The cycles of a moment.
+fn cycles_of(moment: Option<Moment>) -> Option<u64>
+    ensures { result ≡ option_map (λ m. m.cycles) moment }
+{
+    match moment {
+        None => None,
+        Some(moment) => Some(moment.cycles),
     }
 }
