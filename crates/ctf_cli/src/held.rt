@@ -1,9 +1,12 @@
 //! Bytes that are held back.
 
-ghost use Rattle.std.specs.Prelude.{◌≡◌, ◌+◌, ◌++◌, ◌≤◌, [], length, take, drop, IfOk};
+ghost use Rattle.std.specs.Prelude.{◌≡◌, ◌+◌, ◌++◌, ◌<◌, ◌≤◌, [], length, take, drop, IfOk, OnOk, OnErr};
+ghost use Rattle.std.specs.Io.KnownBytes.{Consumes, Keeps, IsAtEnd};
 
+use crate::interrupts::read_uninterrupted;
 use ctf_list::NoMemory;
 use std::alloc::Global;
+use std::io::{self, Read};
 use std::marker::Model;
 
 /// Bytes that are held back, and passed on in their order. Contracts see them, and how many more may be held.
@@ -29,6 +32,17 @@ impl Model for Held {
 }
 
 impl Held {
+    /// Holds nothing, and has no room. No memory is taken.
+    pub(crate) fn none(alloc: Global) -> Held
+        ensures { result.bytes ≡ [] }
+    {
+        Held {
+            room: Vec::new(alloc),
+            begin: 0,
+            end: 0,
+        }
+    }
+
     /// Holds nothing, and so many bytes at the most.
     pub(crate) fn new(alloc: Global, most: usize) -> Result<Held, NoMemory>
         ensures bytes { IfOk result (λ held. held.bytes ≡ []) }
@@ -69,6 +83,22 @@ impl Held {
     {
         put_bytes(bytes, &mut self.room, self.end);
         self.end += bytes.len();
+    }
+
+    /// Holds what a reader gives at once, as many bytes as there is room for, where nothing is held. How many.
+    pub(crate) fn fill<R: Read>(&mut self, reader: &mut R) -> io::Result<usize>
+        requires nothing { self.old.bytes ≡ [] }
+        requires room { 0 < self.old.room }
+        ensures count { IfOk result (λ count. length self.new.bytes ≡ count) }
+        ensures bytes { OnOk result (Consumes (R.remaining reader.old) (R.remaining reader.new) self.new.bytes) }
+        ensures end { OnOk result (self.new.bytes ≡ [] → IsAtEnd (R.remaining reader.new)) }
+        ensures failed { OnErr result (Keeps (R.remaining reader.old) (R.remaining reader.new)) }
+        ensures none { OnErr result (self.new.bytes ≡ []) }
+    {
+        self.begin = 0;
+        self.end = 0;
+        self.end = read_uninterrupted(reader, &mut self.room)?;
+        Ok(self.end)
     }
 
     /// Leaves the first bytes, so many, to others. There is room for others once nothing is held.

@@ -4,9 +4,11 @@
 mod disk;
 mod folders;
 mod held;
+mod interrupts;
 mod log_writer;
 mod opening;
 mod printing;
+mod read_ahead;
 mod runtime;
 
 pub use ctf_bits::{FromRead, Sink, SliceSource, Source, ToWrite, VecSink};

@@ -1,7 +1,6 @@
 //! A log that is held back in a buffer in front of a writer.
 
 ghost use Rattle.std.specs.Prelude.{◌≡◌, ◌<◌, ◌≤◌, IfOk, IfErr, OnOk, [], true, is_some, unwrap_or, IsTrue, length};
-ghost use Rattle.std.specs.Io.Buffered.{writer_inner};
 ghost use Rattle.std.specs.Io.KnownBytes.{Keeps, WriteAppends};
 ghost use Rattle.ctf_bits.specs.Count.{one_more};
 ghost use Rattle.ctf_bits.specs.Putting.{failures_after};
@@ -9,17 +8,17 @@ ghost use Rattle.ctf_session.specs.Putting.{failures_put};
 ghost use Rattle.ctf_cli.specs.LogWriters.{writer_of, failures_of, log_contents};
 
 use crate::held::Held;
+use crate::interrupts::Retrying;
 use ctf_bits::{Sink, SinkFault};
 use ctf_list::NoMemory;
 use ctf_run::Log;
 use std::alloc::Global;
-use std::io::{BufWriter, Write};
+use std::io::Write;
 
 /// A buffer in front of a writer. It tells its bytes where the writer does. An error of the writer is a failure.
 #[derive(Drop)]
 pub struct LogWriter<O: Write + Drop> {
-    /// Holds nothing back, but tries again what was interrupted.
-    writer: BufWriter<O>,
+    writer: Retrying<O>,
     /// What stands in front of the writer. Mostly a line is only copied there.
     held: Held,
     failures: u64,
@@ -33,20 +32,16 @@ impl<O: Write + Drop> LogWriter<O> {
         ensures failures { IfOk result (λ log. ⟦<LogWriter<O> as Sink>⟧.failures log ≡ 0) }
         ensures settled { IfOk result (λ log. IsTrue (⟦<LogWriter<O> as Log>⟧.settled log)) }
     {
-        let held = Held::new(alloc, held)?;
-        match BufWriter::with_capacity(alloc, 0, writer) {
-            Ok(writer) => Ok(LogWriter {
-                writer,
-                held,
-                failures: 0,
-            }),
-            Err(_refused) => Err(NoMemory),
-        }
+        Ok(LogWriter {
+            writer: Retrying::new(writer),
+            held: Held::new(alloc, held)?,
+            failures: 0,
+        })
     }
 
     /// Drops what is still held back: nothing is written after a failure.
     pub fn close(self) -> O
-        ensures as_it_was { result ≡ writer_inner (writer_of self) }
+        ensures as_it_was { result ≡ writer_of self }
         ensures settled { IsTrue (⟦<LogWriter<O> as Log>⟧.settled self) → unwrap_or (O.contents result) [] ≡ ⟦<LogWriter<O> as Sink>⟧.accepted self }
     {
         let LogWriter {
@@ -54,8 +49,7 @@ impl<O: Write + Drop> LogWriter<O> {
             held: _,
             failures: _,
         } = self;
-        let (writer, _held) = writer.into_parts();
-        writer
+        writer.into_inner()
     }
 
     /// Passes on what is held back. What was not taken is held on after a fault.

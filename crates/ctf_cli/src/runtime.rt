@@ -3,10 +3,12 @@
 ghost use Rattle.std.specs.Prelude.{◌≡◌, ◌⊎◌};
 
 use crate::disk::Disk;
+use crate::interrupts::Retrying;
 use crate::log_writer::LogWriter;
 use crate::printing::{program, say};
 use ctf_bits::ToWrite;
 use ctf_options::Usage;
+use std::cell::Cell;
 use std::env;
 use std::io::{ErrorKind, Write};
 use std::rt::{Env, Files};
@@ -22,7 +24,7 @@ where
     E: Write + Drop,
     ensures status { (result ≡ 0) ⊎ (result ≡ 1) }
 {
-    let mut messages = ToWrite::new(err);
+    let mut messages = ToWrite::new(Retrying::new(err));
     let words = match words(rt) {
         Ok(words) => words,
         Err(usage) => return say(usage.text(), &mut messages),
@@ -31,7 +33,9 @@ where
     let Ok(mut log) = LogWriter::new(rt.alloc(), held, out) else {
         return say(Usage::NoMemory.text(), &mut messages);
     };
-    let status = program(rt.alloc(), &words, &Disk::new(rt), &mut log, &mut messages);
+    let opened = Cell::new(0usize);
+    let disk = Disk::reading_ahead(rt, &opened);
+    let status = program(rt.alloc(), &words, &disk, &mut log, &mut messages);
     let _ = log.close();
     status
 }

@@ -1,9 +1,8 @@
 use Rattle.std.proofs.Common.{unwrap_or, [], ap, ◌∙◌}
-use Rattle.std.specs.Io.Buffered.{writer_buffer}
 use Rattle.ctf_cli.proofs.Settled.{all_passed}
 use Rattle.ctf_cli.proofs.log_writer.LogWriter.close.Goals as goal
 
 pub returns-clause-settled : goal.returns-clause-settled
 returns-clause-settled g c = λ nothing.
     let log = c.args.self in
-    ap (λ inner. unwrap_or (g.O.Write.contents inner) []) c.into_parts-writer.ensures.inner ∙ all_passed (g.O.Write.contents log.writer.inner) (writer_buffer log.writer) log.held.bytes nothing
+    ap (λ inner. unwrap_or (g.O.Write.contents inner) []) c.into_inner.ensures ∙ all_passed (g.O.Write.contents log.writer) log.held.bytes nothing

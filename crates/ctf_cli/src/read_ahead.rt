@@ -1,0 +1,132 @@
+//! Bytes that are read before they are asked for.
+
+ghost use Rattle.std.specs.Prelude.{◌≡◌, ◌<◌, ◌≤◌, [], ◌++◌, length, take, OnOk, OnErr};
+ghost use Rattle.std.specs.Io.{ReadsAtMost};
+ghost use Rattle.std.specs.Io.KnownBytes.{ReadConsumes, Consumes, Keeps, IsAtEnd, prepend_known};
+
+use crate::held::Held;
+use crate::interrupts::read_uninterrupted;
+use std::alloc::Global;
+use std::io::{self, Read};
+
+/// A read of so many bytes is no small one.
+const LARGE: usize = 8_192;
+
+/// The least room that is worth having.
+const LEAST: usize = 512;
+
+/// One part in so many of what small reads gave is read ahead.
+const PART: usize = 4;
+
+/// Bytes of a reader that are held until they are asked for. There is no room for any until small reads come, and none
+/// again behind a large one and at the end.
+#[derive(Drop)]
+pub(crate) struct ReadAhead {
+    alloc: Global,
+    held: Held,
+    /// How many bytes small reads gave since there was no room.
+    small: usize,
+}
+
+impl ReadAhead {
+    /// Holds nothing, and takes no memory.
+    pub(crate) fn new(alloc: Global) -> ReadAhead
+        ensures { result.held.bytes ≡ [] }
+    {
+        ReadAhead {
+            alloc,
+            held: Held::none(alloc),
+            small: 0,
+        }
+    }
+
+    /// Gives the next bytes: those that are held, or else of the reader behind them. Of that so many more may be held.
+    pub(crate) fn read<R: Read>(
+        &mut self,
+        reader: &mut R,
+        most: usize,
+        buf: &mut [u8],
+    ) -> io::Result<usize>
+        requires { 0 < length buf.old }
+        ensures bound { ReadsAtMost result buf.new }
+        ensures bytes { ReadConsumes (prepend_known self.old.held.bytes (R.remaining reader.old)) (prepend_known self.new.held.bytes (R.remaining reader.new)) result buf.new }
+    {
+        if !self.held.as_slice().is_empty() {
+            return Ok(give(&mut self.held, buf));
+        }
+        if buf.len() >= LARGE {
+            self.give_back();
+            return read_uninterrupted(reader, buf);
+        }
+        self.grow(most);
+        if self.held.room() <= buf.len() {
+            return self.read_past(reader, buf);
+        }
+        self.fill(reader)?;
+        Ok(give(&mut self.held, buf))
+    }
+
+    /// Reads past the room, where nothing is held.
+    fn read_past<R: Read>(&mut self, reader: &mut R, buf: &mut [u8]) -> io::Result<usize>
+        ensures held { self.new.held ≡ self.old.held }
+        ensures bound { ReadsAtMost result buf.new }
+        ensures bytes { ReadConsumes (R.remaining reader.old) (R.remaining reader.new) result buf.new }
+    {
+        let count = read_uninterrupted(reader, buf)?;
+        self.small = self.small.saturating_add(count);
+        Ok(count)
+    }
+
+    /// Reads into the room, where nothing is held. At the end it gives back the room.
+    fn fill<R: Read>(&mut self, reader: &mut R) -> io::Result<()>
+        requires nothing { self.old.held.bytes ≡ [] }
+        requires room { 0 < self.old.held.room }
+        ensures bytes { OnOk result (Consumes (R.remaining reader.old) (R.remaining reader.new) self.new.held.bytes) }
+        ensures end { OnOk result (self.new.held.bytes ≡ [] → IsAtEnd (R.remaining reader.new)) }
+        ensures failed { OnErr result (Keeps (R.remaining reader.old) (R.remaining reader.new)) }
+        ensures none { OnErr result (self.new.held.bytes ≡ []) }
+    {
+        let count = self.held.fill(reader)?;
+        self.small = self.small.saturating_add(count);
+        if count == 0 {
+            self.give_back();
+        }
+        Ok(())
+    }
+
+    /// Makes more room where small reads gave enough, and nothing is held.
+    fn grow(&mut self, most: usize)
+        requires { self.old.held.bytes ≡ [] }
+        ensures { self.new.held.bytes ≡ [] }
+    {
+        let wanted = (self.small / PART).min(most);
+        if wanted >= LEAST && wanted / 2 >= self.held.room() {
+            // Where memory is refused, less is read ahead.
+            if let Ok(held) = Held::new(self.alloc, wanted) {
+                self.held = held;
+            }
+        }
+    }
+
+    /// Gives back the room, where nothing is held.
+    fn give_back(&mut self)
+        ensures { self.new.held.bytes ≡ [] }
+    {
+        self.held = Held::none(self.alloc);
+        self.small = 0;
+    }
+}
+
+/// Gives the first of the bytes that are held, as many as go into the buffer. How many.
+fn give(held: &mut Held, buf: &mut [u8]) -> usize
+    requires { 0 < length buf.old }
+    ensures bound { result ≤ length buf.new }
+    ensures bytes { held.old.bytes ≡ take result buf.new ++ held.new.bytes }
+    ensures none { result ≡ 0 → held.old.bytes ≡ [] }
+{
+    let bytes = held.as_slice();
+    let count = buf.len().min(bytes.len());
+    buf[..count].copy_from_slice(&bytes[..count]);
+    held.pass(count);
+    count
+}
