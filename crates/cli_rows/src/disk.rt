@@ -39,7 +39,8 @@ pub fn print_file<R: Files + Print + AllocGlobal + Clone + Drop>(rt: &R, row: &s
         bail!("no file: {row}");
     };
     let Ok(found) = Disk::new(rt).open(alloc, path, before.parse::<usize>()?) else {
-        bail!("cannot open {path}");
+        println!(rt; "cannot be opened")?;
+        return Ok(());
     };
     let Some(mut stream) = found else {
         println!(rt; "no stream")?;
