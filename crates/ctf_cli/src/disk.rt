@@ -87,11 +87,12 @@ impl<'a, R: Files + AllocGlobal + Clone + Drop> Folders for Disk<'a, R> {
             opened.set(before.saturating_add(1));
         }
         let file = if before < KEPT_OPEN {
-            StreamFile::Kept(KeptFile {
+            let kept = KeptFile {
                 file,
                 ahead: ReadAhead::new(alloc),
                 opened: self.opened,
-            })
+            };
+            StreamFile::Kept(Box::new(alloc, kept).map_err(|_| FolderFault::NoMemory)?)
         } else {
             StreamFile::Reopened {
                 rt: self.rt,
@@ -176,8 +177,8 @@ pub struct DiskStream<'a, R: Files> {
 /// How a file is read.
 #[derive(Drop)]
 enum StreamFile<'a, R: Files> {
-    /// It is kept open.
-    Kept(KeptFile<'a, R>),
+    /// It is kept open. The box is for the many that are not.
+    Kept(Box<KeptFile<'a, R>>),
     /// It is opened anew for each read, at a place in bytes, and closed.
     Reopened { rt: &'a R, path: String, at: u64 },
 }
