@@ -25,7 +25,8 @@ pub fn print_disk<R: Files + Print + AllocGlobal + Clone + Drop>(
     }
     let mut log = LogWriter::new(alloc, 64, Device::new(alloc, None))?;
     let mut messages = ToWrite::new(Device::new(alloc, None));
-    let status = program(alloc, &line, &Disk::new(rt), &mut log, &mut messages);
+    let disk = Disk::new(rt);
+    let status = program(alloc, &line, &&disk, &mut log, &mut messages);
     print_lines(rt, "out", &log.close())?;
     print_lines(rt, "err", &messages.into_inner())?;
     println!(rt; "status {status}")?;
@@ -38,7 +39,8 @@ pub fn print_file<R: Files + Print + AllocGlobal + Clone + Drop>(rt: &R, row: &s
     let Some((before, path)) = row.split_once(' ') else {
         bail!("no file: {row}");
     };
-    let Ok(found) = Disk::new(rt).open(alloc, path, before.parse::<usize>()?) else {
+    let disk = Disk::new(rt);
+    let Ok(found) = (&disk).open(alloc, path, before.parse::<usize>()?) else {
         println!(rt; "cannot be opened")?;
         return Ok(());
     };

@@ -5,7 +5,7 @@ ghost use Rattle.std.specs.Io.{ReadsAtMost};
 ghost use Rattle.std.specs.Io.KnownBytes.{ReadConsumes, prepend_known};
 
 use crate::folders::{FolderFault, Folders};
-use crate::interrupts::{read_uninterrupted, uninterrupted};
+use crate::interrupts::uninterrupted;
 use crate::read_ahead::ReadAhead;
 use ctf_bits::{Source, SourceFault};
 use std::alloc::Global;
@@ -17,37 +17,39 @@ use std::rt::Files;
 /// How many files are kept open at the most. The usual limit is 1,024 for a process.
 const KEPT_OPEN: usize = 512;
 
-/// How many bytes are read ahead at the most, over all streams.
+/// How many bytes are read ahead at the most, over all streams that are kept open.
 const AHEAD: usize = 1_048_576;
 
 /// How many bytes of one stream are read ahead at the most.
 const AHEAD_OF_ONE: usize = 65_536;
 
-/// The file system of a runtime.
+/// How many of the last file that is not kept open.
+const AHEAD_OF_LAST: usize = 4_096;
+
+/// The file system of a runtime, and what its streams share.
 #[derive(Drop)]
-pub struct Disk<'a, R> {
+pub struct Disk<'a, R: Files> {
     rt: &'a R,
-    /// How many streams were opened, where they may read ahead.
-    opened: Option<&'a Cell<usize>>,
+    alloc: Global,
+    /// How many streams were opened.
+    opened: Cell<usize>,
+    /// The last file that was opened anew. A packet takes several reads, one behind the other.
+    last: Cell<Option<LastFile<R>>>,
 }
 
-impl<'a, R> Disk<'a, R> {
-    /// The file system of a runtime. Its streams read what is asked for.
+impl<'a, R: Files + AllocGlobal> Disk<'a, R> {
+    /// The file system of a runtime.
     pub fn new(rt: &'a R) -> Disk<'a, R> {
-        Disk { rt, opened: None }
-    }
-
-    /// The file system of a runtime. Its streams read ahead where they are asked for few bytes at a time: each its share of
-    /// 1 MiB, by how many were opened.
-    pub fn reading_ahead(rt: &'a R, opened: &'a Cell<usize>) -> Disk<'a, R> {
         Disk {
             rt,
-            opened: Some(opened),
+            alloc: rt.alloc(),
+            opened: Cell::new(0),
+            last: Cell::new(None),
         }
     }
 }
 
-impl<'a, R: Files + AllocGlobal + Clone + Drop> Folders for Disk<'a, R> {
+impl<'a, R: Files + AllocGlobal + Clone + Drop> Folders for &'a Disk<'a, R> {
     type Stream = DiskStream<'a, R>;
 
     // What the system holds can change at any time.
@@ -80,28 +82,66 @@ impl<'a, R: Files + AllocGlobal + Clone + Drop> Folders for Disk<'a, R> {
         path: &str,
         before: usize,
     ) -> Result<Option<DiskStream<'a, R>>, FolderFault> {
-        let Some(file) = open_stream(self.rt, path).map_err(fault_of)? else {
+        let disk: &'a Disk<'a, R> = *self;
+        let Some(file) = open_stream(disk.rt, path).map_err(fault_of)? else {
             return Ok(None);
         };
-        if let Some(opened) = self.opened {
-            opened.set(before.saturating_add(1));
-        }
+        disk.opened.set(before.saturating_add(1));
         let file = if before < KEPT_OPEN {
-            let kept = KeptFile {
-                file,
-                ahead: ReadAhead::new(alloc),
-                opened: self.opened,
-            };
-            StreamFile::Kept(Box::new(alloc, kept).map_err(|_| FolderFault::NoMemory)?)
+            let ahead = ReadAhead::new(alloc);
+            let kept = Box::new(alloc, ReadFile { file, ahead });
+            StreamFile::Kept(kept.map_err(|_| FolderFault::NoMemory)?)
         } else {
             StreamFile::Reopened {
-                rt: self.rt,
+                number: before,
                 path: String::from_str(alloc, path).map_err(|_| FolderFault::NoMemory)?,
                 at: 0,
             }
         };
-        Ok(Some(DiskStream { file }))
+        Ok(Some(DiskStream { disk, file }))
     }
+}
+
+impl<'a, R: Files> Disk<'a, R> {
+    /// How many bytes of a file that is kept open are read ahead at the most: its share.
+    fn share(&self) -> usize {
+        (AHEAD / self.opened.get().max(1)).min(AHEAD_OF_ONE)
+    }
+
+    /// Reads from a place of a file on, and moves the place behind what was read.
+    fn read_at(&self, number: usize, path: &str, at: &mut u64, buf: &mut [u8]) -> io::Result<usize>
+        requires { 0 < length buf.old }
+        ensures { IfOk result (λ count. count ≤ length buf.new) }
+    {
+        let mut last = self.opened_at(number, path, *at)?;
+        let read = last.file.read(AHEAD_OF_LAST, buf);
+        self.last.set(Some(last));
+        if let Ok(count) = &read {
+            *at = at.saturating_add(*count as u64);
+        }
+        read
+    }
+
+    /// A file that is read from a place on: the last one, or one that is opened anew.
+    fn opened_at(&self, number: usize, path: &str, at: u64) -> io::Result<LastFile<R>> {
+        let ahead = match self.last.replace(None) {
+            Some(last) if last.number == number => return Ok(last),
+            Some(last) => emptied(last.file.ahead),
+            None => ReadAhead::new(self.alloc),
+        };
+        let Some(mut file) = open_file(self.rt, path, 0)? else {
+            return Err(Error::from(ErrorKind::InvalidInput));
+        };
+        file.seek(SeekFrom::Start(at))?;
+        let file = ReadFile { file, ahead };
+        Ok(LastFile { number, file })
+    }
+}
+
+/// The room of what was read ahead of a file that is no longer open.
+fn emptied(mut ahead: ReadAhead) -> ReadAhead {
+    ahead.forget();
+    ahead
 }
 
 /// The names of the entries of a folder.
@@ -171,35 +211,45 @@ fn fault_of(error: Error) -> FolderFault {
 /// A file as a stream.
 #[derive(Drop)]
 pub struct DiskStream<'a, R: Files> {
-    file: StreamFile<'a, R>,
+    disk: &'a Disk<'a, R>,
+    file: StreamFile<R>,
 }
 
 /// How a file is read.
 #[derive(Drop)]
-enum StreamFile<'a, R: Files> {
+enum StreamFile<R: Files> {
     /// It is kept open. The box is for the many that are not.
-    Kept(Box<KeptFile<'a, R>>),
-    /// It is opened anew for each read, at a place in bytes, and closed.
-    Reopened { rt: &'a R, path: String, at: u64 },
+    Kept(Box<ReadFile<R>>),
+    /// It is opened anew at a place in bytes, unless it was the last one that was.
+    Reopened {
+        /// How many streams were opened before.
+        number: usize,
+        path: String,
+        at: u64,
+    },
 }
 
-/// A file that is kept open, and what of it was read ahead.
+/// The last file that was opened anew.
 #[derive(Drop)]
-struct KeptFile<'a, R: Files> {
+struct LastFile<R: Files> {
+    number: usize,
+    file: ReadFile<R>,
+}
+
+/// An open file, and what of it was read ahead.
+#[derive(Drop)]
+struct ReadFile<R: Files> {
     file: R::File,
     ahead: ReadAhead,
-    /// How many streams were opened, where this one may read ahead.
-    opened: Option<&'a Cell<usize>>,
 }
 
-impl<'a, R: Files> KeptFile<'a, R> {
-    /// Reads the next bytes.
-    fn read(&mut self, buf: &mut [u8]) -> io::Result<usize>
+impl<R: Files> ReadFile<R> {
+    /// Reads the next bytes. So many more may be read ahead.
+    fn read(&mut self, most: usize, buf: &mut [u8]) -> io::Result<usize>
         requires { 0 < length buf.old }
         ensures bound { ReadsAtMost result buf.new }
         ensures bytes { ReadConsumes (prepend_known self.old.ahead.held.bytes (R.File.remaining self.old.file)) (prepend_known self.new.ahead.held.bytes (R.File.remaining self.new.file)) result buf.new }
     {
-        let most = share_of(self.opened);
         self.ahead.read(&mut self.file, most, buf)
     }
 }
@@ -215,18 +265,13 @@ impl<'a, R: Files> Source for DiskStream<'a, R> {
     ghost ending = { λ _. Failed };
 
     fn take(&mut self, buf: &mut [u8]) -> Result<usize, SourceFault> {
+        let disk: &'a Disk<'a, R> = self.disk;
         match &mut self.file {
-            StreamFile::Kept(kept) => given(kept.read(buf)),
-            StreamFile::Reopened { rt, path, at } => given(read_at(*rt, path.as_str(), at, buf)),
+            StreamFile::Kept(kept) => given(kept.read(disk.share(), buf)),
+            StreamFile::Reopened { number, path, at } => {
+                given(disk.read_at(*number, path.as_str(), at, buf))
+            }
         }
-    }
-}
-
-/// How many bytes of a stream are read ahead at the most, where so many were opened.
-fn share_of(opened: Option<&Cell<usize>>) -> usize {
-    match opened {
-        Some(opened) => (AHEAD / opened.get().max(1)).min(AHEAD_OF_ONE),
-        None => 0,
     }
 }
 
@@ -235,17 +280,4 @@ fn given(read: io::Result<usize>) -> Result<usize, SourceFault>
     ensures { IfOk result (λ count. read ≡ Ok count) }
 {
     read.map_err(|_| SourceFault::ReadFailed)
-}
-
-/// Reads from a place of a file on, and moves the place behind what was read.
-fn read_at<R: Files>(rt: &R, path: &str, at: &mut u64, buf: &mut [u8]) -> io::Result<usize>
-    ensures { IfOk result (λ count. count ≤ length buf.new) }
-{
-    let Some(mut file) = open_file(rt, path, 0)? else {
-        return Err(Error::from(ErrorKind::InvalidInput));
-    };
-    file.seek(SeekFrom::Start(*at))?;
-    let count = read_uninterrupted(&mut file, buf)?;
-    *at = at.saturating_add(count as u64);
-    Ok(count)
 }

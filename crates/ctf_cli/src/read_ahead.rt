@@ -108,6 +108,14 @@ impl ReadAhead {
         }
     }
 
+    /// Holds nothing more, and has room as before.
+    pub(crate) fn forget(&mut self)
+        ensures { self.new.held.bytes ≡ [] }
+    {
+        let count = self.held.as_slice().len();
+        self.held.pass(count);
+    }
+
     /// Gives back the room, where nothing is held.
     fn give_back(&mut self)
         ensures { self.new.held.bytes ≡ [] }

@@ -8,7 +8,6 @@ use crate::log_writer::LogWriter;
 use crate::printing::{program, say};
 use ctf_bits::ToWrite;
 use ctf_options::Usage;
-use std::cell::Cell;
 use std::env;
 use std::io::{ErrorKind, Write};
 use std::rt::{Env, Files};
@@ -33,9 +32,8 @@ where
     let Ok(mut log) = LogWriter::new(rt.alloc(), held, out) else {
         return say(Usage::NoMemory.text(), &mut messages);
     };
-    let opened = Cell::new(0usize);
-    let disk = Disk::reading_ahead(rt, &opened);
-    let status = program(rt.alloc(), &words, &disk, &mut log, &mut messages);
+    let disk = Disk::new(rt);
+    let status = program(rt.alloc(), &words, &&disk, &mut log, &mut messages);
     let _ = log.close();
     status
 }
