@@ -35,12 +35,22 @@ pub fn print_disk<R: Files + Print + AllocGlobal + Clone + Drop>(
 
 /// Prints the text of a file, `BEFORE PATH`, that is opened behind so many others and read three bytes at a time.
 pub fn print_file<R: Files + Print + AllocGlobal + Clone + Drop>(rt: &R, row: &str) -> Result<()> {
-    let alloc: Global = rt.alloc();
     let Some((before, path)) = row.split_once(' ') else {
         bail!("no file: {row}");
     };
     let disk = Disk::new(rt);
-    let Ok(found) = (&disk).open(alloc, path, before.parse::<usize>()?) else {
+    print_stream(rt, &&disk, path, before.parse::<usize>()?)
+}
+
+/// Prints the text of a stream of some folders, or that there is none.
+fn print_stream<R: Print + AllocGlobal, F: Folders>(
+    rt: &R,
+    folders: &F,
+    path: &str,
+    before: usize,
+) -> Result<()> {
+    let alloc: Global = rt.alloc();
+    let Ok(found) = folders.open(alloc, path, before) else {
         println!(rt; "cannot be opened")?;
         return Ok(());
     };

@@ -49,8 +49,8 @@ impl<'a, R: Files + AllocGlobal> Disk<'a, R> {
     }
 }
 
-impl<'a, R: Files + AllocGlobal + Clone + Drop> Folders for &'a Disk<'a, R> {
-    type Stream = DiskStream<'a, R>;
+impl<'d, 'a, R: Files + AllocGlobal + Clone + Drop> Folders for &'d Disk<'a, R> {
+    type Stream = DiskStream<'d, 'a, R>;
 
     // What the system holds can change at any time.
     ghost use Rattle.std.specs.Prelude.{false};
@@ -81,8 +81,8 @@ impl<'a, R: Files + AllocGlobal + Clone + Drop> Folders for &'a Disk<'a, R> {
         alloc: Global,
         path: &str,
         before: usize,
-    ) -> Result<Option<DiskStream<'a, R>>, FolderFault> {
-        let disk: &'a Disk<'a, R> = *self;
+    ) -> Result<Option<DiskStream<'d, 'a, R>>, FolderFault> {
+        let disk: &'d Disk<'a, R> = *self;
         let Some(file) = open_stream(disk.rt, path).map_err(fault_of)? else {
             return Ok(None);
         };
@@ -210,8 +210,8 @@ fn fault_of(error: Error) -> FolderFault {
 
 /// A file as a stream.
 #[derive(Drop)]
-pub struct DiskStream<'a, R: Files> {
-    disk: &'a Disk<'a, R>,
+pub struct DiskStream<'d, 'a, R: Files> {
+    disk: &'d Disk<'a, R>,
     file: StreamFile<R>,
 }
 
@@ -254,7 +254,7 @@ impl<R: Files> ReadFile<R> {
     }
 }
 
-impl<'a, R: Files> Source for DiskStream<'a, R> {
+impl<'d, 'a, R: Files> Source for DiskStream<'d, 'a, R> {
     ghost use Rattle.std.specs.Prelude.{[], false};
     ghost use Rattle.ctf_bits.specs.declared.source.Ending.TheVariants.{Failed};
 
@@ -265,7 +265,7 @@ impl<'a, R: Files> Source for DiskStream<'a, R> {
     ghost ending = { λ _. Failed };
 
     fn take(&mut self, buf: &mut [u8]) -> Result<usize, SourceFault> {
-        let disk: &'a Disk<'a, R> = self.disk;
+        let disk: &'d Disk<'a, R> = self.disk;
         match &mut self.file {
             StreamFile::Kept(kept) => given(kept.read(disk.share(), buf)),
             StreamFile::Reopened { number, path, at } => {
