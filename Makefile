@@ -20,7 +20,7 @@ prove:
 
 # The whole gate: every proof from nothing, the must-fail edits, the tests and the programs.
 test:
-	@files=$$(tools/built --sum) && rt ci && tools/built --record "$$files"
+	@files=$$(tools/built --sum) && RT_JOBS=$${RT_JOBS:-$$(tools/lanes)} rt ci && tools/built --record "$$files"
 
 # The edits that the gate leaves out, all or those of CRATES='a b'.
 further-edits:
