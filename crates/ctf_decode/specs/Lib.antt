@@ -9,5 +9,6 @@ pub mod Laws
 pub mod Known
 pub mod Views
 pub mod Gives
+pub mod Decoding
 pub mod Fronts
 pub mod Fields

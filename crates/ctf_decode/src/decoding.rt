@@ -4,15 +4,17 @@ ghost use Rattle.std.specs.Prelude.{◌≡◌, ◌+◌, ◌*◌, ◌^◌, ◌≤
 ghost use Rattle.ctf_decode.specs.Values.{count};
 ghost use Rattle.ctf_decode.specs.Stands.{Stands};
 ghost use Rattle.ctf_decode.specs.Breaks.{Breaks};
-ghost use Rattle.ctf_decode.specs.Views.{form, val, input_in};
+ghost use Rattle.ctf_decode.specs.Views.{form, val, env, input, input_in};
+ghost use Rattle.ctf_decode.specs.Walk.{walk};
 ghost use Rattle.ctf_decode.specs.Gives.{Told};
+ghost use Rattle.ctf_decode.specs.Decoding.{Decodes};
 
 use crate::fault::DecodeFault;
 use crate::place::{Cursor, Frame, Packet, Reached, Stopped};
 use crate::scopes::{MOST_VALUES, Scopes};
 use crate::tagged::tagged_into;
 use crate::value::Value;
-use crate::walk::scope_into;
+use crate::walk::{scope_into, value_into};
 use ctf_class::Class;
 use std::alloc::Global;
 
@@ -139,4 +141,37 @@ pub fn decode(
         end: reached.end,
         spent: reached.spent,
     })
+}
+
+/// The value of a class that is at a place of a packet, which may see the earlier members of the structures
+/// around it: what a header or a context is decoded by, part after part, while its bytes come.
+///
+/// An error is F6 with the place that the content does not reach, F8, F11, or `NoMemory`.
+pub fn decode_within(
+    alloc: Global,
+    class: &Class,
+    packet: &Packet<'_>,
+    frame: &Frame<'_>,
+    at: Reached,
+) -> Result<Decoded, DecodeFault>
+    requires start { at.end ≤ packet.now.content }
+    ensures decodes { let found = walk (form class.now) (input packet.now) (env frame.now) at.end at.spent in
+        Decodes result found }
+    ensures within { IfOk result (λ d. d.end ≤ packet.now.content) }
+    ensures few { IfOk result (λ d. d.spent ≤ MOST_VALUES) }
+{
+    let mut value = Value::Unsigned(0);
+    let mut cursor = Cursor {
+        end: at.end,
+        spent: at.spent,
+        fault: DecodeFault::NoMemory,
+    };
+    match value_into(alloc, class, packet, frame, &mut cursor, &mut value) {
+        Ok(()) => Ok(Decoded {
+            value,
+            end: cursor.end,
+            spent: cursor.spent,
+        }),
+        Err(Stopped) => Err(cursor.fault),
+    }
 }

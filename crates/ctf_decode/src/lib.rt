@@ -18,15 +18,15 @@ mod text;
 mod value;
 mod walk;
 
-pub use decoding::{Decoded, decode, decode_header_into, decode_into};
+pub use decoding::{Decoded, decode, decode_header_into, decode_into, decode_within};
 pub use fault::DecodeFault;
-pub use find::chosen_by_first;
+pub use find::{chosen_by_first, length_at, option_at};
 pub use front::{Front, decode_front};
 pub use ids::{last_id, named_id};
 pub use laws::{needs_so_much, one_stands, stands_in_whole};
 pub use moves::{moving, moving_into};
 pub use parts::{choice_in, elements_in, members_in};
-pub use place::Reached;
+pub use place::{Frame, Packet, Reached};
 pub use scopes::{MOST_VALUES, Scopes};
 pub use text::{before_zero, bytes_at, bytes_from, zero_in};
 pub use value::Value;

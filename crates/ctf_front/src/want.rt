@@ -11,11 +11,9 @@ pub struct Begun<'a> {
     pub first: u64,
 }
 
-/// What a packet asks for, of which some first bytes are there.
+/// What a packet asks for whose header and context were decoded.
 #[derive(Clone, Copy)]
 pub enum Want<'a> {
-    /// A packet of at least so many bits: its header or context goes on.
-    More(u128),
     /// The packet, of these sizes, in bits.
     Whole(Begun<'a>, Sizes),
     /// All that is left of the stream.

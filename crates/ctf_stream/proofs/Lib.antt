@@ -1,6 +1,8 @@
 mod Bytes
 mod Steps
-mod Asking
+mod Parts
+mod Composites
+mod Opening
 mod Sizing
 mod Fetched
 mod Courses

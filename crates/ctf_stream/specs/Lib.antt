@@ -1,6 +1,8 @@
 pub mod Filling
 pub mod Coming
 pub mod Fetching
+pub mod Demand
+pub mod Asking
 pub mod Course
 pub mod Reader
 pub mod Standing

@@ -1,23 +1,24 @@
 //! Packets out of a source.
 
 ghost use Rattle.std.specs.Prelude.{◌≡◌, ◌+◌, ◌*◌, ◌/◌, ◌^◌, ◌≤◌, ◌<◌, [], ◌++◌, min, length, take, None, true, IsTrue, ◌⊎◌, Err, IfOk, IfErr, IfSome, OnOk};
+ghost use Rattle.ctf_decode.specs.Known.{nothing_known};
 ghost use Rattle.ctf_packet.specs.Classes.{trace_form};
-ghost use Rattle.ctf_packet.specs.Scopes.{longest};
 ghost use Rattle.ctf_packet.specs.Packets.{open_at, are_possible};
 ghost use Rattle.ctf_packet.specs.Items.{from_bytes};
 ghost use Rattle.ctf_packet.specs.Gives.{Fitting};
 ghost use Rattle.ctf_packet.specs.Views.{values_of, packet_values};
 ghost use Rattle.ctf_front.specs.Wants as wants;
-ghost use Rattle.ctf_stream.specs.Fetching.{longest_bytes, OrNoMemory, TakesMore, want_of, FitsOpening, TakesWhole, TakesRest, TakesSized, Opens, Fetches, FetchedAt, FetchesAt};
+ghost use Rattle.ctf_stream.specs.Fetching.{longest_bytes, OrNoMemory, want_of, FitsOpening, TakesWhole, TakesRest, TakesSized, Opens, Fetches, FetchedAt, FetchesAt};
 
 use crate::buffer::{Buffer, Filled};
+use crate::scope::{NextScope, scope_on_demand};
 use ctf_bits::{Ending, Source};
 use ctf_class::{Scope, TraceClass};
 use ctf_clock::Shift;
 use ctf_decode::Scopes;
-use ctf_front::{Begun, Want, wanted};
+use ctf_front::{Begun, Want, sized};
 use ctf_packet::{
-    LONGEST_PACKET, OpenPacket, Reached, Sizes, StreamFault, cut_short, placed, sizes_checked,
+    OpenPacket, Reached, Sizes, StreamFault, cut_short, placed, sizes_checked, stream_checked,
 };
 use std::alloc::Global;
 
@@ -44,29 +45,6 @@ pub(crate) struct Opening<'a> {
     begun: Begun<'a>,
     /// In bits. `None` where it tells none, and is the rest of its stream.
     sizes: Option<Sizes>,
-}
-
-/// Takes the bytes of a packet up to a bit that its header or context reaches.
-fn fill_front<S: Source>(source: &mut S, buffer: &mut Buffer, bits: u128) -> Result<(), StreamFault>
-    requires beyond { min (8 * length buffer.old) longest < bits }
-    ensures tells { IsTrue (S.tells source.old) → IsTrue (S.tells source.new) }
-    ensures same_end { IsTrue (S.tells source.old) → S.ending source.new ≡ S.ending source.old }
-    ensures kept { IsTrue (S.tells source.old) → buffer.new ++ S.left source.new ≡ buffer.old ++ S.left source.old }
-    ensures takes { IsTrue (S.tells source.old) → TakesMore (S.ending source.old) bits buffer.new (S.left source.new) result }
-    ensures bits { OnOk result (length buffer.new ≡ (bits + 7) / 8) }
-    ensures bounded { OnOk result (bits ≤ longest) }
-    ensures first { take (length buffer.old) buffer.new ≡ buffer.old }
-    ensures grown { length buffer.old ≤ length buffer.new }
-    ensures few { length buffer.old ≤ longest_bytes → length buffer.new ≤ longest_bytes }
-{
-    if bits > u128::from(LONGEST_PACKET) {
-        return Err(StreamFault::ImpossibleSizes);
-    }
-    let bytes = (bits as usize).div_ceil(8);
-    match buffer.fill(source, bytes)? {
-        Filled::Whole => Ok(()),
-        Filled::Ended(ending) => Err(cut_short(ending)),
-    }
 }
 
 /// Takes the bytes of a packet of a size, in bytes.
@@ -199,22 +177,36 @@ impl<'a> CutPoint<'a> {
         ensures some { 0 < length buffer.new }
         ensures few { length buffer.new ≤ longest_bytes }
     {
-        loop {
-            let reached = self.reached.as_ref();
-            match wanted(alloc, self.trace, reached, buffer.as_slice(), scopes) {
-                Err(fault) => return Err(fault),
-                Ok(Want::Rest(begun)) => return Ok(Opening { begun, sizes: None }),
-                Ok(Want::Whole(begun, sizes)) => {
-                    let sizes = Some(sizes);
-                    return Ok(Opening { begun, sizes });
-                }
-                Ok(Want::More(bits)) => match fill_front(source, buffer, bits) {
-                    Err(fault) => return Err(fault),
-                    Ok(()) => {}
-                },
+        forget(scopes);
+        let header = NextScope {
+            class: self.trace.packet_header(),
+            scope: Scope::PacketHeader,
+            end: 0,
+        };
+        let end = scope_on_demand(&header, alloc, source, buffer, scopes)?;
+        let reached = self.reached.as_ref();
+        let stream = stream_checked(self.trace, reached, scopes.get(Scope::PacketHeader))?;
+        let context = NextScope {
+            class: stream.packet_context(),
+            scope: Scope::PacketContext,
+            end,
+        };
+        let first = scope_on_demand(&context, alloc, source, buffer, scopes)?;
+        match sized(Begun { stream, first }, scopes.get(Scope::PacketContext))? {
+            Want::Rest(begun) => Ok(Opening { begun, sizes: None }),
+            Want::Whole(begun, sizes) => {
+                let sizes = Some(sizes);
+                Ok(Opening { begun, sizes })
             }
         }
     }
+}
+
+/// Leaves no values.
+fn forget(scopes: &mut Scopes)
+    ensures { scopes.new ≡ nothing_known }
+{
+    *scopes = Scopes::new();
 }
 
 /// Takes the bytes of a packet with this opening. Its sizes.

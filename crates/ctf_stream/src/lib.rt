@@ -6,12 +6,16 @@ mod buffer;
 mod copy;
 mod course;
 mod cut;
+mod demand;
+mod fill;
 mod giving;
 mod item;
+mod needed;
 mod owned;
 mod packet;
 mod part;
 mod reader;
+mod scope;
 
 pub use ahead::Ahead;
 pub use item::{Event, EventText, Gap, Item, Told};

@@ -1,82 +1,145 @@
-use Rattle.std.proofs.Common.{◌-◌, ◌<◌, length, Err, refl, arith, subst, ◌∙◌, ap}
-use Rattle.ctf_packet.specs.Classes.{trace_form}
+use Rattle.std.proofs.Common.{rules, ◌≡◌, ◌++◌, ◌∙◌, [], length, drop, IfErr, Ok, Err, ap, subst, sym, arith, append-nil, inr}
+use Rattle.ctf_packet.specs.Classes.{trace_form, stream_form}
+use Rattle.ctf_packet.specs.Packets as packets
+use Rattle.ctf_packet.specs.Packets.{open_at}
+use Rattle.ctf_packet.specs.Scopes.{no_values, scope_at, fault_in_front}
 use Rattle.ctf_packet.specs.Views.{values_of}
 use Rattle.ctf_front.specs.Gives as front
-use Rattle.ctf_stream.specs.Fetching.{longest_bytes, TakesMore}
-use Rattle.ctf_stream.proofs.Asking.{fits_one, fits_now, fits_more, asks_beyond, faulty_now, faulty_more, at_hand}
+use Rattle.ctf_front.proofs.Beginning as beginning
+use Rattle.ctf_stream.specs.Fetching.{OrNoMemory}
+use Rattle.ctf_stream.proofs.Parts.{grown_all, grown_more}
+use Rattle.ctf_stream.proofs.Opening.{header_short, stream_refused, asked_refused, context_short, fits}
 use Rattle.ctf_stream.proofs.cut.CutPoint.begin.Goals as goal
 
-pub loop-fault-init : goal.loop-fault-init
-loop-fault-init g c =
+pub returns-in_err-end-clause-faulty : goal.returns-in_err-end-clause-faulty
+returns-in_err-end-clause-faulty g c = λ tells.
+    let cut = c.args.self.now in
+    let trace = trace_form cut.shift cut.trace.now in
+    let fault = c.in_err-end.field-0.0 in
+    let all = c.scope_on_demand.new.buffer ++ g.S.Source.left c.scope_on_demand.new.source in
+    let ending = g.S.Source.ending c.args.source.now in
+    let told : OrNoMemory (λ f. scope_at (fault_in_front ending) trace.packet_header (packets.front all no_values) 0 0 ≡ Err f) fault = rw (c.forget.ensures, c.packet_header.ensures) at (c.in_err-end.ensures.faulty tells) in
+    let e : c.from_residual.result ≡ Err fault = search rules in
+    subst (λ r. IfErr r (OrNoMemory (λ f. open_at trace ending cut.reached cut.at all ≡ Err f))) (sym e) (header_short trace ending cut.reached cut.at all c.forget.new.scopes fault told)
+
+pub returns-in_err-stream-clause-faulty : goal.returns-in_err-stream-clause-faulty
+returns-in_err-stream-clause-faulty g c = λ tells.
+    let cut = c.args.self.now in
+    let trace = trace_form cut.shift cut.trace.now in
+    let fault = c.in_err-stream.field-0.0 in
+    let have = c.scope_on_demand.new.buffer in
+    let left = g.S.Source.left c.scope_on_demand.new.source in
+    let known = c.scope_on_demand.new.scopes in
+    let ending = g.S.Source.ending c.args.source.now in
+    let header : beginning.Header trace cut.reached (have ++ []) c.in_ok-end.end known = rw (c.forget.ensures, c.packet_header.ensures) at (c.in_ok-end.ensures.puts []) in
+    let here = subst (λ b. beginning.Header trace cut.reached b c.in_ok-end.end known) (append-nil have) header in
+    let checked : packets.stream_checked trace cut.reached (values_of known).packet_header ≡ Err fault = rw (c.as_ref-reached.ensures.value, c.get.ensures) at (c.in_err-stream.ensures cut.shift) in
+    let e : c.from_residual-in_err-stream.result ≡ Err fault = search rules in
+    subst (λ r. IfErr r (OrNoMemory (λ f. open_at trace ending cut.reached cut.at (have ++ left) ≡ Err f))) (sym e) (inr (stream_refused trace ending cut.reached cut.at have left c.in_ok-end.end known fault here checked))
+
+pub returns-in_err-first-clause-faulty : goal.returns-in_err-first-clause-faulty
+returns-in_err-first-clause-faulty g c = λ tells.
+    let cut = c.args.self.now in
+    let trace = trace_form cut.shift cut.trace.now in
+    let s = stream_form cut.shift c.in_ok-stream.stream.now in
+    let fault = c.in_err-first.field-0.0 in
+    let have = c.scope_on_demand.new.buffer in
+    let later = c.scope_on_demand-2.new.buffer in
+    let left = g.S.Source.left c.scope_on_demand-2.new.source in
+    let known = c.scope_on_demand.new.scopes in
+    let end = c.in_ok-end.end in
+    let ending = g.S.Source.ending c.args.source.now in
+    let header : beginning.Header trace cut.reached (have ++ (drop (length have) later ++ left)) end known = rw (c.forget.ensures, c.packet_header.ensures) at (c.in_ok-end.ensures.puts (drop (length have) later ++ left)) in
+    let here = subst (λ b. beginning.Header trace cut.reached b end known) (sym (grown_more have later left c.scope_on_demand-2.ensures.first)) header in
+    let checked : packets.stream_checked trace cut.reached (values_of known).packet_header ≡ Ok s = rw (c.as_ref-reached.ensures.value, c.get.ensures) at (c.in_ok-stream.ensures cut.shift) in
+    let asked : OrNoMemory (λ f. scope_at (fault_in_front (g.S.Source.ending c.scope_on_demand.new.source)) s.packet_context (packets.front (later ++ left) (values_of known)) end known.spent ≡ Err f) fault = rw c.packet_context.ensures at (c.in_err-first.ensures.faulty (c.scope_on_demand.ensures.tells tells)) in
+    let told = subst (λ e. OrNoMemory (λ f. scope_at (fault_in_front e) s.packet_context (packets.front (later ++ left) (values_of known)) end known.spent ≡ Err f) fault) (c.scope_on_demand.ensures.same_end tells) asked in
+    let e : c.from_residual-in_err-first.result ≡ Err fault = search rules in
+    subst (λ r. IfErr r (OrNoMemory (λ f. open_at trace ending cut.reached cut.at (later ++ left) ≡ Err f))) (sym e) (context_short trace ending cut.reached cut.at (later ++ left) end known known fault s here checked told)
+
+pub returns-in_err-begun-clause-faulty : goal.returns-in_err-begun-clause-faulty
+returns-in_err-begun-clause-faulty g c = λ tells.
+    let cut = c.args.self.now in
+    let trace = trace_form cut.shift cut.trace.now in
+    let s = stream_form cut.shift c.in_ok-stream.stream.now in
+    let have = c.scope_on_demand.new.buffer in
+    let later = c.scope_on_demand-2.new.buffer in
+    let known = c.scope_on_demand.new.scopes in
+    let after = c.scope_on_demand-2.new.scopes in
+    let end = c.in_ok-end.end in
+    let first = c.in_ok-first.first in
+    let header : beginning.Header trace cut.reached (have ++ drop (length have) later) end known = rw (c.forget.ensures, c.packet_header.ensures) at (c.in_ok-end.ensures.puts (drop (length have) later)) in
+    let here = subst (λ b. beginning.Header trace cut.reached b end known) (sym (grown_all have later c.scope_on_demand-2.ensures.first)) header in
+    let checked : packets.stream_checked trace cut.reached (values_of known).packet_header ≡ Ok s = rw (c.as_ref-reached.ensures.value, c.get.ensures) at (c.in_ok-stream.ensures cut.shift) in
+    let put_there : beginning.Context trace cut.reached (later ++ []) s end known first after = rw c.packet_context.ensures at (c.in_ok-first.ensures.puts []) in
+    let context = subst (λ b. beginning.Context trace cut.reached b s end known first after) (append-nil later) put_there in
+    let asks = beginning.to_sized trace cut.reached later end first known after here s checked context in
+    let fault = c.in_err-begun.field-0.0 in
+    let left = g.S.Source.left c.scope_on_demand-2.new.source in
+    let ending = g.S.Source.ending c.args.source.now in
+    let judged = asks ∙ (rw c.get-2.ensures at (c.in_err-begun.ensures.judged cut.shift (values_of after))) in
+    let e : c.from_residual-in_err-begun.result ≡ Err fault = search rules in
+    subst (λ r. IfErr r (OrNoMemory (λ f. open_at trace ending cut.reached cut.at (later ++ left) ≡ Err f))) (sym e) (inr (asked_refused trace ending cut.reached cut.at later left fault judged))
+
+pub returns-in-Rest-clause-asks : goal.returns-in-Rest-clause-asks
+returns-in-Rest-clause-asks g c =
+    let cut = c.args.self.now in
+    let trace = trace_form cut.shift cut.trace.now in
+    let s = stream_form cut.shift c.in_ok-stream.stream.now in
+    let have = c.scope_on_demand.new.buffer in
+    let later = c.scope_on_demand-2.new.buffer in
+    let known = c.scope_on_demand.new.scopes in
+    let after = c.scope_on_demand-2.new.scopes in
+    let end = c.in_ok-end.end in
+    let first = c.in_ok-first.first in
+    let header : beginning.Header trace cut.reached (have ++ drop (length have) later) end known = rw (c.forget.ensures, c.packet_header.ensures) at (c.in_ok-end.ensures.puts (drop (length have) later)) in
+    let here = subst (λ b. beginning.Header trace cut.reached b end known) (sym (grown_all have later c.scope_on_demand-2.ensures.first)) header in
+    let checked : packets.stream_checked trace cut.reached (values_of known).packet_header ≡ Ok s = rw (c.as_ref-reached.ensures.value, c.get.ensures) at (c.in_ok-stream.ensures cut.shift) in
+    let put_there : beginning.Context trace cut.reached (later ++ []) s end known first after = rw c.packet_context.ensures at (c.in_ok-first.ensures.puts []) in
+    let context = subst (λ b. beginning.Context trace cut.reached b s end known first after) (append-nil later) put_there in
+    let asks = beginning.to_sized trace cut.reached later end first known after here s checked context in
+    asks ∙ (rw c.get-2.ensures at (c.in_ok-begun.ensures.judged cut.shift (values_of after))) ∙ ap (front.want_of cut.shift (values_of after)) c.in-Rest.is
+
+pub returns-in-Whole-clause-asks : goal.returns-in-Whole-clause-asks
+returns-in-Whole-clause-asks g c =
+    let cut = c.args.self.now in
+    let trace = trace_form cut.shift cut.trace.now in
+    let s = stream_form cut.shift c.in_ok-stream.stream.now in
+    let have = c.scope_on_demand.new.buffer in
+    let later = c.scope_on_demand-2.new.buffer in
+    let known = c.scope_on_demand.new.scopes in
+    let after = c.scope_on_demand-2.new.scopes in
+    let end = c.in_ok-end.end in
+    let first = c.in_ok-first.first in
+    let header : beginning.Header trace cut.reached (have ++ drop (length have) later) end known = rw (c.forget.ensures, c.packet_header.ensures) at (c.in_ok-end.ensures.puts (drop (length have) later)) in
+    let here = subst (λ b. beginning.Header trace cut.reached b end known) (sym (grown_all have later c.scope_on_demand-2.ensures.first)) header in
+    let checked : packets.stream_checked trace cut.reached (values_of known).packet_header ≡ Ok s = rw (c.as_ref-reached.ensures.value, c.get.ensures) at (c.in_ok-stream.ensures cut.shift) in
+    let put_there : beginning.Context trace cut.reached (later ++ []) s end known first after = rw c.packet_context.ensures at (c.in_ok-first.ensures.puts []) in
+    let context = subst (λ b. beginning.Context trace cut.reached b s end known first after) (append-nil later) put_there in
+    let asks = beginning.to_sized trace cut.reached later end first known after here s checked context in
+    asks ∙ (rw c.get-2.ensures at (c.in_ok-begun.ensures.judged cut.shift (values_of after))) ∙ ap (front.want_of cut.shift (values_of after)) c.in-Whole.is
+
+pub returns-in-Whole-clause-fits : goal.returns-in-Whole-clause-fits
+returns-in-Whole-clause-fits g c =
+    let cut = c.args.self.now in
+    let trace = trace_form cut.shift cut.trace.now in
+    let s = stream_form cut.shift c.in_ok-stream.stream.now in
+    let have = c.scope_on_demand.new.buffer in
+    let later = c.scope_on_demand-2.new.buffer in
+    let known = c.scope_on_demand.new.scopes in
+    let after = c.scope_on_demand-2.new.scopes in
+    let end = c.in_ok-end.end in
+    let first = c.in_ok-first.first in
+    let header : beginning.Header trace cut.reached (have ++ drop (length have) later) end known = rw (c.forget.ensures, c.packet_header.ensures) at (c.in_ok-end.ensures.puts (drop (length have) later)) in
+    let here = subst (λ b. beginning.Header trace cut.reached b end known) (sym (grown_all have later c.scope_on_demand-2.ensures.first)) header in
+    let checked : packets.stream_checked trace cut.reached (values_of known).packet_header ≡ Ok s = rw (c.as_ref-reached.ensures.value, c.get.ensures) at (c.in_ok-stream.ensures cut.shift) in
+    let put_there : beginning.Context trace cut.reached (later ++ []) s end known first after = rw c.packet_context.ensures at (c.in_ok-first.ensures.puts []) in
+    let context = subst (λ b. beginning.Context trace cut.reached b s end known first after) (append-nil later) put_there in
+    let asks = beginning.to_sized trace cut.reached later end first known after here s checked context in
+    let told = asks ∙ (rw c.get-2.ensures at (c.in_ok-begun.ensures.judged cut.shift (values_of after))) ∙ ap (front.want_of cut.shift (values_of after)) c.in-Whole.is in
     let one = c.requires.one in
-    record {
-      tells = λ h. h;
-      ending = λ h. refl;
-      kept = λ h. refl;
-      some = omega (arith, one);
-      few = omega (arith, one);
-      fits = fits_one (trace_form c.args.self.now.shift c.args.self.now.trace.now) c.args.self.now.reached c.args.buffer.now one;
-    }
-
-pub returns-in-Err-clause-faulty : goal.returns-in-Err-clause-faulty
-returns-in-Err-clause-faulty g c = λ tells.
-    let cut = c.args.self.now in
-    let trace = trace_form cut.shift cut.trace.now in
-    let asks = at_hand trace _ cut.reached _ c.loop-fault.buffer c.as_ref-reached.ensures.value c.as_slice.ensures refl in
-    faulty_now trace cut.reached (g.S.Source.ending c.args.source.now) cut.at c.loop-fault.buffer (g.S.Source.left c.loop-fault.source) c.in-Err.fault _ asks (c.in-Err.ensures.wants cut.shift)
-
-pub returns-in-Ok-Whole-clause-fits : goal.returns-in-Ok-Whole-clause-fits
-returns-in-Ok-Whole-clause-fits g c =
-    let cut = c.args.self.now in
-    let trace = trace_form cut.shift cut.trace.now in
-    let told = c.in-Ok-Whole.ensures.wants cut.shift ∙ ap (front.want_of cut.shift (values_of c.wanted.new.scopes)) c.in-Ok-Whole.field-0-is in
-    let asks = at_hand trace _ cut.reached _ c.loop-fault.buffer c.as_ref-reached.ensures.value c.as_slice.ensures told in
-    fits_now trace cut.reached c.loop-fault.buffer _ c.in-Ok-Whole.sizes c.loop-fault.invariant.fits asks
-
-pub fill_front-requires : goal.fill_front-requires
-fill_front-requires g c =
-    let cut = c.args.self.now in
-    let trace = trace_form cut.shift cut.trace.now in
-    let told = c.in-Ok-More.ensures.wants cut.shift ∙ ap (front.want_of cut.shift (values_of c.wanted.new.scopes)) c.in-Ok-More.field-0-is in
-    let asks = at_hand trace _ cut.reached _ c.loop-fault.buffer c.as_ref-reached.ensures.value c.as_slice.ensures told in
-    record { beyond = asks_beyond trace cut.reached c.loop-fault.buffer c.in-Ok-More.bits asks }
-
-pub returns-in-Err-fill_front-clause-faulty : goal.returns-in-Err-fill_front-clause-faulty
-returns-in-Err-fill_front-clause-faulty g c = λ tells.
-    let cut = c.args.self.now in
-    let trace = trace_form cut.shift cut.trace.now in
-    let told = c.in-Ok-More.ensures.wants cut.shift ∙ ap (front.want_of cut.shift (values_of c.wanted.new.scopes)) c.in-Ok-More.field-0-is in
-    let asks = at_hand trace _ cut.reached _ c.loop-fault.buffer c.as_ref-reached.ensures.value c.as_slice.ensures told in
-    let before = c.loop-fault.invariant in
-    let left = g.S.Source.left c.fill_front.new.source in
-    let takes = subst (λ e. TakesMore e c.in-Ok-More.bits c.fill_front.new.buffer left (Err c.in-Err-fill_front.fault)) (before.ending tells) (c.in-Err-fill_front.ensures.takes (before.tells tells)) in
-    faulty_more trace cut.reached (g.S.Source.ending c.args.source.now) cut.at c.loop-fault.buffer c.fill_front.new.buffer left c.in-Ok-More.bits c.in-Err-fill_front.fault asks c.fill_front.ensures.first takes
-
-pub loop-fault-smaller : goal.loop-fault-smaller
-loop-fault-smaller g c =
-    let cut = c.args.self.now in
-    let trace = trace_form cut.shift cut.trace.now in
-    let told = c.in-Ok-More.ensures.wants cut.shift ∙ ap (front.want_of cut.shift (values_of c.wanted.new.scopes)) c.in-Ok-More.field-0-is in
-    let asks = at_hand trace _ cut.reached _ c.loop-fault.buffer c.as_ref-reached.ensures.value c.as_slice.ensures told in
-    let beyond = asks_beyond trace cut.reached c.loop-fault.buffer c.in-Ok-More.bits asks in
-    let ends = c.in-Ok.ensures.bits in
-    let bounded = c.in-Ok.ensures.bounded in
-    let few = c.loop-fault.invariant.few in
-    let less : longest_bytes - length c.fill_front.new.buffer < longest_bytes - length c.loop-fault.buffer = omega (arith, beyond, ends, bounded, few) in
-    less
-
-pub loop-fault-preserved : goal.loop-fault-preserved
-loop-fault-preserved g c =
-    let cut = c.args.self.now in
-    let trace = trace_form cut.shift cut.trace.now in
-    let told = c.in-Ok-More.ensures.wants cut.shift ∙ ap (front.want_of cut.shift (values_of c.wanted.new.scopes)) c.in-Ok-More.field-0-is in
-    let asks = at_hand trace _ cut.reached _ c.loop-fault.buffer c.as_ref-reached.ensures.value c.as_slice.ensures told in
-    let before = c.loop-fault.invariant in
-    record {
-      tells = λ h. c.fill_front.ensures.tells (before.tells h);
-      ending = λ h. c.fill_front.ensures.same_end (before.tells h) ∙ before.ending h;
-      kept = λ h. c.fill_front.ensures.kept (before.tells h) ∙ before.kept h;
-      some = (let some = before.some in let grown = c.fill_front.ensures.grown in omega (arith, some, grown));
-      few = c.fill_front.ensures.few before.few;
-      fits = fits_more trace cut.reached c.loop-fault.buffer c.fill_front.new.buffer c.in-Ok-More.bits asks c.fill_front.ensures.first c.in-Ok.ensures.bits;
-    }
+    let near = c.in_ok-end.ensures.near in
+    let also = c.in_ok-first.ensures.near in
+    let on = c.in_ok-first.ensures.forward in
+    let ends : c.in-Whole.begun.first ≡ first = rw c.in-Whole.is at c.in_ok-begun.ensures.first in
+    fits trace cut.reached later (front.begun_of cut.shift (values_of after) c.in-Whole.begun) c.in-Whole.sizes 1 told (omega arith) (omega (arith, one, near, also, on, ends))

@@ -4,7 +4,7 @@ use Rattle.ctf_packet.specs.Roles as roles
 use Rattle.ctf_front.specs.Wants as wants
 use Rattle.ctf_front.specs.Gives.{begun_of}
 use Rattle.ctf_front.proofs.Sizing.{none_told, some_told, none_possible}
-use Rattle.ctf_front.proofs.ask.sized.Goals as goal
+use Rattle.ctf_front.proofs.judge.sized.Goals as goal
 
 pub returns-in-Err-clause-judged : goal.returns-in-Err-clause-judged
 returns-in-Err-clause-judged c = λ shift values.
