@@ -12,13 +12,11 @@ use ctf_list::{NoMemory, Text};
 use ctf_stream::StreamReader;
 use std::alloc::Global;
 
-/// A reader of each stream, and the number of the trace of each. With `writes` the readers tell event records as texts,
-/// where they can.
+/// A reader of each stream, which tells event records as texts where they can be, and the number of the trace of each.
 pub(crate) fn open_all<'a, S: Source + Drop>(
     alloc: Global,
     traces: Vec<Streams<'a, S>>,
     shift: Shift,
-    writes: bool,
 ) -> Result<(Vec<StreamReader<'a, S>>, Vec<usize>), NoMemory>
     ensures opened { IfOk result (λ r. EachOpens shift (inputs_from (λ s. record { tells = S.tells s; bytes = S.left s; ending = S.ending s }) 0 traces.entry.items) r.0.items) }
     ensures numbers { IfOk result (λ r. r.1.items ≡ map (λ i. i.trace) (inputs_from (λ s. record { tells = S.tells s; bytes = S.left s; ending = S.ending s }) 0 traces.entry.items)) }
@@ -34,7 +32,6 @@ pub(crate) fn open_all<'a, S: Source + Drop>(
             class,
             streams,
             shift,
-            writes,
             &mut readers,
             &mut numbers,
         )?;
@@ -50,7 +47,6 @@ fn open_streams<'a, S: Source + Drop>(
     class: &'a TraceClass,
     streams: Vec<(String, S)>,
     shift: Shift,
-    writes: bool,
     readers: &mut Vec<StreamReader<'a, S>>,
     numbers: &mut Vec<usize>,
 ) -> Result<(), NoMemory>
@@ -61,15 +57,15 @@ fn open_streams<'a, S: Source + Drop>(
     for (name, source) in streams {
         let name = Text::from_string(name);
         let reader = StreamReader::new(alloc, class, name, source, shift);
-        readers.push(asked(reader, writes))?;
+        readers.push(asked(reader))?;
         numbers.push(number)?;
     }
     Ok(())
 }
 
-/// The same reader, which tells event records as texts where that is asked for.
-fn asked<'a, S: Source + Drop>(reader: StreamReader<'a, S>, writes: bool) -> StreamReader<'a, S>
+/// The same reader, which tells event records as texts where they can be.
+fn asked<'a, S: Source + Drop>(reader: StreamReader<'a, S>) -> StreamReader<'a, S>
     ensures { (made : Bool) × (result ≡ record reader.entry { writes = made }) }
 {
-    if writes { reader.writing() } else { reader }
+    reader.writing()
 }

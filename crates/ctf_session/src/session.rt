@@ -104,9 +104,7 @@ impl<'a, S: Source + Drop> Session<'a, S> {
             AllTell inputs
             → IfOk result (λ s. EachMeans (map (run_in options.now.shift) inputs) s.readers) }
     {
-        // What is before a beginning is shown nowhere, and its values are made faster than its text.
-        let writes = options.trim.begin.is_none();
-        let (readers, numbers) = open_all(alloc, traces, options.shift, writes)?;
+        let (readers, numbers) = open_all(alloc, traces, options.shift)?;
         let merge = Merge::new(alloc, readers)?;
         Ok(Session {
             alloc,

@@ -1,5 +1,5 @@
-use Rattle.std.proofs.Common.{refl}
+use Rattle.std.proofs.Common.{true}
 use Rattle.ctf_session.proofs.opening.asked.Goals as goal
 
-pub returns-else-writes : goal.returns-else-writes
-returns-else-writes g c = (c.args.reader.writes, refl)
+pub returns : goal.returns
+returns g c = (true, c.writing.ensures)
