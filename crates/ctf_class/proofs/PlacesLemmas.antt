@@ -11,7 +11,7 @@ use Rattle.std.proofs.lemmas.Iterator.Adapters.{position_from-zero}
 use Rattle.std.proofs.lemmas.Option.{slice_get_past}
 
 -- one number more
-range_with_len-push : (first count : ℕ) → range_with_len first (count + 1) ≡ range_with_len first count ++ (first + count) ∷ []
+pub range_with_len-push : (first count : ℕ) → range_with_len first (count + 1) ≡ range_with_len first count ++ (first + count) ∷ []
 range_with_len-push first zero = let none : first ≡ first + 0 = omega arith in ap (λ n. n ∷ []) none
 range_with_len-push first (suc count) =
     let more : suc count + 1 ≡ suc (count + 1) = omega arith in

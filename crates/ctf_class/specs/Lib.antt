@@ -3,6 +3,8 @@ pub mod Escapes
 pub mod FixedSize
 pub mod HostAndName
 pub mod Items
+pub mod LabelSearch
+pub mod Labels
 pub mod Making
 pub mod Names
 pub mod Places

@@ -3,8 +3,9 @@
 use crate::align::Align;
 use crate::field_name::FieldName;
 use crate::integer::Integer;
+use crate::labels::Labels;
 use crate::route::{Length, Route};
-use crate::span::{Choice, Label};
+use crate::span::Choice;
 use ctf_list::{Boxed, List, Shared};
 
 /// A field class.
@@ -31,7 +32,7 @@ pub enum Kind {
         container: Integer,
         /// In the order of their declaration. One name may stand more than once. Classes that are
         /// made of one declaration share them.
-        labels: Shared<List<Label>>,
+        labels: Shared<Labels>,
     },
     /// The bytes up to a zero byte (CTF 1.8.3, section 4.2.5).
     String,

@@ -3,6 +3,8 @@
 #![tactic(auto)]
 
 mod align;
+mod apart;
+mod chain;
 mod class;
 mod escape;
 mod field_name;
@@ -11,7 +13,9 @@ mod frequency;
 mod heading;
 mod indexed;
 mod integer;
+mod label_at;
 mod label_name;
+mod labels;
 mod plain_number;
 mod ready;
 mod record_plan;
@@ -31,6 +35,7 @@ pub use heading::Heading;
 pub use indexed::{HasId, Indexed};
 pub use integer::{Base, Integer};
 pub use label_name::LabelName;
+pub use labels::Labels;
 pub use plain_number::PlainNumber;
 pub use ready::Ready;
 pub use record_plan::{Field, Integers, Many, RecordPlan, Run, Shown};

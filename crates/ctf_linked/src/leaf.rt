@@ -11,8 +11,8 @@ ghost use Rattle.ctf_class.specs.declared.class.Kind.TheVariants as kind;
 use crate::clocks::Clocks;
 use crate::spot::Spot;
 use ctf_bits::Order;
-use ctf_class::{Align, Class, Integer, Kind, Label};
-use ctf_list::{List, Shared};
+use ctf_class::{Align, Class, Integer, Kind, Labels};
+use ctf_list::Shared;
 use ctf_meaning::{DeclaredInteger, ResolveFault};
 
 /// An integer where it stands, in the byte order of the trace where none is written.
@@ -55,7 +55,7 @@ pub fn enumeration_class(
     clocks: &Clocks<'_>,
     spot: &Spot<'_>,
     declared: &DeclaredInteger,
-    labels: &Shared<List<Label>>,
+    labels: &Shared<Labels>,
 ) -> Result<Class, ResolveFault>
     ensures { Follows (class_told order clocks.now.clocks.now (spot_by spot.now) (enum declared.now labels.now)) (λ c. c) result }
 {

@@ -14,7 +14,7 @@ use crate::copy::copied_path;
 use crate::facts::{Facts, one_bit, one_byte};
 use crate::parts::{distinct_members, facts_of};
 use crate::shape::Shape;
-use ctf_class::{Align, Label};
+use ctf_class::{Align, Label, Labels};
 use ctf_list::{List, NoMemory, Shared};
 use ctf_meaning::{DeclaredInteger, ResolveFault};
 use std::alloc::Global;
@@ -77,7 +77,7 @@ impl Known {
         ensures { IfOk result (λ k. known k ≡ plain.enum container labels) }
     {
         let facts = Facts::leaf(container.align);
-        let labels = Shared::new(alloc, labels)?;
+        let labels = Shared::new(alloc, Labels::new(alloc, labels)?)?;
         Known::keeping(alloc, Shape::Enumeration { container, labels }, facts)
     }
 

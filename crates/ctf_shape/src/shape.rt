@@ -5,7 +5,7 @@ ghost use Rattle.ctf_meaning.specs.Shapes.{fields_in, depth_of, depth_of_members
 ghost use Rattle.ctf_meaning.specs.Paths.{member_named};
 
 use crate::names::Names;
-use ctf_class::{Align, FieldName, Label};
+use ctf_class::{Align, FieldName, Labels};
 use ctf_list::{List, NoMemory, Shared};
 use ctf_meaning::DeclaredInteger;
 use tsdl_tree::Path;
@@ -20,7 +20,7 @@ pub enum Shape {
     Enumeration {
         container: DeclaredInteger,
         /// In the order of their declaration.
-        labels: Shared<List<Label>>,
+        labels: Shared<Labels>,
     },
     Structure {
         align: Align,

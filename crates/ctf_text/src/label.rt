@@ -1,24 +1,23 @@
 //! Numbers of enumerations.
 
-ghost use Rattle.std.specs.Prelude.{◌≡◌, ◌+◌, ◌++◌, ◌≤◌, length, take, map, vec_len, codes, IfOk};
+ghost use Rattle.std.specs.Prelude.{◌≡◌, ◌+◌, ◌++◌, ◌∷◌, ◌<◌, ◌≤◌, length, take, map, vec_len, codes, IfOk};
+ghost use Rattle.ctf_class.specs.Labels.{label_at};
 ghost use Rattle.ctf_class.specs.Names.{label_text};
-ghost use Rattle.ctf_decode.specs.Routes as routes;
 ghost use Rattle.ctf_text.specs.Numbers.{number_text};
-ghost use Rattle.ctf_text.specs.Labels as texts;
 ghost use Rattle.ctf_text.specs.Labels.{names_of, names_text, labelled_text};
 ghost use Rattle.ctf_text.specs.Rows.{row};
 
 use crate::mark::{put_bytes, put_end, put_lead, put_ready};
 use crate::number::{LONGEST_NUMBER, put_number};
 use crate::room::with_room;
-use ctf_class::{Integer, Label, Span};
+use ctf_class::{Integer, Labels};
 use ctf_list::NoMemory;
 
 /// Writes an enumeration's number, with the names of the labels that cover it, at an index of a buffer, and
 /// gives the index behind it. What stands before the index is kept. At an error the buffer is any buffer.
 pub fn put_labelled(
     container: &Integer,
-    labels: &[Label],
+    labels: &Labels,
     number: i128,
     buffer: &mut Vec<u8>,
     at: usize,
@@ -45,7 +44,7 @@ fn put_container(container: &Integer, number: i128, line: &mut [u8], at: usize) 
 
 /// Writes `( ` and the names of the labels that cover a number.
 fn put_names(
-    labels: &[Label],
+    labels: &Labels,
     number: i128,
     buffer: &mut Vec<u8>,
     at: usize,
@@ -54,10 +53,12 @@ fn put_names(
     ensures text { IfOk result (λ end. take end buffer.new.items ≡ take at buffer.old.items ++ (codes "( " ++ names_text (names_of labels.now number))) }
     ensures held { IfOk result (λ end. end ≤ vec_len buffer.new) }
 {
-    match count_names(labels, number) {
-        0 => put_unknown(buffer, at),
-        1 => put_each_name(b'(', labels, number, buffer, at),
-        _ => put_several(labels, number, buffer, at),
+    match labels.next_shown(0, number) {
+        None => put_unknown(buffer, at),
+        Some(first) => match labels.next_shown(first + 1, number) {
+            None => put_name(b'(', labels, first, buffer, at),
+            Some(second) => put_several(labels, number, buffer, at),
+        },
     }
 }
 
@@ -71,7 +72,7 @@ fn put_unknown(buffer: &mut Vec<u8>, at: usize) -> Result<usize, NoMemory>
 }
 
 fn put_several(
-    labels: &[Label],
+    labels: &Labels,
     number: i128,
     buffer: &mut Vec<u8>,
     at: usize,
@@ -87,10 +88,9 @@ fn put_several(
 }
 
 /// Writes the names of the labels that cover a number, each once, the first behind a mark.
-#[tactic(auto, using(crate::proofs::NamesLemmas::row_more, crate::proofs::NamesLemmas::row_same))]
 fn put_each_name(
     mark: u8,
-    labels: &[Label],
+    labels: &Labels,
     number: i128,
     buffer: &mut Vec<u8>,
     at: usize,
@@ -101,50 +101,29 @@ fn put_each_name(
 {
     let mut end = at;
     let mut lead = mark;
-    for (i, label) in labels.iter().enumerate() {
-        if !shows(&labels[..i], label, number) {
-            continue;
-        }
-        end = put_ready(lead, label.name.ready(), 0, buffer, end)?;
+    let mut begin = 0;
+    while let Some(place) = labels.next_shown(begin, number) {
+        end = put_name(lead, labels, place, buffer, end)?;
         lead = b',';
+        begin = place + 1;
     }
     Ok(end)
 }
 
-/// How many names the labels that cover a number have.
-fn count_names(labels: &[Label], number: i128) -> usize
-    ensures { result ≡ length (names_of labels.now number) }
+/// Writes the name of the label at a place behind a mark.
+#[inline(always)]
+fn put_name(
+    mark: u8,
+    labels: &Labels,
+    place: usize,
+    buffer: &mut Vec<u8>,
+    at: usize,
+) -> Result<usize, NoMemory>
+    requires within { place < length labels.now }
+    requires index { at ≤ vec_len buffer.old }
+    ensures text { IfOk result (λ end. take end buffer.new.items ≡ take at buffer.old.items ++ (mark ∷ 32 ∷ label_text (label_at labels.now place).name)) }
+    ensures held { IfOk result (λ end. end ≤ vec_len buffer.new) }
 {
-    let mut count = 0;
-    for (i, label) in labels.iter().enumerate() {
-        if shows(&labels[..i], label, number) {
-            count += 1;
-        }
-    }
-    count
-}
-
-/// Whether a label shows a number behind these labels.
-fn shows(before: &[Label], label: &Label, number: i128) -> bool
-    ensures { result ≡ texts.shows before.now label.now number }
-{
-    covers(label.span, number) && !is_named(before, number, label.name.as_slice())
-}
-
-/// Whether one of the labels covers a number and has a name.
-fn is_named(labels: &[Label], number: i128, name: &[u8]) -> bool
-    ensures { result ≡ texts.is_named labels.now number name.now }
-{
-    for label in labels {
-        if covers(label.span, number) && label.name.as_slice() == name {
-            return true;
-        }
-    }
-    false
-}
-
-fn covers(span: Span, number: i128) -> bool
-    ensures { result ≡ routes.covers span number }
-{
-    span.first <= number && number <= span.last
+    let label = &labels.as_slice()[place];
+    put_ready(mark, label.name.ready(), 0, buffer, at)
 }

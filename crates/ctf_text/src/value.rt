@@ -17,7 +17,7 @@ use crate::mark::{put_end, put_nothing, put_ready};
 use crate::number::{LONGEST_NUMBER, put_signed_number, put_unsigned_number};
 use crate::room::with_room;
 use crate::text::put_quoted;
-use ctf_class::{Class, Integer, Kind, Label, Member};
+use ctf_class::{Class, Integer, Kind, Labels, Member};
 use ctf_decode::{Value, choice_in, elements_in, members_in};
 use ctf_list::NoMemory;
 
@@ -88,7 +88,7 @@ fn put_field(
         return put_string(value, buffer, at);
     }
     if let Kind::Enumeration { container, labels } = &class.kind {
-        return put_enumeration(container, labels.get().as_slice(), value, buffer, at);
+        return put_enumeration(container, labels.get(), value, buffer, at);
     }
     put_any(class, value, buffer, at)
 }
@@ -104,7 +104,7 @@ fn put_any(class: &Class, value: &Value, buffer: &mut Vec<u8>, at: usize) -> Res
     match &class.kind {
         Kind::Integer(integer) => Ok(put_integer(integer, value, buffer.as_mut_slice(), at)),
         Kind::Enumeration { container, labels } => {
-            put_enumeration(container, labels.get().as_slice(), value, buffer, at)
+            put_enumeration(container, labels.get(), value, buffer, at)
         }
         Kind::String => put_string(value, buffer, at),
         Kind::Structure { members } => {
@@ -142,7 +142,7 @@ fn put_integer(integer: &Integer, value: &Value, line: &mut [u8], at: usize) -> 
 #[inline(never)]
 fn put_enumeration(
     container: &Integer,
-    labels: &[Label],
+    labels: &Labels,
     value: &Value,
     buffer: &mut Vec<u8>,
     at: usize,

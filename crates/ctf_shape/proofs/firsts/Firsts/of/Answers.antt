@@ -7,8 +7,9 @@ use Rattle.std.specs.BTreeMap.{get_by}
 use Rattle.std.proofs.lemmas.Slice.Eq.{bytes_eq-Decides}
 use Rattle.ctf_meaning.specs.Name.{same_word}
 use Rattle.ctf_meaning.specs.Own.{has_twins}
+use Rattle.ctf_class.proofs.KeysLemmas.{updates_bytes}
 use Rattle.ctf_class.proofs.PlacesLemmas.{position_from-more, found-kept, found-new}
-use Rattle.ctf_shape.proofs.NamesLemmas.{or_found, or_none, is_some-position_from, has_twins-more, updates_bytes}
+use Rattle.ctf_shape.proofs.NamesLemmas.{or_found, or_none, is_some-position_from, has_twins-more}
 use Rattle.ctf_shape.proofs.firsts.Firsts.of.Goals as goal
 use Rattle.ctf_shape.proofs.firsts.Firsts.of.Goals.{then-contains_key, else-contains_key+in_ok-from_slice+in_ok-insert}
 

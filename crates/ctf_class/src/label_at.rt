@@ -1,0 +1,37 @@
+//! Labels by their places.
+
+ghost use Rattle.std.specs.Prelude.{◌≡◌, get_or};
+ghost use Rattle.ctf_class.specs.Labels.{label_at};
+ghost use Rattle.ctf_class.specs.Labels as labels_of;
+
+use crate::span::{Label, Span};
+
+/// The numbers of the label at a place; none where there is no label.
+#[inline(always)]
+pub fn span_at(labels: &[Label], place: usize) -> Span
+    ensures { result ≡ (label_at labels.now place).span }
+{
+    match labels.get(place) {
+        Some(label) => label.span,
+        None => Span { first: 1, last: 0 },
+    }
+}
+
+/// The number at a place, or another one where there is none.
+#[inline(always)]
+pub fn number_at(numbers: &[usize], place: usize, other: usize) -> usize
+    ensures { result ≡ get_or numbers.now place other }
+{
+    match numbers.get(place) {
+        Some(number) => *number,
+        None => other,
+    }
+}
+
+/// Whether a number is one of a span's.
+#[inline(always)]
+pub fn covers(span: Span, number: i128) -> bool
+    ensures { result ≡ labels_of.covers span number }
+{
+    span.first <= number && number <= span.last
+}

@@ -1,0 +1,92 @@
+//! The labels of an enumeration.
+
+ghost use Rattle.std.specs.Prelude.{◌≡◌, ◌<◌, ◌^◌, IfOk, IfSome};
+ghost use Rattle.ctf_class.specs.Labels.{FindsNext};
+
+use crate::apart::{are_apart, next_apart, sorted_places};
+use crate::chain::{chain_of, next_chained};
+use crate::span::Label;
+use ctf_list::{List, NoMemory};
+use std::alloc::Global;
+use std::marker::Model;
+
+/// How the labels that cover a number are found.
+#[derive(Drop)]
+enum Search {
+    /// No two labels cover one number. The labels' places in the order of their numbers; none where that is
+    /// the order in which they stand.
+    Apart(List<usize>),
+    /// One past the place of the last label before each of its name; 0 where there is none.
+    Chained(List<usize>),
+}
+
+/// Labels in the order of their declaration. One name may stand more than once (CTF 1.8.3, section 4.1.8).
+/// Contracts see the list of the labels.
+#[derive(Drop)]
+pub struct Labels {
+    labels: List<Label>,
+    search: Search,
+}
+
+impl Model for Labels {
+    ghost use Rattle.std.specs.Prelude.{List};
+    ghost use Rattle.ctf_class.specs.declared.span.Label.{Label};
+
+    ghost Value = { List Label };
+
+    ghost use Rattle.ctf_class.specs.LabelSearch.{Finds};
+
+    ghost view = { λ it. it.labels };
+
+    ghost invariant = { λ it. Finds it.labels it.search };
+}
+
+impl Labels {
+    /// Labels that are found by the numbers that they cover. Of `n` labels, takes time like `n` times its
+    /// logarithm, and 8 bytes for each where they don't stand in the order of their numbers.
+    pub fn new(alloc: Global, labels: List<Label>) -> Result<Labels, NoMemory>
+        ensures { IfOk result (λ made. made ≡ labels) }
+    {
+        let search = Search::of(alloc, labels.as_slice())?;
+        Ok(Labels { labels, search })
+    }
+
+    /// The labels in their order.
+    pub fn as_slice(&self) -> &[Label]
+        ensures { result.now ≡ self.now }
+    {
+        self.labels.as_slice()
+    }
+
+    /// The place of the first label, from a place on, that is shown for a number: it covers the number, and no
+    /// label that stands before it and covers the number has its name. Where no number has two labels it is
+    /// found by halving, else by a walk.
+    pub fn next_shown(&self, begin: usize, number: i128) -> Option<usize>
+        ensures next { FindsNext self.now number begin result }
+        ensures bounded { IfSome result (λ place. place < 2 ^ 63) }
+    {
+        let labels = self.labels.as_slice();
+        match &self.search {
+            Search::Apart(order) => next_apart(labels, order.as_slice(), begin, number),
+            Search::Chained(earlier) => next_chained(labels, earlier.as_slice(), begin, number),
+        }
+    }
+}
+
+impl Search {
+    ghost use Rattle.ctf_class.specs.LabelSearch.{Finds};
+
+    /// How some labels are found.
+    fn of(alloc: Global, labels: &[Label]) -> Result<Search, NoMemory>
+        ensures { IfOk result (Finds labels.now) }
+    {
+        if are_apart(labels, &[]) {
+            return Ok(Search::Apart(List::new(alloc)));
+        }
+        let order = sorted_places(alloc, labels)?;
+        if are_apart(labels, order.as_slice()) {
+            return Ok(Search::Apart(order));
+        }
+        Ok(Search::Chained(chain_of(alloc, labels)?))
+    }
+}
