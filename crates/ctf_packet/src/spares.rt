@@ -1,6 +1,6 @@
 //! Memory of event records that were decoded before.
 
-ghost use Rattle.std.specs.Prelude.{◌≡◌, ◌<◌, ◌≤◌, ◌⊎◌, length, IfOk};
+ghost use Rattle.std.specs.Prelude.{◌≡◌, ◌<◌, ◌⊎◌, length, IfOk};
 ghost use Rattle.ctf_decode.specs.Known.{without_value};
 ghost use Rattle.ctf_class.specs.declared.route.Scope.TheVariants.{EventContext, EventFields};
 
@@ -9,7 +9,10 @@ use ctf_decode::{Scopes, Value};
 use std::alloc::{AllocError, Global};
 
 /// How many event classes have memory of their own at the most. Others share it.
-const MOST_BODIES: u64 = 2048;
+const MOST_BODIES: u64 = 1024;
+
+/// The index of memory that is not there.
+const NOWHERE: u16 = 65_535;
 
 /// The longest event record, in bits, and the most values in one, whose memory is kept. So no trace makes a
 /// reader hold many long ones.
@@ -23,8 +26,10 @@ const MOST_KEPT: u64 = 256;
 pub struct Spares {
     pub(crate) header: Value,
     pub(crate) shared: Value,
-    /// By event class.
+    /// By event class, in the order in which records of them came.
     pub(crate) bodies: Vec<SpareBody>,
+    /// The index of each class there, by its number.
+    places: Vec<u16>,
     /// The index of that class whose values are lent to the scopes.
     lent: usize,
     /// Whether their memory is not kept.
@@ -45,6 +50,7 @@ impl Spares {
             header: Value::Unsigned(0),
             shared: Value::Unsigned(0),
             bodies: Vec::new(alloc),
+            places: Vec::new(alloc),
             lent: 0,
             is_long: false,
         }
@@ -73,28 +79,51 @@ impl Spares {
     pub(crate) fn room_for(&mut self, id: u64) -> Result<usize, AllocError>
         ensures { IfOk result (λ at. at < length self.new.bodies.items) }
     {
-        let at = (id % MOST_BODIES) as usize;
+        let number = (id % MOST_BODIES) as usize;
+        let at = place_at(&self.places, number);
         if at >= self.bodies.len() {
-            grow(&mut self.bodies, at + 1)?;
+            return self.add(number);
         }
+        self.lent = at;
+        Ok(at)
+    }
+
+    /// The index of further values, for an event class of which none are there. They are lent to the scopes.
+    #[cold]
+    #[inline(never)]
+    fn add(&mut self, number: usize) -> Result<usize, AllocError>
+        requires { number < 1024 }
+        ensures { IfOk result (λ at. at < length self.new.bodies.items) }
+    {
+        let at = self.bodies.len();
+        keep_place(&mut self.places, number, at)?;
+        self.bodies.push(SpareBody {
+            own: Value::Unsigned(0),
+            fields: Value::Unsigned(0),
+        })?;
         self.lent = at;
         Ok(at)
     }
 }
 
-/// Puts as many there, where there are fewer.
-#[cold]
-#[inline(never)]
-fn grow(bodies: &mut Vec<SpareBody>, count: usize) -> Result<(), AllocError>
-    requires { length bodies.old.items ≤ count }
-    ensures { IfOk result (λ _. length bodies.new.items ≡ count) }
+/// The place that is kept for a number.
+#[inline(always)]
+fn place_at(places: &[u16], number: usize) -> usize {
+    match places.get(number) {
+        Some(place) => *place as usize,
+        None => NOWHERE as usize,
+    }
+}
+
+/// Keeps a place for a number.
+fn keep_place(places: &mut Vec<u16>, number: usize, at: usize) -> Result<(), AllocError>
+    requires { number < 1024 }
 {
-    let missing = count - bodies.len();
-    for _more in 0..missing {
-        bodies.push(SpareBody {
-            own: Value::Unsigned(0),
-            fields: Value::Unsigned(0),
-        })?;
+    if number >= places.len() {
+        places.resize(number + 1, NOWHERE)?;
+    }
+    if let Ok(place) = u16::try_from(at) {
+        places[number] = place;
     }
     Ok(())
 }
