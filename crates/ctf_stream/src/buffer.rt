@@ -1,6 +1,6 @@
 //! The bytes of a packet, as they come.
 
-ghost use Rattle.std.specs.Prelude.{◌≡◌, ◌≤◌, ◌<◌, ◌+◌, [], ◌++◌, length, take, None, IsTrue, IfOk, IfSome, IfErr, OnOk, OnErr};
+ghost use Rattle.std.specs.Prelude.{◌≡◌, ◌≤◌, ◌<◌, ◌+◌, [], ◌++◌, length, max, take, None, IsTrue, IfOk, IfSome, IfErr, OnOk, OnErr};
 ghost use Rattle.ctf_bits.specs.declared.source.Ending.TheVariants.{Clean, Failed};
 ghost use Rattle.ctf_packet.specs.declared.fault.StreamFault.TheVariants.{NoMemory};
 ghost use Rattle.ctf_stream.specs.Filling.{Fills, Counts};
@@ -10,8 +10,11 @@ use ctf_packet::StreamFault;
 use std::alloc::Global;
 use std::marker::Model;
 
-/// How many bytes are asked for at the most before as many came.
-const CHUNK: usize = 65_536;
+/// An end of a packet that is so many bytes away, or fewer, is asked for at once.
+const NEAR: usize = 65_536;
+
+/// How many bytes of a longer way are asked for at the most before as many came.
+const FIRST: usize = 4_096;
 
 /// The bytes that came so far. Contracts see them.
 #[derive(Drop)]
@@ -69,6 +72,13 @@ impl Buffer {
         ensures { self.new ≡ [] }
     {
         self.filled = 0;
+    }
+
+    /// Keeps the memory of its bytes alone.
+    pub(crate) fn fit(&mut self)
+        ensures { self.new ≡ self.old }
+    {
+        keep_first(&mut self.bytes, self.filled);
     }
 
     /// Takes bytes of a source until there are `target`, or it ends.
@@ -147,22 +157,37 @@ fn take_behind<S: Source>(
     source.take(&mut bytes[filled..end])
 }
 
-/// Makes room for some bytes behind the first ones, at most up to `target` in all, and at most as many as
-/// a chunk or as came.
+/// Makes room for some bytes after the first ones: up to `target` where that is near, else for as many as came, `FIRST` at
+/// least.
 fn grow(bytes: &mut Vec<u8>, filled: usize, target: usize) -> Result<(), StreamFault>
     requires few { filled < target }
     requires there { filled ≤ length bytes.old.items }
     ensures first { take filled bytes.new.items ≡ take filled bytes.old.items }
     ensures there { filled ≤ length bytes.new.items }
     ensures room { OnOk result (filled < length bytes.new.items) }
+    ensures near { target ≤ filled + 65536 → length bytes.new.items ≤ max (length bytes.old.items) target }
+    ensures far { filled + 65536 < target → length bytes.new.items ≤ max (length bytes.old.items) (filled + max filled 4096) }
     ensures refused { IfErr result (λ fault. fault ≡ NoMemory) }
 {
     if filled < bytes.len() {
         return Ok(());
     }
-    let more = filled.max(CHUNK).min(target - filled);
+    let left = target - filled;
+    let more = if left <= NEAR {
+        left
+    } else {
+        filled.max(FIRST).min(left)
+    };
     match bytes.resize(filled + more, 0) {
         Ok(()) => Ok(()),
         Err(_) => Err(StreamFault::NoMemory),
     }
+}
+
+/// Keeps so many of the first bytes, and no memory for more where less can be had.
+fn keep_first(bytes: &mut Vec<u8>, count: usize)
+    ensures { bytes.new.items ≡ take count bytes.old.items }
+{
+    bytes.truncate(count);
+    bytes.shrink_to_fit();
 }

@@ -80,7 +80,10 @@ fn fill_rest<S: Source>(source: &mut S, buffer: &mut Buffer) -> Result<Ending, S
 {
     match buffer.fill(source, LONGEST_BYTES + 1)? {
         Filled::Whole => Err(StreamFault::ImpossibleSizes),
-        Filled::Ended(ending) => Ok(ending),
+        Filled::Ended(ending) => {
+            buffer.fit();
+            Ok(ending)
+        }
     }
 }
 
