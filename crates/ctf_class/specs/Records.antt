@@ -115,7 +115,9 @@ AreIntegers index m integer align many.Counted = (route : Route) × (k : Class) 
 abbrev pub IsShown : ℕ → Member → Shown → Type 0
 IsShown index m shown.String = m.class.kind ≡ kind.String
 IsShown index m (shown.Text count) = m.class.kind ≡ kind.Text (lengths.Fixed count)
+IsShown index m shown.CountedText = (route : Route) × (m.class.kind ≡ kind.Text (lengths.Field route)) × LeadsBefore route index
 IsShown index m (shown.Integers are) = AreIntegers index m are.integer are.align are.many
+IsShown index m (shown.Labelled is) = (m.class.kind ≡ kind.Enumeration is.container is.labels) × (is.align ≡ m.class.align)
 
 -- a field is shown so
 pub record IsField (s : Slot) (f : Field) : Type 0 where

@@ -38,7 +38,7 @@ pub use label_name::LabelName;
 pub use labels::Labels;
 pub use plain_number::PlainNumber;
 pub use ready::Ready;
-pub use record_plan::{Field, Integers, Many, RecordPlan, Run, Shown};
+pub use record_plan::{Field, Integers, Labelled, Many, RecordPlan, Run, Shown};
 pub use route::{Length, Origin, Route, Scope};
 pub use span::{Choice, Label, Span};
 pub use trace::{Clock, EventClass, PlannedEvent, StreamClass, TraceClass};

@@ -11,11 +11,12 @@ ghost use Rattle.ctf_class.specs.declared.integer.Base.TheVariants.{Decimal};
 use crate::align::Align;
 use crate::class::{Class, Kind, Member};
 use crate::integer::{Base, Integer};
+use crate::labels::Labels;
 use crate::plain_number::PlainNumber;
 use crate::ready::Ready;
 use crate::route::Length;
 use ctf_bits::{Order, Window};
-use ctf_list::{List, NoMemory};
+use ctf_list::{List, NoMemory, Shared};
 use std::alloc::Global;
 use std::mem;
 
@@ -35,7 +36,18 @@ pub enum Shown {
     String,
     /// As a text of so many bytes.
     Text(u64),
+    /// As a text of as many bytes as the field before says.
+    CountedText,
     Integers(Integers),
+    Labelled(Labelled),
+}
+
+/// An enumeration (CTF 1.8.3, section 4.1.8).
+#[derive(Drop)]
+pub struct Labelled {
+    pub container: Integer,
+    pub align: Align,
+    pub labels: Shared<Labels>,
 }
 
 /// An integer that is no number of a run, or an array of integers.
@@ -80,7 +92,7 @@ pub struct Run {
 }
 
 /// The fields of an event record's scopes behind its header (CTF 1.8.3, section 6), one after the other, if all of them are
-/// structures that begin at a byte, of integers, strings, texts of fixed lengths, and arrays of integers whose length is
+/// structures that begin at a byte, of integers, enumerations, strings, and texts and arrays of integers whose length is
 /// fixed or the field before; else nothing.
 #[derive(Drop)]
 pub struct RecordPlan {
@@ -260,7 +272,8 @@ impl Making {
             })?;
             return Ok(true);
         }
-        let Some(shown) = shown_of(&member.class, index) else {
+        let known = shown_of(&member.class, index)?;
+        let Some(shown) = known else {
             return Ok(false);
         };
         self.add_field(
@@ -339,9 +352,25 @@ impl Making {
     }
 }
 
-/// How a field of a class behind so many others of its structure is shown behind a run: an integer, a string, a text of a
-/// fixed length, or an array of integers whose length is fixed or the field before.
-fn shown_of(class: &Class, index: usize) -> Option<Shown>
+/// How a field of a class behind so many others of its structure is shown behind a run: an integer, an enumeration, a string,
+/// or a text or an array of integers whose length is fixed or the field before. It fails where no more owners of labels can
+/// be counted.
+fn shown_of(class: &Class, index: usize) -> Result<Option<Shown>, NoMemory>
+    ensures { IfOk result (λ shown. (m : Member) → m.class ≡ class.now → IfSome shown (IsShown index m)) }
+{
+    if let Kind::Enumeration { container, labels } = &class.kind {
+        let labels = labels.clone()?;
+        return Ok(Some(Shown::Labelled(Labelled {
+            container: *container,
+            align: class.align,
+            labels,
+        })));
+    }
+    Ok(plain_shown_of(class, index))
+}
+
+/// How a field is shown that is no enumeration.
+fn plain_shown_of(class: &Class, index: usize) -> Option<Shown>
     ensures { (m : Member) → m.class ≡ class.now → IfSome result (IsShown index m) }
 {
     match &class.kind {
@@ -351,12 +380,25 @@ fn shown_of(class: &Class, index: usize) -> Option<Shown>
             many: Many::One,
         })),
         Kind::String => Some(Shown::String),
-        Kind::Text { length } => match length {
-            Length::Fixed(count) => Some(Shown::Text(*count)),
-            Length::Field(_) => None,
-        },
+        Kind::Text { length } => text_of(length, index),
         Kind::Array { length, element } => array_of(length, element.get(), index),
         _ => None,
+    }
+}
+
+/// How a text of this length is shown.
+fn text_of(length: &Length, index: usize) -> Option<Shown>
+    ensures { (m : Member) → m.class.kind ≡ kinds.Text length.now → IfSome result (IsShown index m) }
+{
+    match length {
+        Length::Fixed(count) => Some(Shown::Text(*count)),
+        Length::Field(route) => {
+            if route.leads_before(index) {
+                Some(Shown::CountedText)
+            } else {
+                None
+            }
+        }
     }
 }
 

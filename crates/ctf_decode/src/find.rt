@@ -132,7 +132,7 @@ pub(crate) fn tag_of(value: &Value) -> Option<i128>
 }
 
 /// The option of the first choice that covers the tag.
-fn chosen(choices: &[Choice], tag: i128) -> Option<usize>
+pub fn chosen(choices: &[Choice], tag: i128) -> Option<usize>
     ensures { result ≡ routes.chosen choices.now tag }
 {
     for choice in choices {

@@ -80,7 +80,7 @@ pub fn written_line<'a>(
     }
     let planned = told_short(packet, short?, bytes, clock, place)?;
     let told = planned.told;
-    let standing = put_by_plan(packet, told, planned.plan, part, bytes, place, line)?;
+    let standing = put_planned_body(packet, told, planned.plan, part, bytes, place, line)?;
     Some(with_text(told.head, standing))
 }
 

@@ -11,42 +11,10 @@ ghost use Rattle.ctf_text.specs.Standing.{PutsOne, PutsNext, PutsElements, Count
 ghost use Rattle.ctf_text.specs.Texts as texts;
 
 use crate::element::put_index;
-use crate::mark::{put_end, put_nothing, put_ready};
-use crate::number::LONGEST_NUMBER;
-use crate::standing::{Before, Content, Ends, Next, put_integer};
-use ctf_class::{Align, Class, Integer, Kind, Length, Member};
+use crate::mark::{put_end, put_nothing};
+use crate::standing::{Content, Ends, Last, Next, put_integer};
+use ctf_class::{Align, Integer};
 use ctf_decode::MOST_VALUES;
-
-/// Writes a member that is an array of this length, if its elements are integers, behind a mark.
-#[inline(never)]
-pub(crate) fn put_array(
-    lead: u8,
-    member: &Member,
-    length: &Length,
-    element: &Class,
-    before: Before,
-    packet: &Content<'_>,
-    place: u64,
-    buffer: &mut Vec<u8>,
-    at: usize,
-) -> Option<Next>
-    requires kind { member.now.class.kind ≡ kind.Array length.now element.now }
-    requires start { place ≤ packet.now.end }
-    requires index { at ≤ vec_len buffer.old }
-    ensures puts { IfSome result (λ n. PutsNext before (form member.now.class) (λ v. lead ∷ 32 ∷ texts.part_text (texts.member_part member.now) v) packet.now.bytes.now packet.now.end place (take at buffer.old.items) n (take n.text buffer.new.items)) }
-    ensures within { IfSome result (λ n. n.place ≤ packet.now.end) }
-    ensures held { IfSome result (λ n. n.text ≤ vec_len buffer.new) }
-    ensures few { IfSome result (λ n. n.more ≤ MOST_VALUES) }
-{
-    let Kind::Integer(integer) = &element.kind else {
-        return None;
-    };
-    let count = count_of(length, before)?;
-    let Ok(text) = put_ready(lead, member.name.ready(), LONGEST_NUMBER, buffer, at) else {
-        return None;
-    };
-    put_integers(integer, element.align, count, packet, place, buffer, text)
-}
 
 /// Writes an array of so many integers.
 #[inline(never)]
@@ -75,6 +43,7 @@ pub(crate) fn put_integers(
         place: ends.place,
         text: ends.text,
         more: count,
+        last: Last::Unknown,
     })
 }
 
@@ -90,22 +59,6 @@ fn begin_at(align: Align, packet: &Content<'_>, place: u64) -> Option<u64>
         return None;
     }
     Some(begin)
-}
-
-/// How many elements an array has behind other members, where its length is fixed or that of the last of them.
-fn count_of(length: &Length, before: Before) -> Option<u64>
-    ensures { IfSome result (Counts length.now before) }
-{
-    match length {
-        Length::Fixed(count) => Some(*count),
-        Length::Field(route) => {
-            if route.leads_before(before.index) {
-                before.number
-            } else {
-                None
-            }
-        }
-    }
 }
 
 /// Writes so many integers as the elements of an array.

@@ -3,6 +3,7 @@
 
 mod array;
 mod binary;
+mod by_class;
 mod decimal;
 mod digits;
 mod element;
@@ -22,11 +23,12 @@ mod value;
 mod whole;
 mod window;
 
+pub use by_class::put_standing;
 pub use ctf_class::escaped;
 pub use packet::put_packet_part;
 pub use planned_record::put_planned_record;
 pub use record::{put_comma, put_front, put_record};
 pub use room::with_room;
-pub use standing::{Standing, put_standing};
+pub use standing::Standing;
 pub use value::put_value;
 pub use whole::{packet_part, record_text, value_text};

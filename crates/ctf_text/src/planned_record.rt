@@ -14,9 +14,10 @@ use crate::array::put_integers;
 use crate::mark::put_end;
 use crate::plain_number::put_numbers;
 use crate::room::with_room;
-use crate::standing::{Content, Standing, put_fixed_text, put_integer, put_string};
+use crate::by_class::put_enumeration;
+use crate::standing::{Content, Ends, Standing, put_fixed_text, put_integer, put_string};
 use ctf_bits::up;
-use ctf_class::{Field, Integers, Many, PlainNumber, Ready, RecordPlan, Run, Shown};
+use ctf_class::{Field, Integers, Labelled, Many, PlainNumber, Ready, RecordPlan, Run, Shown};
 use ctf_decode::MOST_VALUES;
 
 /// How far fields came.
@@ -213,6 +214,18 @@ fn put_field(
             reach.place = ends.place;
             Some(ends.text)
         }
+        Shown::CountedText => {
+            let first = ((reach.place - run.span) / 8) as usize;
+            let count = last_number(run.numbers.as_slice(), packet.bytes, first)?;
+            let ends = put_fixed_text(count, packet, begin, buffer, text)?;
+            reach.place = ends.place;
+            Some(ends.text)
+        }
+        Shown::Labelled(is) => {
+            let ends = put_label(is, packet, begin, buffer, text)?;
+            reach.place = ends.place;
+            Some(ends.text)
+        }
         Shown::Integers(are) => {
             let first = ((reach.place - run.span) / 8) as usize;
             // A copy, so that the others do not go through memory.
@@ -226,6 +239,22 @@ fn put_field(
             Some(end)
         }
     }
+}
+
+/// Writes an enumeration.
+#[inline(never)]
+fn put_label(
+    is: &Labelled,
+    packet: &Content<'_>,
+    place: u64,
+    buffer: &mut Vec<u8>,
+    at: usize,
+) -> Option<Ends> {
+    let ends = put_enumeration(&is.container, is.labels.get(), is.align, packet, place, buffer, at)?;
+    Some(Ends {
+        place: ends.place,
+        text: ends.text,
+    })
 }
 
 /// Writes integers that are none of the numbers of a run, but stand behind these, and gives the index behind them.

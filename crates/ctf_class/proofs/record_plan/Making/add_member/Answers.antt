@@ -1,6 +1,6 @@
-use Rattle.std.proofs.Common.{◌++◌, ◌∷◌, [], refl, sym, subst, rules}
+use Rattle.std.proofs.Common.{◌++◌, ◌∷◌, [], IfSome, refl, sym, subst, rules}
 use Rattle.ctf_class.specs.Making.{IsMade}
-use Rattle.ctf_class.specs.Records.{Slot, IsNumber, IsField}
+use Rattle.ctf_class.specs.Records.{Slot, IsNumber, IsShown, IsField}
 use Rattle.ctf_class.specs.declared.record_plan.Field.{Field}
 use Rattle.ctf_class.specs.declared.plain_number.PlainNumber.{PlainNumber}
 use Rattle.ctf_class.proofs.RecordsLemmas.{made_number, made_field}
@@ -24,6 +24,6 @@ returns-in-Some-clause-made c = λ _ done made.
 pub returns-clause-made : goal.returns-clause-made
 returns-clause-made c = λ _ done made.
     let s : Slot = record { lead = c.args.lead.now; align = c.args.align; index = c.args.index; member = c.args.member.now } in
-    let f : Field = record { ready = c.in_ok-ready.ready; align = c.args.align; shown = c.in-Some-shown_of.shown } in
-    let is : IsField s f = record { align = refl; ready = c.in_ok-ready.ensures; shown = c.in-Some-shown_of.ensures c.args.member.now refl } in
+    let f : Field = record { ready = c.in_ok-ready.ready; align = c.args.align; shown = c.in-Some-known.shown } in
+    let is : IsField s f = record { align = refl; ready = c.in_ok-ready.ensures; shown = subst (λ o. IfSome o (IsShown c.args.index c.args.member.now)) c.in-Some-known.is (c.in_ok-known.ensures c.args.member.now refl) } in
     subst (IsMade (done ++ s ∷ [])) (sym c.in_ok-add_field.ensures) (made_field done s c.args.self.now f is made)
