@@ -1,6 +1,6 @@
 -- Arrays that are shown where they stand, one element more at a time.
 use Rattle.std.proofs.Common.{◌≡◌, ℕ, suc, ◌+◌, ◌-◌, ◌<◌, ◌≤◌, cond, List, [], ◌∷◌, ◌++◌, length, take, Option, Some, None, IfSome, Ok, Err, rules, refl, sym, ap, subst, ◌∙◌, arith, append_assoc, append-nil, length-append}
-use Rattle.std.specs.Prelude.{slice_get}
+use Rattle.std.specs.Prelude.{ℤ, slice_get, option_and_then}
 use Rattle.std.specs.Int.{next_multiple_of}
 use Rattle.std.proofs.lemmas.Bool.{le-ltb}
 use Rattle.ctf_class.specs.declared.class.Class as class
@@ -13,14 +13,15 @@ use Rattle.ctf_class.specs.declared.route.Length.{Length}
 use Rattle.ctf_class.specs.declared.route.Length.TheVariants.{Field}
 use Rattle.ctf_class.specs.declared.route.Route.{Route}
 use Rattle.ctf_class.specs.declared.route.Scope.{Scope}
+use Rattle.ctf_class.specs.declared.span.Choice.{Choice}
 use Rattle.ctf_class.specs.Names.{field_text}
 use Rattle.ctf_decode.specs.Breaks.{past}
 use Rattle.ctf_decode.specs.Fields.{elements_in}
 use Rattle.ctf_decode.specs.Forms as forms
 use Rattle.ctf_decode.specs.Forms.{Form, integer}
 use Rattle.ctf_decode.specs.Input.{Env}
-use Rattle.ctf_decode.specs.Routes.{found}
-use Rattle.ctf_decode.specs.Values.{Val, vals_of, unsigned, list}
+use Rattle.ctf_decode.specs.Routes.{found, number_of, tag_of, chosen}
+use Rattle.ctf_decode.specs.Values.{Val, vals_of, unsigned, label, list}
 use Rattle.ctf_decode.specs.Views.{form, shape}
 use Rattle.ctf_decode.specs.Walk.{and_then, begin, open_at, as_list, repeat, walk}
 use Rattle.ctf_decode.specs.declared.scopes.TheConstants.{MOST_VALUES}
@@ -28,33 +29,41 @@ use Rattle.ctf_decode.proofs.Steps.{row_ok}
 use Rattle.ctf_decode.proofs.Views.{shape-Array}
 use Rattle.ctf_text.specs.Rows.{row, enclosed}
 use Rattle.ctf_class.specs.Records.{LeadsBefore}
-use Rattle.ctf_text.specs.Standing.{among, LastIs, PutsOne, PutsNext, PutsElements, Counts, elements_text}
+use Rattle.ctf_text.specs.Standing.{among, LastIs, mark_at, PutsOne, PutsNext, PutsElements, Counts, Chooses, elements_text}
 use Rattle.ctf_text.specs.Texts.{Shown, Part, value_text, kind_text, part_text, member_part, element_text, element_texts, integer_text}
 use Rattle.ctf_text.specs.declared.standing.Before.{Before}
+use Rattle.ctf_text.specs.declared.standing.Last.TheVariants as lasts
 use Rattle.ctf_text.specs.declared.standing.Next.{Next}
-use Rattle.ctf_text.proofs.StandingLemmas.{begins, form-is, value-is, member-is, form_integer, text_integer, last_of, mark_at, row_more}
+use Rattle.ctf_text.proofs.StandingLemmas.{begins, form-is, value-is, member-is, form_integer, text_integer, last_of, row_more}
 
--- a length that is the member before
-counts_last : (route : Route) (before : Before) (n : ℕ) → LeadsBefore route before.index → before.number ≡ Some n → Counts (Field route) before n
+-- what a route finds that leads to the member before
+found_last : (route : Route) (index : ℕ) (vs ws : List Val) (v : Val) (earlier : Scope → Option Val) (env : Env) → LeadsBefore route index → length vs ≡ index → vs ≡ ws ++ v ∷ [] → found route earlier (vs ∷ env) ≡ Some v
 unfolding found
-counts_last route before n leads is earlier env vs counted last =
-    let at_end = subst (λ o. LastIs o vs) is last in
+found_last route index vs ws v earlier env leads counted last =
     let step = leads.1.0 in
-    let few : length at_end.0 ≡ step = omega (arith, counted, leads.1.2, ap length at_end.1, length-append at_end.0 (unsigned n ∷ [])) in
-    let stands : slice_get vs step ≡ Some (unsigned n) = ap (λ xs. slice_get xs step) at_end.1 ∙ last_of at_end.0 (unsigned n) step few in
+    let few : length ws ≡ step = omega (arith, counted, leads.1.2, ap length last, length-append ws (v ∷ [])) in
+    let stands : slice_get vs step ≡ Some v = ap (λ xs. slice_get xs step) last ∙ last_of ws v step few in
     rw (leads.0, leads.1.1, stands) refl
 
-pub counts_field : (route : Route) (before : Before) (o : Option ℕ) → LeadsBefore route before.index → before.number ≡ o → IfSome o (Counts (Field route) before)
-counts_field route before None leads is = tt
-counts_field route before (Some n) leads is = counts_last route before n leads is
+-- a length that is the member before
+pub counts_last : (route : Route) (before : Before) (n : ℕ) → LeadsBefore route before.index → before.last ≡ lasts.Unsigned n → Counts (Field route) before n
+counts_last route before n leads is earlier env vs counted last =
+    let at_end = subst (λ l. LastIs l vs) is last in
+    ap number_of (found_last route before.index vs at_end.0 (unsigned n) earlier env leads counted at_end.1)
 
-elements_snoc : (shown : Shown) (k : ℕ) (vs : List Val) (v : Val) → element_texts shown k (vals_of (vs ++ v ∷ [])) ≡ element_texts shown k (vals_of vs) ++ element_text shown (k + length vs) v ∷ []
+-- a tag that is the member before
+pub chooses_last : (tag : Route) (choices : List Choice) (before : Before) (z : ℤ) (i : ℕ) → LeadsBefore tag before.index → before.last ≡ lasts.Label z → chosen choices z ≡ Some i → Chooses tag choices before i
+chooses_last tag choices before z i leads is chooses earlier env vs counted last =
+    let at_end = subst (λ l. LastIs l vs) is last in
+    ap (λ o. option_and_then (chosen choices) (tag_of o)) (found_last tag before.index vs at_end.0 (label z) earlier env leads counted at_end.1) ∙ chooses
+
+pub elements_snoc : (shown : Shown) (k : ℕ) (vs : List Val) (v : Val) → element_texts shown k (vals_of (vs ++ v ∷ [])) ≡ element_texts shown k (vals_of vs) ++ element_text shown (k + length vs) v ∷ []
 elements_snoc shown k [] v = let n : k ≡ k + 0 = omega arith in ap (λ i. element_text shown i v ∷ []) n
 elements_snoc shown k (w ∷ vs) v =
     let n : suc k + length vs ≡ k + suc (length vs) = omega arith in
     ap (λ xs. element_text shown k w ∷ xs) (elements_snoc shown (suc k) vs v ∙ ap (λ i. element_texts shown (suc k) (vals_of vs) ++ element_text shown i v ∷ []) n)
 
-elements_length : (shown : Shown) (k : ℕ) (vs : List Val) → length (element_texts shown k (vals_of vs)) ≡ length vs
+pub elements_length : (shown : Shown) (k : ℕ) (vs : List Val) → length (element_texts shown k (vals_of vs)) ≡ length vs
 elements_length shown k [] = refl
 elements_length shown k (w ∷ vs) = ap suc (elements_length shown (suc k) vs)
 
@@ -123,7 +132,7 @@ text-Array many c = search (rules, class.the_lemmas)
 -- the elements are the value of an array
 pub puts_integers : (before : Before) (many : Length) (a : ℕ) (i : Integer) (align : ℕ) (packet : List ℕ) (content place start count end text : ℕ) (line after : List ℕ)
     → start ≡ next_multiple_of place align → start ≤ content → Counts many before count → PutsElements (enclosed 91 93) align i count packet content start end line after
-    → PutsNext before (forms.array a many (integer align i)) (elements_text i) packet content place line (record { place = end; text = text; more = count }) after
+    → PutsNext before (forms.array a many (integer align i)) (elements_text i) packet content place line (record { place = end; text = text; more = count; last = lasts.Unknown }) after
 puts_integers before many a i align packet content place start count end text line after starts within counts elements spent room earlier env vs counted last =
     let c = among packet content earlier in
     let e = vs ∷ env in
@@ -134,7 +143,7 @@ puts_integers before many a i align packet content place start count end text li
     let walked : walk (forms.array a many inner) c e place spent ≡ Ok (list (vals_of p.0), end, spent + 1 + count) =
     (λ j. begin c spent (open_at c (sym starts j) (rest (sym starts j) (counts earlier env vs counted last j)))) ∙ begins c spent (open_at c start (rest start count)) (omega (arith, room)) ∙ opened ∙ ap (λ r. and_then r as_list) p.1
     in
-    (list (vals_of p.0), walked, p.3)
+    (list (vals_of p.0), walked, p.3, tt)
 
 -- the class of an array of integers, and what it shows
 pub form_array : (c k : Class) (many : Length) (i : Integer) → c.kind ≡ kind.Array many k → k.kind ≡ kind.Integer i → forms.array c.align many (integer k.align i) ≡ form c
@@ -160,7 +169,7 @@ next_named before m lead packet content place from line n after name wrote named
     let p = puts spent room earlier env vs counted last in
     let text = value_text m.class p.0 in
     let part : part_text (member_part m) p.0 ≡ field_text m.name ++ text = ap (λ (x : Part). part_text x p.0) (member-is m) in
-    (p.0, p.1, p.2 ∙ ap (λ xs. xs ++ text) wrote ∙ append_assoc from (lead ++ name) text ∙ ap (λ xs. from ++ xs) (append_assoc lead name text) ∙ ap (λ xs. from ++ (lead ++ (xs ++ text))) named ∙ ap (λ xs. from ++ (lead ++ xs)) (sym part))
+    (p.0, p.1, p.2 ∙ ap (λ xs. xs ++ text) wrote ∙ append_assoc from (lead ++ name) text ∙ ap (λ xs. from ++ xs) (append_assoc lead name text) ∙ ap (λ xs. from ++ (lead ++ (xs ++ text))) named ∙ ap (λ xs. from ++ (lead ++ xs)) (sym part), p.3)
 
 pub named_some : (r : Option Next) (before : Before) (m : Member) (lead : List ℕ) (packet : List ℕ) (content place : ℕ) (from line after name : List ℕ) → line ≡ from ++ (lead ++ name) → name ≡ field_text m.name → IfSome r (λ n. PutsNext before (form m.class) (value_text m.class) packet content place line n (take n.text after))
     → IfSome r (λ n. PutsNext before (form m.class) (λ v. lead ++ part_text (member_part m) v) packet content place from n (take n.text after))

@@ -12,4 +12,5 @@ pub mod StandingLemmas
 pub mod PlainLemmas
 pub mod RecordsLemmas
 pub mod ArrayLemmas
+pub mod ByClassLemmas
 pub mod WindowLemmas

@@ -25,13 +25,14 @@ use Rattle.ctf_decode.specs.Views.{form}
 use Rattle.ctf_decode.specs.declared.scopes.TheConstants.{MOST_VALUES}
 use Rattle.ctf_text.specs.Plain.{plain_text}
 use Rattle.ctf_text.specs.Records.{Reached, IsLastNumber, PutsField, PutsFields, PutsScopes, TakesRun, IsNear, behind}
-use Rattle.ctf_text.specs.Standing.{Counts, Puts, PutsOne, PutsNext, StandsAsNumber}
+use Rattle.ctf_text.specs.Standing.{Counts, Puts, PutsOne, PutsNext, StandsAsNumber, known}
 use Rattle.ctf_text.specs.Texts.{Shown, Part, integer_text, value_text, part_text, member_part}
+use Rattle.ctf_text.specs.declared.standing.Before.{Before}
 use Rattle.ctf_text.specs.declared.standing.MembersEnd.{MembersEnd}
 use Rattle.ctf_text.specs.declared.standing.Next.{Next}
-use Rattle.ctf_text.proofs.StandingLemmas.{Going, going_begins, going_on, puts_next, going_ends, closed, puts_structure, as_one, form_integer, text_integer, member-is, stands_number}
+use Rattle.ctf_text.proofs.StandingLemmas.{Going, going_begins, going_on, puts_next, known_next, going_ends, closed, puts_structure, as_one, form_integer, text_integer, member-is, stands_number}
 use Rattle.ctf_text.proofs.PlainLemmas.{plain_integer}
-use Rattle.ctf_text.proofs.ArrayLemmas.{next_named, counts_field}
+use Rattle.ctf_text.proofs.ArrayLemmas.{next_named, counts_last}
 
 -- a value behind its name is the field
 pub puts_named : (m : Member) (lead : List ℕ) (packet : List ℕ) (content place end : ℕ) (before line after name : List ℕ) → line ≡ before ++ (lead ++ name) → name ≡ field_text m.name → PutsOne (form m.class) (value_text m.class) packet content place end line after
@@ -210,26 +211,27 @@ drop_one (y ∷ xs) (suc i) x rest left =
     (omega (arith, d.0), d.1, ap (λ k. drop k (y ∷ xs)) more ∙ d.2)
 
 -- members behind the first
-later_going : (all rest : List Member) (packet : List ℕ) (content begin i base some : ℕ) (before : List ℕ) (from to : Reached) → drop (suc i) all ≡ rest → from.more ≡ base + some → Going all packet content begin (suc i) from.place some from.last before from.line → PutsFields (laters (suc i) rest) packet content from to
-    → (more : ℕ) × (to.more ≡ base + more) × Going all packet content begin (suc i + length rest) to.place more to.last before to.line
+later_going : (all rest : List Member) (packet : List ℕ) (content begin i base some : ℕ) (before : List ℕ) (from to : Reached) → drop (suc i) all ≡ rest → from.more ≡ base + some → Going all packet content begin (suc i) from.place some (known from.last) before from.line → PutsFields (laters (suc i) rest) packet content from to
+    → (more : ℕ) × (to.more ≡ base + more) × Going all packet content begin (suc i + length rest) to.place more (known to.last) before to.line
 later_going all [] packet content begin i base some before from to left counted going puts =
     let none : suc i ≡ suc i + 0 = omega arith in
-    (some, ap (λ (r : Reached). r.more) puts ∙ counted, subst (λ k. Going all packet content begin k to.place some to.last before to.line) none (subst (λ (r : Reached). Going all packet content begin (suc i) r.place some r.last before r.line) (sym puts) going))
+    (some, ap (λ (r : Reached). r.more) puts ∙ counted, subst (λ k. Going all packet content begin k to.place some (known to.last) before to.line) none (subst (λ (r : Reached). Going all packet content begin (suc i) r.place some (known r.last) before r.line) (sym puts) going))
 later_going all (m ∷ rest) packet content begin i base some before from to left counted going puts =
     let d = drop_one all (suc i) m rest left in
     let mid = puts.0 in
     let field = puts.1 in
     let more = field.1 in
     let shown : Shown = λ v. 44 ∷ 32 ∷ part_text (member_part m) v in
-    let end : Next = record { place = mid.place; text = 0; more = more } in
-    let next : PutsNext (record { index = suc i; number = from.last }) (form m.class) shown packet content from.place from.line end mid.line = subst (λ p. PutsNext (record { index = suc i; number = from.last }) (form m.class) shown packet content p from.line end mid.line) (at_one from.place) field.3 in
-    let stands : IfSome mid.last (StandsAsNumber (form m.class) packet content from.place) = subst (λ p. IfSome mid.last (StandsAsNumber (form m.class) packet content p)) (at_one from.place) field.4 in
-    let on = going_on all packet content begin before (suc i) from.place some from.last mid.last m 44 from.line end mid.line d.0 d.1 refl going next stands in
+    let so_far : Before = record { index = suc i; last = known from.last } in
+    let end : Next = record { place = mid.place; text = 0; more = more; last = known mid.last } in
+    let told : PutsNext so_far (form m.class) shown packet content (next_multiple_of from.place 1) from.line end mid.line = known_next mid.last so_far (form m.class) shown packet content (next_multiple_of from.place 1) mid.place 0 more from.line mid.line field.3 field.4 in
+    let next : PutsNext so_far (form m.class) shown packet content from.place from.line end mid.line = subst (λ p. PutsNext so_far (form m.class) shown packet content p from.line end mid.line) (at_one from.place) told in
+    let on = going_on all packet content begin before (suc i) from.place some (known from.last) m 44 from.line end mid.line d.0 d.1 refl going next in
     let one : suc i + 1 ≡ suc (suc i) = omega arith in
     let sum : mid.more ≡ base + (some + more) = (let f = field.2 in omega (arith, f, counted)) in
-    let others = later_going all rest packet content begin (suc i) base (some + more) before mid to (sym (ap (λ k. drop k all) one) ∙ d.2) sum (subst (λ k. Going all packet content begin k mid.place (some + more) mid.last before mid.line) one on) puts.2 in
+    let others = later_going all rest packet content begin (suc i) base (some + more) before mid to (sym (ap (λ k. drop k all) one) ∙ d.2) sum (subst (λ k. Going all packet content begin k mid.place (some + more) (known mid.last) before mid.line) one on) puts.2 in
     let count : suc (suc i) + length rest ≡ suc i + suc (length rest) = omega arith in
-    (others.0, others.1, subst (λ k. Going all packet content begin k to.place others.0 to.last before to.line) count others.2)
+    (others.0, others.1, subst (λ k. Going all packet content begin k to.place others.0 (known to.last) before to.line) count others.2)
 
 -- the fields of a structure, and the brace behind them, are its value, with so many others in its arrays
 pub scope_puts : (k : Class) (s : Scoped) (opens packet : List ℕ) (content spent : ℕ) (from to : Reached) → k.kind ≡ kind.Structure s.members → k.align ≡ s.align → 0 < length s.members → PutsFields (slots opens s) packet content from to
@@ -245,18 +247,21 @@ scope_puts k s opens packet content spent from to is aligned some puts = by_memb
         let opened = from.line ++ opens in
         let mid = puts.0 in
         let field = puts.1 in
-        let end : Next = record { place = mid.place; text = 0; more = field.1 } in
-        let first : PutsNext (record { index = 0; number = None }) (form m.class) (λ v. 123 ∷ 32 ∷ part_text (member_part m) v) packet content begin opened end mid.line = λ sp fw ea en vs counted last.
-        let p = field.3 sp fw ea en vs counted last in
+        let end : Next = record { place = mid.place; text = 0; more = field.1; last = known mid.last } in
+        let shown : Shown = λ v. (opens ++ (123 ∷ 32 ∷ [])) ++ part_text (member_part m) v in
+        let none : Before = record { index = 0; last = known None } in
+        let told : PutsNext none (form m.class) shown packet content begin from.line end mid.line = known_next mid.last none (form m.class) shown packet content begin mid.place 0 field.1 from.line mid.line field.3 field.4 in
+        let first : PutsNext none (form m.class) (λ v. 123 ∷ 32 ∷ part_text (member_part m) v) packet content begin opened end mid.line = λ sp fw ea en vs counted last.
+        let p = told sp fw ea en vs counted last in
         let part = part_text (member_part m) p.0 in
-        (p.0, p.1, p.2 ∙ ap (λ xs. from.line ++ xs) (append_assoc opens (123 ∷ 32 ∷ []) part) ∙ sym (append_assoc from.line opens (123 ∷ 32 ∷ part)))
+        (p.0, p.1, p.2 ∙ ap (λ xs. from.line ++ xs) (append_assoc opens (123 ∷ 32 ∷ []) part) ∙ sym (append_assoc from.line opens (123 ∷ 32 ∷ part)), p.3)
         in
         let no_more : 0 + field.1 ≡ field.1 = omega arith in
-        let one : Going all packet content begin 1 mid.place field.1 mid.last opened mid.line = subst (λ n. Going all packet content begin 1 mid.place n mid.last opened mid.line) no_more (going_on all packet content begin opened 0 begin 0 None mid.last m 123 opened end mid.line (omega arith) refl refl (going_begins all packet content begin opened) first field.4) in
+        let one : Going all packet content begin 1 mid.place field.1 (known mid.last) opened mid.line = subst (λ n. Going all packet content begin 1 mid.place n (known mid.last) opened mid.line) no_more (going_on all packet content begin opened 0 begin 0 (known None) m 123 opened end mid.line (omega arith) refl refl (going_begins all packet content begin opened) first) in
         let going = later_going all ms packet content begin 0 from.more field.1 opened mid to refl field.2 one puts.2 in
         let counted : 1 + length ms ≡ length all = omega arith in
         let ends : MembersEnd = record { place = to.place; text = 0; more = going.0 } in
-        let rows = going_ends all packet content begin opened to.place going.0 0 to.last to.line (subst (λ i. Going all packet content begin i to.place going.0 to.last opened to.line) counted going.2) in
+        let rows = going_ends all packet content begin opened to.place going.0 0 (known to.last) to.line (subst (λ i. Going all packet content begin i to.place going.0 (known to.last) opened to.line) counted going.2) in
         let whole = closed all packet content begin 0 ends opened to.line (to.line ++ (32 ∷ 125 ∷ [])) (omega arith) refl rows in
         (going.0, going.1, λ few. puts_structure k all packet content from.place begin spent ends (spent + 1 + length all + going.0) opened (to.line ++ (32 ∷ 125 ∷ [])) is (ap (next_multiple_of from.place) (sym aligned)) field.0 refl few whole)
 
@@ -347,15 +352,15 @@ run_field slots others s ns packet content first from mid (Some t) to numbers fi
 -- a length that is the number before
 pub counts_behind : (route : Route) (index n : ℕ) → LeadsBefore route index → Counts (lengths.Field route) (behind index (Some n)) n
 counts_behind route zero n leads = absurd (omega (arith, leads.1.2))
-counts_behind route (suc i) n leads = counts_field route (record { index = suc i; number = Some n }) (Some n) leads refl
+counts_behind route (suc i) n leads = counts_last route (record { index = suc i; last = known (Some n) }) n leads refl
 
 -- a value behind what is printed before it is its field
 pub field_next : (s : Slot) (f : Field) (packet : List ℕ) (content begin place more some end : ℕ) (last : Option ℕ) (before line after : List ℕ) → IsField s f → begin ≡ next_multiple_of place f.align → begin ≤ content → line ≡ before ++ f.ready
-    → PutsNext (behind s.index last) (form s.member.class) (value_text s.member.class) packet content begin line (record { place = end; text = 0; more = some }) after
+    → PutsNext (behind s.index last) (form s.member.class) (value_text s.member.class) packet content begin line (record { place = end; text = 0; more = some; last = known None }) after
     → PutsField s packet content (numbers_to place more last before) (numbers_to end (more + some) None after)
 field_next s f packet content begin place more some end last before line after is begins within wrote puts =
     let m = s.member in
-    let to : Next = record { place = end; text = 0; more = some } in
+    let to : Next = record { place = end; text = 0; more = some; last = known None } in
     let shown : Shown = λ v. s.lead ++ part_text (member_part m) v in
     let at : begin ≡ next_multiple_of place s.align = begins ∙ ap (next_multiple_of place) is.align in
     let there = next_named (behind s.index last) m s.lead packet content begin before line to after (field_text m.name) (wrote ∙ ap (λ t. before ++ t) is.ready) refl puts in
@@ -385,5 +390,5 @@ fields_from (k ∷ ks) (s ∷ ss) opens packet content place more last line to s
     by_members (m ∷ ms) some puts =
         let shown : Shown = λ v. (opens ++ (123 ∷ 32 ∷ [])) ++ part_text (member_part m) v in
         let mid = puts.0 in
-        let Begins : ℕ → Type 0 = λ q. (q ≤ content) × (n : ℕ) × (mid.more ≡ more + n) × PutsNext (record { index = 0; number = None }) (form m.class) shown packet content q line (record { place = mid.place; text = 0; more = n }) mid.line × IfSome mid.last (StandsAsNumber (form m.class) packet content q) in
+        let Begins : ℕ → Type 0 = λ q. (q ≤ content) × (n : ℕ) × (mid.more ≡ more + n) × PutsNext (record { index = 0; last = known None }) (form m.class) shown packet content q line (record { place = mid.place; text = 0; more = n; last = known None }) mid.line × IfSome mid.last (StandsAsNumber (form m.class) packet content q) in
         (mid, subst Begins (up_again place s.align are.2) puts.1, puts.2)

@@ -2,9 +2,8 @@
 use Rattle.std.proofs.Common.{◌≡◌, ℕ, zero, suc, ◌+◌, ◌-◌, ◌*◌, ◌/◌, ◌<◌, ◌≤◌, Bool, true, false, cond, List, [], ◌∷◌, ◌++◌, map, take, drop, length, get_or, position, nat_eq, not, Option, Some, None, IfSome, Ok, Err, pos, rules, refl, sym, ap, subst, ◌∙◌, arith, append_assoc, append-nil, length-append}
 use Rattle.std.specs.Int.{next_multiple_of}
 use Rattle.std.specs.List.{take_while}
-use Rattle.std.specs.Prelude.{slice_get, option_and_then, if◌then◌else◌}
+use Rattle.std.specs.Prelude.{slice_get}
 use Rattle.std.proofs.lemmas.Bool.{lt-ltb, le-ltb}
-use Rattle.std.proofs.lemmas.Option.{slice_get_read, slice_get_past}
 use Rattle.std.proofs.Math.Seq.{take-length}
 use Rattle.std.proofs.lemmas.List.{take_more, map-append, length-map, length-take-le, take-append-le, take-take}
 use Rattle.ctf_bits.specs.Number.{number, signed_number}
@@ -12,8 +11,6 @@ use Rattle.ctf_class.specs.declared.class.Class as class
 use Rattle.ctf_class.specs.declared.class.Class.{Class}
 use Rattle.ctf_class.specs.declared.class.Kind as kind
 use Rattle.ctf_class.specs.declared.class.Kind.{Kind}
-use Rattle.ctf_class.specs.declared.class.Kind.TheOpen.{Kind-F}
-use Rattle.ctf_class.specs.declared.class.Kind.TheViews.{out-Kind, roll-Kind, roll-out-Kind, rolls-Integer}
 use Rattle.ctf_class.specs.declared.class.Member.{Member}
 use Rattle.ctf_class.specs.declared.integer.Integer.{Integer}
 use Rattle.ctf_class.specs.declared.route.Length.{Length}
@@ -32,10 +29,12 @@ use Rattle.ctf_decode.specs.Fields.{members_in}
 use Rattle.ctf_decode.specs.declared.scopes.TheConstants.{MOST_VALUES}
 use Rattle.ctf_text.specs.Numbers.{number_text}
 use Rattle.ctf_text.specs.Rows.{row, enclosed}
-use Rattle.ctf_text.specs.Standing.{among, Puts, PutsOne, LastIs, PutsNext, PutsMembers, StandsAsNumber, unsigned_of, number_of_kind, number_of, number_before}
+use Rattle.ctf_text.specs.Standing.{among, Puts, PutsOne, ValueIs, LastIs, known, mark_at, PutsNext, PutsMembers, StandsAsNumber}
 use Rattle.ctf_text.specs.Texts.{Shown, Part, value_text, kind_text, part_text, member_part, member_texts, integer_text, string_text}
 use Rattle.ctf_text.specs.declared.standing.Before.{Before}
 use Rattle.ctf_text.specs.declared.standing.Ends.{Ends}
+use Rattle.ctf_text.specs.declared.standing.Last.{Last}
+use Rattle.ctf_text.specs.declared.standing.Last.TheVariants as lasts
 use Rattle.ctf_text.specs.declared.standing.MembersEnd.{MembersEnd}
 use Rattle.ctf_text.specs.declared.standing.Next.{Next}
 use Rattle.ctf_text.proofs.NamesLemmas.{here, drop-all}
@@ -97,11 +96,6 @@ module _ (packet : List ℕ) (content place end n : ℕ) (before after : List �
       let w = text_val (take_while (λ x. not (nat_eq x 0)) (take n (drop (next_multiple_of place 8 / 8) packet))) in
       (w, leaf_stands c e spent w few (subst (λ m. m ≤ content) ending within) ∙ ap (λ m. Ok (w, m, spent + 1)) (sym ending), wrote)
 
--- the mark before the text of this index, where this one stands before the first
-abbrev pub mark_at : ℕ → ℕ → ℕ
-mark_at first zero = first
-mark_at first (suc i) = 44
-
 row_snoc : (texts : List (List ℕ)) (text : List ℕ) → row 44 (texts ++ text ∷ []) ≡ row 44 texts ++ (44 ∷ 32 ∷ text)
 row_snoc [] text = ap (λ xs. 44 ∷ 32 ∷ xs) (append-nil text)
 row_snoc (t ∷ texts) text =
@@ -126,16 +120,21 @@ texts_length (p ∷ parts) (w ∷ vs) same = ap suc (texts_length parts vs (omeg
 
 -- As many members as an index tells were written, with so many values in them, and the others stand behind them: so the
 -- loop over members goes.
-abbrev pub Going : List Member → List ℕ → ℕ → ℕ → ℕ → ℕ → ℕ → Option ℕ → List ℕ → List ℕ → Type 0
+abbrev pub Going : List Member → List ℕ → ℕ → ℕ → ℕ → ℕ → ℕ → Last → List ℕ → List ℕ → Type 0
 Going ms packet content place i at more last before line =
     (spent : ℕ) → spent + length ms + more ≤ MOST_VALUES → (earlier : Scope → Option Val) (env : Env)
     → (vs : List Val)
     × (walk_members (parts_of (map views.member_part (drop i ms))) (among packet content earlier) env vs at (spent + i + more) ≡ walk_members (parts_of (map views.member_part ms)) (among packet content earlier) env [] place spent)
     × (length vs ≡ i) × (line ≡ before ++ row 123 (member_texts (map member_part (take i ms)) (vals_of vs))) × LastIs last vs
 
-last_is : (o : Option ℕ) (vs : List Val) (v : Val) → IfSome o (λ n. v ≡ unsigned n) → LastIs o (vs ++ v ∷ [])
-last_is None vs v is = tt
-last_is (Some n) vs v is = (vs, ap (λ w. vs ++ w ∷ []) is)
+last_is : (l : Last) (vs : List Val) (v : Val) → ValueIs l v → LastIs l (vs ++ v ∷ [])
+last_is lasts.Unknown vs v is = tt
+last_is (lasts.Unsigned n) vs v is = (vs, ap (λ w. vs ++ w ∷ []) is)
+last_is (lasts.Label z) vs v is = (vs, ap (λ w. vs ++ w ∷ []) is)
+
+known_is : (o : Option ℕ) (v : Val) → IfSome o (λ n. v ≡ unsigned n) → ValueIs (known o) v
+known_is None v is = tt
+known_is (Some n) v is = is
 
 -- what stands in a step, if there is a value
 abbrev value_of : Step Val → Val
@@ -185,7 +184,7 @@ text-Structure : (ms : List Member) → kind_text (kind.Structure ms) ≡ (λ v.
 text-Structure ms = search (rules, class.the_lemmas)
 
 module _ (ms : List Member) (packet : List ℕ) (content place : ℕ) (before : List ℕ) where
-  pub going_begins : Going ms packet content place 0 place 0 None before before
+  pub going_begins : Going ms packet content place 0 place 0 lasts.Unknown before before
   going_begins spent room earlier env =
       let s : spent + 0 + 0 ≡ spent = omega arith in
       ([], ap (λ n. walk_members (parts_of (map views.member_part ms)) (among packet content earlier) env [] place n) s, refl, sym (append-nil before), tt)
@@ -210,9 +209,9 @@ module _ (ms : List Member) (packet : List ℕ) (content place : ℕ) (before : 
       added ∙ ap (λ xs. xs ++ (lead ∷ 32 ∷ text)) wrote ∙ append_assoc before (row 123 all) (lead ∷ 32 ∷ text)
       ∙ ap (λ l. before ++ (row 123 all ++ (l ∷ 32 ∷ text))) (sym lead_is) ∙ ap (λ xs. before ++ xs) (sym (row_more 123 all text)) ∙ ap (λ ts. before ++ row 123 ts) (sym longer)
 
-  pub going_on : (i at more : ℕ) (last number : Option ℕ) (m : Member) (lead : ℕ) (line : List ℕ) (to : Next) (after : List ℕ) → i < length ms → m ≡ get_or ms i m → lead ≡ mark_at 123 i → Going ms packet content place i at more last before line
-      → PutsNext (record { index = i; number = last }) (form m.class) (λ v. lead ∷ 32 ∷ part_text (member_part m) v) packet content at line to after → IfSome number (StandsAsNumber (form m.class) packet content at) → Going ms packet content place (i + 1) to.place (more + to.more) number before after
-  going_on i at more last number m lead line to after within is marked going puts stands spent room earlier env =
+  pub going_on : (i at more : ℕ) (last : Last) (m : Member) (lead : ℕ) (line : List ℕ) (to : Next) (after : List ℕ) → i < length ms → m ≡ get_or ms i m → lead ≡ mark_at 123 i → Going ms packet content place i at more last before line
+      → PutsNext (record { index = i; last = last }) (form m.class) (λ v. lead ∷ 32 ∷ part_text (member_part m) v) packet content at line to after → Going ms packet content place (i + 1) to.place (more + to.more) to.last before after
+  going_on i at more last m lead line to after within is marked going puts spent room earlier env =
       let c = among packet content earlier in
       let g = going spent (omega (arith, room)) earlier env in
       let vs = g.0 in
@@ -221,22 +220,14 @@ module _ (ms : List Member) (packet : List ℕ) (content place : ℕ) (before : 
       let total : spent + (i + 1) + (more + to.more) ≡ spent + i + more + 1 + to.more = omega arith in
       let walked = ap (rest p.0 to.place) total ∙ sym (next c env i m vs at (spent + i + more) within is ∙ ap (λ r. and_then r rest) p.1) ∙ g.1 in
       let longer : length (vs ++ p.0 ∷ []) ≡ i + 1 = length-append vs (p.0 ∷ []) ∙ ap (λ n. n + 1) g.2 in
-      let number_is = is_number number (form m.class) packet content at to.place (spent + i + more) (spent + i + more + 1 + to.more) earlier (vs ∷ env) p.0 (omega (arith, room, within)) p.1 stands in
-      (vs ++ p.0 ∷ [], walked, longer, texts_on i m vs p.0 lead line after within is g.2 marked g.3 p.2, last_is number vs p.0 number_is)
+      (vs ++ p.0 ∷ [], walked, longer, texts_on i m vs p.0 lead line after within is g.2 marked g.3 p.2, last_is to.last vs p.0 p.3)
 
-  pub going_ends : (at more text : ℕ) (last : Option ℕ) (line : List ℕ) → Going ms packet content place (length ms) at more last before line → PutsMembers (row 123) ms packet content place before (record { place = at; text = text; more = more }) line
+  pub going_ends : (at more text : ℕ) (last : Last) (line : List ℕ) → Going ms packet content place (length ms) at more last before line → PutsMembers (row 123) ms packet content place before (record { place = at; text = text; more = more }) line
   going_ends at more text last line going spent room earlier env =
       let c = among packet content earlier in
       let g = going spent room earlier env in
       let over = ap (λ ns. walk_members (parts_of (map views.member_part ns)) c env g.0 at (spent + length ms + more)) (drop-all ms (length ms) (omega arith)) in
       (g.0, sym g.1 ∙ over, g.2, g.3 ∙ ap (λ ns. before ++ row 123 (member_texts (map member_part ns) (vals_of g.0))) (take-length ms))
-
--- the same of values that are equal
-pub going_as : (ms : List Member) (packet : List ℕ) (content place i at to more many : ℕ) (last number : Option ℕ) (before line after : List ℕ) → to ≡ at → many ≡ more → number ≡ last → after ≡ line
-    → Going ms packet content place i at more last before line → Going ms packet content place i to many number before after
-going_as ms packet content place i at to more many last number before line after places counts numbers lines going =
-    subst (λ p. Going ms packet content place i p many number before after) (sym places) (subst (λ n. Going ms packet content place i at n number before after) (sym counts)
-    (subst (λ o. Going ms packet content place i at more o before after) (sym numbers) (subst (λ xs. Going ms packet content place i at more last before xs) (sym lines) going)))
 
 pub mark_next : (first i : ℕ) → 44 ≡ mark_at first (i + 1)
 mark_next first i = let n : suc i ≡ i + 1 = omega arith in ap (mark_at first) n
@@ -337,11 +328,19 @@ puts_structure k ms packet content place start spent end total before after is s
     (group (vals_of p.0), walked, p.3 ∙ ap (λ xs. before ++ xs) (text_structure k ms p.0 is))
 
 -- one value alone, behind the members of a structure
-pub puts_next : (before : Before) (k : Form) (shown : Shown) (packet : List ℕ) (content place end text : ℕ) (line after : List ℕ) → PutsOne k shown packet content place end line after → PutsNext before k shown packet content place line (record { place = end; text = text; more = 0 }) after
+pub puts_next : (before : Before) (k : Form) (shown : Shown) (packet : List ℕ) (content place end text : ℕ) (line after : List ℕ) → PutsOne k shown packet content place end line after
+    → PutsNext before k shown packet content place line (record { place = end; text = text; more = 0; last = lasts.Unknown }) after
 puts_next before k shown packet content place end text line after puts spent room earlier env vs counted last =
     let p = puts spent (omega (arith, room)) earlier (vs ∷ env) in
     let none : spent + 1 ≡ spent + 1 + 0 = omega arith in
-    (p.0, p.1 ∙ ap (λ n. Ok (p.0, end, n)) none, p.2)
+    (p.0, p.1 ∙ ap (λ n. Ok (p.0, end, n)) none, p.2, tt)
+
+-- the same where its number is known
+pub known_next : (o : Option ℕ) (before : Before) (k : Form) (shown : Shown) (packet : List ℕ) (content place end text more : ℕ) (line after : List ℕ) → PutsNext before k shown packet content place line (record { place = end; text = text; more = more; last = lasts.Unknown }) after
+    → IfSome o (StandsAsNumber k packet content place) → PutsNext before k shown packet content place line (record { place = end; text = text; more = more; last = known o }) after
+known_next o before k shown packet content place end text more line after puts stands spent room earlier env vs counted last =
+    let p = puts spent room earlier env vs counted last in
+    (p.0, p.1, p.2, known_is o p.0 (is_number o k packet content place end spent (spent + 1 + more) earlier (vs ∷ env) p.0 (omega (arith, room)) p.1 stands))
 
 -- one unsigned integer
 pub stands_number : (a : ℕ) (i : Integer) (packet : List ℕ) (content place n : ℕ) → i.is_signed ≡ false → next_multiple_of place a + bits_of i ≤ content → n ≡ number i.order packet (next_multiple_of place a) (bits_of i) → StandsAsNumber (integer a i) packet content place n
@@ -351,75 +350,9 @@ stands_number a i packet content place n is within read spent few earlier env =
     let value : integer_at c i b ≡ unsigned n = ap (λ t. cond t (signed (signed_number i.order packet b (bits_of i))) (unsigned (number i.order packet b (bits_of i)))) is ∙ ap unsigned (sym read) in
     (b + bits_of i, ap (λ v. begin c spent (leaf c (b + bits_of i) spent v)) value ∙ leaf_stands c (b + bits_of i) spent (unsigned n) few within)
 
--- What number a member has, by what it is.
-number-Integer : (i : Integer) (bits : ℕ) → number_of_kind (out-Kind (kind.Integer i)) bits ≡ unsigned_of i bits
-number-Integer i bits = search (rules, class.the_lemmas)
-
-pub number_integer : (m : Member) (i : Integer) (bits : ℕ) → m.class.kind ≡ kind.Integer i → number_of m bits ≡ unsigned_of i bits
-number_integer m i bits is = ap (λ k. number_of_kind (out-Kind k) bits) is ∙ number-Integer i bits
-
-none_at : (k : Kind) (o : Kind-F Kind Class Member) (bits : ℕ) → ((i : Integer) → k ≡ kind.Integer i → ⊥) → out-Kind k ≡ o → number_of_kind o bits ≡ None
-none_at k (Kind-F.Integer i) bits other is = absurd (other i (sym (roll-out-Kind k) ∙ ap roll-Kind is ∙ rolls-Integer i))
-none_at k (Kind-F.Enumeration i labels) bits other is = refl
-none_at k Kind-F.String bits other is = refl
-none_at k (Kind-F.Structure ms) bits other is = refl
-none_at k (Kind-F.Variant tag choices ms) bits other is = refl
-none_at k (Kind-F.Array many c) bits other is = refl
-none_at k (Kind-F.Text many) bits other is = refl
-
-pub number_other : (m : Member) (bits : ℕ) → ((i : Integer) → m.class.kind ≡ kind.Integer i → ⊥) → number_of m bits ≡ None
-number_other m bits other = none_at m.class.kind (out-Kind m.class.kind) bits other refl
-
-pub number_of_none : (m : Member) (bits : ℕ) (P : ℕ → Type 0) → ((i : Integer) → m.class.kind ≡ kind.Integer i → ⊥) → IfSome (number_of m bits) P
-number_of_none m bits P other = subst (λ o. IfSome o P) (sym (number_other m bits other)) tt
-
 -- the last of some
 pub last_of : {A : Type 0} (xs : List A) (x : A) (i : ℕ) → length xs ≡ i → slice_get (xs ++ x ∷ []) i ≡ Some x
 last_of [] x zero same = refl
 last_of [] x (suc i) same = absurd (omega (arith, same))
 last_of (y ∷ xs) x zero same = absurd (omega (arith, same))
 last_of (y ∷ xs) x (suc i) same = last_of xs x i (omega (arith, same))
-
-pub number_none : (before : List Member) (bits : ℕ) → length before ≡ 0 → None ≡ number_before before bits
-number_none before bits none = ap (option_and_then (λ m. number_of m bits)) (sym (slice_get_past before (length before - 1) (omega (arith, none))))
-
-pub number_last : (before : List Member) (m : Member) (bits : ℕ) → 0 < length before → m ≡ get_or before (length before - 1) m → number_of m bits ≡ number_before before bits
-number_last before m bits some is = ap (option_and_then (λ x. number_of x bits)) (sym (slice_get_read before (length before) (length before - 1) m refl (omega (arith, some)) is))
-
--- behind one member more, its number is the last
-number_next : (ms : List Member) (i : ℕ) (m : Member) (bits : ℕ) → i < length ms → m ≡ get_or ms i m → number_before (take (i + 1) ms) bits ≡ number_of m bits
-number_next ms i m bits within is =
-    let longer : take (i + 1) ms ≡ take i ms ++ m ∷ [] = take_more ms i m within ∙ ap (λ x. take i ms ++ x ∷ []) (sym is) in
-    let at_end : length (take i ms) ≡ length (take i ms ++ m ∷ []) - 1 = omega (arith, length-append (take i ms) (m ∷ [])) in
-    ap (λ before. number_before before bits) longer ∙ ap (option_and_then (λ x. number_of x bits)) (last_of (take i ms) m (length (take i ms ++ m ∷ []) - 1) at_end)
-
-unsigned_if : (signed : Bool) (n : ℕ) (P : ℕ → Type 0) → (signed ≡ false → P n) → IfSome (if signed then None else Some n) P
-unsigned_if true n P holds = tt
-unsigned_if false n P holds = holds refl
-
--- the number of a member that is an integer
-pub stands_member : (m : Member) (i : Integer) (packet : List ℕ) (content place bits : ℕ) → m.class.kind ≡ kind.Integer i → (i.is_signed ≡ false → StandsAsNumber (integer m.class.align i) packet content place bits) → IfSome (number_of m bits) (StandsAsNumber (form m.class) packet content place)
-stands_member m i packet content place bits is stands =
-    subst (λ o. IfSome o (StandsAsNumber (form m.class) packet content place)) (sym (number_integer m i bits is))
-    (subst (λ f. IfSome (unsigned_of i bits) (StandsAsNumber f packet content place)) (form_integer m.class i is) (unsigned_if i.is_signed bits (StandsAsNumber (integer m.class.align i) packet content place) stands))
-
-module _ (ms : List Member) (packet : List ℕ) (content place i at more bits lead : ℕ) (m : Member) (before line after : List ℕ) (within : i < length ms) (is : m ≡ get_or ms i m) (marked : lead ≡ mark_at 123 i) (going : Going ms packet content place i at more (number_before (take i ms) bits) before line) where
-  -- over a member that is one value
-  pub over_one : (to text read : ℕ) → PutsOne (form m.class) (λ v. lead ∷ 32 ∷ part_text (member_part m) v) packet content at to line after → IfSome (number_of m read) (StandsAsNumber (form m.class) packet content at) → Going ms packet content place (i + 1) to more (number_before (take (i + 1) ms) read) before after
-  over_one to text read puts stands =
-      let shown : Shown = λ v. lead ∷ 32 ∷ part_text (member_part m) v in
-      let k = form m.class in
-      let last = number_before (take i ms) bits in
-      let no_more : more + 0 ≡ more = omega arith in
-      subst (λ n. Going ms packet content place (i + 1) to n (number_before (take (i + 1) ms) read) before after) no_more
-      (subst (λ o. Going ms packet content place (i + 1) to (more + 0) o before after) (sym (number_next ms i m read within is))
-      (going_on ms packet content place before i at more last (number_of m read) m lead line (record { place = to; text = text; more = 0 }) after within is marked going (puts_next (record { index = i; number = last }) k shown packet content at to text line after puts) stands))
-
-  -- over an array
-  pub over_array : (to : Next) (number : Option ℕ) → ((n : Integer) → m.class.kind ≡ kind.Integer n → ⊥) → number ≡ number_before (take i ms) bits → PutsNext (record { index = i; number = number }) (form m.class) (λ v. lead ∷ 32 ∷ part_text (member_part m) v) packet content at line to after
-      → Going ms packet content place (i + 1) to.place (more + to.more) (number_before (take (i + 1) ms) bits) before after
-  over_array to number other told puts =
-      let shown : Shown = λ v. lead ∷ 32 ∷ part_text (member_part m) v in
-      let next = subst (λ o. PutsNext (record { index = i; number = o }) (form m.class) shown packet content at line to after) told puts in
-      subst (λ o. Going ms packet content place (i + 1) to.place (more + to.more) o before after) (sym (number_next ms i m bits within is ∙ number_other m bits other))
-      (going_on ms packet content place before i at more (number_before (take i ms) bits) None m lead line to after within is marked going next tt)

@@ -8,7 +8,7 @@ use Rattle.ctf_class.specs.declared.class.Class.{Class}
 use Rattle.ctf_class.specs.declared.record_plan.Run.{Run}
 use Rattle.ctf_class.specs.declared.plain_number.PlainNumber.{PlainNumber}
 use Rattle.ctf_decode.specs.Views.{form}
-use Rattle.ctf_text.specs.Standing.{Puts, PutsNext, StandsAsNumber}
+use Rattle.ctf_text.specs.Standing.{Puts, PutsNext, StandsAsNumber, known}
 use Rattle.ctf_decode.specs.Forms.{Form}
 use Rattle.ctf_text.specs.Texts.{Shown, value_text, part_text, member_part}
 use Rattle.ctf_text.specs.declared.planned_record.Reach.{Reach}
@@ -32,8 +32,8 @@ behind_number r last line = record { place = r.place; more = r.more; last = last
 
 -- a member behind so many others, of which the last is a number, if it is known; the first of a structure has none before it
 abbrev pub behind : ℕ → Option ℕ → Before
-behind zero last = record { index = zero; number = None }
-behind (suc i) last = record { index = suc i; number = last }
+behind zero last = record { index = zero; last = known None }
+behind (suc i) last = record { index = suc i; last = known last }
 
 -- A field's value stands behind other fields, whatever was decoded before them, and what is printed of it follows what was
 -- written. If its number is known then, it is that.
@@ -41,7 +41,7 @@ abbrev pub PutsField : Slot → List ℕ → ℕ → Reached → Reached → Typ
 PutsField s packet content from to =
     let begun = next_multiple_of from.place s.align in
     (begun ≤ content) × (some : ℕ) × (to.more ≡ from.more + some)
-    × PutsNext (behind s.index from.last) (form s.member.class) (λ v. s.lead ++ part_text (member_part s.member) v) packet content begun from.line (record { place = to.place; text = 0; more = some }) to.line
+    × PutsNext (behind s.index from.last) (form s.member.class) (λ v. s.lead ++ part_text (member_part s.member) v) packet content begun from.line (record { place = to.place; text = 0; more = some; last = known None }) to.line
     × IfSome to.last (StandsAsNumber (form s.member.class) packet content begun)
 
 -- so do fields one behind the other
@@ -52,7 +52,7 @@ PutsFields (s ∷ ss) packet content from to = (mid : Reached) × PutsField s pa
 -- a value stands at the place that was reached, behind a number, if it is known, and so many others of its structure
 abbrev pub PutsOther : ℕ → Option ℕ → Form → Shown → List ℕ → ℕ → Reach → List ℕ → Reach → List ℕ → Type 0
 PutsOther index last k shown packet content from before to after =
-    (some : ℕ) × (to.more ≡ from.more + some) × PutsNext (behind index last) k shown packet content from.place before (record { place = to.place; text = 0; more = some }) after
+    (some : ℕ) × (to.more ≡ from.more + some) × PutsNext (behind index last) k shown packet content from.place before (record { place = to.place; text = 0; more = some; last = known None }) after
 
 -- a number, if it is given, is the last one of a run that begins behind so many bytes, and unsigned
 abbrev pub IsLastNumber : Option ℕ → List PlainNumber → List ℕ → ℕ → Type 0

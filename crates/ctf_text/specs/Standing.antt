@@ -1,24 +1,25 @@
 -- Values that are shown where they stand.
-use Rattle.std.specs.Prelude.{◌≡◌, ℕ, ◌+◌, ◌-◌, ◌<◌, ◌≤◌, List, [], ◌∷◌, ◌++◌, map, length, slice_get, Option, Some, None, option_and_then, Ok, ⊤, if◌then◌else◌}
-use Rattle.ctf_class.specs.declared.class.Class.{Class}
-use Rattle.ctf_class.specs.declared.class.Kind.{Kind}
-use Rattle.ctf_class.specs.declared.class.Kind.TheOpen.{Kind-F}
-use Rattle.ctf_class.specs.declared.class.Kind.TheViews.{out-Kind}
+use Rattle.std.specs.Prelude.{◌≡◌, ℕ, zero, suc, ◌+◌, ◌<◌, ◌≤◌, List, [], ◌∷◌, ◌++◌, map, length, take, Option, Some, None, IfSome, Ok, ⊤, if◌then◌else◌}
 use Rattle.ctf_class.specs.declared.class.Member.{Member}
 use Rattle.ctf_class.specs.declared.integer.Integer.{Integer}
 use Rattle.ctf_class.specs.declared.route.Length.{Length}
+use Rattle.ctf_class.specs.declared.route.Route.{Route}
 use Rattle.ctf_class.specs.declared.route.Scope.{Scope}
-use Rattle.ctf_decode.specs.Fields.{elements_in}
-use Rattle.ctf_decode.specs.Values.{Val, vals_of, unsigned}
+use Rattle.ctf_class.specs.declared.span.Choice.{Choice}
+use Rattle.ctf_decode.specs.Fields.{members_in, elements_in}
+use Rattle.ctf_decode.specs.Values.{Val, vals_of, unsigned, label}
 use Rattle.ctf_decode.specs.Forms.{Form, integer, parts_of}
 use Rattle.ctf_decode.specs.Input.{Input, Env}
-use Rattle.ctf_decode.specs.Routes.{length_of}
+use Rattle.ctf_decode.specs.Routes.{length_of, option_at}
 use Rattle.ctf_decode.specs.Views as views
 use Rattle.ctf_decode.specs.Walk.{walk, walk_members, repeat}
 use Rattle.ctf_decode.specs.declared.scopes.TheConstants.{MOST_VALUES}
 use Rattle.ctf_text.specs.Rows.{enclosed}
 use Rattle.ctf_text.specs.Texts.{Shown, member_part, member_texts, element_texts, integer_text}
 use Rattle.ctf_text.specs.declared.standing.Before.{Before}
+use Rattle.ctf_text.specs.declared.content.Content.{Content}
+use Rattle.ctf_text.specs.declared.standing.Last.{Last}
+use Rattle.ctf_text.specs.declared.standing.Last.TheVariants as lasts
 use Rattle.ctf_text.specs.declared.standing.MembersEnd.{MembersEnd}
 use Rattle.ctf_text.specs.declared.standing.Next.{Next}
 
@@ -37,33 +38,37 @@ abbrev pub PutsOne : Form → Shown → List ℕ → ℕ → ℕ → ℕ → Lis
 PutsOne k shown packet content place end before after =
     (spent : ℕ) → spent < MOST_VALUES → Puts k shown packet content place spent end (spent + 1) before after
 
--- the last of these values is a number, if one is given
-abbrev pub LastIs : Option ℕ → List Val → Type 0
-LastIs None vs = ⊤
-LastIs (Some n) vs = (ws : List Val) × (vs ≡ ws ++ unsigned n ∷ [])
+-- a value is this, as far as it is known
+abbrev pub ValueIs : Last → Val → Type 0
+ValueIs lasts.Unknown v = ⊤
+ValueIs (lasts.Unsigned n) v = v ≡ unsigned n
+ValueIs (lasts.Label z) v = v ≡ label z
 
--- the number of an integer whose bits are these, if it is unsigned
-abbrev pub unsigned_of : Integer → ℕ → Option ℕ
-unsigned_of i bits = if i.is_signed then None else Some bits
+-- the last of these values is this, as far as it is known
+abbrev pub LastIs : Last → List Val → Type 0
+LastIs lasts.Unknown vs = ⊤
+LastIs (lasts.Unsigned n) vs = (ws : List Val) × (vs ≡ ws ++ unsigned n ∷ [])
+LastIs (lasts.Label z) vs = (ws : List Val) × (vs ≡ ws ++ label z ∷ [])
 
--- the same of a member of this kind, if it is an integer
-abbrev pub number_of_kind : Kind-F Kind Class Member → ℕ → Option ℕ
-number_of_kind (Kind-F.Integer i) bits = unsigned_of i bits
-number_of_kind _ bits = None
+-- the value of an unsigned integer, if its number is known
+abbrev pub known : Option ℕ → Last
+known None = lasts.Unknown
+known (Some n) = lasts.Unsigned n
 
--- the number of a member whose bits are these, if it is an unsigned integer
-abbrev pub number_of : Member → ℕ → Option ℕ
-number_of member bits = number_of_kind (out-Kind member.class.kind) bits
+-- what is known of the value of an integer with these bits
+abbrev pub known_of : Integer → ℕ → Last
+known_of i bits = if i.is_signed then lasts.Unknown else lasts.Unsigned bits
 
--- the number of the last of these members, whose bits are these, if it is an unsigned integer
-abbrev pub number_before : List Member → ℕ → Option ℕ
-number_before before bits = option_and_then (λ member. number_of member bits) (slice_get before (length before - 1))
+-- the mark before the text of an index, where this one stands before the first; 44 is a comma
+abbrev pub mark_at : ℕ → ℕ → ℕ
+mark_at first zero = first
+mark_at first (suc i) = 44
 
--- the same of a value behind the members of a structure, with so many values in it
+-- the same of a value behind the members of a structure, with so many values in it, of which so much is known
 abbrev pub PutsNext : Before → Form → Shown → List ℕ → ℕ → ℕ → List ℕ → Next → List ℕ → Type 0
 PutsNext before k shown packet content place line next after =
-    (spent : ℕ) → spent + next.more < MOST_VALUES → (earlier : Scope → Option Val) (env : Env) (vs : List Val) → length vs ≡ before.index → LastIs before.number vs
-    → (v : Val) × (walk k (among packet content earlier) (vs ∷ env) place spent ≡ Ok (v, next.place, spent + 1 + next.more)) × (after ≡ line ++ shown v)
+    (spent : ℕ) → spent + next.more < MOST_VALUES → (earlier : Scope → Option Val) (env : Env) (vs : List Val) → length vs ≡ before.index → LastIs before.last vs
+    → (v : Val) × (walk k (among packet content earlier) (vs ∷ env) place spent ≡ Ok (v, next.place, spent + 1 + next.more)) × (after ≡ line ++ shown v) × ValueIs next.last v
 
 -- an unsigned integer of this number stands at a place, whatever was decoded before
 abbrev pub StandsAsNumber : Form → List ℕ → ℕ → ℕ → ℕ → Type 0
@@ -72,11 +77,28 @@ StandsAsNumber k packet content place n =
 
 -- an array of this length has so many elements behind the members of a structure
 abbrev pub Counts : Length → Before → ℕ → Type 0
-Counts many before n = (earlier : Scope → Option Val) (env : Env) (vs : List Val) → length vs ≡ before.index → LastIs before.number vs → length_of many earlier (vs ∷ env) ≡ n
+Counts many before n = (earlier : Scope → Option Val) (env : Env) (vs : List Val) → length vs ≡ before.index → LastIs before.last vs → length_of many earlier (vs ∷ env) ≡ n
+
+-- a tag makes this choice behind the members of a structure
+abbrev pub Chooses : Route → List Choice → Before → ℕ → Type 0
+Chooses tag choices before i = (earlier : Scope → Option Val) (env : Env) (vs : List Val) → length vs ≡ before.index → LastIs before.last vs → option_at tag choices earlier (vs ∷ env) ≡ Some i
+
+-- a value, if one was written, stands in a packet, and its text is behind a line now
+abbrev pub Writes : Option Next → Before → Form → Shown → Content → ℕ → List ℕ → List ℕ → Type 0
+Writes result before k shown packet place line items =
+    IfSome result (λ next. PutsNext before k shown packet.bytes.now packet.end place line next (take next.text items))
+
+-- what is shown of a structure of these members
+abbrev pub structure_text : List Member → Shown
+structure_text ms v = enclosed 123 125 (member_texts (map member_part ms) (members_in v))
+
+-- what is shown of an array whose elements are shown so
+abbrev pub array_text : Shown → Shown
+array_text shown v = enclosed 91 93 (element_texts shown 0 (elements_in v))
 
 -- what is shown of an array of integers
 abbrev pub elements_text : Integer → Shown
-elements_text i v = enclosed 91 93 (element_texts (integer_text i) 0 (elements_in v))
+elements_text i = array_text (integer_text i)
 
 -- so many integers stand one behind the other, where there may be as many more, and they are shown as elements
 abbrev pub PutsElements : (List (List ℕ) → List ℕ) → ℕ → Integer → ℕ → List ℕ → ℕ → ℕ → ℕ → List ℕ → List ℕ → Type 0
@@ -90,3 +112,10 @@ abbrev pub PutsMembers : (List (List ℕ) → List ℕ) → List Member → List
 PutsMembers together ms packet content place before end after =
     (spent : ℕ) → spent + length ms + end.more ≤ MOST_VALUES → (earlier : Scope → Option Val) (env : Env)
     → (vs : List Val) × (walk_members (parts_of (map views.member_part ms)) (among packet content earlier) env [] place spent ≡ Ok (vs, end.place, spent + length ms + end.more)) × (length vs ≡ length ms) × (after ≡ before ++ together (member_texts (map member_part ms) (vals_of vs)))
+
+-- the same of so many elements of an array of any class, with so many values in all of them
+abbrev pub PutsItems : (List (List ℕ) → List ℕ) → Before → Form → Shown → ℕ → Content → ℕ → List ℕ → MembersEnd → List ℕ → Type 0
+PutsItems together before k shown count packet place line end after =
+    (spent : ℕ) → spent + count + end.more ≤ MOST_VALUES → (earlier : Scope → Option Val) (env : Env) (vs : List Val) → length vs ≡ before.index → LastIs before.last vs
+    → (ws : List Val) × (repeat (walk k (among packet.bytes.now packet.end earlier) (vs ∷ env)) count [] place spent ≡ Ok (ws, end.place, spent + count + end.more)) × (length ws ≡ count)
+    × (after ≡ line ++ together (element_texts shown 0 (vals_of ws)))

@@ -2,17 +2,17 @@
 
 ghost use Rattle.std.specs.Prelude.{◌≡◌, ◌+◌, ◌*◌, ◌^◌, ◌∷◌, [], ◌<◌, ◌≤◌, length, take, vec_len, ℕ, IfSome};
 ghost use Rattle.std.specs.Int.{next_multiple_of};
-ghost use Rattle.ctf_class.specs.declared.class.Kind as kind;
 ghost use Rattle.ctf_class.specs.declared.route.Length.{Length};
 ghost use Rattle.ctf_decode.specs.Forms as forms;
-ghost use Rattle.ctf_decode.specs.Views.{form};
 ghost use Rattle.ctf_text.specs.Rows.{row, enclosed};
-ghost use Rattle.ctf_text.specs.Standing.{PutsOne, PutsNext, PutsElements, Counts, elements_text};
+ghost use Rattle.ctf_text.specs.Standing.{PutsOne, PutsElements, Counts, Writes, elements_text};
+ghost use Rattle.ctf_text.specs.declared.standing.Before.{Before};
 ghost use Rattle.ctf_text.specs.Texts as texts;
 
+use crate::content::Content;
 use crate::element::put_index;
 use crate::mark::{put_end, put_nothing};
-use crate::standing::{Content, Ends, Last, Next, put_integer};
+use crate::standing::{Ends, Last, Next, put_integer};
 use ctf_class::{Align, Integer};
 use ctf_decode::MOST_VALUES;
 
@@ -29,7 +29,7 @@ pub(crate) fn put_integers(
 ) -> Option<Next>
     requires start { place ≤ packet.now.end }
     requires index { at ≤ vec_len buffer.old }
-    ensures puts { (before : Before) (many : Length) (a : ℕ) → Counts many before count → IfSome result (λ n. PutsNext before (forms.array a many (forms.integer align integer.now)) (elements_text integer.now) packet.now.bytes.now packet.now.end place (take at buffer.old.items) n (take n.text buffer.new.items)) }
+    ensures puts { (before : Before) (many : Length) (a : ℕ) → Counts many before count → Writes result before (forms.array a many (forms.integer align integer.now)) (elements_text integer.now) packet.now place (take at buffer.old.items) buffer.new.items }
     ensures within { IfSome result (λ n. n.place ≤ packet.now.end) }
     ensures held { IfSome result (λ n. n.text ≤ vec_len buffer.new) }
     ensures few { IfSome result (λ n. n.more ≤ MOST_VALUES) }
@@ -49,7 +49,7 @@ pub(crate) fn put_integers(
 
 /// Where an array begins that could begin at a place, if it may begin there.
 #[inline(always)]
-fn begin_at(align: Align, packet: &Content<'_>, place: u64) -> Option<u64>
+pub(crate) fn begin_at(align: Align, packet: &Content<'_>, place: u64) -> Option<u64>
     requires start { place ≤ packet.now.end }
     ensures begin { IfSome result (λ begin. begin ≡ next_multiple_of place align) }
     ensures within { IfSome result (λ begin. begin ≤ packet.now.end) }

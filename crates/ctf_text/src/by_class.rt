@@ -1,17 +1,28 @@
-//! Texts of values where they stand, by their classes.
+//! Texts of values of any class where they stand.
 
-use crate::array::put_integers;
+ghost use Rattle.std.specs.Prelude.{ℕ, List, ◌≡◌, ◌+◌, ◌*◌, ◌^◌, ◌∷◌, ◌≤◌, ◌<◌, length, map, take, vec_len, IfSome};
+ghost use Rattle.ctf_class.specs.declared.route.Length.{Length};
+ghost use Rattle.ctf_class.specs.declared.route.Route.{Route};
+ghost use Rattle.ctf_class.specs.declared.span.Choice.{Choice};
+ghost use Rattle.ctf_decode.specs.Fields.{choice_in};
+ghost use Rattle.ctf_decode.specs.Forms as forms;
+ghost use Rattle.ctf_decode.specs.Forms.{parts_of};
+ghost use Rattle.ctf_decode.specs.Views.{form, member_part};
+ghost use Rattle.ctf_text.specs.Rows.{row, enclosed};
+ghost use Rattle.ctf_text.specs.Standing.{Puts, PutsMembers, PutsItems, Counts, Chooses, Writes, array_text, mark_at, structure_text};
+ghost use Rattle.ctf_text.specs.Texts as texts;
+ghost use Rattle.ctf_text.specs.declared.standing.Before.{Before};
+
+use crate::array::{begin_at, put_integers};
+use crate::before::{count_of, option_of};
+use crate::content::Content;
 use crate::element::put_index;
-use crate::label::put_labelled;
+use crate::leaf::{put_enumeration, put_one, put_string_value, put_text_value};
 use crate::mark::{put_end, put_nothing, put_ready};
 use crate::number::LONGEST_NUMBER;
-use crate::room::with_room;
-use crate::standing::{
-    Before, Content, Ends, Last, Next, Reach, Standing, put_fixed_text, put_integer, put_string,
-};
-use ctf_bits::{sint_within, uint_within};
-use ctf_class::{Align, Choice, Class, Integer, Kind, Labels, Length, Member, Route};
-use ctf_decode::{MOST_VALUES, chosen};
+use crate::standing::{Before, Last, MembersEnd, Next, Standing};
+use ctf_class::{Align, Class, Kind, Member};
+use ctf_decode::MOST_VALUES;
 
 /// Writes the text of the structure that stands at a place of a packet (CTF 1.8.3, section 4) at an index of a
 /// buffer, in bytes, without making its value. The place and the content's end are in bits from the packet's
@@ -29,7 +40,17 @@ pub fn put_standing(
     spent: u64,
     buffer: &mut Vec<u8>,
     at: usize,
-) -> Option<Standing> {
+) -> Option<Standing>
+    requires content { content ≤ 2 ^ 62 }
+    requires held { content ≤ 8 * length packet.now }
+    requires start { place ≤ content }
+    requires few { spent ≤ MOST_VALUES }
+    requires index { at ≤ vec_len buffer.old }
+    ensures puts { IfSome result (λ s. Puts (form class.now) (texts.value_text class.now) packet.now content place spent s.place s.spent (take at buffer.old.items) (take s.end buffer.new.items)) }
+    ensures within { IfSome result (λ s. s.place ≤ content) }
+    ensures few { IfSome result (λ s. s.spent ≤ MOST_VALUES) }
+    ensures held { IfSome result (λ s. s.end ≤ vec_len buffer.new) }
+{
     let Kind::Structure { members } = &class.kind else {
         return None;
     };
@@ -37,71 +58,119 @@ pub fn put_standing(
         bytes: packet,
         end: content,
     };
-    let next = put_structure(members.as_slice(), class.align, &packet, place, buffer, at)?;
-    let spent = spent + 1 + next.more;
+    let begin = begin_at(class.align, &packet, place)?;
+    let ends = put_enclosed(members.as_slice(), &packet, begin, buffer, at)?;
+    let spent = spent + 1 + members.len() as u64 + ends.more;
     if spent > MOST_VALUES {
         return None;
     }
     Some(Standing {
-        place: next.place,
+        place: ends.place,
         spent,
-        end: next.text,
+        end: ends.text,
     })
 }
 
-/// Writes members behind so many others of their structure, and gives the index behind them; `reach` tells how far the
-/// members came.
+/// Writes the members of a structure, with its braces.
 #[cycle(standing)]
 #[inline(never)]
-pub(crate) fn put_members(
+fn put_enclosed(
     members: &[Member],
-    first: usize,
     packet: &Content<'_>,
-    reach: &mut Reach,
+    begin: u64,
     buffer: &mut Vec<u8>,
     at: usize,
-) -> Option<usize> {
-    let mut so_far = *reach;
+) -> Option<MembersEnd>
+    requires start { begin ≤ packet.now.end }
+    requires index { at ≤ vec_len buffer.old }
+    ensures puts { IfSome result (λ e. PutsMembers (enclosed 123 125) members.now packet.now.bytes.now packet.now.end begin (take at buffer.old.items) e (take e.text buffer.new.items)) }
+    ensures within { IfSome result (λ e. e.place ≤ packet.now.end) }
+    ensures held { IfSome result (λ e. e.text ≤ vec_len buffer.new) }
+    ensures few { IfSome result (λ e. e.more ≤ MOST_VALUES) }
+{
+    if members.is_empty() {
+        let Ok(text) = put_nothing(b'{', b'}', buffer, at) else {
+            return None;
+        };
+        return Some(MembersEnd {
+            place: begin,
+            text,
+            more: 0,
+        });
+    }
+    let ends = put_members(members, packet, begin, buffer, at)?;
+    let Ok(text) = put_end(b'}', buffer, ends.text) else {
+        return None;
+    };
+    Some(MembersEnd {
+        place: ends.place,
+        text,
+        more: ends.more,
+    })
+}
+
+/// Writes members, the first behind `{`.
+#[cycle(standing)]
+fn put_members(
+    members: &[Member],
+    packet: &Content<'_>,
+    begin: u64,
+    buffer: &mut Vec<u8>,
+    at: usize,
+) -> Option<MembersEnd>
+    requires start { begin ≤ packet.now.end }
+    requires index { at ≤ vec_len buffer.old }
+    ensures puts { IfSome result (λ e. PutsMembers (row 123) members.now packet.now.bytes.now packet.now.end begin (take at buffer.old.items) e (take e.text buffer.new.items)) }
+    ensures within { IfSome result (λ e. e.place ≤ packet.now.end) }
+    ensures held { IfSome result (λ e. e.text ≤ vec_len buffer.new) }
+    ensures few { IfSome result (λ e. e.more ≤ MOST_VALUES) }
+{
+    let mut place = begin;
     let mut text = at;
+    let mut more = 0;
+    let mut last = Last::Unknown;
+    let mut lead = b'{';
     for (i, member) in members.iter().enumerate() {
-        let before = Before {
-            index: first + i,
-            last: so_far.last,
-        };
-        let next = put_member(member, before, packet, so_far.place, buffer, text)?;
+        let before = Before { index: i, last };
+        let next = put_member(lead, member, before, packet, place, buffer, text)?;
+        place = next.place;
         text = next.text;
-        so_far = Reach {
-            place: next.place,
-            more: so_far.more + next.more,
-            last: next.last,
-        };
-        if so_far.more > MOST_VALUES {
+        more += next.more;
+        last = next.last;
+        lead = b',';
+        if more > MOST_VALUES {
             return None;
         }
     }
-    *reach = so_far;
-    Some(text)
+    Some(MembersEnd { place, text, more })
 }
 
-/// Writes a member behind others, with the mark before it.
+/// Writes a member or an option behind a mark.
 #[cycle(standing)]
 #[inline(always)]
 fn put_member(
+    lead: u8,
     member: &Member,
     before: Before,
     packet: &Content<'_>,
     place: u64,
     buffer: &mut Vec<u8>,
     at: usize,
-) -> Option<Next> {
-    let lead = if before.index == 0 { b'{' } else { b',' };
+) -> Option<Next>
+    requires start { place ≤ packet.now.end }
+    requires index { at ≤ vec_len buffer.old }
+    ensures puts { Writes result before (form member.now.class) (λ v. lead ∷ 32 ∷ texts.part_text (texts.member_part member.now) v) packet.now place (take at buffer.old.items) buffer.new.items }
+    ensures within { IfSome result (λ n. n.place ≤ packet.now.end) }
+    ensures held { IfSome result (λ n. n.text ≤ vec_len buffer.new) }
+    ensures few { IfSome result (λ n. n.more ≤ MOST_VALUES) }
+{
     let Ok(begin) = put_ready(lead, member.name.ready(), LONGEST_NUMBER, buffer, at) else {
         return None;
     };
     put_part(&member.class, before, packet, place, buffer, begin)
 }
 
-/// Writes a value where there is room for a number.
+/// Writes a part of a value where there is room for a number. Mostly it is an integer.
 #[cycle(standing)]
 #[inline(always)]
 fn put_part(
@@ -111,18 +180,21 @@ fn put_part(
     place: u64,
     buffer: &mut Vec<u8>,
     at: usize,
-) -> Option<Next> {
+) -> Option<Next>
+    requires start { place ≤ packet.now.end }
+    requires room { at + LONGEST_NUMBER ≤ vec_len buffer.old }
+    ensures puts { Writes result before (form class.now) (texts.value_text class.now) packet.now place (take at buffer.old.items) buffer.new.items }
+    ensures within { IfSome result (λ n. n.place ≤ packet.now.end) }
+    ensures held { IfSome result (λ n. n.text ≤ vec_len buffer.new) }
+    ensures few { IfSome result (λ n. n.more ≤ MOST_VALUES) }
+{
     if let Kind::Integer(integer) = &class.kind {
         return put_one(integer, class.align, packet, place, buffer, at);
-    }
-    if let Kind::Array { length, element } = &class.kind {
-        let count = count_of(length, before)?;
-        return put_array(element.get(), count, before, packet, place, buffer, at);
     }
     put_any(class, before, packet, place, buffer, at)
 }
 
-/// Writes a value of a class that is no integer.
+/// Writes a part of any class.
 #[cycle(standing)]
 #[inline(never)]
 fn put_any(
@@ -132,7 +204,14 @@ fn put_any(
     place: u64,
     buffer: &mut Vec<u8>,
     at: usize,
-) -> Option<Next> {
+) -> Option<Next>
+    requires start { place ≤ packet.now.end }
+    requires room { at + LONGEST_NUMBER ≤ vec_len buffer.old }
+    ensures puts { Writes result before (form class.now) (texts.value_text class.now) packet.now place (take at buffer.old.items) buffer.new.items }
+    ensures within { IfSome result (λ n. n.place ≤ packet.now.end) }
+    ensures held { IfSome result (λ n. n.text ≤ vec_len buffer.new) }
+    ensures few { IfSome result (λ n. n.more ≤ MOST_VALUES) }
+{
     match &class.kind {
         Kind::Integer(integer) => put_one(integer, class.align, packet, place, buffer, at),
         Kind::Enumeration { container, labels } => put_enumeration(
@@ -144,7 +223,7 @@ fn put_any(
             buffer,
             at,
         ),
-        Kind::String => next_of(put_string(packet, place, buffer, at)),
+        Kind::String => put_string_value(packet, place, buffer, at),
         Kind::Structure { members } => {
             put_structure(members.as_slice(), class.align, packet, place, buffer, at)
         }
@@ -154,7 +233,15 @@ fn put_any(
             options,
         } => {
             let option = option_of(tag, choices.as_slice(), before)?;
-            put_option(options.as_slice(), option, before, packet, place, buffer, at)
+            put_option(
+                options.as_slice(),
+                option,
+                before,
+                packet,
+                place,
+                buffer,
+                at,
+            )
         }
         Kind::Array { length, element } => {
             let count = count_of(length, before)?;
@@ -162,85 +249,13 @@ fn put_any(
         }
         Kind::Text { length } => {
             let count = count_of(length, before)?;
-            next_of(put_fixed_text(count, packet, place, buffer, at))
+            put_text_value(count, packet, place, buffer, at)
         }
     }
 }
 
-/// Where a value without parts ends.
-#[inline(always)]
-fn next_of(ends: Option<Ends>) -> Option<Next> {
-    let ends = ends?;
-    Some(Next {
-        place: ends.place,
-        text: ends.text,
-        more: 0,
-        last: Last::Unknown,
-    })
-}
-
-/// Writes an integer where there is room for it.
-#[inline(always)]
-fn put_one(
-    integer: &Integer,
-    align: Align,
-    packet: &Content<'_>,
-    place: u64,
-    buffer: &mut Vec<u8>,
-    at: usize,
-) -> Option<Next> {
-    let ends = put_integer(integer, align, packet, place, buffer.as_mut_slice(), at)?;
-    Some(Next {
-        place: ends.place,
-        text: ends.text,
-        more: 0,
-        last: if integer.is_signed {
-            Last::Unknown
-        } else {
-            Last::Unsigned(ends.bits)
-        },
-    })
-}
-
-/// Writes an enumeration.
-pub(crate) fn put_enumeration(
-    container: &Integer,
-    labels: &Labels,
-    align: Align,
-    packet: &Content<'_>,
-    place: u64,
-    buffer: &mut Vec<u8>,
-    at: usize,
-) -> Option<Next> {
-    let size = container.size.bits();
-    let begin = align.up(place);
-    let end = begin + u64::from(size);
-    if end > packet.end {
-        return None;
-    }
-    let number = if container.is_signed {
-        i128::from(sint_within(packet.bytes, begin, size, container.order))
-    } else {
-        i128::from(uint_within(packet.bytes, begin, size, container.order))
-    };
-    let Ok(text) = put_labelled(container, labels, number, buffer, at) else {
-        return None;
-    };
-    let last = match i64::try_from(number) {
-        Ok(number) => Last::Label(number),
-        Err(_) => Last::Unknown,
-    };
-    Some(Next {
-        place: end,
-        text,
-        more: 0,
-        last,
-    })
-}
-
 /// Writes a structure.
 #[cycle(standing)]
-#[inline(never)]
 fn put_structure(
     members: &[Member],
     align: Align,
@@ -248,48 +263,30 @@ fn put_structure(
     place: u64,
     buffer: &mut Vec<u8>,
     at: usize,
-) -> Option<Next> {
-    let begin = align.up(place);
-    if begin > packet.end {
-        return None;
-    }
-    let mut reach = Reach {
-        place: begin,
-        more: 0,
-        last: Last::Unknown,
-    };
-    let text = put_enclosed(members, packet, &mut reach, buffer, at)?;
-    let more = members.len() as u64 + reach.more;
+) -> Option<Next>
+    requires start { place ≤ packet.now.end }
+    requires index { at ≤ vec_len buffer.old }
+    ensures puts { (before : Before) → Writes result before (forms.structure align (parts_of (map member_part members.now))) (structure_text members.now) packet.now place (take at buffer.old.items) buffer.new.items }
+    ensures within { IfSome result (λ n. n.place ≤ packet.now.end) }
+    ensures held { IfSome result (λ n. n.text ≤ vec_len buffer.new) }
+    ensures few { IfSome result (λ n. n.more ≤ MOST_VALUES) }
+{
+    let begin = begin_at(align, packet, place)?;
+    let ends = put_enclosed(members, packet, begin, buffer, at)?;
+    let more = members.len() as u64 + ends.more;
     if more > MOST_VALUES {
         return None;
     }
     Some(Next {
-        place: reach.place,
-        text,
+        place: ends.place,
+        text: ends.text,
         more,
         last: Last::Unknown,
     })
 }
 
-/// Writes the members of a structure, with its braces.
-#[cycle(standing)]
-fn put_enclosed(
-    members: &[Member],
-    packet: &Content<'_>,
-    reach: &mut Reach,
-    buffer: &mut Vec<u8>,
-    at: usize,
-) -> Option<usize> {
-    if members.is_empty() {
-        return put_nothing(b'{', b'}', buffer, at).ok();
-    }
-    let end = put_members(members, 0, packet, reach, buffer, at)?;
-    put_end(b'}', buffer, end).ok()
-}
-
 /// Writes an option of a variant, with its braces.
 #[cycle(standing)]
-#[inline(never)]
 fn put_option(
     options: &[Member],
     option: usize,
@@ -298,25 +295,28 @@ fn put_option(
     place: u64,
     buffer: &mut Vec<u8>,
     at: usize,
-) -> Option<Next> {
+) -> Option<Next>
+    requires start { place ≤ packet.now.end }
+    requires index { at ≤ vec_len buffer.old }
+    ensures puts { (a : ℕ) (tag : Route) (choices : List Choice) → Chooses tag choices before option → Writes result before (forms.variant a tag choices (parts_of (map member_part options.now))) (λ v. texts.chosen_text (map texts.member_part options.now) (choice_in v)) packet.now place (take at buffer.old.items) buffer.new.items }
+    ensures within { IfSome result (λ n. n.place ≤ packet.now.end) }
+    ensures held { IfSome result (λ n. n.text ≤ vec_len buffer.new) }
+    ensures few { IfSome result (λ n. n.more ≤ MOST_VALUES) }
+{
     if option >= options.len() {
         return None;
     }
-    let member = &options[option];
-    let Ok(begin) = put_ready(b'{', member.name.ready(), LONGEST_NUMBER, buffer, at) else {
-        return None;
-    };
-    let next = put_part(&member.class, before, packet, place, buffer, begin)?;
-    let Ok(text) = put_end(b'}', buffer, next.text) else {
-        return None;
-    };
+    let next = put_member(b'{', &options[option], before, packet, place, buffer, at)?;
     if next.more >= MOST_VALUES {
         return None;
     }
+    let Ok(text) = put_end(b'}', buffer, next.text) else {
+        return None;
+    };
     Some(Next {
         place: next.place,
         text,
-        more: next.more + 1,
+        more: 1 + next.more,
         last: Last::Unknown,
     })
 }
@@ -332,17 +332,24 @@ fn put_array(
     place: u64,
     buffer: &mut Vec<u8>,
     at: usize,
-) -> Option<Next> {
+) -> Option<Next>
+    requires start { place ≤ packet.now.end }
+    requires index { at ≤ vec_len buffer.old }
+    ensures puts { (a : ℕ) (many : Length) → Counts many before count → Writes result before (forms.array a many (form element.now)) (array_text (texts.value_text element.now)) packet.now place (take at buffer.old.items) buffer.new.items }
+    ensures within { IfSome result (λ n. n.place ≤ packet.now.end) }
+    ensures held { IfSome result (λ n. n.text ≤ vec_len buffer.new) }
+    ensures few { IfSome result (λ n. n.more ≤ MOST_VALUES) }
+{
     if let Kind::Integer(integer) = &element.kind {
         return put_integers(integer, element.align, count, packet, place, buffer, at);
     }
-    put_any_array(element, count, before, packet, place, buffer, at)
+    put_items(element, count, before, packet, place, buffer, at)
 }
 
-/// Writes an array of so many elements that are no integers.
+/// Writes an array of so many elements of any class.
 #[cycle(standing)]
 #[inline(never)]
-fn put_any_array(
+fn put_items(
     element: &Class,
     count: u64,
     before: Before,
@@ -350,37 +357,34 @@ fn put_any_array(
     place: u64,
     buffer: &mut Vec<u8>,
     at: usize,
-) -> Option<Next> {
-    let begin = element.align.up(place);
-    if begin > packet.end || count > MOST_VALUES {
+) -> Option<Next>
+    requires start { place ≤ packet.now.end }
+    requires index { at ≤ vec_len buffer.old }
+    ensures puts { (a : ℕ) (many : Length) → Counts many before count → Writes result before (forms.array a many (form element.now)) (array_text (texts.value_text element.now)) packet.now place (take at buffer.old.items) buffer.new.items }
+    ensures within { IfSome result (λ n. n.place ≤ packet.now.end) }
+    ensures held { IfSome result (λ n. n.text ≤ vec_len buffer.new) }
+    ensures few { IfSome result (λ n. n.more ≤ MOST_VALUES) }
+{
+    if count > MOST_VALUES {
         return None;
     }
-    if count == 0 {
-        let Ok(text) = put_nothing(b'[', b']', buffer, at) else {
-            return None;
-        };
-        return Some(Next {
-            place: begin,
-            text,
-            more: 0,
-            last: Last::Unknown,
-        });
-    }
-    let next = put_elements(element, count, before, packet, begin, buffer, at)?;
-    let Ok(text) = put_end(b']', buffer, next.text) else {
+    let begin = begin_at(element.align, packet, place)?;
+    let ends = put_bracketed(element, count, before, packet, begin, buffer, at)?;
+    let more = count + ends.more;
+    if more > MOST_VALUES {
         return None;
-    };
+    }
     Some(Next {
-        place: next.place,
-        text,
-        more: next.more,
+        place: ends.place,
+        text: ends.text,
+        more,
         last: Last::Unknown,
     })
 }
 
-/// Writes so many elements, the first behind `[`.
+/// Writes so many elements, with their brackets.
 #[cycle(standing)]
-fn put_elements(
+fn put_bracketed(
     element: &Class,
     count: u64,
     before: Before,
@@ -388,47 +392,92 @@ fn put_elements(
     begin: u64,
     buffer: &mut Vec<u8>,
     at: usize,
-) -> Option<Next> {
-    let mut place = begin;
-    let mut text = at;
-    let mut more = count;
-    let mut lead = b'[';
-    for i in 0..count {
-        let Ok(begun) = put_index(lead, i as usize, buffer, text) else {
+) -> Option<MembersEnd>
+    requires start { begin ≤ packet.now.end }
+    requires index { at ≤ vec_len buffer.old }
+    ensures puts { IfSome result (λ e. PutsItems (enclosed 91 93) before (form element.now) (texts.value_text element.now) count packet.now begin (take at buffer.old.items) e (take e.text buffer.new.items)) }
+    ensures within { IfSome result (λ e. e.place ≤ packet.now.end) }
+    ensures held { IfSome result (λ e. e.text ≤ vec_len buffer.new) }
+    ensures few { IfSome result (λ e. e.more ≤ MOST_VALUES) }
+{
+    if count == 0 {
+        let Ok(text) = put_nothing(b'[', b']', buffer, at) else {
             return None;
         };
-        let next = put_part(element, before, packet, place, buffer, begun)?;
-        place = next.place;
-        text = next.text;
-        more += next.more;
-        if more > MOST_VALUES {
-            return None;
-        }
-        lead = b',';
+        return Some(MembersEnd {
+            place: begin,
+            text,
+            more: 0,
+        });
     }
-    Some(Next {
-        place,
+    let ends = put_row(element, count, before, packet, begin, buffer, at)?;
+    let Ok(text) = put_end(b']', buffer, ends.text) else {
+        return None;
+    };
+    Some(MembersEnd {
+        place: ends.place,
         text,
-        more,
-        last: Last::Unknown,
+        more: ends.more,
     })
 }
 
-/// How many elements an array has behind other members, where its length is fixed or that of the last of them.
-fn count_of(length: &Length, before: Before) -> Option<u64> {
-    match length {
-        Length::Fixed(count) => Some(*count),
-        Length::Field(route) => match before.last {
-            Last::Unsigned(number) if route.leads_before(before.index) => Some(number),
-            _ => None,
-        },
+/// Writes so many elements, the first behind `[`.
+#[cycle(standing)]
+fn put_row(
+    element: &Class,
+    count: u64,
+    before: Before,
+    packet: &Content<'_>,
+    begin: u64,
+    buffer: &mut Vec<u8>,
+    at: usize,
+) -> Option<MembersEnd>
+    requires start { begin ≤ packet.now.end }
+    requires index { at ≤ vec_len buffer.old }
+    ensures puts { IfSome result (λ e. PutsItems (row 91) before (form element.now) (texts.value_text element.now) count packet.now begin (take at buffer.old.items) e (take e.text buffer.new.items)) }
+    ensures within { IfSome result (λ e. e.place ≤ packet.now.end) }
+    ensures held { IfSome result (λ e. e.text ≤ vec_len buffer.new) }
+    ensures few { IfSome result (λ e. e.more ≤ MOST_VALUES) }
+{
+    let mut place = begin;
+    let mut text = at;
+    let mut more = 0;
+    let mut lead = b'[';
+    for i in 0..count {
+        let next = put_item(lead, i, element, before, packet, place, buffer, text)?;
+        place = next.place;
+        text = next.text;
+        more += next.more;
+        lead = b',';
+        if more > MOST_VALUES {
+            return None;
+        }
     }
+    Some(MembersEnd { place, text, more })
 }
 
-/// The option of a variant behind other members, where its tag is the last of them.
-fn option_of(tag: &Route, choices: &[Choice], before: Before) -> Option<usize> {
-    match before.last {
-        Last::Label(number) if tag.leads_before(before.index) => chosen(choices, i128::from(number)),
-        _ => None,
-    }
+/// Writes an element behind a mark.
+#[cycle(standing)]
+#[inline(always)]
+fn put_item(
+    lead: u8,
+    i: u64,
+    element: &Class,
+    before: Before,
+    packet: &Content<'_>,
+    place: u64,
+    buffer: &mut Vec<u8>,
+    at: usize,
+) -> Option<Next>
+    requires start { place ≤ packet.now.end }
+    requires index { at ≤ vec_len buffer.old }
+    ensures puts { Writes result before (form element.now) (λ v. lead ∷ 32 ∷ texts.element_text (texts.value_text element.now) i v) packet.now place (take at buffer.old.items) buffer.new.items }
+    ensures within { IfSome result (λ n. n.place ≤ packet.now.end) }
+    ensures held { IfSome result (λ n. n.text ≤ vec_len buffer.new) }
+    ensures few { IfSome result (λ n. n.more ≤ MOST_VALUES) }
+{
+    let Ok(begin) = put_index(lead, i as usize, buffer, at) else {
+        return None;
+    };
+    put_part(element, before, packet, place, buffer, begin)
 }

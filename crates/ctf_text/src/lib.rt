@@ -2,13 +2,16 @@
 #![tactic(auto)]
 
 mod array;
+mod before;
 mod binary;
 mod by_class;
+mod content;
 mod decimal;
 mod digits;
 mod element;
 mod hexadecimal;
 mod label;
+mod leaf;
 mod mark;
 mod number;
 mod packet;

@@ -11,13 +11,14 @@ ghost use Rattle.ctf_text.specs.Records.{IsNear, IsLastNumber, PutsField, PutsFi
 ghost use Rattle.ctf_text.specs.Texts as texts;
 
 use crate::array::put_integers;
+use crate::content::Content;
+use crate::leaf::put_enumeration;
 use crate::mark::put_end;
 use crate::plain_number::put_numbers;
 use crate::room::with_room;
-use crate::by_class::put_enumeration;
-use crate::standing::{Content, Ends, Standing, put_fixed_text, put_integer, put_string};
+use crate::standing::{Standing, put_fixed_text, put_integer, put_string};
 use ctf_bits::up;
-use ctf_class::{Field, Integers, Labelled, Many, PlainNumber, Ready, RecordPlan, Run, Shown};
+use ctf_class::{Field, Integers, Many, PlainNumber, Ready, RecordPlan, Run, Shown};
 use ctf_decode::MOST_VALUES;
 
 /// How far fields came.
@@ -221,10 +222,13 @@ fn put_field(
             reach.place = ends.place;
             Some(ends.text)
         }
-        Shown::Labelled(is) => {
-            let ends = put_label(is, packet, begin, buffer, text)?;
-            reach.place = ends.place;
-            Some(ends.text)
+        Shown::Labelled(labelled) => {
+            let labels = labelled.labels.get();
+            let container = &labelled.container;
+            let align = labelled.align;
+            let next = put_enumeration(container, labels, align, packet, begin, buffer, text)?;
+            reach.place = next.place;
+            Some(next.text)
         }
         Shown::Integers(are) => {
             let first = ((reach.place - run.span) / 8) as usize;
@@ -239,22 +243,6 @@ fn put_field(
             Some(end)
         }
     }
-}
-
-/// Writes an enumeration.
-#[inline(never)]
-fn put_label(
-    is: &Labelled,
-    packet: &Content<'_>,
-    place: u64,
-    buffer: &mut Vec<u8>,
-    at: usize,
-) -> Option<Ends> {
-    let ends = put_enumeration(&is.container, is.labels.get(), is.align, packet, place, buffer, at)?;
-    Some(Ends {
-        place: ends.place,
-        text: ends.text,
-    })
 }
 
 /// Writes integers that are none of the numbers of a run, but stand behind these, and gives the index behind them.

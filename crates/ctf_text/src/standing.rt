@@ -3,16 +3,14 @@
 ghost use Rattle.std.specs.Prelude.{ℕ, List, pos, ◌≡◌, true, false, ◌+◌, ◌*◌, ◌^◌, ◌++◌, ◌∷◌, ◌≤◌, ◌<◌, Some, length, nat_eq, position, take, vec_len, IfSome, IsTrue};
 ghost use Rattle.ctf_bits.specs.Number.{number, signed_number};
 ghost use Rattle.ctf_class.specs.Names.{label_text};
-ghost use Rattle.ctf_class.specs.declared.class.Kind as kind;
 ghost use Rattle.ctf_class.specs.declared.route.Length.TheVariants.{Fixed};
 ghost use Rattle.ctf_decode.specs.Input.{bits_of};
 ghost use Rattle.ctf_decode.specs.Forms as forms;
-ghost use Rattle.ctf_decode.specs.Views.{form};
 ghost use Rattle.ctf_text.specs.Numbers.{number_text};
-ghost use Rattle.ctf_text.specs.Rows.{row, enclosed};
-ghost use Rattle.ctf_text.specs.Standing.{Puts, PutsOne, PutsMembers, StandsAsNumber, number_before, number_of, unsigned_of};
+ghost use Rattle.ctf_text.specs.Standing.{PutsOne, StandsAsNumber};
 ghost use Rattle.ctf_text.specs.Texts as texts;
 
+use crate::content::Content;
 use crate::number::{LONGEST_NUMBER, put_signed_number, put_unsigned_number};
 use crate::text::put_quoted;
 use crate::window::{count_longer, count_short, put_longer, put_short};
@@ -29,15 +27,6 @@ pub struct Standing {
     pub spent: u64,
     /// The index behind its text, in bytes.
     pub end: usize,
-}
-
-/// A packet's bytes, and the place in bits where its content ends.
-#[derive(Clone, Copy)]
-pub(crate) struct Content<'a> {
-    pub(crate) bytes: &'a [u8],
-    pub(crate) end: u64,
-    ghost bounded: { end ≤ 2 ^ 62 },
-    ghost held: { end ≤ 8 * length bytes.now },
 }
 
 /// The value of a member, as far as it is known to a length or a tag behind it.
@@ -67,15 +56,13 @@ pub(crate) struct Next {
     pub(crate) last: Last,
 }
 
-/// How far members came.
+/// Where members or elements end, in bits from the packet's first one, the index behind their texts, and how many values were
+/// begun in them.
 #[derive(Clone, Copy)]
-pub(crate) struct Reach {
-    /// Where the next one could begin, in bits from the packet's first one.
+pub(crate) struct MembersEnd {
     pub(crate) place: u64,
-    /// How many values were begun in them.
+    pub(crate) text: usize,
     pub(crate) more: u64,
-    /// What is known of the last one.
-    pub(crate) last: Last,
 }
 
 /// Where a value ends, in bits from the packet's first one, and the index behind its text.

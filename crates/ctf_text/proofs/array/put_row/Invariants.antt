@@ -1,6 +1,6 @@
 use Rattle.std.proofs.Common.{◌≡◌, ◌≤◌, take, vec_len}
 use Rattle.ctf_text.proofs.ArrayLemmas.{Going}
-use Rattle.ctf_text.proofs.StandingLemmas.{mark_at}
+use Rattle.ctf_text.specs.Standing.{mark_at}
 use Rattle.ctf_text.proofs.array.put_row.Given as goal
 
 abbrev pub invariant-loop-i : goal.invariant-loop-i

@@ -6,6 +6,9 @@ use Rattle.ctf_decode.specs.Views.{form}
 use Rattle.ctf_text.specs.Records.{IsLastNumber, behind}
 use Rattle.ctf_text.specs.Standing.{PutsOne, elements_text}
 use Rattle.ctf_text.specs.Texts.{integer_text, value_text}
+use Rattle.ctf_text.specs.declared.standing.Before.{Before}
+use Rattle.ctf_text.specs.declared.standing.Next.{Next}
+use Rattle.ctf_text.proofs.ByClassLemmas.{forget}
 use Rattle.ctf_text.proofs.ArrayLemmas.{next_class, form_array, text_array}
 use Rattle.ctf_text.proofs.RecordsLemmas.{no_number, counts_behind}
 use Rattle.ctf_text.proofs.StandingLemmas.{as_one, same_front, puts_next, form_integer, text_integer}
@@ -45,7 +48,9 @@ returns-clause-puts c = λ index member are.
     let content = c.args.packet.now.end in
     let place = c.args.reach.now.place in
     let before = take c.args.at c.args.buffer.now.items in
-    let after = c.put_integers.new.buffer.items in
+    let items = c.put_integers.new.buffer.items in
+    let after = take next.text items in
+    let forget_it = λ (b : Before) (n : Next). forget b (form class) (value_text class) bytes content place before n after in
     elim c.match-are.branch [
       | in-Fixed w ↦
           let is = subst (AreIntegers index member i align) w.in-Fixed.is are in
@@ -57,8 +62,8 @@ returns-clause-puts c = λ index member are.
             (
               next.more,
               refl,
-              next_class (Some next) (behind index None) (forms.array class.align many (forms.integer align i)) (form class) (elements_text i) (value_text class) bytes content place before after
-                  (ap (λ a. forms.array class.align many (forms.integer a i)) is.2.1 ∙ form_array class k many i is.1 is.2.0) (text_array class k many i is.1 is.2.0) puts,
+              forget_it (behind index None) next (next_class (Some next) (behind index None) (forms.array class.align many (forms.integer align i)) (form class) (elements_text i) (value_text class) bytes content place before items
+                  (ap (λ a. forms.array class.align many (forms.integer a i)) is.2.1 ∙ form_array class k many i is.1 is.2.0) (text_array class k many i is.1 is.2.0) puts),
             ),
           )
       | in-Counted+in_ok-count-in-Counted w ↦
@@ -73,8 +78,8 @@ returns-clause-puts c = λ index member are.
             (
               next.more,
               refl,
-              next_class (Some next) (behind index last) (forms.array class.align many (forms.integer align i)) (form class) (elements_text i) (value_text class) bytes content place before after
-                  (ap (λ a. forms.array class.align many (forms.integer a i)) is.4.1 ∙ form_array class k many i is.2 is.4.0) (text_array class k many i is.2 is.4.0) puts,
+              forget_it (behind index last) next (next_class (Some next) (behind index last) (forms.array class.align many (forms.integer align i)) (form class) (elements_text i) (value_text class) bytes content place before items
+                  (ap (λ a. forms.array class.align many (forms.integer a i)) is.4.1 ∙ form_array class k many i is.2 is.4.0) (text_array class k many i is.2 is.4.0) puts),
             ),
           )
     ]
