@@ -2,11 +2,11 @@
 
 ghost use Rattle.std.specs.Prelude.{◌≡◌, IfOk, position};
 ghost use Rattle.std.specs.List.{list_any};
-ghost use Rattle.ctf_meaning.specs.Name.{same_word};
-ghost use Rattle.ctf_meaning.specs.Own.{has_twins};
+ghost use Rattle.std.specs.Str.{bytes_eq};
+ghost use Rattle.ctf_class.specs.SameNames.{has_twins};
 
+use crate::field_name::FieldName;
 use crate::firsts::Firsts;
-use ctf_class::FieldName;
 use ctf_list::{List, NoMemory};
 use std::alloc::Global;
 use std::marker::Model;
@@ -33,7 +33,7 @@ pub struct Names {
 impl Model for Names {
     ghost use Rattle.std.specs.Prelude.{List, ℕ};
     ghost use Rattle.std.specs.Coded.{coded_list, coded_ℕ};
-    ghost use Rattle.ctf_shape.specs.Places.{FindsFirst};
+    ghost use Rattle.ctf_class.specs.NamePlaces.{FindsFirst};
 
     ghost Value = { List (List ℕ) };
 
@@ -63,7 +63,7 @@ impl Names {
 
     /// The place of the first name of these bytes.
     pub fn place(&self, name: &[u8]) -> Option<usize>
-        ensures { result ≡ position (λ word. same_word word name.now) self.now }
+        ensures { result ≡ position (λ word. bytes_eq word name.now) self.now }
     {
         match &self.places {
             Places::Few => place_among(self.names.as_slice(), name),
@@ -73,7 +73,7 @@ impl Names {
 
     /// Whether two names are the same.
     pub fn has_twins(&self) -> bool
-        ensures { result ≡ has_twins same_word self.now }
+        ensures { result ≡ has_twins bytes_eq self.now }
     {
         match &self.places {
             Places::Few => has_twins_among(self.names.as_slice()),
@@ -83,7 +83,7 @@ impl Names {
 }
 
 impl Places {
-    ghost use Rattle.ctf_shape.specs.Places.{FindsFirst};
+    ghost use Rattle.ctf_class.specs.NamePlaces.{FindsFirst};
 
     /// How some names are found.
     fn of(alloc: Global, names: &[FieldName]) -> Result<Places, NoMemory>
@@ -109,14 +109,14 @@ fn field_names(alloc: Global, words: List<List<u8>>) -> Result<List<FieldName>, 
 
 /// The place of the first of a few names that has these bytes.
 fn place_among(names: &[FieldName], bytes: &[u8]) -> Option<usize>
-    ensures { result ≡ position (λ word. same_word word bytes.now) names.now }
+    ensures { result ≡ position (λ word. bytes_eq word bytes.now) names.now }
 {
     names.iter().position(|name| name.as_slice() == bytes)
 }
 
 /// Whether two of a few names are the same.
 fn has_twins_among(names: &[FieldName]) -> bool
-    ensures { result ≡ has_twins same_word names.now }
+    ensures { result ≡ has_twins bytes_eq names.now }
 {
     match names {
         [] => false,
@@ -126,7 +126,7 @@ fn has_twins_among(names: &[FieldName]) -> bool
 
 /// Whether some names have one of these bytes.
 fn is_among(bytes: &[u8], names: &[FieldName]) -> bool
-    ensures { result ≡ list_any (same_word bytes.now) names.now }
+    ensures { result ≡ list_any (bytes_eq bytes.now) names.now }
 {
     names.iter().any(|name| bytes == name.as_slice())
 }

@@ -3,9 +3,9 @@
 ghost use Rattle.std.specs.Prelude.{◌≡◌, IfOk};
 ghost use Rattle.std.specs.List.{position_from};
 ghost use Rattle.std.specs.BTreeMap.{get_by};
-ghost use Rattle.ctf_meaning.specs.Name.{same_word};
+ghost use Rattle.std.specs.Str.{bytes_eq};
 
-use ctf_class::FieldName;
+use crate::field_name::FieldName;
 use ctf_list::NoMemory;
 use std::alloc::Global;
 use std::collections::BTreeMap;
@@ -19,7 +19,7 @@ pub struct Firsts {
 }
 
 impl Firsts {
-    ghost use Rattle.ctf_shape.specs.Firsts.{IsIndex, place_in};
+    ghost use Rattle.ctf_class.specs.NameFirsts.{IsIndex, place_in};
 
     /// The first places of some names. Of `n` names, takes time like `n` times its logarithm.
     pub fn of(alloc: Global, names: &[FieldName]) -> Result<Firsts, NoMemory>
