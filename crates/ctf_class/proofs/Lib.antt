@@ -1,7 +1,9 @@
 pub mod AlignmentLemmas
+pub mod ChoicesLemmas
 pub mod EscapesLemmas
 pub mod KeysLemmas
 pub mod LabelsLemmas
+pub mod NamesLemmas
 pub mod PlacesLemmas
 pub mod RecordsLemmas
 pub mod StreamsLemmas

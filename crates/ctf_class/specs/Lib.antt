@@ -1,4 +1,6 @@
 pub mod Alignment
+pub mod ChoiceSearch
+pub mod Choices
 pub mod Escapes
 pub mod FixedSize
 pub mod HostAndName
@@ -6,8 +8,11 @@ pub mod Items
 pub mod LabelSearch
 pub mod Labels
 pub mod Making
+pub mod NameFirsts
+pub mod NamePlaces
 pub mod Names
 pub mod Places
 pub mod Records
+pub mod SameNames
 pub mod Streams
 pub mod Words

@@ -1,11 +1,11 @@
 //! Field classes.
 
 use crate::align::Align;
+use crate::choices::Choices;
 use crate::field_name::FieldName;
 use crate::integer::Integer;
 use crate::labels::Labels;
 use crate::route::{Length, Route};
-use crate::span::Choice;
 use ctf_list::{Boxed, List, Shared};
 
 /// A field class.
@@ -43,7 +43,7 @@ pub enum Kind {
     /// CTF 1.8.3, section 4.2.2. The option is that of the first choice whose span covers the tag's number.
     Variant {
         tag: Route,
-        choices: List<Choice>,
+        choices: Choices,
         options: List<Member>,
     },
     /// CTF 1.8.3, sections 4.2.3 and 4.2.4.

@@ -1,14 +1,13 @@
 -- What a route finds: lengths, tags and options.
-use Rattle.std.specs.Prelude.{◌≡◌, ℕ, ℤ, ◌&&◌, Bool, List, [], ◌∷◌, Option, Some, None, option_and_then, option_map, slice_get}
-use Rattle.std.specs.Int.Signed.{le_z}
-use Rattle.std.specs.List.{find}
+use Rattle.std.specs.Prelude.{◌≡◌, ℕ, ℤ, List, [], ◌∷◌, Option, Some, None, option_and_then, slice_get}
+pub use Rattle.ctf_class.specs.Choices.{chosen}
+pub use Rattle.ctf_class.specs.Labels.{covers}
 use Rattle.ctf_class.specs.declared.route.Scope.{Scope}
 use Rattle.ctf_class.specs.declared.route.Origin.{Origin}
 use Rattle.ctf_class.specs.declared.route.Origin.TheVariants.{Enclosing, Earlier}
 use Rattle.ctf_class.specs.declared.route.Route.{Route}
 use Rattle.ctf_class.specs.declared.route.Length.{Length}
 use Rattle.ctf_class.specs.declared.route.Length.TheVariants.{Fixed, Field}
-use Rattle.ctf_class.specs.declared.span.Span.{Span}
 use Rattle.ctf_class.specs.declared.span.Choice.{Choice}
 use Rattle.ctf_decode.specs.Values.{Val, unsigned, label, down}
 use Rattle.ctf_decode.specs.Input.{Env}
@@ -40,13 +39,6 @@ length_of (Field route) earlier env = number_of (found route earlier env)
 abbrev pub tag_of : Option Val → Option ℤ
 tag_of (Some (label z)) = Some z
 tag_of _ = None
-
-abbrev pub covers : Span → ℤ → Bool
-covers span z = le_z span.first z && le_z z span.last
-
--- the option of the first choice that covers a number
-abbrev pub chosen : List Choice → ℤ → Option ℕ
-chosen choices z = option_map (λ (choice : Choice). choice.option) (find (λ (choice : Choice). covers choice.span z) choices)
 
 -- the option that the tag names (CTF 1.8.3, section 4.2.2)
 abbrev pub option_at : Route → List Choice → (Scope → Option Val) → Env → Option ℕ

@@ -10,7 +10,7 @@ ghost use Rattle.ctf_decode.specs.Routes as routes;
 use crate::place::Frame;
 use crate::scopes::Scopes;
 use crate::value::Value;
-use ctf_class::{Choice, Length, Origin, Route, Scope};
+use ctf_class::{Choices, Length, Origin, Route, Scope};
 
 /// The earlier members of the structure that lies so many structures further out.
 fn around<'a>(frame: &'a Frame<'a>, out: u32) -> Option<&'a [Value]>
@@ -131,26 +131,14 @@ pub(crate) fn tag_of(value: &Value) -> Option<i128>
     None
 }
 
-/// The option of the first choice that covers the tag.
-pub fn chosen(choices: &[Choice], tag: i128) -> Option<usize>
-    ensures { result ≡ routes.chosen choices.now tag }
-{
-    for choice in choices {
-        if choice.span.first <= tag && tag <= choice.span.last {
-            return Some(choice.option);
-        }
-    }
-    None
-}
-
 /// The option that a number chooses, where it is that of the only member before the variant and the variant's tag is that
 /// member.
 #[inline(always)]
-pub fn chosen_by_first(tag: &Route, choices: &[Choice], number: i128) -> Option<usize>
+pub fn chosen_by_first(tag: &Route, choices: &Choices, number: i128) -> Option<usize>
     ensures { IfSome result (routes.FirstChooses tag.now choices.now number) }
 {
     if is_first(tag) {
-        chosen(choices, number)
+        choices.option(number)
     } else {
         None
     }
@@ -174,7 +162,7 @@ fn is_first(route: &Route) -> bool
 /// The option that a variant's tag names.
 pub fn option_at(
     tag: &Route,
-    choices: &[Choice],
+    choices: &Choices,
     scopes: &Scopes,
     frame: &Frame<'_>,
 ) -> Option<usize>
@@ -184,7 +172,7 @@ pub fn option_at(
         None => None,
         Some(value) => match tag_of(value) {
             None => None,
-            Some(number) => chosen(choices, number),
+            Some(number) => choices.option(number),
         },
     }
 }

@@ -100,7 +100,7 @@ fn pair_into(
     let Some(number) = tag_of(&values[0]) else {
         return false;
     };
-    let Some(i) = chosen_by_first(route, choices.as_slice(), number) else {
+    let Some(i) = chosen_by_first(route, choices, number) else {
         return false;
     };
     if at.spent >= MOST_VALUES {

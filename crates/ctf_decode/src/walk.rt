@@ -59,7 +59,7 @@ pub fn value_into(
             choices,
             options,
         } => {
-            let chosen = option_at(tag, choices.as_slice(), packet.scopes, frame);
+            let chosen = option_at(tag, choices, packet.scopes, frame);
             choice_into(alloc, options.as_slice(), chosen, packet, frame, at, value)
         }
         Kind::Array { length, element } => {

@@ -3,7 +3,7 @@ use Rattle.std.proofs.Common.{◌≡◌, ℕ, ℤ, true, false, cond, pos, ◌+�
 use Rattle.std.proofs.Math.Nat.{mod_self, sub-zero}
 use Rattle.std.specs.Prelude.{codes}
 use Rattle.std.specs.Int.{next_multiple_of}
-use Rattle.std.specs.List.{last_or}
+use Rattle.std.specs.List.{last_or, slice_get}
 use Rattle.std.specs.Str.{bytes_eq}
 use Rattle.std.proofs.lemmas.Int.{ints}
 use Rattle.ctf_bits.specs.Number.{number, signed_number}
@@ -13,6 +13,7 @@ use Rattle.ctf_class.proofs.AlignmentLemmas.{divides_too, next_behind}
 use Rattle.ctf_class.specs.declared.class.Class.{Class}
 use Rattle.ctf_class.specs.declared.class.Member.{Member}
 use Rattle.ctf_class.specs.declared.integer.Integer.{Integer}
+use Rattle.ctf_class.specs.declared.route.Origin.TheVariants.{Enclosing}
 use Rattle.ctf_class.specs.declared.route.Route.{Route}
 use Rattle.ctf_class.specs.declared.span.Choice.{Choice}
 use Rattle.ctf_class.specs.declared.span.Label.{Label}
@@ -34,6 +35,20 @@ use Rattle.ctf_line.specs.declared.header.Telling.{Telling}
 use Rattle.ctf_line.specs.declared.short.ShortHeader.{ShortHeader}
 use Rattle.ctf_line.proofs.Telling.{tells_integer, reads_unsigned, stands_tag, going_begins, going_on, going_ends, tells_structure, tells_pair}
 use Rattle.ctf_packet.specs.Moved.{moved_in}
+
+-- the only number, where there is one
+pub only_number : (ns : List ℕ) (n : ℕ) → 1 ≤ length ns → length ns < 2 → get_or ns 0 n ≡ n → ns ≡ n ∷ []
+only_number [] n some few first = absurd (omega (arith, some))
+only_number (m ∷ []) n some few first = ap (λ k. k ∷ []) first
+only_number (l ∷ m ∷ ns) n some few first = absurd (omega (arith, few))
+
+-- the first of some choices, where there is one
+pub first_of : (tag : Route) (choices : List Choice) (r : Option Choice) → tag.origin ≡ Enclosing 0 → tag.steps ≡ 0 ∷ [] → r ≡ slice_get choices 0 → IfSome r (IsFirstChoice tag choices)
+first_of tag choices None origin steps is = tt
+first_of tag [] (Some choice) origin steps is = absurd (cc)
+first_of tag (first ∷ others) (Some choice) origin steps is =
+    let same : first ≡ choice = cc in
+    record { origin = origin; steps = steps; others = others; is = ap (λ c. c ∷ others) same }
 
 -- the first choice is made by the numbers that it covers
 chosen_first : (choices : List Choice) (choice : Choice) (route : Route) (first last id : ℕ) → IsFirstChoice route choices choice → choice.span.first ≡ pos first → choice.span.last ≡ pos last → first ≤ id → id ≤ last → FirstChooses route choices (pos id) choice.option

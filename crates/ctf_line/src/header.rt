@@ -275,7 +275,7 @@ fn tell_pair(
         return None;
     }
     let read = tag_at(container, tag.class.align, bytes, content, from.place)?;
-    let i = chosen_by_first(route, choices.as_slice(), read.number)?;
+    let i = chosen_by_first(route, choices, read.number)?;
     let options = options.as_slice();
     if i >= options.len() {
         return None;

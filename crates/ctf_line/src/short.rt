@@ -10,7 +10,7 @@ ghost use Rattle.ctf_line.specs.Headers.{Tells};
 ghost use Rattle.ctf_line.specs.Shorts.{IsShort, IsTagOf, IsStampOf, IsStampPlace, IsFirstChoice, IsShortOf, EndsNear, AreWindows, begins_telling, short_telling};
 
 use ctf_bits::{Order, Window};
-use ctf_class::{Align, Choice, Class, Integer, Kind, Member, Origin, Route, StreamClass};
+use ctf_class::{Align, Choice, Choices, Class, Integer, Kind, Member, Origin, Route, StreamClass};
 use ctf_clock::{Moment, Timeline};
 
 /// How many values such a header has: the structure, the tag, the variant, its option and the integer.
@@ -85,7 +85,7 @@ fn short_class(class: &Class) -> Option<ShortHeader>
     else {
         return None;
     };
-    let choice = first_choice(route, choices.as_slice())?;
+    let choice = first_choice(route, choices)?;
     let options = options.as_slice();
     if choice.option >= options.len() {
         return None;
@@ -203,7 +203,7 @@ fn stamp_of(class: &Class) -> Option<Field>
 }
 
 /// The first choice, if it is made by the first member of the innermost structure.
-fn first_choice(tag: &Route, choices: &[Choice]) -> Option<Choice>
+fn first_choice(tag: &Route, choices: &Choices) -> Option<Choice>
     ensures { IfSome result (IsFirstChoice tag.now choices.now) }
 {
     let Origin::Enclosing(out) = tag.origin else {
@@ -215,7 +215,7 @@ fn first_choice(tag: &Route, choices: &[Choice]) -> Option<Choice>
     if out != 0 || *step != 0 {
         return None;
     }
-    choices.first().copied()
+    choices.first()
 }
 
 /// A number as one of 64 bits without a sign, if it is one.

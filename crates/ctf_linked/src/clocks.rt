@@ -6,10 +6,9 @@ ghost use Rattle.ctf_linked.specs.Mapped.{is_unknown};
 ghost use Rattle.ctf_meaning.specs.Clocks as meaning;
 
 use crate::spot::Spot;
-use ctf_class::{Clock, Frequency, Scope};
+use ctf_class::{Clock, Frequency, Names, Scope};
 use ctf_list::{List, NoMemory};
 use ctf_meaning::DeclaredInteger;
-use ctf_shape::Names;
 use std::alloc::Global;
 
 /// The clocks of a trace in the order of the text, each found by its name without a walk (CTF 1.8.3,

@@ -9,7 +9,7 @@ ghost use Rattle.ctf_linked.specs.Telling.{depth_in, nodes_in, class_around};
 
 use crate::leaf::one_bit;
 use crate::reach::Tag;
-use ctf_class::{Align, Choice, Class, Kind, Label, Length, Member};
+use ctf_class::{Align, Class, Kind, Length, Member};
 use ctf_list::{Boxed, List, NoMemory};
 use ctf_shape::{Members, Shape};
 use std::alloc::Global;
@@ -69,29 +69,13 @@ pub fn variant_of(
 {
     let sums = sums_of(options.as_slice())?;
     let Tag { route, labels } = tag;
-    let choices = choices_of(alloc, declared, labels)?;
+    let choices = declared.choices(alloc, labels)?;
     let kind = Kind::Variant {
         tag: route,
         choices,
         options,
     };
     around(one_bit(), sums, kind)
-}
-
-/// The choices of a variant: of each label, in their order, the option of its name.
-fn choices_of(alloc: Global, options: &Members, labels: &[Label]) -> Result<List<Choice>, NoMemory>
-    ensures { IfOk result (λ choices. choices ≡ links.choices_of (fields_in (views.members options.now)) labels.now) }
-{
-    let mut choices = List::new(alloc);
-    for label in labels {
-        if let Some((option, _)) = options.get(label.name.as_slice()) {
-            choices.push(Choice {
-                span: label.span,
-                option,
-            })?;
-        }
-    }
-    Ok(choices)
 }
 
 /// The class of an array, or of a text where its elements are characters (CTF 1.8.3, section 4.2.3).

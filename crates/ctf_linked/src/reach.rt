@@ -10,7 +10,8 @@ ghost use Rattle.ctf_linked.specs.Finding.{found_by, length_of, tag_of, tag_by};
 
 use crate::find::{Found, found_at};
 use crate::spot::Spot;
-use ctf_class::{Label, Route};
+use ctf_class::{Labels, Route};
+use ctf_list::Shared;
 use ctf_meaning::ResolveFault;
 use ctf_shape::Shape;
 use std::alloc::Global;
@@ -20,7 +21,7 @@ use tsdl_tree::{Path, Word};
 #[derive(Drop)]
 pub struct Tag<'a> {
     pub route: Route,
-    pub labels: &'a [Label],
+    pub labels: &'a Shared<Labels>,
 }
 
 /// Whether a class is that of a length (CTF 1.8.3, section 4.2.4).
@@ -40,11 +41,11 @@ fn is_length(shape: &Shape) -> bool
 }
 
 /// The labels of an enumeration.
-fn labels_in<'a>(shape: &'a Shape) -> Option<&'a [Label]>
+fn labels_in<'a>(shape: &'a Shape) -> Option<&'a Shared<Labels>>
     ensures { option_copied result ≡ paths.labels_in (views.shape shape.now) }
 {
     match shape {
-        Shape::Enumeration { labels, .. } => Some(labels.get().as_slice()),
+        Shape::Enumeration { labels, .. } => Some(labels),
         Shape::Integer(_) => None,
         Shape::Float => None,
         Shape::String => None,

@@ -6,6 +6,7 @@ use Rattle.std.specs.Option.{option_map_or}
 use Rattle.tsdl_tree.specs.declared.tree.Container.{Container}
 use Rattle.tsdl_tree.specs.declared.tree.Container.TheVariants as container
 use Rattle.tsdl_tree.specs.declared.tree.Length.{Length}
+pub use Rattle.ctf_class.specs.SameNames.{has_twins}
 use Rattle.ctf_meaning.specs.declared.fault.ResolveFault.{ResolveFault}
 use Rattle.ctf_meaning.specs.declared.fault.ResolveFault.TheVariants.{UnknownType, DeclaredTwice, Attribute, SizeOrAlignment, TooDeep}
 use Rattle.ctf_meaning.specs.Name.{Word, Name, same_word, same_name}
@@ -51,10 +52,6 @@ label_faults _ = []
 abbrev pub align_faults : Form → List ResolveFault
 align_faults (Struct name is align) = option_map_or (λ n. when (not (is_alignment n)) SizeOrAlignment) align []
 align_faults _ = []
-
-abbrev pub has_twins : {X : Type 0} → (X → X → Bool) → List X → Bool
-has_twins same [] = false
-has_twins same (x ∷ xs) = list_any (same x) xs || has_twins same xs
 
 -- Two members or options of one name: R2.
 abbrev pub field_names : Item → List Word

@@ -1,7 +1,12 @@
 -- Members that are made of names and classes.
-use Rattle.std.proofs.Common.{◌≡◌, ℕ, zero, suc, ◌+◌, ◌<◌, ◌≤◌, min, Bool, true, false, cond, List, [], ◌∷◌, length, map, Some, None, option_map, slice_get, refl, sym, ap, ◌∙◌, arith}
-use Rattle.std.specs.List.{find, position_from, enumerate_from, position}
+use Rattle.std.proofs.Common.{◌≡◌, ℕ, zero, suc, ◌+◌, ◌<◌, ◌≤◌, min, Bool, true, false, cond, List, [], ◌∷◌, length, map, take, Option, Some, None, option_map, slice_get, refl, sym, ap, ◌∙◌, arith}
+use Rattle.std.specs.List.{find, position_from, enumerate_from, position, cons_option}
 use Rattle.std.proofs.lemmas.Iterator.Adapters.{position_from-zero}
+use Rattle.ctf_class.proofs.ChoicesLemmas.{position_from-above}
+use Rattle.ctf_class.specs.Choices.{choice_by, choices_by}
+use Rattle.ctf_class.specs.declared.span.Choice.{Choice}
+use Rattle.ctf_class.specs.declared.span.Label.{Label}
+use Rattle.ctf_meaning.specs.Links.{choice_of, choices_of}
 use Rattle.ctf_meaning.specs.Name.{Word, same_word}
 use Rattle.ctf_meaning.specs.Paths.{member_named}
 use Rattle.ctf_meaning.specs.Shapes.{Shape, Members, Field, no_member, member, fields_in, depth_of, depth_of_members}
@@ -32,15 +37,6 @@ depth-member (member word first more) zero shape at =
     let deep : depth_of first ≡ depth_of shape = ap depth_of same in
     omega arith
 depth-member (member word first more) (suc i) shape at = omega (arith, depth-member more i shape at)
-
--- an element is found at or behind the first place
-position_from-above : {X : Type 0} (p : X → Bool) (n k : ℕ) (xs : List X) → position_from p n xs ≡ Some k → n ≤ k
-position_from-above p n k [] found = absurd (cc)
-position_from-above p n k (x ∷ xs) found =
-    elim (p x) as (λ b. cond b (Some n) (position_from p (n + 1) xs) ≡ Some k → n ≤ k) [
-      | true ↦ λ e. let same : n ≡ k = cc in omega arith
-      | false ↦ λ e. omega (arith, position_from-above p (n + 1) k xs e)
-    ] found
 
 -- the name of a member that is looked for
 abbrev is_named : Word → ℕ × Field → Bool
@@ -84,3 +80,35 @@ pub slice_get-map : {X Y : Type 0} (f : X → Y) (xs : List X) (i : ℕ) → sli
 slice_get-map f [] i = refl
 slice_get-map f (x ∷ xs) zero = refl
 slice_get-map f (x ∷ xs) (suc i) = slice_get-map f xs i
+
+-- the place of a member of a name is that of the name, among those that have a class
+place-from : (word : Word) (words : List Word) (shapes : List Shape) (n : ℕ) → position_from (λ w. same_word w word) n (take (length (fields_in (joined words shapes))) words) ≡ option_map (λ p. p.0) (find (is_named word) (enumerate_from n (fields_in (joined words shapes))))
+place-from word [] shapes n = refl
+place-from word (w ∷ words) [] n = refl
+place-from word (w ∷ words) (s ∷ shapes) n =
+    let fields = fields_in (joined words shapes) in
+    elim (same_word w word) as (λ b. cond b (Some n) (position_from (λ v. same_word v word) (n + 1) (take (length fields) words)) ≡ option_map (λ p. p.0) (cond b (Some (n, record { name = w; shape = s })) (find (is_named word) (enumerate_from (n + 1) fields)))) [
+      | true ↦ refl
+      | false ↦ place-from word words shapes (n + 1)
+    ]
+
+abbrev with_option : Label → ℕ → Choice
+with_option label option = record { span = label.span; option = option }
+
+at-place : (label : Label) (found : Option (ℕ × Field)) → option_map (with_option label) (option_map (λ p. p.0) found) ≡ option_map (λ p. with_option label p.0) found
+at-place label None = refl
+at-place label (Some p) = refl
+
+choice-joined : (words : List Word) (shapes : List Shape) (label : Label) → choice_by (take (length (fields_in (joined words shapes))) words) label ≡ choice_of (fields_in (joined words shapes)) label
+choice-joined words shapes label =
+    let fields = fields_in (joined words shapes) in
+    let place = position_from-zero (λ w. same_word w label.name) (take (length fields) words) ∙ place-from label.name words shapes 0 in
+    ap (option_map (with_option label)) place ∙ at-place label (member_named label.name fields)
+
+-- the choices that labels make among members
+pub choices-joined : (words : List Word) (shapes : List Shape) (labels : List Label) → choices_by (take (length (fields_in (joined words shapes))) words) labels ≡ choices_of (fields_in (joined words shapes)) labels
+choices-joined words shapes [] = refl
+choices-joined words shapes (label ∷ labels) =
+    let fields = fields_in (joined words shapes) in
+    ap (λ o. cons_option o (choices_by (take (length fields) words) labels)) (choice-joined words shapes label)
+    ∙ ap (cons_option (choice_of fields label)) (choices-joined words shapes labels)

@@ -1,4 +1,3 @@
 pub mod ViewsLemmas
 pub mod JoinedLemmas
 pub mod KeptLemmas
-pub mod NamesLemmas

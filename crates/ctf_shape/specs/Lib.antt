@@ -3,5 +3,3 @@ pub mod Stopped
 pub mod Kept
 pub mod Knowns
 pub mod Distinct
-pub mod Firsts
-pub mod Places

@@ -4,13 +4,10 @@
 
 mod copy;
 mod facts;
-mod firsts;
 mod known;
-mod names;
 mod parts;
 mod shape;
 
 pub use copy::{copied, copied_path};
 pub use known::{Field, Known};
-pub use names::Names;
 pub use shape::{Members, Shape};

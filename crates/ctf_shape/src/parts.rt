@@ -9,9 +9,8 @@ ghost use Rattle.ctf_shape.specs.Distinct.{members_told};
 
 use crate::facts::Facts;
 use crate::known::Field;
-use crate::names::Names;
 use crate::shape::{Members, Shape};
-use ctf_class::Align;
+use ctf_class::{Align, Names};
 use ctf_list::{List, NoMemory, Shared};
 use ctf_meaning::ResolveFault;
 use std::alloc::Global;

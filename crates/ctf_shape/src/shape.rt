@@ -3,11 +3,12 @@
 ghost use Rattle.std.specs.Prelude.{◌≡◌, ◌<◌, ◌≤◌, length, map, slice_get, Some, option_map, IfOk};
 ghost use Rattle.ctf_meaning.specs.Shapes.{fields_in, depth_of, depth_of_members};
 ghost use Rattle.ctf_meaning.specs.Paths.{member_named};
+ghost use Rattle.ctf_meaning.specs.Links.{choices_of};
 
-use crate::names::Names;
-use ctf_class::{Align, FieldName, Labels};
+use ctf_class::{Align, Choices, FieldName, Labels, Names};
 use ctf_list::{List, NoMemory, Shared};
 use ctf_meaning::DeclaredInteger;
+use std::alloc::Global;
 use tsdl_tree::Path;
 
 /// A class by its declaration (CTF 1.8.3, section 4). Classes that are used in many places are shared.
@@ -104,6 +105,15 @@ impl Members {
         let place = self.names.get().place(name)?;
         let shape = self.shapes.get().as_slice().get(place)?;
         Some((place, shape.get()))
+    }
+
+    /// The choices of a variant that has these options, as the labels of its tag make them.
+    pub fn choices(&self, alloc: Global, labels: &Shared<Labels>) -> Result<Choices, NoMemory>
+        ensures { IfOk result (λ choices. choices ≡ choices_of (fields_in (members self.now)) labels.now) }
+    {
+        let labels = labels.clone()?;
+        let names = self.names.clone()?;
+        Choices::new(alloc, labels, names, self.len())
     }
 
     /// The same members once more. Nothing is copied.

@@ -5,8 +5,7 @@ ghost use Rattle.ctf_text.specs.Standing.{Counts, Chooses};
 ghost use Rattle.ctf_text.specs.declared.standing.Last.TheVariants as lasts;
 
 use crate::standing::{Before, Last};
-use ctf_class::{Choice, Length, Route};
-use ctf_decode::chosen;
+use ctf_class::{Choices, Length, Route};
 
 /// How many elements an array has behind other members, where its length is fixed or that of the last of them.
 pub(crate) fn count_of(length: &Length, before: Before) -> Option<u64>
@@ -25,12 +24,12 @@ pub(crate) fn count_of(length: &Length, before: Before) -> Option<u64>
 }
 
 /// The option of a variant behind other members, where its tag is the last of them.
-pub(crate) fn option_of(tag: &Route, choices: &[Choice], before: Before) -> Option<usize>
+pub(crate) fn option_of(tag: &Route, choices: &Choices, before: Before) -> Option<usize>
     ensures { IfSome result (Chooses tag.now choices.now before) }
 {
     let number = label(before.last)?;
     if tag.leads_before(before.index) {
-        chosen(choices, i128::from(number))
+        choices.option(i128::from(number))
     } else {
         None
     }

@@ -232,7 +232,7 @@ fn put_any(
             choices,
             options,
         } => {
-            let option = option_of(tag, choices.as_slice(), before)?;
+            let option = option_of(tag, choices, before)?;
             put_option(
                 options.as_slice(),
                 option,

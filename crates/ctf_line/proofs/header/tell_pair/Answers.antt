@@ -13,7 +13,7 @@ returns-clause-tells c =
     let fits : FitsSigned w128 z = search rules in
     let at : Telling = record { id = c.named_id.new.last; clock = c.args.from.clock; place = c.in_ok-read.read.place; spent = c.args.from.spent + 2 } in
     let named = rw (to_z-of_z w128 z fits, val-Label z) at c.named_id.ensures in
-    let chooses = rw (c.as_slice.ensures, to_z-of_z w128 z fits) at c.in_ok-i.ensures in
+    let chooses = rw (to_z-of_z w128 z fits) at c.in_ok-i.ensures in
     let within = rw (c.as_slice-options.ensures) at c.if-i-options.false in
     let here = rw (c.as_slice-options.ensures) at c.index-options-i.is in
     tells_pair c.args.line.now c.args.tag.now c.args.variant.now c.in-Enumeration.container c.in-Enumeration.labels c.in-Variant.route c.in-Variant.choices c.in-Variant.options c.args.bytes.now c.args.content c.args.from at c.tell_structure.result c.in_ok-read.read c.in_ok-i.i c.index-options-i.result

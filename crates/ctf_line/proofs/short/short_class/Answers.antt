@@ -4,7 +4,7 @@ use Rattle.std.specs.Int.{w128}
 use Rattle.std.proofs.lemmas.Int.{to_z-of_z}
 use Rattle.ctf_class.specs.declared.class.Kind as kind
 use Rattle.ctf_decode.specs.Input.{bits_of}
-use Rattle.ctf_line.specs.Shorts.{IsFirstChoice, IsStampOf, IsStampPlace}
+use Rattle.ctf_line.specs.Shorts.{IsStampOf, IsStampPlace}
 use Rattle.ctf_line.proofs.Telling.{two_members}
 use Rattle.ctf_line.proofs.short.short_class.Goals as goal
 
@@ -28,7 +28,7 @@ returns c =
       align = refl;
       is = c.in-Structure.is ∙ ap kind.Structure (sym all);
       of_variant = c.in-Variant.is;
-      first_choice = subst (λ cs. IsFirstChoice c.in-Variant.route cs choice) c.as_slice-2.ensures c.in_ok-choice.ensures;
+      first_choice = c.in_ok-choice.ensures;
       first = sym (to_z-of_z w128 choice.span.first first_fits) ∙ c.in_ok-first.ensures;
       last = sym (to_z-of_z w128 choice.span.last last_fits) ∙ c.in_ok-last.ensures;
       within = rw (c.as_slice-options.ensures) at c.if-choice-options.false;

@@ -86,10 +86,10 @@ pub put_any-returns-in_ok-option-in-Variant-clause-puts : goal.put_any-returns-i
 put_any-returns-in_ok-option-in-Variant-clause-puts t c =
     let k = c.args.class.now in
     let tag = c.in-Variant.tag in
-    let cs = c.as_slice-in-Variant.result.now in
-    let ms = c.as_slice-in-Variant-2.result.now in
+    let cs = c.in-Variant.choices in
+    let ms = c.as_slice-in-Variant.result.now in
     let option = c.in_ok-option-in-Variant.option in
-    let is : k.kind ≡ kinds.Variant tag cs ms = c.in-Variant.is ∙ (λ j. kinds.Variant tag (sym c.as_slice-in-Variant.ensures j) (sym c.as_slice-in-Variant-2.ensures j)) in
+    let is : k.kind ≡ kinds.Variant tag cs ms = c.in-Variant.is ∙ ap (kinds.Variant tag cs) (sym c.as_slice-in-Variant.ensures) in
     writes_as c.put_option.result c.args.before (forms.variant k.align tag cs (parts_of (map views.member_part ms))) (form k) (λ v. chosen_text (map member_part ms) (choice_in v)) (value_text k) c.args.packet.now c.args.place (take c.args.at c.args.buffer.now.items) c.put_option.new.buffer.items (form_variant k tag cs ms is) (text_variant k tag cs ms is) (c.put_option.ensures.puts k.align tag cs c.in_ok-option-in-Variant.ensures)
 
 pub put_any-returns-in_ok-count-in-Array-clause-puts : goal.put_any-returns-in_ok-count-in-Array-clause-puts

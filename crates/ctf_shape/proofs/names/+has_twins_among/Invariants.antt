@@ -1,5 +1,0 @@
-use Rattle.std.proofs.Common.{length}
-use Rattle.ctf_shape.proofs.names.+has_twins_among.Given as goal
-
-abbrev pub decreases-has_twins_among : goal.decreases-has_twins_among
-decreases-has_twins_among l = length l.names.now
