@@ -16,7 +16,7 @@ use std::alloc::Global;
 pub fn labels(alloc: Global, labels: &[tsdl_tree::Label]) -> Result<List<Label>, ResolveFault>
     ensures told { Tells (label_faults labels.now) (λ numbered. numbered ≡ labels_of labels.now) result }
 {
-    let mut numbered = List::new(alloc);
+    let mut numbered = List::from_vec(Vec::with_capacity(alloc, labels.len())?);
     let mut next = 0;
     for label in labels {
         let span = numbers(next, label.span)?;

@@ -23,6 +23,7 @@ mod plain_number;
 mod ready;
 mod record_plan;
 mod route;
+mod shared_words;
 mod sorted;
 mod span;
 mod trace;

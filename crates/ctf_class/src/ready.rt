@@ -4,8 +4,9 @@ ghost use Rattle.std.specs.Prelude.{◌≡◌, ℕ, ◌+◌, ◌*◌, ◌^◌, �
 ghost use Rattle.std.specs.Int.{w64, to_le_bytes};
 ghost use Rattle.std.specs.List.{flat_map};
 
+use crate::shared_words::SharedWords;
 use crate::words::words_of;
-use ctf_list::{List, NoMemory, Shared};
+use ctf_list::NoMemory;
 use std::alloc::{AllocError, Global};
 use std::marker::Model;
 
@@ -21,7 +22,7 @@ pub struct Ready {
     second: u64,
     third: u64,
     /// The words behind these, which copies share; the last one is filled up.
-    rest: Shared<List<u64>>,
+    rest: SharedWords,
     length: usize,
 }
 
@@ -45,12 +46,12 @@ impl Ready {
         ensures { IfOk result (λ ready. ready ≡ text.now) }
     {
         let words = words_of(alloc, text)?;
-        let rest = List::from_slice(alloc, behind_head(&words))?;
+        let rest = SharedWords::from_slice(alloc, behind_head(&words))?;
         Ok(Ready {
             first: word_at(&words, 0),
             second: word_at(&words, 1),
             third: word_at(&words, 2),
-            rest: Shared::new(alloc, rest)?,
+            rest,
             length: text.len(),
         })
     }
@@ -87,7 +88,7 @@ impl Ready {
         ensures text { take result line.new ≡ take at line.old ++ self.now }
     {
         self.put_head(line, at);
-        put_each(self.rest.get().as_slice(), line, at + HEAD);
+        put_each(self.rest.as_slice(), line, at + HEAD);
         at + self.length
     }
 

@@ -9,7 +9,7 @@ ghost use Rattle.tsdl_parse.specs.Gives.{Gives};
 use crate::declarators::declared;
 use crate::enums::enumeration;
 use crate::failure::{Failure, Read};
-use crate::part::{Part, at_most_one, start};
+use crate::part::{Part, at_most_one, room_for, start};
 use crate::settings::{attributes, path};
 use crate::terminals::{OwnName, begins, closed, constant, expect, goes_on, open, past};
 use crate::typenames::typename;
@@ -353,12 +353,14 @@ fn items<'t, 'a>(alloc: Global, depth: u32, tokens: &'t [Token<'a>]) -> Read<'t,
     ensures reads { Gives (λ x. (x.0, x.1.now)) result (all before_close (item_at (body_at depth) depth) tokens.now) }
     ensures within { IfOk result (λ x. length x.1.now ≤ length tokens.now) }
 {
-    let (mut found, mut rest) = start(Vec::new(alloc), tokens);
+    let (mut found, mut rest) = start(room_for(alloc, goes_on(tokens))?, tokens);
     'turns: while goes_on(rest) {
         let (next, after) = item(alloc, depth, rest)?;
         found.push(next)?;
         rest = after;
     }
+    // The tree stands while classes are made of it: what is not needed is given back.
+    found.shrink_to_fit();
     Ok((List::from_vec(found), rest))
 }
 

@@ -7,7 +7,7 @@ ghost use Rattle.tsdl_parse.specs.Front.{with_front};
 
 use crate::failure::Read;
 use ctf_list::List;
-use std::alloc::Global;
+use std::alloc::{AllocError, Global};
 use tsdl_text::Token;
 
 /// A part of the grammar that stands any number of times, or not at all.
@@ -47,6 +47,13 @@ pub(crate) fn start<'t, 'a, T>(found: Vec<T>, tokens: &'t [Token<'a>]) -> (Vec<T
     (found, tokens)
 }
 
+/// No parts yet, with room for one where one comes: most lists have no second.
+pub(crate) fn room_for<T>(alloc: Global, comes: bool) -> Result<Vec<T>, AllocError>
+    ensures { IfOk result (λ found. found.items ≡ []) }
+{
+    Vec::with_capacity(alloc, usize::from(comes))
+}
+
 /// What was found before, and then the parts that come next, one behind the other.
 fn behind<'t, 'a, P: Part>(
     alloc: Global,
@@ -63,6 +70,8 @@ fn behind<'t, 'a, P: Part>(
         found.push(next)?;
         rest = after;
     }
+    // The tree stands while classes are made of it: what is not needed is given back.
+    found.shrink_to_fit();
     Ok((List::from_vec(found), rest))
 }
 
@@ -75,7 +84,7 @@ pub(crate) fn many<'t, 'a, P: Part>(
     ensures reads { Gives (λ x. (x.0, x.1.now)) result (all (P.comes part.now) (P.part_at part.now) tokens.now) }
     ensures within { IfOk result (λ x. length x.1.now ≤ length tokens.now) }
 {
-    behind(alloc, Vec::new(alloc), part, tokens)
+    behind(alloc, room_for(alloc, part.comes(tokens))?, part, tokens)
 }
 
 /// A part that was read, and then the parts that come next, one behind the other.
@@ -88,7 +97,7 @@ pub(crate) fn more<'t, 'a, P: Part>(
     ensures reads { Gives (λ x. (x.0, x.1.now)) result (with_front (first ∷ []) (all (P.comes part.now) (P.part_at part.now) tokens.now)) }
     ensures within { IfOk result (λ x. length x.1.now ≤ length tokens.now) }
 {
-    let mut found = Vec::new(alloc);
+    let mut found = room_for(alloc, true)?;
     found.push(first)?;
     behind(alloc, found, part, tokens)
 }

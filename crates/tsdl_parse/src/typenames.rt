@@ -39,7 +39,7 @@ fn is_kept(token: &Token<'_>) -> bool
 fn words(alloc: Global, tokens: &[Token<'_>]) -> Result<List<Word>, AllocError>
     ensures { IfOk result (λ words. words ≡ words_of tokens.now) }
 {
-    let mut found = Vec::new(alloc);
+    let mut found = Vec::with_capacity(alloc, tokens.len())?;
     for token in tokens {
         if is_kept(token) {
             found.push(List::from_slice(alloc, token.text)?)?;

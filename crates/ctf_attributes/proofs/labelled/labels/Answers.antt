@@ -9,7 +9,7 @@ use Rattle.ctf_attributes.proofs.labelled.labels.Goals as goal
 pub returns-in_err-span : goal.returns-in_err-span
 returns-in_err-span c =
     let f = c.in_err-span.field-0.0 in
-    record { told = handed _ _ _ f c.from_residual.ensures (label-first c.args.labels.now c.loop-label.label-index c.label-item.result c.loop-label.numbered _ f c.loop-label-test.true c.label-item.is c.loop-label.invariant.so_far c.loop-label.invariant.numbers c.in_err-span.ensures.told) }
+    record { told = handed _ _ _ f c.from_residual-in_err-span.ensures (label-first c.args.labels.now c.loop-label.label-index c.label-item.result c.loop-label.numbered _ f c.loop-label-test.true c.label-item.is c.loop-label.invariant.so_far c.loop-label.invariant.numbers c.in_err-span.ensures.told) }
 
 pub loop-label-preserved : goal.loop-label-preserved
 loop-label-preserved c =

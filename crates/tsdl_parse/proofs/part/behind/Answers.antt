@@ -19,4 +19,4 @@ turns-preserved g c =
 pub returns-clause-reads : goal.returns-clause-reads
 returns-clause-reads g c =
     let e = is_done _ _ _ _ _ _ c.turns.invariant (sym c.comes.ensures ∙ c.turns-test.false) in
-    rw c.from_vec.ensures e
+    rw (c.from_vec.ensures, c.shrink_to_fit.ensures.items) e

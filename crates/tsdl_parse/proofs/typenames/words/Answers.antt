@@ -6,7 +6,7 @@ use Rattle.tsdl_parse.proofs.typenames.words.Goals.{then-is_kept+in_ok-from_slic
 
 pub loop-token-init : goal.loop-token-init
 unfolding words_of
-loop-token-init c = c.new-found.ensures.items
+loop-token-init c = c.in_ok-found.ensures.items
 
 pub loop-token-preserved : goal.loop-token-preserved
 loop-token-preserved c =

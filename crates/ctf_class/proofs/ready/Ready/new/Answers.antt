@@ -12,9 +12,9 @@ kept words rest text a b c enough one two three others holds =
 pub returns : goal.returns
 returns c =
     let words = c.in_ok-words.words.items in
-    kept words c.in_ok-new.field-0 c.args.text.now c.word_at.result c.word_at-2.result c.word_at-3.result (omega (arith, c.in_ok-words.words.ok, c.in_ok-words.ensures.enough))
+    kept words c.in_ok-rest.rest c.args.text.now c.word_at.result c.word_at-2.result c.word_at-3.result (omega (arith, c.in_ok-words.words.ok, c.in_ok-words.ensures.enough))
     (c.word_at.ensures ∙ ap (λ (w : List ℕ). get_or w 0 0) c.deref-2.ensures.value)
     (c.word_at-2.ensures ∙ ap (λ (w : List ℕ). get_or w 1 0) c.deref-3.ensures.value)
     (c.word_at-3.ensures ∙ ap (λ (w : List ℕ). get_or w 2 0) c.deref-4.ensures.value)
-    (c.in_ok-new.ensures ∙ c.in_ok-rest.ensures ∙ c.behind_head.ensures ∙ ap (drop 3) c.deref.ensures.value)
+    (c.in_ok-rest.ensures ∙ c.behind_head.ensures ∙ ap (drop 3) c.deref.ensures.value)
     c.in_ok-words.ensures.bytes

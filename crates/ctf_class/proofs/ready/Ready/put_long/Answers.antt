@@ -9,7 +9,7 @@ pub put_each-requires : goal.put_each-requires
 put_each-requires c =
     let inside = c.self.inside in
     let size = length-text (inside.first ∷ inside.second ∷ inside.third ∷ inside.rest) c.args.self.now inside.length (omega (arith, c.self.invariant)) c.self.view_is in
-    let same = ap length (c.as_slice.ensures ∙ c.get.ensures) in
+    let same = ap length c.as_slice.ensures in
     omega (arith, c.self.invariant, same, size, c.requires.room, c.put_head.ensures.length)
 
 pub returns-clause-end : goal.returns-clause-end
@@ -34,7 +34,7 @@ returns-clause-text c =
     let at = c.args.at in
     let behind = flat_map (to_le_bytes w64) inside.rest in
     let size = length-text (inside.first ∷ inside.second ∷ inside.third ∷ inside.rest) text inside.length (omega (arith, c.self.invariant)) c.self.view_is in
-    let same = c.as_slice.ensures ∙ c.get.ensures in
+    let same = c.as_slice.ensures in
     let e1 = c.put_head.ensures.text 24 (omega arith) c.requires.long in
     let e2 = subst (λ (w : List ℕ). take (at + 24 + 8 * length w) c.put_each.new.line ≡ take (at + 24) c.put_head.new.line ++ flat_map (to_le_bytes w64) w) same c.put_each.ensures in
     let counted = length-word_bytes inside.rest in
