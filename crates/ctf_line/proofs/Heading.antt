@@ -43,17 +43,47 @@ module _ (stream : StreamForm Classes) (bytes : List ℕ) (content : ℕ) (value
       ∙ ap (λ o. (or_fault faults.ClockRefused o >>= (λ n. Ok (Some n))) >>= behind_clock (Some k) s) moves_on
       ∙ ap (λ o. or_fault faults.UnknownEvent o >>= (λ event. Ok (record { event = event; clock = Some next; header = s }))) named
 
+  -- the same without a clock
+  untimed_opens : (clock : Option Moment) → headed stream bytes content values clock place ≡ (scope_at fault_in_record stream.event_header (input_of bytes content values) place 0 >>= (λ header. clock_behind stream.line clock (moves stream.event_header header.value) >>= behind_clock stream.event_header header))
+  unfolding headed
+  untimed_opens clock = refl
+
+  untimed_is : (k : Form) (clock : Option Moment) (v : Val) (end spent : ℕ) (event : EventForm Classes) → stream.event_header ≡ Some k → stream.line ≡ None → walk k (input_of bytes content values) [] place 0 ≡ Ok (v, end, spent) → event_named stream.events (last_or None (ids k v)) ≡ Some event
+      → headed stream bytes content values clock place ≡ Ok (record { event = event; clock = None; header = record { value = Some v; end = end; spent = spent } })
+  untimed_is k clock v end spent event has_class no_line stands named =
+      let s : Stood = record { value = Some v; end = end; spent = spent } in
+      untimed_opens clock ∙ (λ i. scope_at fault_in_record (has_class i) (input_of bytes content values) place 0 >>= (λ header. clock_behind (no_line i) clock (moves (has_class i) header.value) >>= behind_clock (has_class i) header))
+      ∙ ap (λ r. stood fault_in_record r >>= (λ header. Ok None >>= behind_clock (Some k) header)) stands
+      ∙ ap (λ o. or_fault faults.UnknownEvent o >>= (λ event. Ok (record { event = event; clock = None; header = s }))) named
+
 pub tells_head : (class : StreamClass) (shift : Shift) (k : Class) (line : Line) (clock : Moment) (bytes : List ℕ) (content place : ℕ) (from to : Telling) (told : ToldHead)
-    → class.event_header ≡ Some k → (stream_form shift class).line ≡ Some line → from ≡ record { id = None; clock = clock; place = place; spent = 0 } → Tells line (form k) bytes content from to
+    → class.event_header ≡ Some k → (stream_form shift class).line ≡ Some line → from ≡ record { id = None; clock = clock; place = place; spent = 0 } → Tells (Some line) (form k) bytes content from to
     → event_named (stream_form shift class).events to.id ≡ Some (event_form class told.head.event.now) → told.head.clock ≡ Some to.clock → told.head.end ≡ to.place → told.spent ≡ to.spent
     → TellsHead class (stream_form shift class) bytes content (Some clock) place told
 tells_head class shift k line clock bytes content place from to told has_class has_line begins tells named clock_is end_is spent_is values =
     let start : Telling = record { id = None; clock = clock; place = place; spent = 0 } in
-    let t = subst (λ (x : Telling). Tells line (form k) bytes content x to) begins tells (value_in values) [] in
+    let t = subst (λ (x : Telling). Tells (Some line) (form k) bytes content x to) begins tells (value_in values) [] in
     let id = ap (event_named (stream_form shift class).events) t.3 ∙ named in
     let header : Stood = record { value = Some t.0; end = to.place; spent = to.spent } in (
       record { event = event_form class told.head.event.now; clock = Some to.clock; header = header },
       headed_is (stream_form shift class) bytes content values place (form k) line clock to.clock t.0 to.place to.spent (event_form class told.head.event.now) (ap (option_map form) has_class) has_line t.1 t.2 id,
+      refl,
+      clock_is,
+      end_is,
+      spent_is,
+    )
+
+pub tells_untimed : (class : StreamClass) (shift : Shift) (k : Class) (clock : Option Moment) (start : Moment) (bytes : List ℕ) (content place : ℕ) (from to : Telling) (told : ToldHead)
+    → class.event_header ≡ Some k → (stream_form shift class).line ≡ None → from ≡ record { id = None; clock = start; place = place; spent = 0 } → Tells None (form k) bytes content from to
+    → event_named (stream_form shift class).events to.id ≡ Some (event_form class told.head.event.now) → told.head.clock ≡ None → told.head.end ≡ to.place → told.spent ≡ to.spent
+    → TellsHead class (stream_form shift class) bytes content clock place told
+tells_untimed class shift k clock start bytes content place from to told has_class no_line begins tells named clock_is end_is spent_is values =
+    let at : Telling = record { id = None; clock = start; place = place; spent = 0 } in
+    let t = subst (λ (x : Telling). Tells None (form k) bytes content x to) begins tells (value_in values) [] in
+    let id = ap (event_named (stream_form shift class).events) t.3 ∙ named in
+    let header : Stood = record { value = Some t.0; end = to.place; spent = to.spent } in (
+      record { event = event_form class told.head.event.now; clock = None; header = header },
+      untimed_is (stream_form shift class) bytes content values place (form k) clock t.0 to.place to.spent (event_form class told.head.event.now) (ap (option_map form) has_class) no_line t.1 id,
       refl,
       clock_is,
       end_is,

@@ -78,7 +78,7 @@ tells_so : (line : Line) (short : ShortHeader) (class : Class) (packet : List �
     → id ≡ number short.tag.order packet (next_multiple_of begin is.tag.class.align) (bits_of short.tag) → short.first ≤ id → id ≤ short.last
     → n ≡ number short.stamp.order packet (next_multiple_of inner is.stamp_align) (bits_of short.stamp)
     → advanced line clock short.stamp.size n ≡ Some next
-    → Tells line (form class) packet content (begins_telling clock place) (record { id = Some (pos id); clock = next; place = end; spent = 5 })
+    → Tells (Some line) (form class) packet content (begins_telling clock place) (record { id = Some (pos id); clock = next; place = end; spent = 5 })
 tells_so line short class packet content place clock next begin tag_end inner end id n is begins room tag_at tag_within opens open_within ends within id_at above below n_is goes =
     let i = short.tag in
     let j = short.stamp in
@@ -96,25 +96,25 @@ tells_so line short class packet content place clock next begin tag_end inner en
     let stamp_begin = ap (next_multiple_of inner) is.of_stamp.aligned in
     let end_at : end ≡ next_multiple_of inner stamp.class.align + bits_of j = ends ∙ ap (λ b. b + bits_of j) (sym stamp_begin) in
     let number_at : n ≡ number j.order packet (next_multiple_of inner stamp.class.align) (bits_of j) = n_is ∙ ap (λ b. number j.order packet b (bits_of j)) (sym stamp_begin) in
-    let told : TellsNumber line stamp j (unsigned n) opened to = (moves_so line j clock next n is.of_stamp.moves is.of_stamp.unsigned goes, ap (last_or (Some z)) (named_otherwise stamp (unsigned n) is.of_stamp.named)) in
-    let of_stamp : TellsMember line stamp packet content opened to =
-    tells_integer line stamp j packet content opened (unsigned n) (Some to) is.of_stamp.of_integer (omega arith) (omega (arith, within, end_at))
+    let told : TellsNumber (Some line) stamp j (unsigned n) opened to = (moves_so line j clock next n is.of_stamp.moves is.of_stamp.unsigned goes, ap (last_or (Some z)) (named_otherwise stamp (unsigned n) is.of_stamp.named)) in
+    let of_stamp : TellsMember (Some line) stamp packet content opened to =
+    tells_integer (Some line) stamp j packet content opened (unsigned n) (Some to) is.of_stamp.of_integer (omega arith) (omega (arith, within, end_at))
     (λ earlier. reads_unsigned j packet content (next_multiple_of inner stamp.class.align) is.of_stamp.unsigned earlier ∙ ap unsigned (sym number_at)) told (end_at, refl)
     in
-    let alone : TellsMembers line (stamp ∷ []) packet content opened to =
-    going_ends line (stamp ∷ []) packet content opened to (going_on line (stamp ∷ []) packet content opened 0 stamp opened to (omega arith) refl (going_begins line (stamp ∷ []) packet content opened) of_stamp)
+    let alone : TellsMembers (Some line) (stamp ∷ []) packet content opened to =
+    going_ends (Some line) (stamp ∷ []) packet content opened to (going_on (Some line) (stamp ∷ []) packet content opened 0 stamp opened to (omega arith) refl (going_begins (Some line) (stamp ∷ []) packet content opened) of_stamp)
     in
-    let of_option : Tells line (form is.option.class) packet content chose to = tells_structure line is.option.class (stamp ∷ []) packet content chose opened (Some to) is.of_stamp.is opened_is open_within (omega arith) alone in
+    let of_option : Tells (Some line) (form is.option.class) packet content chose to = tells_structure (Some line) is.option.class (stamp ∷ []) packet content chose opened (Some to) is.of_stamp.is opened_is open_within (omega arith) alone in
     let class_tag : form tag.class ≡ enumeration tag.class.align i = form-is tag.class ∙ ap (λ x. shape x tag.class.align) is.of_tag.is ∙ shape-Enumeration i is.of_tag.labels tag.class.align in
     let stands : StandsAsTag tag.class.align i packet content begin read =
     stands_tag tag.class.align i packet content begin read (omega (arith, tag_within, tag_at)) tag_at
     (ap (λ b. cond b (signed_number i.order packet (next_multiple_of begin tag.class.align) (bits_of i)) (pos (number i.order packet (next_multiple_of begin tag.class.align) (bits_of i)))) is.of_tag.unsigned ∙ ap pos (sym id_at))
     in
-    let pair : TellsMembers line (tag ∷ is.variant ∷ []) packet content at to =
-    tells_pair line tag is.variant i is.of_tag.labels is.route is.choices is.options packet content at chose (Some to) read is.choice.option is.option is.of_tag.is is.of_variant (omega arith) is.within is.chosen stands
+    let pair : TellsMembers (Some line) (tag ∷ is.variant ∷ []) packet content at to =
+    tells_pair (Some line) tag is.variant i is.of_tag.labels is.route is.choices is.options packet content at chose (Some to) read is.choice.option is.option is.of_tag.is is.of_variant (omega arith) is.within is.chosen stands
     (chosen_first is.choices is.choice is.route short.first short.last id is.first_choice is.first is.last above below) (sym (ap (last_or None) (named_so tag i is.of_tag.labels z class_tag is.of_tag.named))) refl refl refl of_option
     in
-    tells_structure line class (tag ∷ is.variant ∷ []) packet content from at (Some to) is.is at_is room (omega arith) pair
+    tells_structure (Some line) class (tag ∷ is.variant ∷ []) packet content from at (Some to) is.is at_is room (omega arith) pair
 
 -- a multiple is rounded up already
 up_multiple : (begin align : ℕ) → begin % align ≡ 0 → next_multiple_of begin align ≡ begin
@@ -128,7 +128,7 @@ pub tells_short : (line : Line) (short : ShortHeader) (class : Class) (packet : 
     → id ≡ number short.tag.order packet begin (bits_of short.tag) → short.first ≤ id → id ≤ short.last
     → n ≡ number short.stamp.order packet (begin + short.stamp_place) (bits_of short.stamp)
     → advanced line clock short.stamp.size n ≡ Some next
-    → Tells line (form class) packet content (begins_telling clock place) (record { id = Some (pos id); clock = next; place = end; spent = 5 })
+    → Tells (Some line) (form class) packet content (begins_telling clock place) (record { id = Some (pos id); clock = next; place = end; spent = 5 })
 tells_short line short class packet content place clock next begin end id n is begins multiple ends within id_is above below n_is goes =
     let at = is.placed in
     let size = bits_of short.tag in

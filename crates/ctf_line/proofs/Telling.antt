@@ -16,7 +16,7 @@ use Rattle.ctf_class.specs.declared.route.Route.{Route}
 use Rattle.ctf_class.specs.declared.route.Scope.{Scope}
 use Rattle.ctf_class.specs.declared.span.Choice.{Choice}
 use Rattle.ctf_class.specs.declared.span.Label.{Label}
-use Rattle.ctf_clock.specs.Clock.{Line, advanced_by}
+use Rattle.ctf_clock.specs.Clock.{Line}
 use Rattle.ctf_clock.specs.declared.moment.Moment.{Moment}
 use Rattle.ctf_decode.specs.Breaks.{past}
 use Rattle.ctf_decode.specs.Fields.{named_id, ids, member_ids, option_ids}
@@ -33,7 +33,7 @@ use Rattle.ctf_decode.proofs.Numbered.{last_or-append, here, drop-all}
 use Rattle.ctf_decode.proofs.Only.{begin_in, open_in}
 use Rattle.ctf_decode.proofs.Steps.{choice_ok}
 use Rattle.ctf_decode.proofs.Views.{form-is, part-is, shape-Integer, shape-Enumeration, shape-Variant, shape-Structure}
-use Rattle.ctf_line.specs.Headers.{begun, Tells, TellsMember, TellsMembers, TellsNumber, StandsAsTag}
+use Rattle.ctf_line.specs.Headers.{begun, set_by, Tells, TellsMember, TellsMembers, TellsNumber, StandsAsTag}
 use Rattle.ctf_line.specs.declared.header.Tag.{Tag}
 use Rattle.ctf_line.specs.declared.header.Telling.{Telling}
 use Rattle.ctf_packet.specs.Moved.{moved, member_moved, option_moved}
@@ -44,8 +44,13 @@ use Rattle.ctf_text.specs.Standing.{among}
 leaf_in : (c : Input) (e s : ℕ) (v : Val) → s < c.limit → e ≤ c.content → begin c s (leaf c e s v) ≡ Ok (v, e, s + 1)
 leaf_in c e s v few within = sym (begin_in c s (leaf c e s v) few) ∙ ap (λ b. cond b (Err (past e)) (Ok (v, e, s + 1))) (le-ltb c.content e within)
 
+-- the clock behind integers and others behind them
+set_by-append : (line : Option Line) (from : Moment) (xs ys : List (ℕ × ℕ)) → set_by line from (xs ++ ys) ≡ option_and_then (λ d. set_by line d ys) (set_by line from xs)
+set_by-append None from xs ys = refl
+set_by-append (Some line) from xs ys = advanced_by-append line from xs ys
+
 -- one integer
-pub tells_integer : (line : Line) (m : Member) (i : Integer) (packet : List ℕ) (content : ℕ) (from : Telling) (v : Val) (r : Option Telling)
+pub tells_integer : (line : Option Line) (m : Member) (i : Integer) (packet : List ℕ) (content : ℕ) (from : Telling) (v : Val) (r : Option Telling)
     → m.class.kind ≡ kind.Integer i → from.spent < MOST_VALUES → next_multiple_of from.place m.class.align + bits_of i ≤ content
     → ((earlier : Scope → Option Val) → integer_at (among packet content earlier) i (next_multiple_of from.place m.class.align) ≡ v)
     → IfSome r (TellsNumber line m i v from) → IfSome r (λ to. (to.place ≡ next_multiple_of from.place m.class.align + bits_of i) × (to.spent ≡ from.spent + 1))
@@ -60,7 +65,7 @@ tells_integer line m i packet content from v (Some to) is few within read tells 
     ∙ leaf_in c (b + bits_of i) from.spent v few within ∙ (λ j. Ok (v, sym reached.0 j, sym reached.1 j))
     in
     let named = named_id m.name (form m.class) v in
-    (v, walked, ap (λ k. advanced_by line from.clock (moved k v)) class ∙ tells.0, ap (λ k. last_or from.id (named ++ ids k v)) class ∙ ap (last_or from.id) (append-nil named) ∙ tells.1)
+    (v, walked, ap (λ k. set_by line from.clock (moved k v)) class ∙ tells.0, ap (λ k. last_or from.id (named ++ ids k v)) class ∙ ap (last_or from.id) (append-nil named) ∙ tells.1)
 
 pub reads_signed : (i : Integer) (packet : List ℕ) (content b : ℕ) → i.is_signed ≡ true → (earlier : Scope → Option Val) → integer_at (among packet content earlier) i b ≡ signed (signed_number i.order packet b (bits_of i))
 reads_signed i packet content b is earlier = ap (λ t. cond t (signed (signed_number i.order packet b (bits_of i))) (unsigned (number i.order packet b (bits_of i)))) is
@@ -95,14 +100,14 @@ ids_snoc (n ∷ ms) m (w ∷ vs) v same =
     ap (λ xs. first ++ xs) (ids_snoc ms m vs v (omega (arith, same))) ∙ sym (append_assoc first (member_ids (parts_of (map member_part ms)) (vals_of vs)) (named_id m.name (form m.class) v ++ ids (form m.class) v))
 
 -- As many members as an index tells were told, and the others stand behind them: so the loop over members goes.
-abbrev pub Going : Line → List Member → List ℕ → ℕ → Telling → ℕ → Telling → Type 0
+abbrev pub Going : Option Line → List Member → List ℕ → ℕ → Telling → ℕ → Telling → Type 0
 Going line ms packet content from i at =
     (earlier : Scope → Option Val) (env : Env)
     → (vs : List Val)
     × (walk_members (parts_of (map member_part (drop i ms))) (among packet content earlier) env vs at.place at.spent ≡ walk_members (parts_of (map member_part ms)) (among packet content earlier) env [] from.place from.spent)
-    × (length vs ≡ i) × (advanced_by line from.clock (member_moved (parts_of (map member_part (take i ms))) (vals_of vs)) ≡ Some at.clock) × (last_or from.id (member_ids (parts_of (map member_part (take i ms))) (vals_of vs)) ≡ at.id)
+    × (length vs ≡ i) × (set_by line from.clock (member_moved (parts_of (map member_part (take i ms))) (vals_of vs)) ≡ Some at.clock) × (last_or from.id (member_ids (parts_of (map member_part (take i ms))) (vals_of vs)) ≡ at.id)
 
-module _ (line : Line) (ms : List Member) (packet : List ℕ) (content : ℕ) (from : Telling) where
+module _ (line : Option Line) (ms : List Member) (packet : List ℕ) (content : ℕ) (from : Telling) where
   pub going_begins : Going line ms packet content from 0 from
   going_begins earlier env = ([], refl, refl, refl, refl)
 
@@ -125,8 +130,8 @@ module _ (line : Line) (ms : List Member) (packet : List ℕ) (content : ℕ) (f
       let ids_before = member_ids (parts_of (map member_part (take i ms))) (vals_of vs) in
       let more = named_id m.name (form m.class) v ++ ids (form m.class) v in
       let clock =
-      ap (λ ns. advanced_by line from.clock (member_moved (parts_of (map member_part ns)) (vals_of (vs ++ v ∷ [])))) taken ∙ ap (advanced_by line from.clock) (moved_snoc (take i ms) m vs v same)
-      ∙ advanced_by-append line from.clock before (moved (form m.class) v) ∙ ap (option_and_then (λ d. advanced_by line d (moved (form m.class) v))) g.3 ∙ t.2
+      ap (λ ns. set_by line from.clock (member_moved (parts_of (map member_part ns)) (vals_of (vs ++ v ∷ [])))) taken ∙ ap (set_by line from.clock) (moved_snoc (take i ms) m vs v same)
+      ∙ set_by-append line from.clock before (moved (form m.class) v) ∙ ap (option_and_then (λ d. set_by line d (moved (form m.class) v))) g.3 ∙ t.2
       in
       let id =
       ap (λ ns. last_or from.id (member_ids (parts_of (map member_part ns)) (vals_of (vs ++ v ∷ [])))) taken ∙ ap (last_or from.id) (ids_snoc (take i ms) m vs v same)
@@ -139,12 +144,12 @@ module _ (line : Line) (ms : List Member) (packet : List ℕ) (content : ℕ) (f
       let c = among packet content earlier in
       let g = going earlier env in
       let over = ap (λ ns. walk_members (parts_of (map member_part ns)) c env g.0 at.place at.spent) (drop-all ms (length ms) (omega arith)) in
-      let clock = ap (λ ns. advanced_by line from.clock (member_moved (parts_of (map member_part ns)) (vals_of g.0))) (sym (take-length ms)) ∙ g.3 in
+      let clock = ap (λ ns. set_by line from.clock (member_moved (parts_of (map member_part ns)) (vals_of g.0))) (sym (take-length ms)) ∙ g.3 in
       let id = ap (λ ns. last_or from.id (member_ids (parts_of (map member_part ns)) (vals_of g.0))) (sym (take-length ms)) ∙ g.4 in
       (g.0, sym g.1 ∙ over, clock, id)
 
 -- the members of a structure
-pub tells_structure : (line : Line) (k : Class) (ms : List Member) (packet : List ℕ) (content : ℕ) (from at : Telling) (r : Option Telling)
+pub tells_structure : (line : Option Line) (k : Class) (ms : List Member) (packet : List ℕ) (content : ℕ) (from at : Telling) (r : Option Telling)
     → k.kind ≡ kind.Structure ms → at ≡ begun k.align from → at.place ≤ content → at.spent ≤ MOST_VALUES → IfSome r (TellsMembers line ms packet content at) → IfSome r (Tells line (form k) packet content from)
 tells_structure line k ms packet content from at None is begins within few tells = tt
 tells_structure line k ms packet content from at (Some to) is begins within few tells = λ earlier env.
@@ -160,7 +165,7 @@ tells_structure line k ms packet content from at (Some to) is begins within few 
     let walked : walk (form k) c env from.place from.spent ≡ Ok (v, to.place, to.spent) =
     ap (λ f. walk f c env from.place from.spent) class ∙ sym (begin_in c from.spent (open_at c start.place inner) (omega (arith, counted))) ∙ sym (open_in c start.place inner room) ∙ ap (λ r. and_then r as_group) t.1
     in
-    (v, walked, ap (λ f. advanced_by line from.clock (moved f v)) class ∙ t.2, ap (λ f. last_or from.id (ids f v)) class ∙ t.3)
+    (v, walked, ap (λ f. set_by line from.clock (moved f v)) class ∙ t.2, ap (λ f. last_or from.id (ids f v)) class ∙ t.3)
 
 abbrev nothing : List ℤ
 nothing = []
@@ -170,7 +175,7 @@ no_more true = refl
 no_more false = refl
 
 -- a tag and what it chooses
-pub tells_pair : (line : Line) (tag other : Member) (i : Integer) (ls : List Label) (route : Route) (choices : List Choice) (options : List Member) (packet : List ℕ) (content : ℕ) (from at : Telling) (r : Option Telling) (read : Tag) (n : ℕ) (m : Member)
+pub tells_pair : (line : Option Line) (tag other : Member) (i : Integer) (ls : List Label) (route : Route) (choices : List Choice) (options : List Member) (packet : List ℕ) (content : ℕ) (from at : Telling) (r : Option Telling) (read : Tag) (n : ℕ) (m : Member)
     → tag.class.kind ≡ kind.Enumeration i ls → other.class.kind ≡ kind.Variant route choices options → from.spent + 1 < MOST_VALUES → n < length options → m ≡ get_or options n m → StandsAsTag tag.class.align i packet content from.place read
     → FirstChooses route choices read.number n → at.id ≡ last_or from.id (named_id tag.name (form tag.class) (label read.number)) → at.clock ≡ from.clock → at.place ≡ read.place → at.spent ≡ from.spent + 2
     → IfSome r (Tells line (form m.class) packet content at) → IfSome r (TellsMembers line (tag ∷ other ∷ []) packet content from)
@@ -216,7 +221,7 @@ tells_pair line tag other i ls route choices options packet content from at (Som
     let id_is : last_or from.id named ≡ at.id = ap (λ k. last_or from.id (named_id tag.name k z)) (sym class_tag) ∙ sym id in (
       z ∷ v ∷ [],
       walked,
-      ap (advanced_by line from.clock) moves ∙ ap (λ (x : Moment). advanced_by line x (moved (form m.class) w)) (sym clock) ∙ t.2,
+      ap (set_by line from.clock) moves ∙ ap (λ (x : Moment). set_by line x (moved (form m.class) w)) (sym clock) ∙ t.2,
       ap (last_or from.id) numbers ∙ last_or-append from.id named (ids (form m.class) w) ∙ ap (λ o. last_or o (ids (form m.class) w)) id_is ∙ t.3,
     )
 

@@ -28,30 +28,35 @@ use Rattle.ctf_text.specs.Standing.{among}
 abbrev pub begun : ℕ → Telling → Telling
 begun align from = record { id = from.id; clock = from.clock; place = next_multiple_of from.place align; spent = from.spent + 1 }
 
+-- the clock behind integers that set it, where there is one
+abbrev pub set_by : Option Line → Moment → List (ℕ × ℕ) → Option Moment
+set_by None from ms = Some from
+set_by (Some line) from ms = advanced_by line from ms
+
 -- A value stands at a place, whatever was decoded before. Its moving integers set the clock so, and its last number named
 -- `id` is this (own).
-abbrev pub Tells : Line → Form → List ℕ → ℕ → Telling → Telling → Type 0
+abbrev pub Tells : Option Line → Form → List ℕ → ℕ → Telling → Telling → Type 0
 Tells line k packet content from to =
     (earlier : Scope → Option Val) (env : Env)
-    → (v : Val) × (walk k (among packet content earlier) env from.place from.spent ≡ Ok (v, to.place, to.spent)) × (advanced_by line from.clock (moved k v) ≡ Some to.clock) × (last_or from.id (ids k v) ≡ to.id)
+    → (v : Val) × (walk k (among packet content earlier) env from.place from.spent ≡ Ok (v, to.place, to.spent)) × (set_by line from.clock (moved k v) ≡ Some to.clock) × (last_or from.id (ids k v) ≡ to.id)
 
 -- the same of a member of a structure, which may be named so itself
-abbrev pub TellsMember : Line → Member → List ℕ → ℕ → Telling → Telling → Type 0
+abbrev pub TellsMember : Option Line → Member → List ℕ → ℕ → Telling → Telling → Type 0
 TellsMember line m packet content from to =
     (earlier : Scope → Option Val) (env : Env)
-    → (v : Val) × (walk (form m.class) (among packet content earlier) env from.place from.spent ≡ Ok (v, to.place, to.spent)) × (advanced_by line from.clock (moved (form m.class) v) ≡ Some to.clock)
+    → (v : Val) × (walk (form m.class) (among packet content earlier) env from.place from.spent ≡ Ok (v, to.place, to.spent)) × (set_by line from.clock (moved (form m.class) v) ≡ Some to.clock)
     × (last_or from.id (named_id m.name (form m.class) v ++ ids (form m.class) v) ≡ to.id)
 
 -- the same of the members of a structure
-abbrev pub TellsMembers : Line → List Member → List ℕ → ℕ → Telling → Telling → Type 0
+abbrev pub TellsMembers : Option Line → List Member → List ℕ → ℕ → Telling → Telling → Type 0
 TellsMembers line ms packet content from to =
     (earlier : Scope → Option Val) (env : Env)
     → (vs : List Val) × (walk_members (parts_of (map member_part ms)) (among packet content earlier) env [] from.place from.spent ≡ Ok (vs, to.place, to.spent))
-    × (advanced_by line from.clock (member_moved (parts_of (map member_part ms)) (vals_of vs)) ≡ Some to.clock) × (last_or from.id (member_ids (parts_of (map member_part ms)) (vals_of vs)) ≡ to.id)
+    × (set_by line from.clock (member_moved (parts_of (map member_part ms)) (vals_of vs)) ≡ Some to.clock) × (last_or from.id (member_ids (parts_of (map member_part ms)) (vals_of vs)) ≡ to.id)
 
 -- what the value of an integer tells that is this member
-abbrev pub TellsNumber : Line → Member → Integer → Val → Telling → Telling → Type 0
-TellsNumber line m i v from to = (advanced_by line from.clock (moved_in i v) ≡ Some to.clock) × (last_or from.id (named_id m.name (form m.class) v) ≡ to.id)
+abbrev pub TellsNumber : Option Line → Member → Integer → Val → Telling → Telling → Type 0
+TellsNumber line m i v from to = (set_by line from.clock (moved_in i v) ≡ Some to.clock) × (last_or from.id (named_id m.name (form m.class) v) ≡ to.id)
 
 -- an enumeration with this number stands at a place, whatever was decoded before
 abbrev pub StandsAsTag : ℕ → Integer → List ℕ → ℕ → ℕ → Tag → Type 0

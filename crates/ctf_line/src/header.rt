@@ -6,9 +6,11 @@ ghost use Rattle.ctf_class.specs.Records.{IsPlanOf, scopes_of};
 ghost use Rattle.ctf_clock.specs.declared.moment.Shift.{Shift};
 ghost use Rattle.ctf_decode.specs.Input.{bits_of};
 ghost use Rattle.ctf_decode.specs.Views.{form, val};
-ghost use Rattle.ctf_line.specs.Headers.{Tells, TellsMember, TellsMembers, TellsNumber, TellsHead, StandsAsTag, begun};
-ghost use Rattle.ctf_line.specs.Shorts.{IsShortOf};
-ghost use Rattle.ctf_packet.specs.Classes.{stream_form};
+ghost use Rattle.ctf_line.specs.Headers.{Tells, TellsMember, TellsMembers, TellsNumber, TellsHead, StandsAsTag, begun, set_by};
+ghost use Rattle.ctf_line.specs.Shorts.{IsShortOf, begins_telling};
+ghost use Rattle.ctf_packet.specs.Classes.{event_form, stream_form};
+ghost use Rattle.ctf_packet.specs.Moved.{moved_in};
+ghost use Rattle.ctf_packet.specs.Records.{event_named};
 
 use crate::short::{SHORT_VALUES, ShortHeader, tell_short};
 use ctf_bits::{sint_within, uint_within};
@@ -117,18 +119,91 @@ pub(crate) fn told_by_class<'a>(
     let Some(class) = stream.event_header() else {
         return told_bare(packet, clock, place);
     };
-    let line = packet.line.as_ref()?;
-    let from = Telling {
+    match &packet.line {
+        Some(line) => told_timed(packet, class, line, bytes, clock?, place),
+        None => told_untimed(packet, class, bytes, clock, place),
+    }
+}
+
+/// The header of this class, where the packet has a clock.
+#[inline(always)]
+fn told_timed<'a>(
+    packet: &OpenPacket<'a>,
+    class: &Class,
+    line: &Timeline,
+    bytes: &[u8],
+    clock: Moment,
+    place: u64,
+) -> Option<PlannedHead<'a>>
+    requires start { place ≤ packet.now.content }
+    requires content { packet.now.content ≤ 2 ^ 62 }
+    requires held { packet.now.content ≤ 8 * length bytes.now }
+    requires class { packet.now.stream.now.event_header ≡ Some class.now }
+    requires line { packet.now.line ≡ Some line.now }
+    ensures tells { IfSome result (λ p. (shift : Shift) → packet.now.line ≡ (stream_form shift packet.now.stream.now).line → TellsHead packet.now.stream.now (stream_form shift packet.now.stream.now) bytes.now packet.now.content (Some clock) place p.told) }
+    ensures plan { IfSome result (λ p. IsPlanOf (scopes_of packet.now.stream.now.event_context p.told.head.event.now.context p.told.head.event.now.fields) p.plan.now) }
+    ensures within { IfSome result (λ p. p.told.head.end ≤ packet.now.content) }
+    ensures few { IfSome result (λ p. p.told.spent ≤ MOST_VALUES) }
+{
+    let from = begins_at(clock, place);
+    let to = tell_header(Some(line), class, bytes, packet.content, from)?;
+    planned_head(packet, to, Some(to.clock))
+}
+
+/// The header of this class, where the packet has no clock.
+#[inline(always)]
+fn told_untimed<'a>(
+    packet: &OpenPacket<'a>,
+    class: &Class,
+    bytes: &[u8],
+    clock: Option<Moment>,
+    place: u64,
+) -> Option<PlannedHead<'a>>
+    requires start { place ≤ packet.now.content }
+    requires content { packet.now.content ≤ 2 ^ 62 }
+    requires held { packet.now.content ≤ 8 * length bytes.now }
+    requires class { packet.now.stream.now.event_header ≡ Some class.now }
+    requires line { packet.now.line ≡ None }
+    ensures tells { IfSome result (λ p. (shift : Shift) → packet.now.line ≡ (stream_form shift packet.now.stream.now).line → TellsHead packet.now.stream.now (stream_form shift packet.now.stream.now) bytes.now packet.now.content clock place p.told) }
+    ensures plan { IfSome result (λ p. IsPlanOf (scopes_of packet.now.stream.now.event_context p.told.head.event.now.context p.told.head.event.now.fields) p.plan.now) }
+    ensures within { IfSome result (λ p. p.told.head.end ≤ packet.now.content) }
+    ensures few { IfSome result (λ p. p.told.spent ≤ MOST_VALUES) }
+{
+    let from = begins_at(Moment { cycles: 0, time: 0 }, place);
+    let to = tell_header(None, class, bytes, packet.content, from)?;
+    planned_head(packet, to, None)
+}
+
+/// Nothing of a header at this place is told yet, where the clock came so far.
+#[inline(always)]
+fn begins_at(clock: Moment, place: u64) -> Telling
+    ensures { result ≡ begins_telling clock place }
+{
+    Telling {
         id: None,
-        clock: clock?,
+        clock,
         place,
         spent: 0,
-    };
-    let to = tell_header(line, class, bytes, packet.content, from)?;
-    let planned = planned_named(stream, to.id)?;
+    }
+}
+
+/// The header that was told, of the class that it names.
+#[inline(always)]
+fn planned_head<'a>(
+    packet: &OpenPacket<'a>,
+    to: Telling,
+    clock: Option<Moment>,
+) -> Option<PlannedHead<'a>>
+    ensures event { (shift : Shift) → IfSome result (λ p. event_named (stream_form shift packet.now.stream.now).events to.id ≡ Some (event_form packet.now.stream.now p.told.head.event.now)) }
+    ensures plan { IfSome result (λ p. IsPlanOf (scopes_of packet.now.stream.now.event_context p.told.head.event.now.context p.told.head.event.now.fields) p.plan.now) }
+    ensures clock { IfSome result (λ p. p.told.head.clock ≡ clock) }
+    ensures end { IfSome result (λ p. p.told.head.end ≡ to.place) }
+    ensures spent { IfSome result (λ p. p.told.spent ≡ to.spent) }
+{
+    let planned = planned_named(packet.stream, to.id)?;
     let head = Head {
         event: planned.event,
-        clock: Some(to.clock),
+        clock,
         end: to.place,
     };
     Some(PlannedHead {
@@ -172,7 +247,7 @@ fn told_bare<'a>(
 /// Tells the structure of a header.
 #[inline(always)]
 fn tell_header(
-    line: &Timeline,
+    line: Option<&Timeline>,
     class: &Class,
     bytes: &[u8],
     content: u64,
@@ -181,7 +256,7 @@ fn tell_header(
     requires content { content ≤ 2 ^ 62 }
     requires held { content ≤ 8 * length bytes.now }
     requires start { from.place ≤ content }
-    ensures tells { IfSome result (Tells line.now (form class.now) bytes.now content from) }
+    ensures tells { IfSome result (Tells (option_copied line) (form class.now) bytes.now content from) }
     ensures within { IfSome result (λ to. (to.place ≤ content) × (to.spent ≤ MOST_VALUES)) }
 {
     let Kind::Structure { members } = &class.kind else {
@@ -200,7 +275,7 @@ fn tell_header(
 /// Tells a structure of integers.
 #[inline(always)]
 fn tell_structure(
-    line: &Timeline,
+    line: Option<&Timeline>,
     class: &Class,
     bytes: &[u8],
     content: u64,
@@ -209,7 +284,7 @@ fn tell_structure(
     requires content { content ≤ 2 ^ 62 }
     requires held { content ≤ 8 * length bytes.now }
     requires start { from.place ≤ content }
-    ensures tells { IfSome result (Tells line.now (form class.now) bytes.now content from) }
+    ensures tells { IfSome result (Tells (option_copied line) (form class.now) bytes.now content from) }
     ensures within { IfSome result (λ to. (to.place ≤ content) × (to.spent ≤ MOST_VALUES)) }
 {
     let Kind::Structure { members } = &class.kind else {
@@ -246,7 +321,7 @@ fn begin(align: Align, content: u64, from: Telling) -> Option<Telling>
 /// Tells an enumeration and a variant on it.
 #[inline(always)]
 fn tell_pair(
-    line: &Timeline,
+    line: Option<&Timeline>,
     tag: &Member,
     variant: &Member,
     bytes: &[u8],
@@ -257,7 +332,7 @@ fn tell_pair(
     requires held { content ≤ 8 * length bytes.now }
     requires start { from.place ≤ content }
     requires few { from.spent ≤ MOST_VALUES }
-    ensures tells { IfSome result (TellsMembers line.now (tag.now ∷ variant.now ∷ []) bytes.now content from) }
+    ensures tells { IfSome result (TellsMembers (option_copied line) (tag.now ∷ variant.now ∷ []) bytes.now content from) }
     ensures within { IfSome result (λ to. (to.place ≤ content) × (to.spent ≤ MOST_VALUES)) }
 {
     let Kind::Enumeration { container, labels } = &tag.class.kind else {
@@ -334,7 +409,7 @@ fn bits_at(integer: &Integer, align: Align, content: u64, place: u64) -> Option<
 /// Tells members that are integers.
 #[inline(always)]
 fn tell_integers(
-    line: &Timeline,
+    line: Option<&Timeline>,
     members: &[Member],
     bytes: &[u8],
     content: u64,
@@ -344,7 +419,7 @@ fn tell_integers(
     requires held { content ≤ 8 * length bytes.now }
     requires start { from.place ≤ content }
     requires few { from.spent ≤ MOST_VALUES }
-    ensures tells { IfSome result (TellsMembers line.now members.now bytes.now content from) }
+    ensures tells { IfSome result (TellsMembers (option_copied line) members.now bytes.now content from) }
     ensures within { IfSome result (λ to. (to.place ≤ content) × (to.spent ≤ MOST_VALUES)) }
 {
     let mut at = from;
@@ -357,7 +432,7 @@ fn tell_integers(
 /// Tells a member, if it is an integer.
 #[inline(always)]
 fn tell_integer(
-    line: &Timeline,
+    line: Option<&Timeline>,
     member: &Member,
     bytes: &[u8],
     content: u64,
@@ -366,7 +441,7 @@ fn tell_integer(
     requires content { content ≤ 2 ^ 62 }
     requires held { content ≤ 8 * length bytes.now }
     requires start { from.place ≤ content }
-    ensures tells { IfSome result (TellsMember line.now member.now bytes.now content from) }
+    ensures tells { IfSome result (TellsMember (option_copied line) member.now bytes.now content from) }
     ensures within { IfSome result (λ to. (to.place ≤ content) × (to.spent ≤ MOST_VALUES)) }
 {
     let Kind::Integer(integer) = &member.class.kind else {
@@ -389,7 +464,7 @@ fn tell_integer(
 /// Tells the value of a member that is this integer and ends at a place.
 #[inline(always)]
 fn tell_number(
-    line: &Timeline,
+    line: Option<&Timeline>,
     member: &Member,
     integer: &Integer,
     value: &Value,
@@ -397,16 +472,32 @@ fn tell_number(
     place: u64,
 ) -> Option<Telling>
     requires few { from.spent < MOST_VALUES }
-    ensures tells { IfSome result (TellsNumber line.now member.now integer.now (val value.now) from) }
+    ensures tells { IfSome result (TellsNumber (option_copied line) member.now integer.now (val value.now) from) }
     ensures reached { IfSome result (λ to. (to.place ≡ place) × (to.spent ≡ from.spent + 1)) }
 {
     let mut id = from.id;
     named_id(member, value, &mut id);
-    let clock = moved_by_integer(line, integer, value, from.clock)?;
+    let clock = clock_behind(line, integer, value, from.clock)?;
     Some(Telling {
         id,
         clock,
         place,
         spent: from.spent + 1,
     })
+}
+
+/// The moment behind an integer of this value, where there is a clock that it may set.
+#[inline(always)]
+fn clock_behind(
+    line: Option<&Timeline>,
+    integer: &Integer,
+    value: &Value,
+    clock: Moment,
+) -> Option<Moment>
+    ensures { result ≡ set_by (option_copied line) clock (moved_in integer.now (val value.now)) }
+{
+    match line {
+        Some(line) => moved_by_integer(line, integer, value, clock),
+        None => Some(clock),
+    }
 }

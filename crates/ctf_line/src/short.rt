@@ -1,6 +1,6 @@
 //! Headers of event records whose class was looked at beforehand.
 
-ghost use Rattle.std.specs.Prelude.{◌≡◌, ◌≤◌, ◌<◌, ◌+◌, ◌*◌, ◌^◌, ◌%◌, codes, false, pos, length, IfSome, IsTrue};
+ghost use Rattle.std.specs.Prelude.{Some, ◌≡◌, ◌≤◌, ◌<◌, ◌+◌, ◌*◌, ◌^◌, ◌%◌, codes, false, pos, length, IfSome, IsTrue};
 ghost use Rattle.std.specs.Str.{bytes_eq};
 ghost use Rattle.ctf_bits.specs.declared.number.Order.TheVariants.{Le};
 ghost use Rattle.ctf_class.specs.declared.class.Class.{Class};
@@ -248,7 +248,7 @@ pub(crate) fn tell_short(
     requires start { place ≤ content }
     requires near { EndsNear short.now }
     requires read { AreWindows short.now }
-    ensures tells { IfSome result (λ to. (class : Class) → IsShort short.now class → Tells line.now (form class) bytes.now content (begins_telling clock place) (short_telling to)) }
+    ensures tells { IfSome result (λ to. (class : Class) → IsShort short.now class → Tells (Some line.now) (form class) bytes.now content (begins_telling clock place) (short_telling to)) }
     ensures within { IfSome result (λ to. to.place ≤ content) }
 {
     let begin = short.align.up(place);
