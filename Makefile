@@ -3,7 +3,7 @@ PREFIX ?= /usr/local
 TRACE ?= examples/lttng-ust
 PROGRAM = crates/bt_ctf/out/bt_ctf
 
-.PHONY: run prove test further-edits check install fmt clean-work help
+.PHONY: run prove test further-edits check bench install fmt clean-work help
 export TRACE
 export PYTHONDONTWRITEBYTECODE = 1
 
@@ -32,6 +32,11 @@ check:
 	@tools/prove $(CRATE)
 	cd crates/$(CRATE) && rt check && rt test
 	rt must-fail $(CRATE)
+
+# Measures the program over each shape of event records, beside BEFORE=PROGRAM and beside babeltrace2 where it is installed.
+bench:
+	@tools/built
+	bench/compare.py $(PROGRAM) $(BEFORE) $$(command -v babeltrace2 > /dev/null && echo --babeltrace2 babeltrace2)
 
 # Puts the program that stands in place, with companions, manual and completions. It builds nothing, so root may run it.
 install:
