@@ -1,5 +1,5 @@
 -- Items that a packet gives one after the other.
-use Rattle.std.proofs.Common.{◌≡◌, ℕ, ◌<◌, ◌≤◌, Bool, IsTrue, List, [], ◌∷◌, ◌++◌, length, Option, Some, None, IfSome, Ok, sym, ap, ◌∙◌}
+use Rattle.std.proofs.Common.{◌≡◌, ℕ, ◌<◌, ◌≤◌, Bool, IsTrue, List, [], ◌∷◌, ◌++◌, length, Option, Some, None, IfSome, Ok, Err, sym, ap, ◌∙◌}
 use Rattle.ctf_clock.specs.declared.moment.Moment.{Moment}
 use Rattle.ctf_clock.specs.declared.moment.Shift.{Shift}
 use Rattle.ctf_decode.specs.Known.{Known}
@@ -9,8 +9,9 @@ use Rattle.ctf_packet.specs.Classes.{Classes}
 use Rattle.ctf_packet.specs.Scopes.{Values}
 use Rattle.ctf_packet.specs.Packets.{Opened}
 use Rattle.ctf_packet.specs.Records.{record_at}
-use Rattle.ctf_packet.specs.Items.{Run, before, item_of, recorded, from_place, lost_before, discarded_before}
+use Rattle.ctf_packet.specs.Items.{Run, before, stops, item_of, recorded, from_place, lost_before, discarded_before}
 use Rattle.ctf_packet.specs.Views.{values_of, packet_values, opened_of, recorded_of}
+use Rattle.ctf_packet.specs.declared.fault.StreamFault.{StreamFault}
 use Rattle.ctf_packet.specs.declared.record.EventRecord.{EventRecord}
 use Rattle.ctf_packet.proofs.Going.{goes_on}
 use Rattle.ctf_stream.specs.Coming.{opened_in, left_in, item_in, values_in, values_at, front_as, HoldsFront}
@@ -20,6 +21,15 @@ use Rattle.ctf_stream.specs.declared.packet.Packet.{Packet}
 told : (packet : Opened Classes) (lost dropped : Option ℕ) (run : Run Classes) → lost ≡ None → dropped ≡ None → before (lost_before packet lost ++ discarded_before packet dropped) run ≡ run
 told packet lost dropped run no_lost no_dropped =
     ap (λ l. before (lost_before packet l ++ discarded_before packet dropped) run) no_lost ∙ ap (λ d. before (lost_before packet None ++ discarded_before packet d) run) no_dropped
+
+-- the event record at the place has a fault
+pub left_fault : (shift : Shift) (p : Packet) (known : Known) (bytes : List ℕ) (follows : Option Moment → Run Classes) (fault : StreamFault) → p.lost ≡ None → p.dropped ≡ None → p.place < p.opened.content
+    → record_at (opened_in shift known p.opened) bytes p.clock p.place ≡ Err fault → left_in shift known bytes follows p ≡ stops (Some fault) p.opened.start
+left_fault shift p known bytes follows fault no_lost no_dropped inside found =
+    let packet = opened_in shift known p.opened in
+    told packet p.lost p.dropped (from_place packet bytes p.clock p.place follows) no_lost no_dropped
+    ∙ goes_on packet bytes follows p.clock p.place inside
+    ∙ ap (recorded packet (λ next end. from_place packet bytes next end follows)) found
 
 module _ (shift : Shift) (p : Packet) (known after : Known) (bytes : List ℕ) (same : packet_values (values_of after) ≡ packet_values (values_of known)) (r : EventRecord) where
   abbrev packet : Opened Classes

@@ -67,7 +67,7 @@ pub(crate) fn value_on_demand<S: Source>(
             choices,
             options,
         } => {
-            let chosen = option_at(tag, choices.as_slice(), place.scopes, place.frame);
+            let chosen = option_at(tag, choices, place.scopes, place.frame);
             option_on_demand(options.as_slice(), chosen, place, source, buffer)
         }
         Kind::String => string_on_demand(class, place, source, buffer),
