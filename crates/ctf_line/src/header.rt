@@ -98,8 +98,8 @@ pub(crate) fn told_short<'a>(
 
 /// The header of the event record at a place of a packet, in bits from its first one, whose clock came so far (CTF
 /// 1.8.3, section 6.1). Only structures of integers are told, and those of an enumeration and a variant on it whose
-/// option is such a structure, where the packet has a clock; and records without a header. `None` where the class is another
-/// one, and where the header has a fault.
+/// option is such a structure; and records without a header. `None` where the class is another one, and where the header
+/// has a fault.
 #[inline(always)]
 pub(crate) fn told_by_class<'a>(
     packet: &OpenPacket<'a>,

@@ -50,8 +50,7 @@ pub enum Attempt {
 ///
 /// By `short` and a plan of the record, which is fast; or `by_class`, for what can't be written so.
 ///
-/// `None` where a class is another one than `put_standing` writes, where the record has a fault, and where memory is
-/// refused. The line is then any line, and `attempt` tells `next_line` how far the record came by class.
+/// `None` where `put_standing` gives no text, where the record has a fault, and where memory is refused. The line is then any line, and `attempt` tells `next_line` how far the record came by class.
 #[inline(always)]
 pub fn written_line<'a>(
     alloc: Global,
