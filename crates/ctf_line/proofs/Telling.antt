@@ -49,6 +49,10 @@ set_by-append : (line : Option Line) (from : Moment) (xs ys : List (ℕ × ℕ))
 set_by-append None from xs ys = refl
 set_by-append (Some line) from xs ys = advanced_by-append line from xs ys
 
+set_by-none : (line : Option Line) (from : Moment) → set_by line from [] ≡ Some from
+set_by-none None from = refl
+set_by-none (Some line) from = refl
+
 -- one integer
 pub tells_integer : (line : Option Line) (m : Member) (i : Integer) (packet : List ℕ) (content : ℕ) (from : Telling) (v : Val) (r : Option Telling)
     → m.class.kind ≡ kind.Integer i → from.spent < MOST_VALUES → next_multiple_of from.place m.class.align + bits_of i ≤ content
@@ -109,7 +113,7 @@ Going line ms packet content from i at =
 
 module _ (line : Option Line) (ms : List Member) (packet : List ℕ) (content : ℕ) (from : Telling) where
   pub going_begins : Going line ms packet content from 0 from
-  going_begins earlier env = ([], refl, refl, refl, refl)
+  going_begins earlier env = ([], refl, refl, set_by-none line from.clock, refl)
 
   pub going_on : (i : ℕ) (m : Member) (at to : Telling) → i < length ms → m ≡ get_or ms i m → Going line ms packet content from i at → TellsMember line m packet content at to → Going line ms packet content from (i + 1) to
   going_on i m at to within is going tells earlier env =

@@ -14,7 +14,7 @@ ghost use Rattle.ctf_packet.specs.Records.{event_named};
 
 use crate::short::{SHORT_VALUES, ShortHeader, tell_short};
 use ctf_bits::{sint_within, uint_within};
-use ctf_class::{Align, Class, Integer, Kind, Member, RecordPlan};
+use ctf_class::{Align, Class, Integer, Kind, Member, PlannedEvent, RecordPlan};
 use ctf_clock::{Moment, Timeline};
 use ctf_decode::{MOST_VALUES, Value, chosen_by_first, named_id};
 use ctf_packet::{Head, OpenPacket, moved_by_integer, planned_named};
@@ -147,7 +147,8 @@ fn told_timed<'a>(
 {
     let from = begins_at(clock, place);
     let to = tell_header(Some(line), class, bytes, packet.content, from)?;
-    planned_head(packet, to, Some(to.clock))
+    let planned = planned_named(packet.stream, to.id)?;
+    Some(head_of(planned, to, Some(to.clock)))
 }
 
 /// The header of this class, where the packet has no clock.
@@ -171,7 +172,8 @@ fn told_untimed<'a>(
 {
     let from = begins_at(Moment { cycles: 0, time: 0 }, place);
     let to = tell_header(None, class, bytes, packet.content, from)?;
-    planned_head(packet, to, None)
+    let planned = planned_named(packet.stream, to.id)?;
+    Some(head_of(planned, to, None))
 }
 
 /// Nothing of a header at this place is told yet, where the clock came so far.
@@ -187,32 +189,27 @@ fn begins_at(clock: Moment, place: u64) -> Telling
     }
 }
 
-/// The header that was told, of the class that it names.
+/// The header that was told, of an event class, with the clock behind it.
 #[inline(always)]
-fn planned_head<'a>(
-    packet: &OpenPacket<'a>,
-    to: Telling,
-    clock: Option<Moment>,
-) -> Option<PlannedHead<'a>>
-    ensures event { (shift : Shift) → IfSome result (λ p. event_named (stream_form shift packet.now.stream.now).events to.id ≡ Some (event_form packet.now.stream.now p.told.head.event.now)) }
-    ensures plan { IfSome result (λ p. IsPlanOf (scopes_of packet.now.stream.now.event_context p.told.head.event.now.context p.told.head.event.now.fields) p.plan.now) }
-    ensures clock { IfSome result (λ p. p.told.head.clock ≡ clock) }
-    ensures end { IfSome result (λ p. p.told.head.end ≡ to.place) }
-    ensures spent { IfSome result (λ p. p.told.spent ≡ to.spent) }
+fn head_of<'a>(planned: PlannedEvent<'a>, to: Telling, clock: Option<Moment>) -> PlannedHead<'a>
+    ensures event { result.told.head.event ≡ planned.entry.event }
+    ensures clock { result.told.head.clock ≡ clock }
+    ensures end { result.told.head.end ≡ to.place }
+    ensures spent { result.told.spent ≡ to.spent }
+    ensures plan { result.plan ≡ planned.entry.plan }
 {
-    let planned = planned_named(packet.stream, to.id)?;
     let head = Head {
         event: planned.event,
         clock,
         end: to.place,
     };
-    Some(PlannedHead {
+    PlannedHead {
         told: ToldHead {
             head,
             spent: to.spent,
         },
         plan: planned.plan,
-    })
+    }
 }
 
 /// The header of an event record of a stream whose event records have none: it is of the only event class.
@@ -256,7 +253,7 @@ fn tell_header(
     requires content { content ≤ 2 ^ 62 }
     requires held { content ≤ 8 * length bytes.now }
     requires start { from.place ≤ content }
-    ensures tells { IfSome result (Tells (option_copied line) (form class.now) bytes.now content from) }
+    ensures tells { IfSome result (Tells (option_copied line.entry) (form class.now) bytes.now content from) }
     ensures within { IfSome result (λ to. (to.place ≤ content) × (to.spent ≤ MOST_VALUES)) }
 {
     let Kind::Structure { members } = &class.kind else {
@@ -284,7 +281,7 @@ fn tell_structure(
     requires content { content ≤ 2 ^ 62 }
     requires held { content ≤ 8 * length bytes.now }
     requires start { from.place ≤ content }
-    ensures tells { IfSome result (Tells (option_copied line) (form class.now) bytes.now content from) }
+    ensures tells { IfSome result (Tells (option_copied line.entry) (form class.now) bytes.now content from) }
     ensures within { IfSome result (λ to. (to.place ≤ content) × (to.spent ≤ MOST_VALUES)) }
 {
     let Kind::Structure { members } = &class.kind else {
@@ -332,7 +329,7 @@ fn tell_pair(
     requires held { content ≤ 8 * length bytes.now }
     requires start { from.place ≤ content }
     requires few { from.spent ≤ MOST_VALUES }
-    ensures tells { IfSome result (TellsMembers (option_copied line) (tag.now ∷ variant.now ∷ []) bytes.now content from) }
+    ensures tells { IfSome result (TellsMembers (option_copied line.entry) (tag.now ∷ variant.now ∷ []) bytes.now content from) }
     ensures within { IfSome result (λ to. (to.place ≤ content) × (to.spent ≤ MOST_VALUES)) }
 {
     let Kind::Enumeration { container, labels } = &tag.class.kind else {
@@ -419,7 +416,7 @@ fn tell_integers(
     requires held { content ≤ 8 * length bytes.now }
     requires start { from.place ≤ content }
     requires few { from.spent ≤ MOST_VALUES }
-    ensures tells { IfSome result (TellsMembers (option_copied line) members.now bytes.now content from) }
+    ensures tells { IfSome result (TellsMembers (option_copied line.entry) members.now bytes.now content from) }
     ensures within { IfSome result (λ to. (to.place ≤ content) × (to.spent ≤ MOST_VALUES)) }
 {
     let mut at = from;
@@ -441,7 +438,7 @@ fn tell_integer(
     requires content { content ≤ 2 ^ 62 }
     requires held { content ≤ 8 * length bytes.now }
     requires start { from.place ≤ content }
-    ensures tells { IfSome result (TellsMember (option_copied line) member.now bytes.now content from) }
+    ensures tells { IfSome result (TellsMember (option_copied line.entry) member.now bytes.now content from) }
     ensures within { IfSome result (λ to. (to.place ≤ content) × (to.spent ≤ MOST_VALUES)) }
 {
     let Kind::Integer(integer) = &member.class.kind else {
@@ -472,7 +469,7 @@ fn tell_number(
     place: u64,
 ) -> Option<Telling>
     requires few { from.spent < MOST_VALUES }
-    ensures tells { IfSome result (TellsNumber (option_copied line) member.now integer.now (val value.now) from) }
+    ensures tells { IfSome result (TellsNumber (option_copied line.entry) member.now integer.now (val value.now) from) }
     ensures reached { IfSome result (λ to. (to.place ≡ place) × (to.spent ≡ from.spent + 1)) }
 {
     let mut id = from.id;
@@ -494,7 +491,7 @@ fn clock_behind(
     value: &Value,
     clock: Moment,
 ) -> Option<Moment>
-    ensures { result ≡ set_by (option_copied line) clock (moved_in integer.now (val value.now)) }
+    ensures { result ≡ set_by (option_copied line.entry) clock (moved_in integer.now (val value.now)) }
 {
     match line {
         Some(line) => moved_by_integer(line, integer, value, clock),
