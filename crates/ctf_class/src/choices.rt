@@ -72,7 +72,7 @@ impl Choices {
     {
         match &self.kept {
             Kept::Listed(choices) => chosen(choices.as_slice(), number),
-            Kept::Named(named) => named.option(number),
+            Kept::Named(named) => named.look_up(number),
         }
     }
 
@@ -100,7 +100,7 @@ impl Choices {
 impl Kept {
     ghost use Rattle.ctf_class.specs.ChoiceSearch.{choices_named, choices_kept};
 
-    /// How choices are kept: as a list where that is at the most twice as long as the options.
+    /// How choices are kept: as a list where there are no more labels than two for each option, and one.
     fn of(alloc: Global, named: Named) -> Result<Kept, NoMemory>
         ensures { IfOk result (λ kept. choices_kept kept ≡ choices_named named) }
     {
@@ -160,7 +160,7 @@ impl Named {
     /// The option of the first choice that covers a number. Of labels of one name that cover it the first stands
     /// for all.
     #[inline(never)]
-    fn option(&self, number: i128) -> Option<usize>
+    fn look_up(&self, number: i128) -> Option<usize>
         ensures { result ≡ choosing.chosen (choices_named self.now) number }
     {
         let labels = self.labels.get();

@@ -1,13 +1,15 @@
 //! Field classes as text.
 
 use crate::integer::{put_integer, put_labels};
-use ctf_class::{Choice, Class, Kind, Length, Member, Origin, Route, Scope};
+use anyhow::Result;
+use ctf_class::{Choices, Class, Kind, Length, Member, Origin, Route, Scope};
+use std::alloc::Global;
 use std::io;
 use std::io::Write;
 
 /// Puts a class and its alignment: `u8le@8`, `{a u8le@8; }@8`, `[3] string@8@8`.
 #[cycle(put)]
-pub fn put_class<W: Write>(out: &mut W, class: &Class) -> io::Result<()> {
+pub fn put_class<W: Write>(alloc: Global, out: &mut W, class: &Class) -> Result<()> {
     match &class.kind {
         Kind::Integer(integer) => put_integer(out, integer)?,
         Kind::Enumeration { container, labels } => {
@@ -16,7 +18,7 @@ pub fn put_class<W: Write>(out: &mut W, class: &Class) -> io::Result<()> {
             put_labels(out, labels.get().as_slice())?;
         }
         Kind::String => out.write_all(b"string")?,
-        Kind::Structure { members } => put_members(out, members.as_slice())?,
+        Kind::Structure { members } => put_members(alloc, out, members.as_slice())?,
         Kind::Variant {
             tag,
             choices,
@@ -25,45 +27,48 @@ pub fn put_class<W: Write>(out: &mut W, class: &Class) -> io::Result<()> {
             out.write_all(b"variant <")?;
             put_route(out, tag)?;
             out.write_all(b"> ")?;
-            put_choices(out, choices.as_slice())?;
-            put_members(out, options.as_slice())?;
+            put_choices(alloc, out, choices)?;
+            put_members(alloc, out, options.as_slice())?;
         }
         Kind::Array { length, element } => {
             put_length(out, length)?;
-            put_class(out, element.get())?;
+            put_class(alloc, out, element.get())?;
         }
         Kind::Text { length } => {
             put_length(out, length)?;
             out.write_all(b"text")?;
         }
     }
-    write!(out, "@{}", class.align.bits())
+    write!(out, "@{}", class.align.bits())?;
+    Ok(())
 }
 
 /// Puts members, or options.
 #[cycle(put)]
-fn put_members<W: Write>(out: &mut W, members: &[Member]) -> io::Result<()> {
+fn put_members<W: Write>(alloc: Global, out: &mut W, members: &[Member]) -> Result<()> {
     out.write_all(b"{")?;
     for member in members {
         out.write_all(member.name.as_slice())?;
         out.write_all(b" ")?;
-        put_class(out, &member.class)?;
+        put_class(alloc, out, &member.class)?;
         out.write_all(b"; ")?;
     }
-    out.write_all(b"}")
+    out.write_all(b"}")?;
+    Ok(())
 }
 
 /// Puts which numbers of the tag name which option, by its place.
-fn put_choices<W: Write>(out: &mut W, choices: &[Choice]) -> io::Result<()> {
+fn put_choices<W: Write>(alloc: Global, out: &mut W, choices: &Choices) -> Result<()> {
     out.write_all(b"(")?;
-    for choice in choices {
+    for choice in choices.to_list(alloc)?.as_slice() {
         write!(
             out,
             "{}..{} is {}; ",
             choice.span.first, choice.span.last, choice.option
         )?;
     }
-    out.write_all(b") ")
+    out.write_all(b") ")?;
+    Ok(())
 }
 
 /// Puts how many elements there are.

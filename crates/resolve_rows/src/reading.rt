@@ -15,6 +15,5 @@ pub fn put_text<W: Write>(alloc: Global, out: &mut W, bytes: &[u8]) -> Result<()
     let tree = parse(alloc, &tokens)?;
     writeln!(out, "{} declarations", tree.declarations.len())?;
     let trace = resolve(alloc, &tree)?;
-    put_trace(out, &trace)?;
-    Ok(())
+    put_trace(alloc, out, &trace)
 }

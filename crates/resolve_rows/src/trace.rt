@@ -1,18 +1,20 @@
 //! Trace classes as lines.
 
 use crate::class::put_class;
+use anyhow::Result;
 use ctf_class::{Class, EventClass, HasId, StreamClass, TraceClass};
+use std::alloc::Global;
 use std::io;
 use std::io::Write;
 
 /// Puts the lines of a trace class.
-pub fn put_trace<W: Write>(out: &mut W, trace: &TraceClass) -> io::Result<()> {
+pub fn put_trace<W: Write>(alloc: Global, out: &mut W, trace: &TraceClass) -> Result<()> {
     out.write_all(b"trace")?;
     put_uuid(out, trace.uuid)?;
     put_host(out, trace.host())?;
-    put_scope(out, "packet.header", trace.packet_header())?;
+    put_scope(alloc, out, "packet.header", trace.packet_header())?;
     for stream in trace.streams.as_slice() {
-        put_stream(out, stream)?;
+        put_stream(alloc, out, stream)?;
     }
     Ok(())
 }
@@ -36,7 +38,7 @@ fn put_host<W: Write>(out: &mut W, host: Option<&[u8]>) -> io::Result<()> {
     out.write_all(b"\n")
 }
 
-fn put_stream<W: Write>(out: &mut W, stream: &StreamClass) -> io::Result<()> {
+fn put_stream<W: Write>(alloc: Global, out: &mut W, stream: &StreamClass) -> Result<()> {
     write!(out, "stream {}", stream.id())?;
     if let Some(clock) = stream.clock() {
         out.write_all(b" clock ")?;
@@ -49,25 +51,30 @@ fn put_stream<W: Write>(out: &mut W, stream: &StreamClass) -> io::Result<()> {
         )?;
     }
     out.write_all(b"\n")?;
-    put_scope(out, "packet.context", stream.packet_context())?;
-    put_scope(out, "event.header", stream.event_header())?;
-    put_scope(out, "event.context", stream.event_context())?;
+    put_scope(alloc, out, "packet.context", stream.packet_context())?;
+    put_scope(alloc, out, "event.header", stream.event_header())?;
+    put_scope(alloc, out, "event.context", stream.event_context())?;
     for event in stream.events() {
-        put_event(out, event)?;
+        put_event(alloc, out, event)?;
     }
     Ok(())
 }
 
-fn put_event<W: Write>(out: &mut W, event: &EventClass) -> io::Result<()> {
+fn put_event<W: Write>(alloc: Global, out: &mut W, event: &EventClass) -> Result<()> {
     write!(out, "event {} ", event.id)?;
     out.write_all(event.name())?;
     out.write_all(b"\n")?;
-    put_scope(out, "context", event.context())?;
-    put_scope(out, "fields", Some(event.fields()))
+    put_scope(alloc, out, "context", event.context())?;
+    put_scope(alloc, out, "fields", Some(event.fields()))
 }
 
 /// Puts the line of a scope, where it is declared.
-fn put_scope<W: Write>(out: &mut W, scope: &str, class: Option<&Class>) -> io::Result<()> {
+fn put_scope<W: Write>(
+    alloc: Global,
+    out: &mut W,
+    scope: &str,
+    class: Option<&Class>,
+) -> Result<()> {
     let Some(class) = class else {
         return Ok(());
     };
@@ -76,6 +83,7 @@ fn put_scope<W: Write>(out: &mut W, scope: &str, class: Option<&Class>) -> io::R
         "{scope} of depth {} with {} classes: ",
         class.depth, class.nodes
     )?;
-    put_class(out, class)?;
-    out.write_all(b"\n")
+    put_class(alloc, out, class)?;
+    out.write_all(b"\n")?;
+    Ok(())
 }

@@ -5,7 +5,7 @@ use Rattle.ctf_class.specs.declared.span.Label.{Label}
 use Rattle.ctf_class.specs.Choices.{option_named}
 use Rattle.ctf_class.specs.Labels.{no_label, label_at}
 use Rattle.ctf_class.proofs.ChoicesLemmas.{shown_none, shown_option, shown_silent}
-use Rattle.ctf_class.proofs.choices.Named.option.Goals as goal
+use Rattle.ctf_class.proofs.choices.Named.look_up.Goals as goal
 
 -- the option of the label that was read
 named_at : (names : List (List ℕ)) (labels read : List Label) (place : ℕ) (label : Label) → read ≡ labels → place < length labels → label ≡ get_or read place label → option_named names (label_at labels place).name ≡ option_named names label.name
