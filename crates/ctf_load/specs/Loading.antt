@@ -25,6 +25,10 @@ pub record HasTree (bytes text : List ℕ) (tokens : List Token) (tree : Tree) :
   pub spelled : Spells tree tokens
   pub shallow : NestsDeeper BRACE_LIMIT tokens → ⊥
 
+-- the syntax tree of metadata
+abbrev pub Spelled : List ℕ → Tree → Type 0
+Spelled bytes tree = (text : List ℕ) × ((tokens : List Token) × HasTree bytes text tokens tree)
+
 -- the trace class that metadata denotes
 abbrev pub Describes : List ℕ → TraceClass → Type 0
 Describes bytes trace = (text : List ℕ) × ((tokens : List Token) × ((tree : Tree) × HasTree bytes text tokens tree × Denotes tree trace))

@@ -1,7 +1,7 @@
 //! From the bytes of metadata to a trace class.
 
 ghost use Rattle.std.specs.Prelude.{MatchResult};
-ghost use Rattle.ctf_load.specs.Loading.{Describes, IsBroken, HasTree, HasTokens};
+ghost use Rattle.ctf_load.specs.Loading.{Describes, IsBroken, Spelled, HasTree, HasTokens};
 
 use ctf_class::TraceClass;
 use ctf_outcome::LoadFault;
@@ -9,11 +9,24 @@ use ctf_types::resolve;
 use std::alloc::Global;
 use tsdl_parse::parse;
 use tsdl_text::{metadata_text, tokens};
+use tsdl_tree::Tree;
 
 /// The trace class that metadata denotes: its text, plain or joined from packets, its tokens, their syntax
 /// tree, and what that means (CTF 1.8.3, section 7).
 pub fn load(alloc: Global, metadata: &[u8]) -> Result<TraceClass, LoadFault>
     ensures { MatchResult result (Describes metadata.now) (IsBroken metadata.now) }
+{
+    let tree = tree_of(alloc, metadata)?;
+    match resolve(alloc, &tree) {
+        Ok(trace) => Ok(trace),
+        Err(fault) => Err(LoadFault::Meaning(fault)),
+    }
+}
+
+/// The syntax tree of metadata. It owns its words, so that their text and tokens, which take much memory, end
+/// before classes are made.
+fn tree_of(alloc: Global, metadata: &[u8]) -> Result<Tree, LoadFault>
+    ensures { MatchResult result (Spelled metadata.now) (IsBroken metadata.now) }
 {
     let text = match metadata_text(alloc, metadata) {
         Ok(text) => text,
@@ -23,12 +36,8 @@ pub fn load(alloc: Global, metadata: &[u8]) -> Result<TraceClass, LoadFault>
         Ok(tokens) => tokens,
         Err(fault) => return Err(LoadFault::Text(fault)),
     };
-    let tree = match parse(alloc, &tokens) {
-        Ok(tree) => tree,
-        Err(fault) => return Err(LoadFault::Syntax(fault)),
-    };
-    match resolve(alloc, &tree) {
-        Ok(trace) => Ok(trace),
-        Err(fault) => Err(LoadFault::Meaning(fault)),
+    match parse(alloc, &tokens) {
+        Ok(tree) => Ok(tree),
+        Err(fault) => Err(LoadFault::Syntax(fault)),
     }
 }
