@@ -6,6 +6,7 @@ import argparse
 import itertools
 import math
 import pathlib
+import string
 import struct
 import tempfile
 from typing import Callable, NamedTuple
@@ -161,6 +162,12 @@ def repeated(head: str, piece: str, tail: str) -> Callable[[pathlib.Path, int], 
     return lambda folder, size: shapes.write_trace(folder, head + piece * (size // len(piece)) + tail)
 
 
+def strings_as_fields(folder: pathlib.Path, size: int) -> None:
+    names = map("".join, itertools.product(string.ascii_uppercase, repeat=4))
+    fields = ",".join(itertools.islice(names, size // 5))
+    shapes.write_trace(folder, SHORT + f"event {{ name = e; fields := struct {{ string {fields}; }}; }};\n")
+
+
 def events_of_metadata(folder: pathlib.Path, size: int) -> None:
     shapes.write_trace(folder, "")
     metadata.main(size, str(folder / "metadata"))
@@ -185,6 +192,7 @@ CASES = scope_cases() + [
     Case("metadata: `a,` in an enumeration", "bytes", repeated(SHORT + "enum s : u { ", "a,", " };\n"), TEXT_SIZES),
     Case("metadata: `a=1;` in `env`", "bytes", repeated(SHORT + "env { ", "a=1;", " };\n"), TEXT_SIZES),
     Case("metadata: `;`", "bytes", repeated(SHORT, ";", "\n"), TEXT_SIZES),
+    Case("metadata: `ABCD,` behind `string`, as fields", "bytes", strings_as_fields, TEXT_SIZES),
     Case("metadata: events as LTTng's", "bytes", events_of_metadata, TEXT_SIZES),
 ]
 
