@@ -16,10 +16,7 @@ use tsdl_tree::Tree;
 pub fn load(alloc: Global, metadata: &[u8]) -> Result<TraceClass, LoadFault>
     ensures { MatchResult result (Describes metadata.now) (IsBroken metadata.now) }
 {
-    let tree = match tree_of(alloc, metadata) {
-        Ok(tree) => tree,
-        Err(fault) => return Err(fault),
-    };
+    let tree = tree_of(alloc, metadata)?;
     match resolve(alloc, &tree) {
         Ok(trace) => Ok(trace),
         Err(fault) => Err(LoadFault::Meaning(fault)),
