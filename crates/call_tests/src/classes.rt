@@ -2,14 +2,15 @@
 //!
 //! `integer:ALIGN:SIZE` is an unsigned integer, `string:ALIGN` a string, `struct:ALIGN:N` takes the last N classes as its
 //! members, and `array:ALIGN:LENGTH` and `counted:ALIGN:PLACE` take the last class as their element: as many as are told, or
-//! as the member of this place says. A member is named by its word.
+//! as the member of this place says. So many bytes have the texts `text:ALIGN:LENGTH` and `spelled:ALIGN:PLACE`.
+//! `enum:ALIGN:SIZE` is an enumeration without labels. A member is named by its word.
 
 use crate::told::Told;
 use ctf_bits::Order;
 use ctf_class::{
-    Align, Base, Class, FieldName, Integer, Kind, Length, Member, Origin, Route, Width,
+    Align, Base, Class, FieldName, Integer, Kind, Labels, Length, Member, Origin, Route, Width,
 };
-use ctf_list::{Boxed, List};
+use ctf_list::{Boxed, List, Shared};
 use std::alloc::Global;
 
 /// The classes that words name, as members.
@@ -46,7 +47,10 @@ pub fn class(align: Align, kind: Kind) -> Class {
 fn kind_of(alloc: Global, members: &mut Vec<Member>, kind: &str, number: u64) -> Option<Kind> {
     match kind {
         "integer" => integer(u32::try_from(number).ok()?),
+        "enum" => enumeration(alloc, u32::try_from(number).ok()?),
         "string" => Some(Kind::String),
+        "text" => text_of(Length::Fixed(number)),
+        "spelled" => text_of(member_at(alloc, u32::try_from(number).ok()?)?),
         "struct" => structure_of(members, usize::try_from(number).ok()?),
         "array" => array_of(alloc, members, Length::Fixed(number)),
         _ => array_of(
@@ -59,13 +63,31 @@ fn kind_of(alloc: Global, members: &mut Vec<Member>, kind: &str, number: u64) ->
 
 /// An unsigned integer of so many bits, if there can be one.
 pub fn integer(bits: u32) -> Option<Kind> {
-    Some(Kind::Integer(Integer {
+    Some(Kind::Integer(decimal(bits)?))
+}
+
+/// What is known of an unsigned integer of so many bits.
+fn decimal(bits: u32) -> Option<Integer> {
+    Some(Integer {
         size: Width::new(bits)?,
         is_signed: false,
         base: Base::Decimal,
         order: Order::Le,
         is_moving: false,
-    }))
+    })
+}
+
+/// An enumeration of so many bits, if there can be one, without labels.
+fn enumeration(alloc: Global, bits: u32) -> Option<Kind> {
+    let container = decimal(bits)?;
+    let labels = Labels::new(alloc, List::new(alloc)).ok()?;
+    let labels = Shared::new(alloc, labels).ok()?;
+    Some(Kind::Enumeration { container, labels })
+}
+
+/// A text of this length.
+fn text_of(length: Length) -> Option<Kind> {
+    Some(Kind::Text { length })
 }
 
 /// A structure of the last classes.
