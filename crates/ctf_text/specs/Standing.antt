@@ -6,7 +6,7 @@ use Rattle.ctf_class.specs.declared.route.Length.{Length}
 use Rattle.ctf_class.specs.declared.route.Route.{Route}
 use Rattle.ctf_class.specs.declared.route.Scope.{Scope}
 use Rattle.ctf_class.specs.declared.span.Choice.{Choice}
-use Rattle.ctf_decode.specs.Fields.{members_in, elements_in}
+use Rattle.ctf_decode.specs.Fields.{members_in, elements_in, choice_in}
 use Rattle.ctf_decode.specs.Values.{Val, vals_of, unsigned, label}
 use Rattle.ctf_decode.specs.Forms.{Form, integer, parts_of}
 use Rattle.ctf_decode.specs.Input.{Input, Env}
@@ -15,7 +15,7 @@ use Rattle.ctf_decode.specs.Views as views
 use Rattle.ctf_decode.specs.Walk.{walk, walk_members, repeat}
 use Rattle.ctf_decode.specs.declared.scopes.TheConstants.{MOST_VALUES}
 use Rattle.ctf_text.specs.Rows.{enclosed}
-use Rattle.ctf_text.specs.Texts.{Shown, member_part, member_texts, element_texts, integer_text}
+use Rattle.ctf_text.specs.Texts.{Shown, member_part, member_texts, element_texts, integer_text, chosen_text}
 use Rattle.ctf_text.specs.declared.standing.Before.{Before}
 use Rattle.ctf_text.specs.declared.content.Content.{Content}
 use Rattle.ctf_text.specs.declared.standing.Last.{Last}
@@ -92,6 +92,10 @@ Writes result before k shown packet place line items =
 abbrev pub structure_text : List Member → Shown
 structure_text ms v = enclosed 123 125 (member_texts (map member_part ms) (members_in v))
 
+-- what is shown of a variant of these options
+abbrev pub variant_text : List Member → Shown
+variant_text ms v = chosen_text (map member_part ms) (choice_in v)
+
 -- what is shown of an array whose elements are shown so
 abbrev pub array_text : Shown → Shown
 array_text shown v = enclosed 91 93 (element_texts shown 0 (elements_in v))
@@ -112,6 +116,11 @@ abbrev pub PutsMembers : (List (List ℕ) → List ℕ) → List Member → List
 PutsMembers together ms packet content place before end after =
     (spent : ℕ) → spent + length ms + end.more ≤ MOST_VALUES → (earlier : Scope → Option Val) (env : Env)
     → (vs : List Val) × (walk_members (parts_of (map views.member_part ms)) (among packet content earlier) env [] place spent ≡ Ok (vs, end.place, spent + length ms + end.more)) × (length vs ≡ length ms) × (after ≡ before ++ together (member_texts (map member_part ms) (vals_of vs)))
+
+-- members, if they were written, stand in a packet, and their texts are behind a line now
+abbrev pub WritesMembers : (List (List ℕ) → List ℕ) → Option MembersEnd → List Member → Content → ℕ → List ℕ → List ℕ → Type 0
+WritesMembers together result ms packet place line items =
+    IfSome result (λ end. PutsMembers together ms packet.bytes.now packet.end place line end (take end.text items))
 
 -- the same of so many elements of an array of any class, with so many values in all of them
 abbrev pub PutsItems : (List (List ℕ) → List ℕ) → Before → Form → Shown → ℕ → Content → ℕ → List ℕ → MembersEnd → List ℕ → Type 0

@@ -29,7 +29,10 @@ pub(crate) fn put_integers(
 ) -> Option<Next>
     requires start { place ≤ packet.now.end }
     requires index { at ≤ vec_len buffer.old }
-    ensures puts { (before : Before) (many : Length) (a : ℕ) → Counts many before count → Writes result before (forms.array a many (forms.integer align integer.now)) (elements_text integer.now) packet.now place (take at buffer.old.items) buffer.new.items }
+    ensures puts { let line = take at buffer.old.items in let shown = elements_text integer.now in
+        (before : Before) (many : Length) (a : ℕ) → Counts many before count →
+        let k = forms.array a many (forms.integer align integer.now) in
+        Writes result before k shown packet.now place line buffer.new.items }
     ensures within { IfSome result (λ n. n.place ≤ packet.now.end) }
     ensures held { IfSome result (λ n. n.text ≤ vec_len buffer.new) }
     ensures few { IfSome result (λ n. n.more ≤ MOST_VALUES) }

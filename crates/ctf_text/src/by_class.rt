@@ -7,9 +7,10 @@ ghost use Rattle.ctf_class.specs.declared.span.Choice.{Choice};
 ghost use Rattle.ctf_decode.specs.Fields.{choice_in};
 ghost use Rattle.ctf_decode.specs.Forms as forms;
 ghost use Rattle.ctf_decode.specs.Forms.{parts_of};
+ghost use Rattle.ctf_decode.specs.Values.{Val};
 ghost use Rattle.ctf_decode.specs.Views.{form, member_part};
 ghost use Rattle.ctf_text.specs.Rows.{row, enclosed};
-ghost use Rattle.ctf_text.specs.Standing.{Puts, PutsMembers, PutsItems, Counts, Chooses, Writes, array_text, mark_at, structure_text};
+ghost use Rattle.ctf_text.specs.Standing.{Puts, PutsItems, Counts, Chooses, Writes, WritesMembers, array_text, structure_text, variant_text};
 ghost use Rattle.ctf_text.specs.Texts as texts;
 ghost use Rattle.ctf_text.specs.declared.standing.Before.{Before};
 
@@ -29,8 +30,8 @@ use ctf_decode::MOST_VALUES;
 /// first one, and so many values were begun before. What stands before the index is kept, and the buffer grows
 /// where it has no room.
 ///
-/// `None` where the class is another one, where no value stands there, where a length or a tag is not the member before, and
-/// where memory is refused; the buffer is then any buffer.
+/// `None` where the class is another one, where no value stands there, where a length or a tag is not the member before or is
+/// above 2^63 - 1, and where memory is refused; the buffer is then any buffer.
 #[inline(always)]
 pub fn put_standing(
     class: &Class,
@@ -46,7 +47,9 @@ pub fn put_standing(
     requires start { place ≤ content }
     requires few { spent ≤ MOST_VALUES }
     requires index { at ≤ vec_len buffer.old }
-    ensures puts { IfSome result (λ s. Puts (form class.now) (texts.value_text class.now) packet.now content place spent s.place s.spent (take at buffer.old.items) (take s.end buffer.new.items)) }
+    ensures puts { let line = take at buffer.old.items in let k = class.now in
+        IfSome result (λ s. Puts (form k) (texts.value_text k) packet.now content place spent
+        s.place s.spent line (take s.end buffer.new.items)) }
     ensures within { IfSome result (λ s. s.place ≤ content) }
     ensures few { IfSome result (λ s. s.spent ≤ MOST_VALUES) }
     ensures held { IfSome result (λ s. s.end ≤ vec_len buffer.new) }
@@ -83,7 +86,8 @@ fn put_enclosed(
 ) -> Option<MembersEnd>
     requires start { begin ≤ packet.now.end }
     requires index { at ≤ vec_len buffer.old }
-    ensures puts { IfSome result (λ e. PutsMembers (enclosed 123 125) members.now packet.now.bytes.now packet.now.end begin (take at buffer.old.items) e (take e.text buffer.new.items)) }
+    ensures puts { let line = take at buffer.old.items in
+        WritesMembers (enclosed 123 125) result members.now packet.now begin line buffer.new.items }
     ensures within { IfSome result (λ e. e.place ≤ packet.now.end) }
     ensures held { IfSome result (λ e. e.text ≤ vec_len buffer.new) }
     ensures few { IfSome result (λ e. e.more ≤ MOST_VALUES) }
@@ -120,7 +124,8 @@ fn put_members(
 ) -> Option<MembersEnd>
     requires start { begin ≤ packet.now.end }
     requires index { at ≤ vec_len buffer.old }
-    ensures puts { IfSome result (λ e. PutsMembers (row 123) members.now packet.now.bytes.now packet.now.end begin (take at buffer.old.items) e (take e.text buffer.new.items)) }
+    ensures puts { let line = take at buffer.old.items in
+        WritesMembers (row 123) result members.now packet.now begin line buffer.new.items }
     ensures within { IfSome result (λ e. e.place ≤ packet.now.end) }
     ensures held { IfSome result (λ e. e.text ≤ vec_len buffer.new) }
     ensures few { IfSome result (λ e. e.more ≤ MOST_VALUES) }
@@ -159,7 +164,9 @@ fn put_member(
 ) -> Option<Next>
     requires start { place ≤ packet.now.end }
     requires index { at ≤ vec_len buffer.old }
-    ensures puts { Writes result before (form member.now.class) (λ v. lead ∷ 32 ∷ texts.part_text (texts.member_part member.now) v) packet.now place (take at buffer.old.items) buffer.new.items }
+    ensures puts { let line = take at buffer.old.items in let m = member.now in
+        let shown = λ (v : Val). lead ∷ 32 ∷ texts.part_text (texts.member_part m) v in
+        Writes result before (form m.class) shown packet.now place line buffer.new.items }
     ensures within { IfSome result (λ n. n.place ≤ packet.now.end) }
     ensures held { IfSome result (λ n. n.text ≤ vec_len buffer.new) }
     ensures few { IfSome result (λ n. n.more ≤ MOST_VALUES) }
@@ -183,7 +190,8 @@ fn put_part(
 ) -> Option<Next>
     requires start { place ≤ packet.now.end }
     requires room { at + LONGEST_NUMBER ≤ vec_len buffer.old }
-    ensures puts { Writes result before (form class.now) (texts.value_text class.now) packet.now place (take at buffer.old.items) buffer.new.items }
+    ensures puts { let line = take at buffer.old.items in let k = class.now in
+        Writes result before (form k) (texts.value_text k) packet.now place line buffer.new.items }
     ensures within { IfSome result (λ n. n.place ≤ packet.now.end) }
     ensures held { IfSome result (λ n. n.text ≤ vec_len buffer.new) }
     ensures few { IfSome result (λ n. n.more ≤ MOST_VALUES) }
@@ -207,7 +215,8 @@ fn put_any(
 ) -> Option<Next>
     requires start { place ≤ packet.now.end }
     requires room { at + LONGEST_NUMBER ≤ vec_len buffer.old }
-    ensures puts { Writes result before (form class.now) (texts.value_text class.now) packet.now place (take at buffer.old.items) buffer.new.items }
+    ensures puts { let line = take at buffer.old.items in let k = class.now in
+        Writes result before (form k) (texts.value_text k) packet.now place line buffer.new.items }
     ensures within { IfSome result (λ n. n.place ≤ packet.now.end) }
     ensures held { IfSome result (λ n. n.text ≤ vec_len buffer.new) }
     ensures few { IfSome result (λ n. n.more ≤ MOST_VALUES) }
@@ -266,7 +275,9 @@ fn put_structure(
 ) -> Option<Next>
     requires start { place ≤ packet.now.end }
     requires index { at ≤ vec_len buffer.old }
-    ensures puts { (before : Before) → Writes result before (forms.structure align (parts_of (map member_part members.now))) (structure_text members.now) packet.now place (take at buffer.old.items) buffer.new.items }
+    ensures puts { let line = take at buffer.old.items in let ms = members.now in
+        let k = forms.structure align (parts_of (map member_part ms)) in (before : Before) →
+        Writes result before k (structure_text ms) packet.now place line buffer.new.items }
     ensures within { IfSome result (λ n. n.place ≤ packet.now.end) }
     ensures held { IfSome result (λ n. n.text ≤ vec_len buffer.new) }
     ensures few { IfSome result (λ n. n.more ≤ MOST_VALUES) }
@@ -298,7 +309,10 @@ fn put_option(
 ) -> Option<Next>
     requires start { place ≤ packet.now.end }
     requires index { at ≤ vec_len buffer.old }
-    ensures puts { (a : ℕ) (tag : Route) (choices : List Choice) → Chooses tag choices before option → Writes result before (forms.variant a tag choices (parts_of (map member_part options.now))) (λ v. texts.chosen_text (map texts.member_part options.now) (choice_in v)) packet.now place (take at buffer.old.items) buffer.new.items }
+    ensures puts { let line = take at buffer.old.items in let ms = options.now in
+        (a : ℕ) (tag : Route) (choices : List Choice) → Chooses tag choices before option →
+        let k = forms.variant a tag choices (parts_of (map member_part ms)) in
+        Writes result before k (variant_text ms) packet.now place line buffer.new.items }
     ensures within { IfSome result (λ n. n.place ≤ packet.now.end) }
     ensures held { IfSome result (λ n. n.text ≤ vec_len buffer.new) }
     ensures few { IfSome result (λ n. n.more ≤ MOST_VALUES) }
@@ -335,7 +349,10 @@ fn put_array(
 ) -> Option<Next>
     requires start { place ≤ packet.now.end }
     requires index { at ≤ vec_len buffer.old }
-    ensures puts { (a : ℕ) (many : Length) → Counts many before count → Writes result before (forms.array a many (form element.now)) (array_text (texts.value_text element.now)) packet.now place (take at buffer.old.items) buffer.new.items }
+    ensures puts { let line = take at buffer.old.items in let shown = texts.value_text element.now in
+        (a : ℕ) (many : Length) → Counts many before count →
+        let k = forms.array a many (form element.now) in
+        Writes result before k (array_text shown) packet.now place line buffer.new.items }
     ensures within { IfSome result (λ n. n.place ≤ packet.now.end) }
     ensures held { IfSome result (λ n. n.text ≤ vec_len buffer.new) }
     ensures few { IfSome result (λ n. n.more ≤ MOST_VALUES) }
@@ -360,7 +377,10 @@ fn put_items(
 ) -> Option<Next>
     requires start { place ≤ packet.now.end }
     requires index { at ≤ vec_len buffer.old }
-    ensures puts { (a : ℕ) (many : Length) → Counts many before count → Writes result before (forms.array a many (form element.now)) (array_text (texts.value_text element.now)) packet.now place (take at buffer.old.items) buffer.new.items }
+    ensures puts { let line = take at buffer.old.items in let shown = texts.value_text element.now in
+        (a : ℕ) (many : Length) → Counts many before count →
+        let k = forms.array a many (form element.now) in
+        Writes result before k (array_text shown) packet.now place line buffer.new.items }
     ensures within { IfSome result (λ n. n.place ≤ packet.now.end) }
     ensures held { IfSome result (λ n. n.text ≤ vec_len buffer.new) }
     ensures few { IfSome result (λ n. n.more ≤ MOST_VALUES) }
@@ -395,7 +415,9 @@ fn put_bracketed(
 ) -> Option<MembersEnd>
     requires start { begin ≤ packet.now.end }
     requires index { at ≤ vec_len buffer.old }
-    ensures puts { IfSome result (λ e. PutsItems (enclosed 91 93) before (form element.now) (texts.value_text element.now) count packet.now begin (take at buffer.old.items) e (take e.text buffer.new.items)) }
+    ensures puts { let line = take at buffer.old.items in let k = element.now in
+        let shown = texts.value_text k in IfSome result (λ e. PutsItems (enclosed 91 93) before
+        (form k) shown count packet.now begin line e (take e.text buffer.new.items)) }
     ensures within { IfSome result (λ e. e.place ≤ packet.now.end) }
     ensures held { IfSome result (λ e. e.text ≤ vec_len buffer.new) }
     ensures few { IfSome result (λ e. e.more ≤ MOST_VALUES) }
@@ -434,7 +456,9 @@ fn put_row(
 ) -> Option<MembersEnd>
     requires start { begin ≤ packet.now.end }
     requires index { at ≤ vec_len buffer.old }
-    ensures puts { IfSome result (λ e. PutsItems (row 91) before (form element.now) (texts.value_text element.now) count packet.now begin (take at buffer.old.items) e (take e.text buffer.new.items)) }
+    ensures puts { let line = take at buffer.old.items in let k = element.now in
+        let shown = texts.value_text k in IfSome result (λ e. PutsItems (row 91) before
+        (form k) shown count packet.now begin line e (take e.text buffer.new.items)) }
     ensures within { IfSome result (λ e. e.place ≤ packet.now.end) }
     ensures held { IfSome result (λ e. e.text ≤ vec_len buffer.new) }
     ensures few { IfSome result (λ e. e.more ≤ MOST_VALUES) }
@@ -471,7 +495,9 @@ fn put_item(
 ) -> Option<Next>
     requires start { place ≤ packet.now.end }
     requires index { at ≤ vec_len buffer.old }
-    ensures puts { Writes result before (form element.now) (λ v. lead ∷ 32 ∷ texts.element_text (texts.value_text element.now) i v) packet.now place (take at buffer.old.items) buffer.new.items }
+    ensures puts { let line = take at buffer.old.items in let k = element.now in
+        let shown = λ (v : Val). lead ∷ 32 ∷ texts.element_text (texts.value_text k) i v in
+        Writes result before (form k) shown packet.now place line buffer.new.items }
     ensures within { IfSome result (λ n. n.place ≤ packet.now.end) }
     ensures held { IfSome result (λ n. n.text ≤ vec_len buffer.new) }
     ensures few { IfSome result (λ n. n.more ≤ MOST_VALUES) }

@@ -29,7 +29,9 @@ pub(crate) fn put_one(
 ) -> Option<Next>
     requires start { place ≤ packet.now.end }
     requires room { at + LONGEST_NUMBER ≤ vec_len buffer.old }
-    ensures puts { (before : Before) → Writes result before (forms.integer align integer.now) (texts.integer_text integer.now) packet.now place (take at buffer.old.items) buffer.new.items }
+    ensures puts { let line = take at buffer.old.items in let i = integer.now in
+        let k = forms.integer align i in let shown = texts.integer_text i in (before : Before) →
+        Writes result before k shown packet.now place line buffer.new.items }
     ensures within { IfSome result (λ n. n.place ≤ packet.now.end) }
     ensures held { IfSome result (λ n. n.text ≤ vec_len buffer.new) }
     ensures few { IfSome result (λ n. n.more ≡ 0) }
@@ -64,7 +66,9 @@ pub(crate) fn put_string_value(
 ) -> Option<Next>
     requires start { place ≤ packet.now.end }
     requires index { at ≤ vec_len buffer.old }
-    ensures puts { (before : Before) (a : ℕ) → Writes result before (forms.string a) texts.string_text packet.now place (take at buffer.old.items) buffer.new.items }
+    ensures puts { let line = take at buffer.old.items in let shown = texts.string_text in
+        (before : Before) (a : ℕ) →
+        Writes result before (forms.string a) shown packet.now place line buffer.new.items }
     ensures within { IfSome result (λ n. n.place ≤ packet.now.end) }
     ensures held { IfSome result (λ n. n.text ≤ vec_len buffer.new) }
     ensures few { IfSome result (λ n. n.more ≡ 0) }
@@ -88,7 +92,9 @@ pub(crate) fn put_text_value(
 ) -> Option<Next>
     requires start { place ≤ packet.now.end }
     requires index { at ≤ vec_len buffer.old }
-    ensures puts { (before : Before) (a : ℕ) (many : Length) → Counts many before count → Writes result before (forms.text a many) texts.string_text packet.now place (take at buffer.old.items) buffer.new.items }
+    ensures puts { let line = take at buffer.old.items in let shown = texts.string_text in
+        (before : Before) (a : ℕ) (many : Length) → Counts many before count →
+        Writes result before (forms.text a many) shown packet.now place line buffer.new.items }
     ensures within { IfSome result (λ n. n.place ≤ packet.now.end) }
     ensures held { IfSome result (λ n. n.text ≤ vec_len buffer.new) }
     ensures few { IfSome result (λ n. n.more ≡ 0) }
@@ -115,7 +121,9 @@ pub(crate) fn put_enumeration(
 ) -> Option<Next>
     requires start { place ≤ packet.now.end }
     requires index { at ≤ vec_len buffer.old }
-    ensures puts { (before : Before) → Writes result before (forms.enumeration align container.now) (texts.enumeration_text container.now labels.now) packet.now place (take at buffer.old.items) buffer.new.items }
+    ensures puts { let line = take at buffer.old.items in let i = container.now in
+        let shown = texts.enumeration_text i labels.now in (before : Before) → Writes result before
+        (forms.enumeration align i) shown packet.now place line buffer.new.items }
     ensures within { IfSome result (λ n. n.place ≤ packet.now.end) }
     ensures held { IfSome result (λ n. n.text ≤ vec_len buffer.new) }
     ensures few { IfSome result (λ n. n.more ≡ 0) }
@@ -142,7 +150,9 @@ pub(crate) fn put_enumeration(
 #[inline(always)]
 fn number_at(container: &Integer, packet: &Content<'_>, begin: u64) -> i128
     requires { begin + bits_of container.now ≤ packet.now.end }
-    ensures { cond container.now.is_signed (signed_number container.now.order packet.now.bytes.now begin (bits_of container.now)) (pos (number container.now.order packet.now.bytes.now begin (bits_of container.now))) ≡ result }
+    ensures { let i = container.now in let bytes = packet.now.bytes.now in let size = bits_of i in
+        let above = pos (number i.order bytes begin size) in
+        cond i.is_signed (signed_number i.order bytes begin size) above ≡ result }
 {
     let size = container.size.bits();
     if container.is_signed {
