@@ -5,9 +5,11 @@ use Rattle.std.specs.List.{last_or}
 use Rattle.ctf_class.specs.declared.class.Member.{Member}
 use Rattle.ctf_class.specs.declared.integer.Integer.{Integer}
 use Rattle.ctf_class.specs.declared.route.Scope.{Scope}
+use Rattle.ctf_class.specs.Records.{IsPlanOf, scopes_of}
 use Rattle.ctf_class.specs.Streams.{StreamClass}
 use Rattle.ctf_clock.specs.Clock.{Line, advanced_by}
 use Rattle.ctf_clock.specs.declared.moment.Moment.{Moment}
+use Rattle.ctf_clock.specs.declared.moment.Shift.{Shift}
 use Rattle.ctf_decode.specs.Fields.{named_id, ids, member_ids}
 use Rattle.ctf_decode.specs.Forms.{Form, enumeration, parts_of}
 use Rattle.ctf_decode.specs.Input.{Env}
@@ -15,12 +17,14 @@ use Rattle.ctf_decode.specs.Values.{Val, label, vals_of}
 use Rattle.ctf_decode.specs.Views.{form, member_part}
 use Rattle.ctf_decode.specs.Walk.{walk, walk_members}
 use Rattle.ctf_decode.specs.declared.scopes.TheConstants.{MOST_VALUES}
+use Rattle.ctf_line.specs.declared.header.PlannedHead.{PlannedHead}
 use Rattle.ctf_line.specs.declared.header.Tag.{Tag}
 use Rattle.ctf_line.specs.declared.header.Telling.{Telling}
 use Rattle.ctf_line.specs.declared.header.ToldHead.{ToldHead}
-use Rattle.ctf_packet.specs.Classes.{Classes, StreamForm, event_form}
+use Rattle.ctf_packet.specs.Classes.{Classes, StreamForm, event_form, stream_form}
 use Rattle.ctf_packet.specs.Moved.{moved, member_moved, moved_in}
 use Rattle.ctf_packet.specs.Records.{Headed, headed}
+use Rattle.ctf_packet.specs.declared.packet.OpenPacket.{OpenPacket}
 use Rattle.ctf_packet.specs.Scopes.{Values}
 use Rattle.ctf_text.specs.Standing.{among}
 
@@ -73,3 +77,15 @@ abbrev pub TellsHead : StreamClass → StreamForm Classes → List ℕ → ℕ �
 TellsHead class stream bytes content clock place told =
     (values : Values)
     → (h : Headed Classes) × (headed stream bytes content values clock place ≡ Ok h) × (event_form class told.head.event.now ≡ h.event) × (told.head.clock ≡ h.clock) × (told.head.end ≡ h.header.end) × (told.spent ≡ h.header.spent)
+
+-- the same of a packet, whose clock is that of its stream
+abbrev pub TellsIn : OpenPacket → List ℕ → Option Moment → ℕ → ToldHead → Type 0
+TellsIn packet bytes clock place told =
+    let class = packet.stream.now in
+    (shift : Shift) → packet.line ≡ (stream_form shift class).line → TellsHead class (stream_form shift class) bytes packet.content clock place told
+
+-- the plan is that of the records of the class that a header names
+abbrev pub PlansRecords : OpenPacket → PlannedHead → Type 0
+PlansRecords packet planned =
+    let event = planned.told.head.event.now in
+    IsPlanOf (scopes_of packet.stream.now.event_context event.context event.fields) planned.plan.now

@@ -6,7 +6,7 @@ ghost use Rattle.ctf_class.specs.Records.{IsPlanOf, scopes_of};
 ghost use Rattle.ctf_clock.specs.declared.moment.Shift.{Shift};
 ghost use Rattle.ctf_decode.specs.Input.{bits_of};
 ghost use Rattle.ctf_decode.specs.Views.{form, val};
-ghost use Rattle.ctf_line.specs.Headers.{Tells, TellsMember, TellsMembers, TellsNumber, TellsHead, StandsAsTag, begun, set_by};
+ghost use Rattle.ctf_line.specs.Headers.{Tells, TellsMember, TellsMembers, TellsNumber, TellsIn, TellsHead, PlansRecords, StandsAsTag, begun, set_by};
 ghost use Rattle.ctf_line.specs.Shorts.{IsShortOf, begins_telling};
 ghost use Rattle.ctf_packet.specs.Classes.{event_form, stream_form};
 ghost use Rattle.ctf_packet.specs.Moved.{moved_in};
@@ -74,8 +74,8 @@ pub(crate) fn told_short<'a>(
     requires content { packet.now.content ≤ 2 ^ 62 }
     requires held { packet.now.content ≤ 8 * length bytes.now }
     requires short { IsShortOf packet.now.stream.now (Some short.now) }
-    ensures tells { IfSome result (λ p. (shift : Shift) → packet.now.line ≡ (stream_form shift packet.now.stream.now).line → TellsHead packet.now.stream.now (stream_form shift packet.now.stream.now) bytes.now packet.now.content clock place p.told) }
-    ensures plan { IfSome result (λ p. IsPlanOf (scopes_of packet.now.stream.now.event_context p.told.head.event.now.context p.told.head.event.now.fields) p.plan.now) }
+    ensures tells { IfSome result (λ p. TellsIn packet.now bytes.now clock place p.told) }
+    ensures plan { IfSome result (PlansRecords packet.now) }
     ensures within { IfSome result (λ p. p.told.head.end ≤ packet.now.content) }
     ensures few { IfSome result (λ p. p.told.spent ≤ MOST_VALUES) }
 {
@@ -110,8 +110,8 @@ pub(crate) fn told_by_class<'a>(
     requires start { place ≤ packet.now.content }
     requires content { packet.now.content ≤ 2 ^ 62 }
     requires held { packet.now.content ≤ 8 * length bytes.now }
-    ensures tells { IfSome result (λ p. (shift : Shift) → packet.now.line ≡ (stream_form shift packet.now.stream.now).line → TellsHead packet.now.stream.now (stream_form shift packet.now.stream.now) bytes.now packet.now.content clock place p.told) }
-    ensures plan { IfSome result (λ p. IsPlanOf (scopes_of packet.now.stream.now.event_context p.told.head.event.now.context p.told.head.event.now.fields) p.plan.now) }
+    ensures tells { IfSome result (λ p. TellsIn packet.now bytes.now clock place p.told) }
+    ensures plan { IfSome result (PlansRecords packet.now) }
     ensures within { IfSome result (λ p. p.told.head.end ≤ packet.now.content) }
     ensures few { IfSome result (λ p. p.told.spent ≤ MOST_VALUES) }
 {
@@ -140,8 +140,8 @@ fn told_timed<'a>(
     requires held { packet.now.content ≤ 8 * length bytes.now }
     requires class { packet.now.stream.now.event_header ≡ Some class.now }
     requires line { packet.now.line ≡ Some line.now }
-    ensures tells { IfSome result (λ p. (shift : Shift) → packet.now.line ≡ (stream_form shift packet.now.stream.now).line → TellsHead packet.now.stream.now (stream_form shift packet.now.stream.now) bytes.now packet.now.content (Some clock) place p.told) }
-    ensures plan { IfSome result (λ p. IsPlanOf (scopes_of packet.now.stream.now.event_context p.told.head.event.now.context p.told.head.event.now.fields) p.plan.now) }
+    ensures tells { IfSome result (λ p. TellsIn packet.now bytes.now (Some clock) place p.told) }
+    ensures plan { IfSome result (PlansRecords packet.now) }
     ensures within { IfSome result (λ p. p.told.head.end ≤ packet.now.content) }
     ensures few { IfSome result (λ p. p.told.spent ≤ MOST_VALUES) }
 {
@@ -165,8 +165,8 @@ fn told_untimed<'a>(
     requires held { packet.now.content ≤ 8 * length bytes.now }
     requires class { packet.now.stream.now.event_header ≡ Some class.now }
     requires line { packet.now.line ≡ None }
-    ensures tells { IfSome result (λ p. (shift : Shift) → packet.now.line ≡ (stream_form shift packet.now.stream.now).line → TellsHead packet.now.stream.now (stream_form shift packet.now.stream.now) bytes.now packet.now.content clock place p.told) }
-    ensures plan { IfSome result (λ p. IsPlanOf (scopes_of packet.now.stream.now.event_context p.told.head.event.now.context p.told.head.event.now.fields) p.plan.now) }
+    ensures tells { IfSome result (λ p. TellsIn packet.now bytes.now clock place p.told) }
+    ensures plan { IfSome result (PlansRecords packet.now) }
     ensures within { IfSome result (λ p. p.told.head.end ≤ packet.now.content) }
     ensures few { IfSome result (λ p. p.told.spent ≤ MOST_VALUES) }
 {
@@ -221,7 +221,7 @@ fn told_bare<'a>(
 ) -> Option<PlannedHead<'a>>
     requires bare { packet.now.stream.now.event_header ≡ None }
     ensures tells { (bytes : List ℕ) (content : ℕ) → IfSome result (λ p. (shift : Shift) → packet.now.line ≡ (stream_form shift packet.now.stream.now).line → TellsHead packet.now.stream.now (stream_form shift packet.now.stream.now) bytes content clock place p.told) }
-    ensures plan { IfSome result (λ p. IsPlanOf (scopes_of packet.now.stream.now.event_context p.told.head.event.now.context p.told.head.event.now.fields) p.plan.now) }
+    ensures plan { IfSome result (PlansRecords packet.now) }
     ensures end { IfSome result (λ p. p.told.head.end ≡ place) }
     ensures spent { IfSome result (λ p. p.told.spent ≡ 0) }
 {
