@@ -161,6 +161,21 @@ def copy_sources(place):
     return place
 
 
+def share_libraries(crate, place):
+    """Gives a copy of the sources what the checkout has proved below a crate, as links: rt goes by the contents of the files."""
+    for it in below(crate):
+        kept, to = TOP / "crates" / it / "out" / "rlib", place / "crates" / it / "out" / "rlib"
+        if kept.is_dir() and not to.exists():
+            shutil.copytree(kept, to, copy_function=os.link)
+
+
+def take_proof(crate, place):
+    """Moves what a copy of the sources has of a crate's proof to the checkout."""
+    to = TOP / "crates" / crate / "out"
+    shutil.rmtree(to, ignore_errors=True)
+    os.rename(place / "crates" / crate / "out", to)
+
+
 def stop_on_signals():
     """Has the signals that end a run end its blocks too, so that nothing is left running or lying about."""
     for it in (signal.SIGINT, signal.SIGTERM, signal.SIGHUP):
