@@ -7,7 +7,7 @@ use Rattle.ctf_decode.specs.Input.{Input, Env}
 use Rattle.ctf_decode.specs.Breaks.{no_option}
 use Rattle.ctf_decode.specs.Walk.{Step, and_then, repeat, as_choice, walk, walk_option}
 use Rattle.ctf_decode.specs.Views.{form, member_part}
-use Rattle.ctf_decode.specs.Gives.{Fails, Gives, Found}
+use Rattle.ctf_decode.specs.Gives.{Fails, Gives}
 use Rattle.ctf_decode.specs.declared.fault.DecodeFault.{DecodeFault}
 use Rattle.ctf_decode.specs.declared.place.Cursor.{Cursor}
 use Rattle.ctf_decode.specs.declared.place.Stopped.{Stopped}
@@ -58,10 +58,6 @@ module _ (c : Input) (e : Env) (ms : List Member) (i : ℕ) (m : Member) (within
   pub choice_gives : (r : Result (Unit {0}) Stopped) (at : Cursor) (v : Val) → Gives r at v (walk (form m.class) c e p s) → Gives r at (choice i v) option_as
   choice_gives (Ok _) at v h = choice_ok v at.end at.spent h
   choice_gives (Err _) at v h = choice_fail at.fault h
-
-  pub choice_found : (r : Bool) (at : Cursor) (v : Val) → Found r at v (walk (form m.class) c e p s) → Found r at (choice i v) option_as
-  choice_found true at v h = choice_ok v at.end at.spent h
-  choice_found false at v h = tt
 
   -- what was found of the option itself, as the variant's
   pub choice_as : and_then (walk (form m.class) c e p s) (as_choice i) ≡ option_as

@@ -1,5 +1,5 @@
 -- A call gives what the function on lists finds, unless memory runs out.
-use Rattle.std.specs.Prelude.{◌≡◌, Bool, true, false, List, [], ◌∷◌, ◌++◌, Result, Ok, Err}
+use Rattle.std.specs.Prelude.{◌≡◌, List, [], ◌∷◌, ◌++◌, Result, Ok, Err}
 use Rattle.ctf_decode.specs.declared.fault.DecodeFault.{DecodeFault}
 use Rattle.ctf_decode.specs.declared.fault.DecodeFault.TheVariants.{ContentEnds, NoOption, TooManyValues, NoMemory}
 use Rattle.ctf_decode.specs.declared.place.Cursor.{Cursor}
@@ -23,16 +23,6 @@ Gives (Err _) at x step = Fails at.fault step
 abbrev pub GivesNext : Result (Unit {0}) Stopped → Cursor → List Val → List Val → Step Val → Type 0
 GivesNext (Ok _) at done all step = (v : Val) × (all ≡ done ++ v ∷ []) × (step ≡ Ok (v, at.end, at.spent))
 GivesNext (Err _) at done all step = Fails at.fault step
-
--- where it was found, what stands is x, and decoding has come so far
-abbrev pub Found : {A : Type 0} → Bool → Cursor → A → Step A → Type 0
-Found true at x step = step ≡ Ok (x, at.end, at.spent)
-Found false at x step = Unit {0}
-
--- the same of a value that stands behind others
-abbrev pub FoundNext : Bool → Cursor → List Val → List Val → Step Val → Type 0
-FoundNext true at done all step = (v : Val) × (all ≡ done ++ v ∷ []) × (step ≡ Ok (v, at.end, at.spent))
-FoundNext false at done all step = Unit {0}
 
 -- the fault that was told stands, unless memory ran out
 abbrev pub Told : (Fault → Type 0) → DecodeFault → Type 0

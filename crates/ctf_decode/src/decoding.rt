@@ -12,7 +12,6 @@ ghost use Rattle.ctf_decode.specs.Decoding.{Decodes};
 use crate::fault::DecodeFault;
 use crate::place::{Cursor, Frame, Packet, Reached, Stopped};
 use crate::scopes::{MOST_VALUES, Scopes};
-use crate::tagged::tagged_into;
 use crate::value::Value;
 use crate::walk::{scope_into, value_into};
 use ctf_class::Class;
@@ -70,46 +69,6 @@ pub fn decode_into(
         }),
         Err(Stopped) => Err(at.fault),
     }
-}
-
-/// The same. It is faster where the class is a structure of an enumeration and a variant on it, as the headers of
-/// most event records are (CTF 1.8.3, section 6.1).
-#[inline(always)]
-pub fn decode_header_into(
-    alloc: Global,
-    class: &Class,
-    packet: &[u8],
-    start: u64,
-    content: u64,
-    scopes: &Scopes,
-    value: &mut Value,
-) -> Result<Reached, DecodeFault>
-    requires start { start ≤ content }
-    requires content { content ≤ 2 ^ 62 }
-    requires held { content ≤ 8 * length packet.now }
-    ensures value { IfOk result (λ r. Stands (form class.now) (input_in packet.now content scopes.now) [] start (val value.new) r.end) }
-    ensures counted { IfOk result (λ r. r.spent ≡ scopes.now.spent + count (val value.new)) }
-    ensures few { IfOk result (λ r. r.spent ≤ MOST_VALUES) }
-    ensures within { IfOk result (λ r. r.end ≤ content) }
-    ensures fault { IfErr result (Told (Breaks (form class.now) (input_in packet.now content scopes.now) [] start scopes.now.spent)) }
-{
-    let packet = Packet {
-        bytes: packet,
-        content,
-        scopes,
-    };
-    let mut at = Cursor {
-        end: start,
-        spent: scopes.spent(),
-        fault: DecodeFault::NoMemory,
-    };
-    if tagged_into(class, &packet, &mut at, value) {
-        return Ok(Reached {
-            end: at.end,
-            spent: at.spent,
-        });
-    }
-    decode_into(alloc, class, packet.bytes, start, content, scopes, value)
 }
 
 /// The value of a class that stands at the bit `start` of a packet. `content` is where the packet's

@@ -13,12 +13,11 @@ mod parts;
 mod place;
 mod scopes;
 mod slot;
-mod tagged;
 mod text;
 mod value;
 mod walk;
 
-pub use decoding::{Decoded, decode, decode_header_into, decode_into, decode_within};
+pub use decoding::{Decoded, decode, decode_into, decode_within};
 pub use fault::DecodeFault;
 pub use find::{chosen_by_first, length_at, option_at};
 pub use front::{Front, decode_front};

@@ -1,10 +1,6 @@
 //! The values of scopes.
 
 ghost use Rattle.std.specs.Prelude.{◌≡◌, ◌+◌, ◌*◌, ◌^◌, ◌≤◌, min, [], None, length, option_map, option_copied, IfOk, IfErr};
-ghost use Rattle.ctf_decode.specs.Breaks.{Breaks};
-ghost use Rattle.ctf_decode.specs.Gives.{Told};
-ghost use Rattle.ctf_decode.specs.Stands.{Stands};
-ghost use Rattle.ctf_decode.specs.Values.{count};
 ghost use Rattle.ctf_decode.specs.Views.{form, input_in, val};
 ghost use Rattle.ctf_decode.specs.Walk.{walk};
 ghost use Rattle.ctf_packet.specs.Scopes as values;
@@ -15,9 +11,7 @@ use crate::fault::StreamFault;
 use crate::sizes::LONGEST_PACKET;
 use ctf_bits::Ending;
 use ctf_class::{Class, Scope};
-use ctf_decode::{
-    DecodeFault, MOST_VALUES, Reached, Scopes, Value, decode_header_into, decode_into,
-};
+use ctf_decode::{DecodeFault, MOST_VALUES, Scopes, Value, decode_into};
 use std::alloc::Global;
 
 /// Puts the value of a class that stands at a bit of some bytes, whose content ends at the bit `content`,
@@ -42,42 +36,13 @@ pub fn scope_into(
     ensures within { IfOk result (λ end. end ≤ content) }
     ensures forward { IfOk result (λ end. place ≤ end) }
 {
-    match decode_in(alloc, class, bytes, place, content, scope, scopes, spare) {
+    match decode_into(alloc, class, bytes, place, content, scopes, spare) {
         Ok(reached) => {
             scopes.exchange(scope, spare);
             scopes.set_spent(reached.spent);
             Ok(reached.end)
         }
         Err(fault) => Err(fault),
-    }
-}
-
-/// Makes the value of a class the value, by the way that suits its scope.
-#[inline(always)]
-fn decode_in(
-    alloc: Global,
-    class: &Class,
-    bytes: &[u8],
-    place: u64,
-    content: u64,
-    scope: Scope,
-    scopes: &Scopes,
-    value: &mut Value,
-) -> Result<Reached, DecodeFault>
-    requires start { place ≤ content }
-    requires content { content ≤ 2 ^ 62 }
-    requires held { content ≤ 8 * length bytes.now }
-    ensures value { IfOk result (λ r. Stands (form class.now) (input_in bytes.now content scopes.now) [] place (val value.new) r.end) }
-    ensures counted { IfOk result (λ r. r.spent ≡ scopes.now.spent + count (val value.new)) }
-    ensures few { IfOk result (λ r. r.spent ≤ MOST_VALUES) }
-    ensures within { IfOk result (λ r. r.end ≤ content) }
-    ensures fault { IfErr result (Told (Breaks (form class.now) (input_in bytes.now content scopes.now) [] place scopes.now.spent)) }
-{
-    match scope {
-        Scope::EventHeader => {
-            decode_header_into(alloc, class, bytes, place, content, scopes, value)
-        }
-        _ => decode_into(alloc, class, bytes, place, content, scopes, value),
     }
 }
 
