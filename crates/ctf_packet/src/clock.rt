@@ -20,7 +20,8 @@ pub fn clock_before(
     line: Option<&Timeline>,
     reached: Option<&Reached>,
 ) -> Result<Option<Moment>, StreamFault>
-    ensures { result ≡ packets.clock_before (option_copied line.entry) (option_copied reached.entry) }
+    ensures { result ≡ packets.clock_before (option_copied line.entry)
+        (option_copied reached.entry) }
 {
     match line {
         None => Ok(None),
@@ -43,7 +44,9 @@ pub fn clock_behind(
     class: Option<&Class>,
     value: Option<&Value>,
 ) -> Result<Option<Moment>, StreamFault>
-    ensures { result ≡ packets.clock_behind (option_copied line.entry) clock (packets.moves (option_map form (option_copied class.entry)) (option_map val (option_copied value.entry))) }
+    ensures { result ≡ packets.clock_behind (option_copied line.entry) clock
+        (packets.moves (option_map form (option_copied class.entry))
+        (option_map val (option_copied value.entry))) }
 {
     match line {
         None => Ok(None),
@@ -61,7 +64,9 @@ fn set(
     class: Option<&Class>,
     value: Option<&Value>,
 ) -> Result<Option<Moment>, StreamFault>
-    ensures { result ≡ packets.clock_behind (Some line.now) (Some clock) (packets.moves (option_map form (option_copied class.entry)) (option_map val (option_copied value.entry))) }
+    ensures { result ≡ packets.clock_behind (Some line.now) (Some clock)
+        (packets.moves (option_map form (option_copied class.entry))
+        (option_map val (option_copied value.entry))) }
 {
     match class {
         None => Ok(Some(clock)),

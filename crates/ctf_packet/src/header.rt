@@ -28,7 +28,10 @@ pub fn stream_checked<'a>(
     reached: Option<&Reached>,
     header: Option<&Value>,
 ) -> Result<&'a StreamClass, StreamFault>
-    ensures { (shift : Shift) → Exactly (λ s. stream_form shift s.now) result (packets.stream_checked (trace_form shift trace.now) (option_copied reached.entry) (option_map val (option_copied header.entry))) }
+    ensures { (shift : Shift) →
+        Exactly (λ s. stream_form shift s.now) result
+        (packets.stream_checked (trace_form shift trace.now) (option_copied reached.entry)
+        (option_map val (option_copied header.entry))) }
 {
     if !is_magic(role(trace.packet_header(), header, b"magic")) {
         return Err(StreamFault::WrongMagic);
@@ -55,7 +58,9 @@ fn is_magic(field: Option<Field>) -> bool
 /// Whether a packet's identifier is that of its trace, where both have one.
 #[tactic(auto, unfolding(crate::specs::Roles::uuid_field))]
 fn is_of_trace(trace: &TraceClass, header: Option<&Value>) -> bool
-    ensures { result ≡ roles.is_of_trace trace.now.uuid (roles.uuid_field (option_map form trace.now.packet_header) (option_map val (option_copied header.entry))) }
+    ensures { result ≡ roles.is_of_trace trace.now.uuid
+        (roles.uuid_field (option_map form trace.now.packet_header)
+        (option_map val (option_copied header.entry))) }
 {
     match &trace.uuid {
         None => true,
@@ -68,7 +73,8 @@ fn is_of_trace(trace: &TraceClass, header: Option<&Value>) -> bool
 
 /// Whether an array of 16 bytes holds these, if it is one.
 fn has_octets(class: &Class, value: &Value, uuid: &[u8]) -> bool
-    ensures { result ≡ roles.is_of_trace (Some uuid.now) (roles.sixteen_octets (form class.now) (val value.now)) }
+    ensures { result ≡ roles.is_of_trace (Some uuid.now)
+        (roles.sixteen_octets (form class.now) (val value.now)) }
 {
     match &class.kind {
         Kind::Array { length, element } => {
@@ -157,7 +163,9 @@ fn stream_of<'a>(
     reached: Option<&Reached>,
     header: Option<&Value>,
 ) -> Option<&'a StreamClass>
-    ensures { (shift : Shift) → option_map (stream_form shift) (option_copied result) ≡ packets.stream_of (trace_form shift trace.now) (option_copied reached.entry) (option_map val (option_copied header.entry)) }
+    ensures { (shift : Shift) → option_map (stream_form shift) (option_copied result) ≡
+        packets.stream_of (trace_form shift trace.now) (option_copied reached.entry)
+        (option_map val (option_copied header.entry)) }
 {
     let number = number_in(role(trace.packet_header(), header, b"stream_id"));
     match stream_named(trace, number) {
@@ -168,7 +176,8 @@ fn stream_of<'a>(
 
 /// The stream class of a number, or the only one.
 fn stream_named(trace: &TraceClass, number: Option<u64>) -> Option<&StreamClass>
-    ensures { (shift : Shift) → option_map (stream_form shift) (option_copied result) ≡ packets.stream_named (map (stream_form shift) trace.now.streams) number }
+    ensures { (shift : Shift) → option_map (stream_form shift) (option_copied result) ≡
+        packets.stream_named (map (stream_form shift) trace.now.streams) number }
 {
     match number {
         Some(id) => trace.stream(id),
@@ -178,7 +187,8 @@ fn stream_named(trace: &TraceClass, number: Option<u64>) -> Option<&StreamClass>
 
 /// A stream class, if it is that of the packets before.
 fn same_stream<'a>(reached: Option<&Reached>, stream: &'a StreamClass) -> Option<&'a StreamClass>
-    ensures { (shift : Shift) → option_map (stream_form shift) (option_copied result) ≡ packets.same_stream (option_copied reached.entry) (stream_form shift stream.now) }
+    ensures { (shift : Shift) → option_map (stream_form shift) (option_copied result) ≡
+        packets.same_stream (option_copied reached.entry) (stream_form shift stream.now) }
 {
     match reached {
         None => Some(stream),

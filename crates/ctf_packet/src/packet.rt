@@ -93,8 +93,13 @@ pub fn placed<'a>(
 ) -> Result<OpenPacket<'a>, StreamFault>
     requires start { start ≤ 2 ^ 62 }
     requires packet { sizes.packet ≤ LONGEST_PACKET }
-    ensures exactly { (values : Values) → values.packet_context ≡ option_map val (option_copied context.entry) → Exactly (opened_of shift values) result (packets.placed (stream_form shift stream.now) (option_copied reached.entry) start values first sizes) }
-    ensures line { IfOk result (λ packet. packet.line ≡ (stream_form shift packet.stream.now).line) }
+    ensures exactly { (values : Values) →
+        values.packet_context ≡ option_map val (option_copied context.entry) →
+        Exactly (opened_of shift values) result
+        (packets.placed (stream_form shift stream.now) (option_copied reached.entry) start values
+        first sizes) }
+    ensures line { IfOk result
+        (λ packet. packet.line ≡ (stream_form shift packet.stream.now).line) }
     ensures places { IfOk result (Placed start first sizes) }
 {
     let line = timeline_of(stream, shift);

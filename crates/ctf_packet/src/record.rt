@@ -42,7 +42,8 @@ pub struct EventRecord<'a> {
 
 /// The event class of the number that a header tells, or the only one (CTF 1.8.3, section 6.1).
 pub fn event_named(stream: &StreamClass, id: Option<i128>) -> Option<&EventClass>
-    ensures { option_map (event_form stream.now) (option_copied result) ≡ records.event_named (map (event_form stream.now) stream.now.events) id }
+    ensures { option_map (event_form stream.now) (option_copied result) ≡
+        records.event_named (map (event_form stream.now) stream.now.events) id }
 {
     match id {
         None => stream.only(),
@@ -61,8 +62,12 @@ pub fn event_named(stream: &StreamClass, id: Option<i128>) -> Option<&EventClass
 /// The event class that `event_named` gives, with the plan of its records.
 #[inline(always)]
 pub fn planned_named(stream: &StreamClass, id: Option<i128>) -> Option<PlannedEvent<'_>>
-    ensures event { IfSome result (λ p. records.event_named (map (event_form stream.now) stream.now.events) id ≡ Some (event_form stream.now p.event.now)) }
-    ensures plan { IfSome result (λ p. IsPlanOf (scopes_of stream.now.event_context p.event.now.context p.event.now.fields) p.plan.now) }
+    ensures event { IfSome result
+        (λ p. records.event_named (map (event_form stream.now) stream.now.events) id ≡
+        Some (event_form stream.now p.event.now)) }
+    ensures plan { IfSome result
+        (λ p. IsPlanOf (scopes_of stream.now.event_context p.event.now.context p.event.now.fields)
+        p.plan.now) }
 {
     match id {
         None => stream.planned_only(),
@@ -89,10 +94,13 @@ pub fn put_body(
     requires start { place ≤ content }
     requires content { content ≤ 2 ^ 62 }
     requires held { content ≤ 8 * length bytes.now }
-    ensures puts { PutsBody (records.bodied (option_map form stream.now.event_context) (option_map form event.now.context) (form event.now.fields) bytes.now content (values_of scopes.old) place scopes.old.spent) result scopes.new }
+    ensures puts { PutsBody (records.bodied (option_map form stream.now.event_context)
+        (option_map form event.now.context) (form event.now.fields) bytes.now content
+        (values_of scopes.old) place scopes.old.spent) result scopes.new }
     ensures within { IfOk result (λ end. end ≤ content) }
     ensures forward { IfOk result (λ end. place ≤ end) }
-    ensures packet { OnOk result (packet_values (values_of scopes.new) ≡ packet_values (values_of scopes.old)) }
+    ensures packet { OnOk result
+        (packet_values (values_of scopes.new) ≡ packet_values (values_of scopes.old)) }
 {
     let Ok(at) = spares.room_for(event.id) else {
         return Err(StreamFault::NoMemory);
@@ -147,10 +155,15 @@ fn put_head<'a>(
     requires start { place ≤ packet.now.content }
     requires content { packet.now.content ≤ 2 ^ 62 }
     requires held { packet.now.content ≤ 8 * length bytes.now }
-    ensures puts { (shift : Shift) → packet.now.line ≡ (stream_form shift packet.now.stream.now).line → PutsHead packet.now.stream.now (values_of scopes.old) (records.headed (stream_form shift packet.now.stream.now) bytes.now packet.now.content (values_of scopes.old) clock place) result scopes.new }
+    ensures puts { (shift : Shift) →
+        packet.now.line ≡ (stream_form shift packet.now.stream.now).line →
+        PutsHead packet.now.stream.now (values_of scopes.old)
+        (records.headed (stream_form shift packet.now.stream.now) bytes.now packet.now.content
+        (values_of scopes.old) clock place) result scopes.new }
     ensures within { IfOk result (λ head. head.end ≤ packet.now.content) }
     ensures forward { IfOk result (λ head. place ≤ head.end) }
-    ensures packet { OnOk result (packet_values (values_of scopes.new) ≡ packet_values (values_of scopes.old)) }
+    ensures packet { OnOk result
+        (packet_values (values_of scopes.new) ≡ packet_values (values_of scopes.old)) }
 {
     let stream = packet.stream;
     let class = stream.event_header();
@@ -204,10 +217,15 @@ pub fn next_head<'a>(
     requires start { place ≤ packet.now.content }
     requires content { packet.now.content ≤ 2 ^ 62 }
     requires held { packet.now.content ≤ 8 * length bytes.now }
-    ensures puts { (shift : Shift) → packet.now.line ≡ (stream_form shift packet.now.stream.now).line → PutsHead packet.now.stream.now (packet_values (values_of scopes.old)) (records.headed (stream_form shift packet.now.stream.now) bytes.now packet.now.content (packet_values (values_of scopes.old)) clock place) result scopes.new }
+    ensures puts { (shift : Shift) →
+        packet.now.line ≡ (stream_form shift packet.now.stream.now).line →
+        PutsHead packet.now.stream.now (packet_values (values_of scopes.old))
+        (records.headed (stream_form shift packet.now.stream.now) bytes.now packet.now.content
+        (packet_values (values_of scopes.old)) clock place) result scopes.new }
     ensures within { IfOk result (λ head. head.end ≤ packet.now.content) }
     ensures forward { IfOk result (λ head. place ≤ head.end) }
-    ensures packet { OnOk result (packet_values (values_of scopes.new) ≡ packet_values (values_of scopes.old)) }
+    ensures packet { OnOk result
+        (packet_values (values_of scopes.new) ≡ packet_values (values_of scopes.old)) }
 {
     leave_record(spares, scopes);
     put_head(
@@ -239,10 +257,15 @@ pub fn next_record<'a>(
     requires start { place ≤ packet.now.content }
     requires content { packet.now.content ≤ 2 ^ 62 }
     requires held { packet.now.content ≤ 8 * length bytes.now }
-    ensures records { (shift : Shift) → packet.now.line ≡ (stream_form shift packet.now.stream.now).line → OrRefused (recorded_of packet.now.stream.now (values_of scopes.new)) result (records.record_at (opened_of shift (packet_values (values_of scopes.old)) packet.now) bytes.now clock place) }
+    ensures records { (shift : Shift) →
+        packet.now.line ≡ (stream_form shift packet.now.stream.now).line →
+        OrRefused (recorded_of packet.now.stream.now (values_of scopes.new)) result
+        (records.record_at (opened_of shift (packet_values (values_of scopes.old)) packet.now)
+        bytes.now clock place) }
     ensures within { IfOk result (λ r. r.end ≤ packet.now.content) }
     ensures forward { IfOk result (λ r. place < r.end) }
-    ensures packet { OnOk result (packet_values (values_of scopes.new) ≡ packet_values (values_of scopes.old)) }
+    ensures packet { OnOk result
+        (packet_values (values_of scopes.new) ≡ packet_values (values_of scopes.old)) }
 {
     let head = next_head(alloc, packet, bytes, clock, place, spares, scopes)?;
     let stream = packet.stream;

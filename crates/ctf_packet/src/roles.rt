@@ -15,7 +15,8 @@ use ctf_decode::{Value, elements_in, members_in};
 /// one of another class.
 #[tactic(auto, unfolding(crate::specs::Roles::role))]
 pub fn role(class: Option<&Class>, value: Option<&Value>, name: &[u8]) -> Option<Field>
-    ensures { result ≡ roles.role name.now (option_map form (option_copied class.entry)) (option_map val (option_copied value.entry)) }
+    ensures { result ≡ roles.role name.now (option_map form (option_copied class.entry))
+        (option_map val (option_copied value.entry)) }
 {
     match field_at_top(class, value, name) {
         None => None,
@@ -39,7 +40,8 @@ pub fn field_at_top<'a>(
     value: Option<&'a Value>,
     name: &[u8],
 ) -> Option<(&'a Class, &'a Value)>
-    ensures { option_map (λ f. (form f.0.now, val f.1.now)) result ≡ roles.field_at_top name.now (option_map form (option_copied class.entry)) (option_map val (option_copied value.entry)) }
+    ensures { option_map (λ f. (form f.0.now, val f.1.now)) result ≡ roles.field_at_top name.now
+        (option_map form (option_copied class.entry)) (option_map val (option_copied value.entry)) }
 {
     match class {
         None => None,
@@ -52,7 +54,8 @@ pub fn field_at_top<'a>(
 
 /// The member of a name of a structure.
 fn member_of<'a>(class: &'a Class, value: &'a Value, name: &[u8]) -> Option<(&'a Class, &'a Value)>
-    ensures { option_map (λ f. (form f.0.now, val f.1.now)) result ≡ roles.member_of name.now (form class.now) (val value.now) }
+    ensures { option_map (λ f. (form f.0.now, val f.1.now)) result ≡
+        roles.member_of name.now (form class.now) (val value.now) }
 {
     match &class.kind {
         Kind::Structure { members } => member_named(members.as_slice(), members_in(value), name),
@@ -75,7 +78,8 @@ fn member_named<'a>(
     values: &'a [Value],
     name: &[u8],
 ) -> Option<(&'a Class, &'a Value)>
-    ensures { option_map (λ f. (form f.0.now, val f.1.now)) result ≡ roles.member_named name.now (parts_of (map member_part members.now)) (vals_of (map val values.now)) }
+    ensures { option_map (λ f. (form f.0.now, val f.1.now)) result ≡ roles.member_named name.now
+        (parts_of (map member_part members.now)) (vals_of (map val values.now)) }
 {
     for (i, member) in members.iter().enumerate() {
         if i >= values.len() {
@@ -110,7 +114,8 @@ fn unsigned_field(class: &Class, value: &Value) -> Option<Field>
 
 /// The number of an integer that is unsigned.
 fn unsigned_integer(integer: &Integer, value: &Value) -> Option<Field>
-    ensures { (align : ℕ) → result ≡ roles.unsigned_field (forms.integer align integer.now) (val value.now) }
+    ensures { (align : ℕ) → result ≡ roles.unsigned_field (forms.integer align integer.now)
+        (val value.now) }
 {
     match value {
         Value::Unsigned(number) => {

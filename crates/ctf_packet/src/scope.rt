@@ -32,7 +32,8 @@ pub fn scope_into(
     requires content { content ≤ 2 ^ 62 }
     requires held { content ≤ 8 * length bytes.now }
     ensures puts { let before = values_of scopes.old in
-        PutsValue scope before (walk (form class.now) (values.input_of bytes.now content before) [] place scopes.old.spent) result scopes.new }
+        PutsValue scope before (walk (form class.now) (values.input_of bytes.now content before) []
+        place scopes.old.spent) result scopes.new }
     ensures within { IfOk result (λ end. end ≤ content) }
     ensures forward { IfOk result (λ end. place ≤ end) }
 {
@@ -98,7 +99,9 @@ pub fn record_scope(
     requires content { content ≤ 2 ^ 62 }
     requires held { content ≤ 8 * length bytes.now }
     ensures puts { let before = values_of scopes.old in
-        PutsScope scope before (values.scope_at values.fault_in_record (option_map form (option_copied class.entry)) (values.input_of bytes.now content before) place scopes.old.spent) result scopes.new }
+        PutsScope scope before (values.scope_at values.fault_in_record
+        (option_map form (option_copied class.entry)) (values.input_of bytes.now content before)
+        place scopes.old.spent) result scopes.new }
     ensures within { IfOk result (λ end. end ≤ content) }
     ensures forward { IfOk result (λ end. place ≤ end) }
 {

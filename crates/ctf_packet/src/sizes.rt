@@ -64,7 +64,8 @@ pub fn sizes_checked(
     left: &[u8],
     end: u64,
 ) -> Result<Sizes, StreamFault>
-    ensures value { result ≡ packets.sizes_checked packet_size content_size ending (8 * length left.now) end }
+    ensures value { result ≡ packets.sizes_checked packet_size content_size ending
+        (8 * length left.now) end }
     ensures fits { IfOk result (Fitting end (length left.now)) }
 {
     match told_sizes(packet_size, content_size, end) {

@@ -64,7 +64,8 @@ impl Spares {
 
     /// Takes the values back that are by class.
     pub(crate) fn take_back(&mut self, scopes: &mut Scopes)
-        ensures { (scopes.new ≡ scopes.old) ⊎ (scopes.new ≡ without_value (without_value scopes.old EventContext) EventFields) }
+        ensures { (scopes.new ≡ scopes.old) ⊎
+            (scopes.new ≡ without_value (without_value scopes.old EventContext) EventFields) }
     {
         if self.is_long {
             scopes.take(Scope::EventContext);

@@ -29,7 +29,9 @@ pub(crate) fn told_by(
     class: Option<&Class>,
     header: Option<&Value>,
 ) -> Result<HeaderTold, StreamFault>
-    ensures { TellsHeader (option_copied line.entry) clock (option_map form (option_copied class.entry)) (option_map val (option_copied header.entry)) result }
+    ensures { TellsHeader (option_copied line.entry) clock
+        (option_map form (option_copied class.entry)) (option_map val (option_copied header.entry))
+        result }
 {
     match class {
         None => Ok(HeaderTold {
@@ -63,7 +65,8 @@ fn told_in(
     class: &Class,
     header: &Value,
 ) -> Result<HeaderTold, StreamFault>
-    ensures { TellsHeader (option_copied line.entry) clock (Some (form class.now)) (Some (val header.now)) result }
+    ensures { TellsHeader (option_copied line.entry) clock (Some (form class.now))
+        (Some (val header.now)) result }
 {
     match line {
         None => Ok(HeaderTold {
@@ -87,7 +90,8 @@ fn told_on(
     class: &Class,
     header: &Value,
 ) -> Result<HeaderTold, StreamFault>
-    ensures { TellsHeader (Some line.now) (Some clock) (Some (form class.now)) (Some (val header.now)) result }
+    ensures { TellsHeader (Some line.now) (Some clock) (Some (form class.now))
+        (Some (val header.now)) result }
 {
     let mut told = Told { id: None, clock };
     if tell_scope(line, class, header, &mut told) {
