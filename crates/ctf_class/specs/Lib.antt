@@ -2,7 +2,6 @@ pub mod Alignment
 pub mod ChoiceSearch
 pub mod Choices
 pub mod Escapes
-pub mod FixedSize
 pub mod HostAndName
 pub mod Items
 pub mod LabelSearch

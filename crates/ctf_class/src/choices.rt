@@ -116,7 +116,8 @@ impl Named {
 
     /// The option that a label names.
     fn option_by(&self, label: &Label) -> Option<usize>
-        ensures { result ≡ choosing.option_named (take self.now.count self.now.names) label.now.name }
+        ensures { result ≡ choosing.option_named (take self.now.count self.now.names)
+            label.now.name }
     {
         option_named(self.names.get(), self.count, label.name.as_slice())
     }

@@ -71,7 +71,8 @@ impl<T: HasId> Indexed<T> {
     /// Where the first item of a number stands.
     #[inline(always)]
     pub fn place(&self, id: u64) -> Option<usize>
-        ensures { IfSome result (λ place. slice_get self.now place ≡ first_of_id T.id_of id self.now) }
+        ensures { IfSome result (λ place. slice_get self.now place ≡
+            first_of_id T.id_of id self.now) }
     {
         self.places.at(id, self.items.len())
     }

@@ -10,7 +10,6 @@ mod class;
 mod escape;
 mod field_name;
 mod firsts;
-mod fixed_size;
 mod frequency;
 mod heading;
 mod indexed;

@@ -97,7 +97,8 @@ impl Ready {
     fn put_head(&self, line: &mut [u8], at: usize)
         requires { at + HEAD ≤ length line.old }
         ensures length { length line.new ≡ length line.old }
-        ensures text { (n : ℕ) → n ≤ HEAD → n ≤ length self.now → take (at + n) line.new ≡ take at line.old ++ take n self.now }
+        ensures text { (n : ℕ) → n ≤ HEAD → n ≤ length self.now →
+            take (at + n) line.new ≡ take at line.old ++ take n self.now }
     {
         let (first, second, third) = (self.first, self.second, self.third);
         put_word(line, at, first);
@@ -142,7 +143,8 @@ fn behind_head(words: &[u64]) -> &[u64]
 #[inline(never)]
 fn put_each(words: &[u64], line: &mut [u8], at: usize)
     requires { at + 8 * length words.now ≤ length line.old }
-    ensures { take (at + 8 * length words.now) line.new ≡ take at line.old ++ flat_map (to_le_bytes w64) words.now }
+    ensures { take (at + 8 * length words.now) line.new ≡ take at line.old ++ flat_map
+        (to_le_bytes w64) words.now }
 {
     let mut to = at;
     for word in words {

@@ -122,7 +122,8 @@ impl RecordPlan {
         own: Option<&Class>,
         fields: &Class,
     ) -> Result<RecordPlan, NoMemory>
-        ensures { IfOk result (IsPlanOf (scopes_of (option_copied shared.entry) (option_copied own.entry) fields.now)) }
+        ensures { IfOk result (IsPlanOf
+            (scopes_of (option_copied shared.entry) (option_copied own.entry) fields.now)) }
     {
         let mut making = Making::new(alloc);
         if making.add_optional(alloc, shared)?
@@ -180,7 +181,8 @@ impl Making {
         requires near { self.old.span ≤ 2 ^ 33 }
         ensures few { IfOk result (λ took. IsTrue took → self.new.room ≤ 2 ^ 18) }
         ensures near { IfOk result (λ took. IsTrue took → self.new.span ≤ 2 ^ 33) }
-        ensures made { IfOk result (λ took. IsTrue took → (ks : List Class) → IsMadeOf ks self.old → IsMadeOf (ks ++ and_scope (option_copied class.entry) []) self.new) }
+        ensures made { IfOk result (λ took. IsTrue took → (ks : List Class) → IsMadeOf ks self.old →
+            IsMadeOf (ks ++ and_scope (option_copied class.entry) []) self.new) }
     {
         match class {
             Some(class) => self.add_scope(alloc, class),
@@ -194,7 +196,8 @@ impl Making {
         requires near { self.old.span ≤ 2 ^ 33 }
         ensures few { IfOk result (λ took. IsTrue took → self.new.room ≤ 2 ^ 18) }
         ensures near { IfOk result (λ took. IsTrue took → self.new.span ≤ 2 ^ 33) }
-        ensures made { IfOk result (λ took. IsTrue took → (ks : List Class) → IsMadeOf ks self.old → IsMadeOf (ks ++ class.now ∷ []) self.new) }
+        ensures made { IfOk result (λ took. IsTrue took → (ks : List Class) → IsMadeOf ks self.old →
+            IsMadeOf (ks ++ class.now ∷ []) self.new) }
     {
         let Kind::Structure { members } = &class.kind else {
             return Ok(false);
@@ -231,7 +234,8 @@ impl Making {
         ensures few { IfOk result (λ took. IsTrue took → self.new.room ≤ 2 ^ 18) }
         ensures near { IfOk result (λ took. IsTrue took → self.new.span ≤ 2 ^ 33) }
         ensures count { IfOk result (λ took. IsTrue took → self.new.count ≡ self.old.count) }
-        ensures made { IfOk result (λ took. IsTrue took → (done : List Slot) → IsMade done self.old → IsMade (done ++ laters 1 members.now) self.new) }
+        ensures made { IfOk result (λ took. IsTrue took → (done : List Slot) →
+            IsMade done self.old → IsMade (done ++ laters 1 members.now) self.new) }
     {
         let Some(anywhere) = Align::new(1) else {
             return Ok(false);
@@ -258,7 +262,10 @@ impl Making {
         ensures few { IfOk result (λ took. IsTrue took → self.new.room ≤ 2 ^ 18) }
         ensures near { IfOk result (λ took. IsTrue took → self.new.span ≤ 2 ^ 33) }
         ensures count { IfOk result (λ took. IsTrue took → self.new.count ≡ self.old.count) }
-        ensures made { IfOk result (λ took. IsTrue took → (done : List Slot) → IsMade done self.old → IsMade (done ++ record { lead = lead.now; align = align; index = index; member = member.now } ∷ []) self.new) }
+        ensures made { IfOk result (λ took. IsTrue took → (done : List Slot) →
+            IsMade done self.old →
+            IsMade (done ++ record
+            { lead = lead.now; align = align; index = index; member = member.now } ∷ []) self.new) }
     {
         let ready = member.name.behind(alloc, lead)?;
         if ready.len() > LONGEST_TEXT {
@@ -295,7 +302,14 @@ impl Making {
         ensures little { IfSome result (λ found. found.0.order ≡ Le) }
         ensures begins { IfSome result (λ _. 8 % begin ≡ 0) }
         ensures divides { IfSome result (λ _. 8 % class.now.align ≡ 0) }
-        ensures window { IfSome result (λ found. found.1 ≡ record { place = next_multiple_of (next_multiple_of self.now.span begin) class.now.align; size = max 1 found.0.size; is_signed = found.0.is_signed }) }
+        ensures window { IfSome result
+            (λ found. found.1 ≡
+            record {
+              place = next_multiple_of (next_multiple_of self.now.span begin)
+                  class.now.align;
+              size = max 1 found.0.size;
+              is_signed = found.0.is_signed;
+            }) }
         ensures near { IfSome result (λ found. found.1.place + found.1.size ≤ 2 ^ 33) }
         ensures few { IfSome result (λ _. self.now.room ≤ MOST_ROOM) }
     {
@@ -356,7 +370,8 @@ impl Making {
 /// or a text or an array of integers whose length is fixed or the field before. It fails where no more owners of labels can
 /// be counted.
 fn shown_of(class: &Class, index: usize) -> Result<Option<Shown>, NoMemory>
-    ensures { IfOk result (λ shown. (m : Member) → m.class ≡ class.now → IfSome shown (IsShown index m)) }
+    ensures { IfOk result (λ shown. (m : Member) → m.class ≡ class.now →
+        IfSome shown (IsShown index m)) }
 {
     if let Kind::Enumeration { container, labels } = &class.kind {
         let labels = labels.clone()?;
@@ -388,7 +403,8 @@ fn plain_shown_of(class: &Class, index: usize) -> Option<Shown>
 
 /// How a text of this length is shown.
 fn text_of(length: &Length, index: usize) -> Option<Shown>
-    ensures { (m : Member) → m.class.kind ≡ kinds.Text length.now → IfSome result (IsShown index m) }
+    ensures { (m : Member) → m.class.kind ≡ kinds.Text length.now →
+        IfSome result (IsShown index m) }
 {
     match length {
         Length::Fixed(count) => Some(Shown::Text(*count)),
@@ -404,7 +420,8 @@ fn text_of(length: &Length, index: usize) -> Option<Shown>
 
 /// How an array of this length and this class of elements is shown.
 fn array_of(length: &Length, element: &Class, index: usize) -> Option<Shown>
-    ensures { (m : Member) → m.class.kind ≡ kinds.Array length.now element.now → IfSome result (IsShown index m) }
+    ensures { (m : Member) → m.class.kind ≡ kinds.Array length.now element.now →
+        IfSome result (IsShown index m) }
 {
     let Kind::Integer(integer) = &element.kind else {
         return None;

@@ -12,7 +12,8 @@ use std::collections::BTreeMap;
 
 /// The place of the first item of each number.
 pub fn sorted_places<T: HasId>(alloc: Global, items: &[T]) -> Result<BTreeMap<u64, usize>, NoMemory>
-    ensures { IfOk result (λ places. (id : ℕ) → get nat_cmp places id ≡ position_from (λ item. T.id_of item == id) 0 items.now) }
+    ensures { IfOk result (λ places. (id : ℕ) →
+        get nat_cmp places id ≡ position_from (λ item. T.id_of item == id) 0 items.now) }
 {
     let mut places = BTreeMap::new(alloc);
     for (place, item) in items.iter().enumerate() {

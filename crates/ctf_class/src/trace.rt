@@ -138,7 +138,15 @@ impl StreamClass {
         clock: Option<Clock>,
         events: Indexed<EventClass>,
     ) -> Result<StreamClass, NoMemory>
-        ensures { IfOk result (λ stream. stream ≡ record { id = id; packet_context = packet_context; event_header = event_header; event_context = event_context; clock = clock; events = events }) }
+        ensures { IfOk result (λ stream. stream ≡
+            record {
+              id = id;
+              packet_context = packet_context;
+              event_header = event_header;
+              event_context = event_context;
+              clock = clock;
+              events = events;
+            }) }
     {
         let plans = plans_of(alloc, event_context.as_ref(), events.as_slice())?;
         Ok(StreamClass {
@@ -162,8 +170,11 @@ impl StreamClass {
     /// The first event class of an id, with the plan of its records.
     #[inline(always)]
     pub fn planned(&self, id: u64) -> Option<PlannedEvent<'_>>
-        ensures event { IfSome result (λ p. first_of_id (λ event. event.id) id self.now.events ≡ Some p.event.now) }
-        ensures plan { IfSome result (λ p. IsPlanOf (scopes_of self.now.event_context p.event.now.context p.event.now.fields) p.plan.now) }
+        ensures event { IfSome result (λ p. first_of_id (λ event. event.id) id self.now.events ≡
+            Some p.event.now) }
+        ensures plan { IfSome result
+            (λ p. IsPlanOf (scopes_of self.now.event_context p.event.now.context p.event.now.fields)
+            p.plan.now) }
     {
         let place = self.events.place(id)?;
         let event = self.events.as_slice().get(place)?;
@@ -189,7 +200,9 @@ impl StreamClass {
     #[inline(always)]
     pub fn planned_only(&self) -> Option<PlannedEvent<'_>>
         ensures event { IfSome result (λ p. only_item self.now.events ≡ Some p.event.now) }
-        ensures plan { IfSome result (λ p. IsPlanOf (scopes_of self.now.event_context p.event.now.context p.event.now.fields) p.plan.now) }
+        ensures plan { IfSome result
+            (λ p. IsPlanOf (scopes_of self.now.event_context p.event.now.context p.event.now.fields)
+            p.plan.now) }
     {
         let event = self.events.only()?;
         let plan = self.plans.as_slice().first()?;

@@ -87,23 +87,12 @@ impl Timeline {
         };
         self.moment(cycles)
     }
-
-    /// The moment that is reached where integers set the clock one after the other, each with its width
-    /// in bits. `None` exactly where one of them is refused.
-    pub fn advance_by(&self, from: Moment, moves: &[(u32, u64)]) -> Option<Moment>
-        ensures { result ≡ clocks.advanced_by self.now from moves.now }
-    {
-        let mut reached = from;
-        for (width, number) in moves {
-            reached = self.advance(reached, *width, *number)?;
-        }
-        Some(reached)
-    }
 }
 
 /// The nanoseconds of so many cycles behind an offset, rounded down.
 fn nanos_of(offset: i64, cycles: u64, frequency: Frequency) -> i128
-    ensures value { result ≡ int_div_euclid ((offset +ℤ pos cycles) *ℤ pos 1000000000) (pos frequency) }
+    ensures value { result ≡ int_div_euclid ((offset +ℤ pos cycles) *ℤ pos 1000000000)
+        (pos frequency) }
     ensures above { neg_ℤ (pos (2 ^ 96)) ≤ℤ result }
     ensures below { result ≤ℤ pos (2 ^ 96) }
 {

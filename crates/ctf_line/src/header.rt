@@ -220,7 +220,11 @@ fn told_bare<'a>(
     place: u64,
 ) -> Option<PlannedHead<'a>>
     requires bare { packet.now.stream.now.event_header ≡ None }
-    ensures tells { (bytes : List ℕ) (content : ℕ) → IfSome result (λ p. (shift : Shift) → packet.now.line ≡ (stream_form shift packet.now.stream.now).line → TellsHead packet.now.stream.now (stream_form shift packet.now.stream.now) bytes content clock place p.told) }
+    ensures tells { (bytes : List ℕ) (content : ℕ) →
+        IfSome result (λ p. (shift : Shift) →
+        packet.now.line ≡ (stream_form shift packet.now.stream.now).line →
+        TellsHead packet.now.stream.now (stream_form shift packet.now.stream.now) bytes content
+        clock place p.told) }
     ensures plan { IfSome result (PlansRecords packet.now) }
     ensures end { IfSome result (λ p. p.told.head.end ≡ place) }
     ensures spent { IfSome result (λ p. p.told.spent ≡ 0) }
@@ -253,7 +257,8 @@ fn tell_header(
     requires content { content ≤ 2 ^ 62 }
     requires held { content ≤ 8 * length bytes.now }
     requires start { from.place ≤ content }
-    ensures tells { IfSome result (Tells (option_copied line.entry) (form class.now) bytes.now content from) }
+    ensures tells { IfSome result
+        (Tells (option_copied line.entry) (form class.now) bytes.now content from) }
     ensures within { IfSome result (λ to. (to.place ≤ content) × (to.spent ≤ MOST_VALUES)) }
 {
     let Kind::Structure { members } = &class.kind else {
@@ -281,7 +286,8 @@ fn tell_structure(
     requires content { content ≤ 2 ^ 62 }
     requires held { content ≤ 8 * length bytes.now }
     requires start { from.place ≤ content }
-    ensures tells { IfSome result (Tells (option_copied line.entry) (form class.now) bytes.now content from) }
+    ensures tells { IfSome result
+        (Tells (option_copied line.entry) (form class.now) bytes.now content from) }
     ensures within { IfSome result (λ to. (to.place ≤ content) × (to.spent ≤ MOST_VALUES)) }
 {
     let Kind::Structure { members } = &class.kind else {
@@ -329,7 +335,9 @@ fn tell_pair(
     requires held { content ≤ 8 * length bytes.now }
     requires start { from.place ≤ content }
     requires few { from.spent ≤ MOST_VALUES }
-    ensures tells { IfSome result (TellsMembers (option_copied line.entry) (tag.now ∷ variant.now ∷ []) bytes.now content from) }
+    ensures tells { IfSome result
+        (TellsMembers (option_copied line.entry) (tag.now ∷ variant.now ∷ []) bytes.now content
+        from) }
     ensures within { IfSome result (λ to. (to.place ≤ content) × (to.spent ≤ MOST_VALUES)) }
 {
     let Kind::Enumeration { container, labels } = &tag.class.kind else {
@@ -392,7 +400,8 @@ fn bits_at(integer: &Integer, align: Align, content: u64, place: u64) -> Option<
     requires content { content ≤ 2 ^ 62 }
     requires start { place ≤ content }
     ensures begin { IfSome result (λ bits. bits.begin ≡ next_multiple_of place align) }
-    ensures end { IfSome result (λ bits. bits.end ≡ next_multiple_of place align + bits_of integer.now) }
+    ensures end { IfSome result
+        (λ bits. bits.end ≡ next_multiple_of place align + bits_of integer.now) }
     ensures within { IfSome result (λ bits. bits.end ≤ content) }
 {
     let begin = align.up(place);
@@ -416,7 +425,8 @@ fn tell_integers(
     requires held { content ≤ 8 * length bytes.now }
     requires start { from.place ≤ content }
     requires few { from.spent ≤ MOST_VALUES }
-    ensures tells { IfSome result (TellsMembers (option_copied line.entry) members.now bytes.now content from) }
+    ensures tells { IfSome result
+        (TellsMembers (option_copied line.entry) members.now bytes.now content from) }
     ensures within { IfSome result (λ to. (to.place ≤ content) × (to.spent ≤ MOST_VALUES)) }
 {
     let mut at = from;
@@ -438,7 +448,8 @@ fn tell_integer(
     requires content { content ≤ 2 ^ 62 }
     requires held { content ≤ 8 * length bytes.now }
     requires start { from.place ≤ content }
-    ensures tells { IfSome result (TellsMember (option_copied line.entry) member.now bytes.now content from) }
+    ensures tells { IfSome result
+        (TellsMember (option_copied line.entry) member.now bytes.now content from) }
     ensures within { IfSome result (λ to. (to.place ≤ content) × (to.spent ≤ MOST_VALUES)) }
 {
     let Kind::Integer(integer) = &member.class.kind else {
@@ -469,7 +480,8 @@ fn tell_number(
     place: u64,
 ) -> Option<Telling>
     requires few { from.spent < MOST_VALUES }
-    ensures tells { IfSome result (TellsNumber (option_copied line.entry) member.now integer.now (val value.now) from) }
+    ensures tells { IfSome result
+        (TellsNumber (option_copied line.entry) member.now integer.now (val value.now) from) }
     ensures reached { IfSome result (λ to. (to.place ≡ place) × (to.spent ≡ from.spent + 1)) }
 {
     let mut id = from.id;
@@ -491,7 +503,8 @@ fn clock_behind(
     value: &Value,
     clock: Moment,
 ) -> Option<Moment>
-    ensures { result ≡ set_by (option_copied line.entry) clock (moved_in integer.now (val value.now)) }
+    ensures { result ≡ set_by (option_copied line.entry) clock
+        (moved_in integer.now (val value.now)) }
 {
     match line {
         Some(line) => moved_by_integer(line, integer, value, clock),

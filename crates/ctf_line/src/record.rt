@@ -50,7 +50,8 @@ pub enum Attempt {
 ///
 /// By `short` and a plan of the record, which is fast; or `by_class`, for what can't be written so.
 ///
-/// `None` where `put_standing` gives no text, where the record has a fault, and where memory is refused. The line is then any line, and `attempt` tells `next_line` how far the record came by class.
+/// `None` where `put_standing` gives no text, where the record has a fault, and where memory is refused. The line is then
+/// any line, and `attempt` tells `next_line` how far the record came by class.
 #[inline(always)]
 pub fn written_line<'a>(
     alloc: Global,
@@ -68,7 +69,12 @@ pub fn written_line<'a>(
     requires content { packet.now.content ≤ 2 ^ 62 }
     requires held { packet.now.content ≤ 8 * length bytes.now }
     requires short { IsShortOf packet.now.stream.now (option_copied short) }
-    ensures makes { (shift : Shift) (known : Known) → packet.now.line ≡ (stream_form shift packet.now.stream.now).line → IfSome result (λ r. Made packet.now.stream.now (record_at (opened_of shift (packet_values (values_of known)) packet.now) bytes.now clock place) part.now known line.new.items r.record r.text) }
+    ensures makes { (shift : Shift) (known : Known) →
+        packet.now.line ≡ (stream_form shift packet.now.stream.now).line →
+        IfSome result (λ r.
+        Made packet.now.stream.now
+        (record_at (opened_of shift (packet_values (values_of known)) packet.now) bytes.now clock
+        place) part.now known line.new.items r.record r.text) }
     ensures within { IfSome result (λ r. r.record.end ≤ packet.now.content) }
     ensures forward { IfSome result (λ r. place < r.record.end) }
     ensures text { IfSome result (λ r. IfSome r.text (λ end. end ≤ vec_len line.new)) }
@@ -97,7 +103,12 @@ fn written_by_class<'a>(
     requires start { place ≤ packet.now.content }
     requires content { packet.now.content ≤ 2 ^ 62 }
     requires held { packet.now.content ≤ 8 * length bytes.now }
-    ensures makes { (shift : Shift) (known : Known) → packet.now.line ≡ (stream_form shift packet.now.stream.now).line → IfSome result (λ r. Made packet.now.stream.now (record_at (opened_of shift (packet_values (values_of known)) packet.now) bytes.now clock place) part.now known line.new.items r.record r.text) }
+    ensures makes { (shift : Shift) (known : Known) →
+        packet.now.line ≡ (stream_form shift packet.now.stream.now).line →
+        IfSome result (λ r.
+        Made packet.now.stream.now
+        (record_at (opened_of shift (packet_values (values_of known)) packet.now) bytes.now clock
+        place) part.now known line.new.items r.record r.text) }
     ensures within { IfSome result (λ r. r.record.end ≤ packet.now.content) }
     ensures forward { IfSome result (λ r. place < r.record.end) }
     ensures text { IfSome result (λ r. IfSome r.text (λ end. end ≤ vec_len line.new)) }
@@ -133,10 +144,15 @@ pub fn next_line<'a>(
     requires start { place ≤ packet.now.content }
     requires content { packet.now.content ≤ 2 ^ 62 }
     requires held { packet.now.content ≤ 8 * length bytes.now }
-    ensures makes { (shift : Shift) → packet.now.line ≡ (stream_form shift packet.now.stream.now).line → Makes packet.now.stream.now (record_at (opened_of shift (packet_values (values_of scopes.old)) packet.now) bytes.now clock place) part.now scopes.new line.new.items result }
+    ensures makes { (shift : Shift) →
+        packet.now.line ≡ (stream_form shift packet.now.stream.now).line →
+        Makes packet.now.stream.now
+        (record_at (opened_of shift (packet_values (values_of scopes.old)) packet.now) bytes.now
+        clock place) part.now scopes.new line.new.items result }
     ensures within { IfOk result (λ r. r.record.end ≤ packet.now.content) }
     ensures forward { IfOk result (λ r. place < r.record.end) }
-    ensures packet { OnOk result (packet_values (values_of scopes.new) ≡ packet_values (values_of scopes.old)) }
+    ensures packet { OnOk result
+        (packet_values (values_of scopes.new) ≡ packet_values (values_of scopes.old)) }
     ensures text { IfOk result (λ r. IfSome r.text (λ end. end ≤ vec_len line.new)) }
 {
     let mut attempt = attempt;
@@ -159,6 +175,8 @@ pub fn next_line<'a>(
             }
         }
     }
+    // A text that failed late leaves no long buffer beside the values.
+    keep_short(alloc, line);
     let head = next_head(alloc, packet, bytes, clock, place, spares, scopes)?;
     if let Attempt::Untold = attempt {
         if let Some(standing) = put_record(packet, head, part, bytes, scopes.spent(), place, line) {
@@ -172,7 +190,8 @@ pub fn next_line<'a>(
 /// The event record of a header whose text was written.
 #[inline(always)]
 fn with_text<'a>(head: Head<'a>, standing: Standing) -> LineRecord<'a>
-    ensures record { result.record ≡ record { event = head.entry.event; clock = head.entry.clock; end = standing.place } }
+    ensures record { result.record ≡
+        record { event = head.entry.event; clock = head.entry.clock; end = standing.place } }
     ensures text { result.text ≡ Some standing.end }
 {
     LineRecord {
@@ -207,10 +226,15 @@ fn valued<'a>(
     requires content { packet.now.content ≤ 2 ^ 62 }
     requires held { packet.now.content ≤ 8 * length bytes.now }
     requires behind { place ≤ head.end }
-    ensures values { MakesValues packet.now.stream.now head.entry (bodied (option_map form packet.now.stream.now.event_context) (option_map form head.entry.event.now.context) (form head.entry.event.now.fields) bytes.now packet.now.content (values_of scopes.old) head.entry.end scopes.old.spent) place scopes.new result }
+    ensures values { MakesValues packet.now.stream.now head.entry
+        (bodied (option_map form packet.now.stream.now.event_context)
+        (option_map form head.entry.event.now.context) (form head.entry.event.now.fields) bytes.now
+        packet.now.content (values_of scopes.old) head.entry.end scopes.old.spent) place scopes.new
+        result }
     ensures within { IfOk result (λ r. r.end ≤ packet.now.content) }
     ensures forward { IfOk result (λ r. place < r.end) }
-    ensures packet { OnOk result (packet_values (values_of scopes.new) ≡ packet_values (values_of scopes.old)) }
+    ensures packet { OnOk result
+        (packet_values (values_of scopes.new) ≡ packet_values (values_of scopes.old)) }
 {
     let stream = packet.stream;
     let event = head.event;
@@ -245,8 +269,12 @@ fn put_planned_body(
     requires content { packet.now.content ≤ 2 ^ 62 }
     requires held { packet.now.content ≤ 8 * length bytes.now }
     requires few { told.spent ≤ MOST_VALUES }
-    requires plan { IsPlanOf (scopes_of packet.now.stream.now.event_context told.head.event.now.context told.head.event.now.fields) plan.now }
-    ensures puts { IfSome result (λ s. PutsBody packet.now.stream.now told.entry.head.event.now part.now bytes.now packet.now.content told.entry.head.end told.entry.spent s.place (take s.end line.new.items)) }
+    requires plan { IsPlanOf (scopes_of packet.now.stream.now.event_context
+        told.head.event.now.context told.head.event.now.fields) plan.now }
+    ensures puts { IfSome result
+        (λ s. PutsBody packet.now.stream.now told.entry.head.event.now part.now bytes.now
+        packet.now.content told.entry.head.end told.entry.spent s.place
+        (take s.end line.new.items)) }
     ensures within { IfSome result (λ s. s.place ≤ packet.now.content) }
     ensures forward { IfSome result (λ s. place < s.place) }
     ensures held { IfSome result (λ s. s.end ≤ vec_len line.new) }
@@ -272,8 +300,12 @@ fn put_by_plan(
     requires content { packet.now.content ≤ 2 ^ 62 }
     requires held { packet.now.content ≤ 8 * length bytes.now }
     requires few { told.spent ≤ MOST_VALUES }
-    requires plan { IsPlanOf (scopes_of packet.now.stream.now.event_context told.head.event.now.context told.head.event.now.fields) plan.now }
-    ensures puts { IfSome result (λ s. PutsBody packet.now.stream.now told.entry.head.event.now part.now bytes.now packet.now.content told.entry.head.end told.entry.spent s.place (take s.end line.new.items)) }
+    requires plan { IsPlanOf (scopes_of packet.now.stream.now.event_context
+        told.head.event.now.context told.head.event.now.fields) plan.now }
+    ensures puts { IfSome result
+        (λ s. PutsBody packet.now.stream.now told.entry.head.event.now part.now bytes.now
+        packet.now.content told.entry.head.end told.entry.spent s.place
+        (take s.end line.new.items)) }
     ensures within { IfSome result (λ s. s.place ≤ packet.now.content) }
     ensures forward { IfSome result (λ s. place < s.place) }
     ensures held { IfSome result (λ s. s.end ≤ vec_len line.new) }
@@ -310,7 +342,9 @@ fn put_record(
     requires content { packet.now.content ≤ 2 ^ 62 }
     requires held { packet.now.content ≤ 8 * length bytes.now }
     requires few { spent ≤ MOST_VALUES }
-    ensures puts { IfSome result (λ s. PutsBody packet.now.stream.now head.entry.event.now part.now bytes.now packet.now.content head.entry.end spent s.place (take s.end line.new.items)) }
+    ensures puts { IfSome result
+        (λ s. PutsBody packet.now.stream.now head.entry.event.now part.now bytes.now
+        packet.now.content head.entry.end spent s.place (take s.end line.new.items)) }
     ensures within { IfSome result (λ s. s.place ≤ packet.now.content) }
     ensures forward { IfSome result (λ s. place < s.place) }
     ensures held { IfSome result (λ s. s.end ≤ vec_len line.new) }
@@ -350,7 +384,9 @@ fn put_scope(
     requires start { from.place ≤ content }
     requires few { from.spent ≤ MOST_VALUES }
     requires index { from.end ≤ vec_len line.old }
-    ensures puts { IfSome result (λ to. PutsScope (option_copied class.entry) bytes.now content from (take from.end line.old.items) to (take to.end line.new.items)) }
+    ensures puts { IfSome result
+        (λ to. PutsScope (option_copied class.entry) bytes.now content from
+        (take from.end line.old.items) to (take to.end line.new.items)) }
     ensures within { IfSome result (λ to. to.place ≤ content) }
     ensures few { IfSome result (λ to. to.spent ≤ MOST_VALUES) }
     ensures held { IfSome result (λ to. to.end ≤ vec_len line.new) }

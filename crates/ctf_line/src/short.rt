@@ -143,7 +143,9 @@ fn stamp_place(
 /// How an unsigned integer is read that stands at a place behind the first bit of a byte, if it is little endian and lies in
 /// eight bytes.
 fn window_of(integer: &Integer, place: u64) -> Option<Window>
-    ensures is { IfSome result (λ window. window ≡ record { place = place; size = bits_of integer.now; is_signed = false }) }
+    ensures is { IfSome result
+        (λ window. window ≡
+        record { place = place; size = bits_of integer.now; is_signed = false }) }
     ensures little { IfSome result (λ _. integer.now.order ≡ Le) }
 {
     if integer.order != Order::Le {
@@ -248,7 +250,9 @@ pub(crate) fn tell_short(
     requires start { place ≤ content }
     requires near { EndsNear short.now }
     requires read { AreWindows short.now }
-    ensures tells { IfSome result (λ to. (class : Class) → IsShort short.now class → Tells (Some line.now) (form class) bytes.now content (begins_telling clock place) (short_telling to)) }
+    ensures tells { IfSome result (λ to. (class : Class) → IsShort short.now class →
+        Tells (Some line.now) (form class) bytes.now content (begins_telling clock place)
+        (short_telling to)) }
     ensures within { IfSome result (λ to. to.place ≤ content) }
 {
     let begin = short.align.up(place);

@@ -11,7 +11,7 @@ returns-in_err-head-clause-makes c = λ shift line.
     let old = values_of c.args.scopes.now in
     let f = c.in_err-head.field-0.0 in
     let is : c.from_residual.result ≡ Err f = search rules in
-    subst (λ r. Makes o.stream.now (record_at (opened_of shift (packet_values old) o) c.args.bytes.now c.args.clock c.args.place) c.args.part.now c.next_head.new.scopes c.match-attempt.line.items r) (sym is)
+    subst (λ r. Makes o.stream.now (record_at (opened_of shift (packet_values old) o) c.args.bytes.now c.args.clock c.args.place) c.args.part.now c.next_head.new.scopes c.keep_short-2.new.line.items r) (sym is)
     (no_head shift o old c.args.bytes.now c.args.clock c.args.place c.next_head.new.scopes f (c.in_err-head.ensures.puts shift line))
 
 pub returns-in-Some-put_record-clause-makes : goal.returns-in-Some-put_record-clause-makes
