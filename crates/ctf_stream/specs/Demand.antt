@@ -81,22 +81,28 @@ FailsToOpen ending place b bytes fault =
 
 -- wherever a value of this class is, it takes so many bits at least
 abbrev pub TakesAtLeast : Class → ℕ → Type 0
-TakesAtLeast class n = (c : Input) (e : Env) (p : ℕ) (v : Val) (q : ℕ) → Stands (form class) c e p v q → p + n ≤ q
+TakesAtLeast class n =
+    (c : Input) (e : Env) (p : ℕ) (v : Val) (q : ℕ) → Stands (form class) c e p v q → p + n ≤ q
 
 -- so do all these members of a structure
 abbrev pub MembersTake : List Member → ℕ → Type 0
 MembersTake members n =
-    (c : Input) (e : Env) (done : List Val) (p : ℕ) (vs : List Val) (q : ℕ) → StandsMembers (parts_of (map member_part members)) c e done p vs q → p + n ≤ q
+    (c : Input) (e : Env) (done : List Val) (p : ℕ) (vs : List Val) (q : ℕ)
+    → StandsMembers (parts_of (map member_part members)) c e done p vs q → p + n ≤ q
 
 -- and so many elements of an array
 abbrev pub ElementsTake : Class → ℕ → ℕ → Type 0
 ElementsTake element count n =
-    (c : Input) (e : Env) (done : List Val) (p : ℕ) (vs : List Val) (q : ℕ) → StandsRow (Stands (form element) c e) count done p vs q → p + n ≤ q
+    (c : Input) (e : Env) (done : List Val) (p : ℕ) (vs : List Val) (q : ℕ)
+    → StandsRow (Stands (form element) c e) count done p vs q → p + n ≤ q
 
 -- whatever bytes are there, a value of this class at a place takes so many bits at least
 abbrev pub TakesAt : Class → Place → ℕ → Type 0
-TakesAt class place n = (bytes : List ℕ) (v : Val) (q : ℕ) → Stands (form class) (input_at place bytes) (env place.frame.now) place.end v q → place.end + n ≤ q
+TakesAt class place n =
+    (bytes : List ℕ) (v : Val) (q : ℕ)
+    → Stands (form class) (input_at place bytes) (env place.frame.now) place.end v q → place.end + n ≤ q
 
 -- and ends at this bit at least
 abbrev pub EndsAtLeast : Class → Place → ℕ → Type 0
-EndsAtLeast class place end = (bytes : List ℕ) (x : Val × ℕ × ℕ) → found_at class place bytes ≡ Ok x → end ≤ x.1
+EndsAtLeast class place end =
+    (bytes : List ℕ) (x : Val × ℕ × ℕ) → found_at class place bytes ≡ Ok x → end ≤ x.1
