@@ -1,6 +1,7 @@
 mod Bytes
 mod Steps
 mod Parts
+mod Taking
 mod Composites
 mod Opening
 mod Sizing

@@ -6,7 +6,8 @@ use Rattle.ctf_class.specs.declared.class.Class.{Class}
 use Rattle.ctf_class.specs.declared.class.Member.{Member}
 use Rattle.ctf_decode.specs.Values.{Val}
 use Rattle.ctf_decode.specs.Forms.{parts_of}
-use Rattle.ctf_decode.specs.Input.{Input}
+use Rattle.ctf_decode.specs.Input.{Input, Env}
+use Rattle.ctf_decode.specs.Stands.{Stands, StandsRow, StandsMembers}
 use Rattle.ctf_decode.specs.Breaks.{Fault}
 use Rattle.ctf_decode.specs.Known.{Known}
 use Rattle.ctf_decode.specs.Views.{form, member_part, val, env, input_in}
@@ -77,3 +78,31 @@ pub record IsOpened (place : Place) (b : ℕ) (inner : Place) : Type 0 where
 abbrev pub FailsToOpen : Ending → Place → ℕ → List ℕ → StreamFault → Type 0
 FailsToOpen ending place b bytes fault =
     (parts : Step Val) → Failed ending (begin (input_at place bytes) place.spent (open_at (input_at place bytes) b parts)) fault
+
+-- wherever a value of this class is, it takes so many bits at least
+abbrev pub TakesAtLeast : Class → ℕ → Type 0
+TakesAtLeast class n =
+    (c : Input) (e : Env) (p : ℕ) (v : Val) (q : ℕ) → Stands (form class) c e p v q → p + n ≤ q
+
+-- so do all these members of a structure
+abbrev pub MembersTake : List Member → ℕ → Type 0
+MembersTake members n =
+    (c : Input) (e : Env) (done : List Val) (p : ℕ) (vs : List Val) (q : ℕ)
+    → StandsMembers (parts_of (map member_part members)) c e done p vs q → p + n ≤ q
+
+-- and so many elements of an array
+abbrev pub ElementsTake : Class → ℕ → ℕ → Type 0
+ElementsTake element count n =
+    (c : Input) (e : Env) (done : List Val) (p : ℕ) (vs : List Val) (q : ℕ)
+    → StandsRow (Stands (form element) c e) count done p vs q → p + n ≤ q
+
+-- whatever bytes are there, a value of this class at a place takes so many bits at least
+abbrev pub TakesAt : Class → Place → ℕ → Type 0
+TakesAt class place n =
+    (bytes : List ℕ) (v : Val) (q : ℕ)
+    → Stands (form class) (input_at place bytes) (env place.frame.now) place.end v q → place.end + n ≤ q
+
+-- and ends at this bit at least
+abbrev pub EndsAtLeast : Class → Place → ℕ → Type 0
+EndsAtLeast class place end =
+    (bytes : List ℕ) (x : Val × ℕ × ℕ) → found_at class place bytes ≡ Ok x → end ≤ x.1

@@ -1,5 +1,6 @@
-//! Values of a packet's header and context, decoded while their bytes come: each byte is taken once it is
-//! needed, and decoding goes on where it stopped for it, so that the time is linear in the bytes.
+//! Values of a packet's header and context, decoded while their bytes come: the bytes of a value are taken at once where
+//! it is known how many they are, others once they are needed, and decoding goes on where it stopped for them, so that the
+//! time is linear in the bytes.
 
 ghost use Rattle.std.specs.Prelude.{◌≡◌, ◌+◌, ◌*◌, ◌≤◌, ◌++◌, min, max, length, take, IsTrue, IfOk, IfErr};
 ghost use Rattle.ctf_packet.specs.Scopes.{longest};
@@ -7,7 +8,8 @@ ghost use Rattle.ctf_stream.specs.Demand.{found_at, members_at, elements_at, opt
 ghost use Rattle.ctf_stream.specs.Fetching.{longest_bytes, OrNoMemory};
 
 use crate::buffer::Buffer;
-use crate::needed::{leaf_on_demand, opened, string_on_demand};
+use crate::least::least_end;
+use crate::needed::{leaf_on_demand, opened, string_on_demand, whole_on_demand};
 use ctf_bits::Source;
 use ctf_class::{Class, Kind, Member};
 use ctf_decode::{Decoded, Frame, MOST_VALUES, Scopes, Value, length_at, option_at};
@@ -51,6 +53,9 @@ pub(crate) fn value_on_demand<S: Source>(
     ensures faulty { let all = buffer.new ++ S.left source.new in
         IsTrue (S.tells source.old) → IfErr result (OrNoMemory (Failed (S.ending source.old) (found_at class.now place.now all))) }
 {
+    if let Some(end) = least_end(class, place) {
+        return whole_on_demand(class, end, place, source, buffer);
+    }
     match &class.kind {
         Kind::Structure { members } => {
             let inner = opened(class.align, place, source, buffer)?;

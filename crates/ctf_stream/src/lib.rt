@@ -10,6 +10,7 @@ mod demand;
 mod fill;
 mod giving;
 mod item;
+mod least;
 mod needed;
 mod owned;
 mod packet;

@@ -6,12 +6,12 @@ ghost use Rattle.ctf_decode.specs.Breaks.{past};
 ghost use Rattle.ctf_decode.specs.Decoding.{Decodes};
 ghost use Rattle.ctf_packet.specs.Scopes.{longest};
 ghost use Rattle.ctf_class.specs.declared.class.Kind.TheVariants.{String};
-ghost use Rattle.ctf_stream.specs.Demand.{found_at, text_at, IsFound, Failed, IsOpened, FailsToOpen, EndsNear};
+ghost use Rattle.ctf_stream.specs.Demand.{found_at, text_at, IsFound, Failed, IsOpened, FailsToOpen, EndsNear, EndsAtLeast};
 ghost use Rattle.ctf_stream.specs.Fetching.{longest_bytes, OrNoMemory};
 
 use crate::buffer::Buffer;
 use crate::demand::Place;
-use crate::fill::fill_front;
+use crate::fill::{fill_ahead, fill_front};
 use ctf_bits::{Source, up};
 use ctf_class::{Align, Class};
 use ctf_decode::{DecodeFault, Decoded, MOST_VALUES, Packet, Reached, decode_within};
@@ -88,6 +88,39 @@ pub(crate) fn leaf_on_demand<S: Source>(
             Err(DecodeFault::NoMemory) => return Err(StreamFault::NoMemory),
         }
     }
+}
+
+/// The value of a class that ends at a bit at least: the bytes up to it are asked for at once.
+pub(crate) fn whole_on_demand<S: Source>(
+    class: &Class,
+    end: u64,
+    place: &Place<'_>,
+    source: &mut S,
+    buffer: &mut Buffer,
+) -> Result<Decoded, StreamFault>
+    requires start { place.now.end ≤ min (8 * length buffer.old) longest }
+    requires few { length buffer.old ≤ longest_bytes }
+    requires least { EndsAtLeast class.now place.now end }
+    requires end { end ≤ longest }
+    ensures tells { IsTrue (S.tells source.old) → IsTrue (S.tells source.new) }
+    ensures same_end { IsTrue (S.tells source.old) → S.ending source.new ≡ S.ending source.old }
+    ensures kept { IsTrue (S.tells source.old) →
+        buffer.new ++ S.left source.new ≡ buffer.old ++ S.left source.old }
+    ensures first { take (length buffer.old) buffer.new ≡ buffer.old }
+    ensures grown { length buffer.old ≤ length buffer.new }
+    ensures few { length buffer.new ≤ longest_bytes }
+    ensures value { IfOk result (IsFound (found_at class.now place.now buffer.new)) }
+    ensures within { IfOk result (λ d. d.end ≤ min (8 * length buffer.new) longest) }
+    ensures forward { IfOk result (λ d. place.now.end ≤ d.end) }
+    ensures near { IfOk result (λ d.
+        8 * length buffer.new ≤ max (8 * length buffer.old) (d.end + 7)) }
+    ensures faulty { let all = buffer.new ++ S.left source.new in
+        let found = found_at class.now place.now all in
+        IsTrue (S.tells source.old) →
+        IfErr result (OrNoMemory (Failed (S.ending source.old) found)) }
+{
+    fill_ahead(source, buffer, end)?;
+    leaf_on_demand(class, place, source, buffer)
 }
 
 /// The value of a class at a place in these bytes.
