@@ -1,6 +1,7 @@
 //! Texts of values where they stand, out of the packet's bits.
 
-ghost use Rattle.std.specs.Prelude.{ℕ, List, pos, ◌≡◌, true, false, ◌+◌, ◌*◌, ◌^◌, ◌++◌, ◌∷◌, ◌≤◌, ◌<◌, Some, length, nat_eq, position, take, vec_len, IfSome, IsTrue};
+ghost use Rattle.std.specs.Prelude.{ℕ, List, pos, ◌≡◌, true, false, ◌+◌, ◌*◌, ◌^◌, ◌++◌, ◌∷◌, ◌≤◌, ◌<◌, Some, length, nat_eq, not, position, take, vec_len, IfOk, IfSome, IsTrue};
+ghost use Rattle.std.specs.List.{take_while};
 ghost use Rattle.ctf_bits.specs.Number.{number, signed_number};
 ghost use Rattle.ctf_class.specs.Names.{label_text};
 ghost use Rattle.ctf_class.specs.declared.route.Length.TheVariants.{Fixed};
@@ -13,10 +14,13 @@ ghost use Rattle.ctf_text.specs.Texts as texts;
 use crate::content::Content;
 use crate::number::{LONGEST_NUMBER, put_signed_number, put_unsigned_number};
 use crate::text::put_quoted;
-use crate::window::{count_longer, count_short, put_longer, put_short};
+use crate::window::{
+    count_long, count_longer, count_short, first_zero, put_long, put_longer, put_short,
+};
 use ctf_bits::{is_unsigned, sint_within, uint_within, up};
 use ctf_class::{Align, Integer};
-use ctf_decode::{before_zero, bytes_at, bytes_from, zero_in};
+use ctf_decode::{bytes_at, bytes_from};
+use ctf_list::NoMemory;
 
 /// Where a structure ends whose text was written.
 #[derive(Clone, Copy)]
@@ -174,7 +178,9 @@ pub(crate) fn put_string(
 fn put_longer_string(bytes: &[u8], begin: u64, buffer: &mut Vec<u8>, at: usize) -> Option<Ends>
     requires bounded { begin + 8 * length bytes.now ≤ 2 ^ 62 }
     requires index { at ≤ vec_len buffer.old }
-    ensures puts { IfSome result (λ e. (n : ℕ) × (position (λ x. nat_eq x 0) bytes.now ≡ Some n) × (e.place ≡ begin + 8 * (n + 1)) × (take e.text buffer.new.items ≡ take at buffer.old.items ++ label_text (take n bytes.now))) }
+    ensures puts { IfSome result (λ e. (n : ℕ) × (position (λ x. nat_eq x 0) bytes.now ≡ Some n) ×
+        (e.place ≡ begin + 8 * (n + 1)) ×
+        (take e.text buffer.new.items ≡ take at buffer.old.items ++ label_text (take n bytes.now))) }
     ensures within { IfSome result (λ e. e.place ≤ begin + 8 * length bytes.now) }
     ensures held { IfSome result (λ e. e.text ≤ vec_len buffer.new) }
 {
@@ -183,7 +189,28 @@ fn put_longer_string(bytes: &[u8], begin: u64, buffer: &mut Vec<u8>, at: usize) 
         let text = put_longer(bytes, count, buffer, at);
         return Some(Ends { place, text });
     }
-    let count = zero_in(bytes)?;
+    put_long_string(bytes, begin, buffer, at)
+}
+
+/// Writes the string of any length that these bytes, which begin at this place, begin with. Mostly nothing of it is escaped.
+#[inline(never)]
+fn put_long_string(bytes: &[u8], begin: u64, buffer: &mut Vec<u8>, at: usize) -> Option<Ends>
+    requires bounded { begin + 8 * length bytes.now ≤ 2 ^ 62 }
+    requires index { at ≤ vec_len buffer.old }
+    ensures puts { IfSome result (λ e. (n : ℕ) × (position (λ x. nat_eq x 0) bytes.now ≡ Some n) ×
+        (e.place ≡ begin + 8 * (n + 1)) ×
+        (take e.text buffer.new.items ≡ take at buffer.old.items ++ label_text (take n bytes.now))) }
+    ensures within { IfSome result (λ e. e.place ≤ begin + 8 * length bytes.now) }
+    ensures held { IfSome result (λ e. e.text ≤ vec_len buffer.new) }
+{
+    if let Some(count) = count_long(bytes) {
+        let place = begin + 8 * (count as u64 + 1);
+        let Ok(text) = put_long(bytes, count, buffer, at) else {
+            return None;
+        };
+        return Some(Ends { place, text });
+    }
+    let count = first_zero(bytes)?;
     let Ok(text) = put_quoted(&bytes[..count], buffer, at) else {
         return None;
     };
@@ -222,12 +249,39 @@ pub(crate) fn put_fixed_text(
             text: put_short(bytes, short, buffer, at),
         });
     }
-    let bytes = before_zero(bytes);
-    let Ok(text) = put_quoted(bytes, buffer, at) else {
+    let Ok(text) = put_longer_text(bytes, buffer, at) else {
         return None;
     };
     Some(Ends {
         place: begin + 8 * count,
         text,
     })
+}
+
+/// Writes the bytes before the first zero byte, or all of them, and gives the index behind their text. What stands before
+/// the index is kept. At an error the buffer is any buffer.
+#[inline(never)]
+fn put_longer_text(bytes: &[u8], buffer: &mut Vec<u8>, at: usize) -> Result<usize, NoMemory>
+    requires { at ≤ vec_len buffer.old }
+    ensures text { let shown = take_while (λ x. not (nat_eq x 0)) bytes.now in
+        IfOk result (λ end. take end buffer.new.items ≡ take at buffer.old.items ++ label_text shown) }
+    ensures held { IfOk result (λ end. end ≤ vec_len buffer.new) }
+{
+    if let Some(count) = count_longer(bytes, buffer.len() - at) {
+        return Ok(put_longer(bytes, count, buffer, at));
+    }
+    match count_long(bytes) {
+        Some(count) => put_long(bytes, count, buffer, at),
+        None => put_quoted(up_to_zero(bytes), buffer, at),
+    }
+}
+
+/// The bytes before the first zero byte, or all of them.
+fn up_to_zero(bytes: &[u8]) -> &[u8]
+    ensures { result.now ≡ take_while (λ x. not (nat_eq x 0)) bytes.now }
+{
+    match first_zero(bytes) {
+        Some(count) => &bytes[..count],
+        None => bytes,
+    }
 }
