@@ -5,7 +5,8 @@ use Rattle.std.proofs.lemmas.Bool.Decides.{nat_tests}
 use Rattle.std.proofs.lemmas.Iterator.Adapters.{position_from-zero}
 use Rattle.std.proofs.lemmas.List.{get_or-map, get_or-take, get_or-drop, take-take, take_all, take-append-le, length-drop, length-take-le, take_more_set}
 use Rattle.std.proofs.Math.Seq.{take-add, take-append-add}
-use Rattle.std.proofs.lemmas.List.Elements.{All-head, All-tail, All-append, All-from_get_or}
+use Rattle.std.proofs.lemmas.List.Elements.{All-head, All-tail, All-append, All-take, All-get_or, All-from_get_or}
+use Rattle.std.proofs.lemmas.List.Sums.{prefix_len_is}
 use Rattle.std.proofs.lemmas.List.Quantifiers.{position-Some}
 use Rattle.std.proofs.lemmas.Nat.Bits.{bit_at_or, bit_at-zero}
 use Rattle.std.proofs.lemmas.Simd.{bit_mask_l, length-put_chunk, take_more_put_chunk}
@@ -220,3 +221,15 @@ zero_behind bytes k r within none found =
 pub long_written : (bytes line mid : List ℕ) (at end : ℕ) → end ≡ at + length bytes → end < length mid → take end mid ≡ take at line ++ bytes → take (end + 1) (set mid end 34) ≡ take at line ++ (bytes ++ (34 ∷ []))
 long_written bytes line mid at end is within wrote =
     take_more_set mid end 34 within ∙ ap (λ xs. xs ++ (34 ∷ [])) wrote ∙ append_assoc (take at line) bytes (34 ∷ [])
+
+-- fewer bytes that are shown as they are
+pub plain_fewer : (bytes : List ℕ) (k n : ℕ) → k ≤ n → All IsPlain (take n bytes) → All IsPlain (take k bytes)
+plain_fewer bytes k n fewer plain = subst (All IsPlain) (take-take k n bytes fewer) (All-take IsPlain k (take n bytes) plain)
+
+-- bytes that are shown as they are, up to the first zero byte or the end
+pub text_shown : (bytes : List ℕ) (n : ℕ) → n ≤ length bytes → All IsPlain (take n bytes) → (n < length bytes → get_or bytes n 0 ≡ 0) → take n bytes ≡ take_while (λ x. not (nat_eq x 0)) bytes
+text_shown bytes n within plain there =
+    let each : (k : ℕ) → k < n → not (nat_eq (get_or bytes k 0) 0) ≡ true = λ k below.
+    let here = All-get_or IsPlain (take n bytes) k 0 (omega (arith, length-take-le n bytes within)) plain in
+    ap not (not_zero (get_or bytes k 0) (subst IsPlain (get_or-take n bytes k 0 below) here)) in
+    ap (λ k. take k bytes) (sym (prefix_len_is (λ x. not (nat_eq x 0)) bytes n 0 within each (λ inside. ap (λ x. not (nat_eq x 0)) (there inside))))

@@ -72,10 +72,6 @@ fn longer(length: usize) -> usize
     ensures long { LONG ≤ length → result ≤ length + length / 16 }
     ensures more { length ≤ result }
 {
-    let more = if length < LONG {
-        length
-    } else {
-        length / 16
-    };
+    let more = if length < LONG { length } else { length / 16 };
     length.saturating_add(more)
 }

@@ -1,8 +1,8 @@
-//! Short texts, sixteen bytes at once.
+//! Texts, sixteen bytes at once.
 
-ghost use Rattle.std.specs.Prelude.{◌≡◌, ℕ, ◌<◌, ◌+◌, ◌*◌, ◌≤◌, ◌++◌, ◌∷◌, [], Some, false, length, vec_len, take, map, position, nat_eq, nat_lt, IfOk, IfSome};
+ghost use Rattle.std.specs.Prelude.{◌≡◌, ℕ, ◌<◌, ◌+◌, ◌*◌, ◌≤◌, ◌++◌, ◌∷◌, [], Some, false, length, vec_len, take, map, not, position, nat_eq, nat_lt, IfOk, IfSome};
 ghost use Rattle.std.specs.Int.{bit_at};
-ghost use Rattle.std.specs.List.{All};
+ghost use Rattle.std.specs.List.{All, take_while};
 ghost use Rattle.std.specs.Simd.Lanes.{mask_l};
 ghost use Rattle.ctf_class.specs.Escapes.{shown_byte};
 ghost use Rattle.ctf_class.specs.Names.{label_text};
@@ -22,7 +22,8 @@ const WINDOW: usize = 16;
 #[inline(always)]
 pub fn count_short(bytes: &[u8], room: usize) -> Option<usize>
     ensures first { IfSome result (λ n. position (λ x. nat_eq x 0) bytes.now ≡ Some n) }
-    ensures plain { IfSome result (λ n. All (λ byte. shown_byte byte ≡ byte ∷ []) (take n bytes.now)) }
+    ensures plain { IfSome result (λ n.
+        All (λ byte. shown_byte byte ≡ byte ∷ []) (take n bytes.now)) }
     ensures few { IfSome result (λ n. n < WINDOW) }
     ensures window { IfSome result (λ _. WINDOW ≤ length bytes.now) }
     ensures room { IfSome result (λ _. WINDOW + 2 ≤ room) }
@@ -37,11 +38,13 @@ pub fn count_short(bytes: &[u8], room: usize) -> Option<usize>
     Some(count)
 }
 
-/// The same of sixteen to thirty-one bytes, by two windows.
+/// How many bytes stand before the first zero byte, if they are sixteen to thirty-one, each is shown as it is, two windows
+/// hold them, and so much room holds two windows in quotes.
 #[inline(always)]
 pub fn count_longer(bytes: &[u8], room: usize) -> Option<usize>
     ensures first { IfSome result (λ n. position (λ x. nat_eq x 0) bytes.now ≡ Some n) }
-    ensures plain { IfSome result (λ n. All (λ byte. shown_byte byte ≡ byte ∷ []) (take n bytes.now)) }
+    ensures plain { IfSome result (λ n.
+        All (λ byte. shown_byte byte ≡ byte ∷ []) (take n bytes.now)) }
     ensures few { IfSome result (λ n. n < 2 * WINDOW) }
     ensures many { IfSome result (λ n. WINDOW ≤ n) }
     ensures window { IfSome result (λ _. 2 * WINDOW ≤ length bytes.now) }
@@ -54,11 +57,12 @@ pub fn count_longer(bytes: &[u8], room: usize) -> Option<usize>
     Some(WINDOW + rest)
 }
 
-/// How many bytes stand before the first zero byte, if each of them is shown as it is and windows hold them.
+/// How many bytes stand before the first zero byte, if each of them is shown as it is, and there are sixteen bytes.
 #[inline(always)]
 pub fn count_long(bytes: &[u8]) -> Option<usize>
     ensures first { IfSome result (λ n. position (λ x. nat_eq x 0) bytes.now ≡ Some n) }
-    ensures plain { IfSome result (λ n. All (λ byte. shown_byte byte ≡ byte ∷ []) (take n bytes.now)) }
+    ensures plain { IfSome result (λ n.
+        All (λ byte. shown_byte byte ≡ byte ∷ []) (take n bytes.now)) }
     ensures within { IfSome result (λ n. n < length bytes.now) }
 {
     let count = count_all_plain(bytes);
@@ -68,7 +72,26 @@ pub fn count_long(bytes: &[u8]) -> Option<usize>
     Some(count)
 }
 
-/// How many bytes stand before the first one that may be escaped, or how many fill windows, where that is less.
+/// How many bytes stand before the first zero byte, or in all, if each of them is shown as it is, and there are sixteen.
+#[inline(always)]
+pub fn count_text(bytes: &[u8]) -> Option<usize>
+    ensures shown { let shown = take_while (λ x. not (nat_eq x 0)) bytes.now in
+        IfSome result (λ n. take n bytes.now ≡ shown) }
+    ensures plain { IfSome result (λ n.
+        All (λ byte. shown_byte byte ≡ byte ∷ []) (take n bytes.now)) }
+    ensures within { IfSome result (λ n. n ≤ length bytes.now) }
+{
+    let count = count_all_plain(bytes);
+    if count == bytes.len() {
+        return Some(count);
+    }
+    if bytes[count] != 0 {
+        return None;
+    }
+    Some(count)
+}
+
+/// How many bytes stand before the first one that may be escaped, where there are sixteen bytes or more.
 #[inline(always)]
 fn count_all_plain(bytes: &[u8]) -> usize
     ensures plain { All (λ byte. shown_byte byte ≡ byte ∷ []) (take result bytes.now) }
@@ -82,7 +105,11 @@ fn count_all_plain(bytes: &[u8]) -> usize
             return begin + count;
         }
     }
-    WINDOW * windows
+    if windows == 0 {
+        return 0;
+    }
+    let last = bytes.len() - WINDOW;
+    last + count_plain(&bytes[last..])
 }
 
 /// The index of the first zero byte.
@@ -113,7 +140,7 @@ fn count_without_zero(bytes: &[u8]) -> usize
 
 /// How many of sixteen bytes stand before the first one that may be escaped.
 #[inline(always)]
-fn count_plain(bytes: &[u8]) -> usize
+pub fn count_plain(bytes: &[u8]) -> usize
     requires { WINDOW ≤ length bytes.now }
     ensures plain { All (λ byte. shown_byte byte ≡ byte ∷ []) (take result bytes.now) }
     ensures bounded { result ≤ WINDOW }
@@ -157,7 +184,8 @@ pub fn put_short(bytes: &[u8], count: usize, buffer: &mut Vec<u8>, at: usize) ->
     requires few { count ≤ WINDOW }
     requires window { WINDOW ≤ length bytes.now }
     requires room { at + WINDOW + 2 ≤ vec_len buffer.old }
-    ensures text { take result buffer.new.items ≡ take at buffer.old.items ++ label_text (take count bytes.now) }
+    ensures text { let shown = take count bytes.now in
+        take result buffer.new.items ≡ take at buffer.old.items ++ label_text shown }
     ensures held { result ≤ vec_len buffer.new }
 {
     let line = buffer.as_mut_slice();
@@ -165,7 +193,8 @@ pub fn put_short(bytes: &[u8], count: usize, buffer: &mut Vec<u8>, at: usize) ->
     put_window(bytes, count, line, at + 1)
 }
 
-/// The same of sixteen to thirty-two bytes, by two windows: the second one is written over the quote behind the first.
+/// Writes the first sixteen to thirty-two of some bytes, which are shown as they are, in quotes at an index of a buffer that has
+/// room, and gives the index behind them. The second of two windows is written over the quote behind the first.
 #[inline(always)]
 pub fn put_longer(bytes: &[u8], count: usize, buffer: &mut Vec<u8>, at: usize) -> usize
     requires plain { All (λ byte. shown_byte byte ≡ byte ∷ []) (take count bytes.now) }
@@ -173,7 +202,8 @@ pub fn put_longer(bytes: &[u8], count: usize, buffer: &mut Vec<u8>, at: usize) -
     requires many { WINDOW ≤ count }
     requires window { 2 * WINDOW ≤ length bytes.now }
     requires room { at + 2 * WINDOW + 2 ≤ vec_len buffer.old }
-    ensures text { take result buffer.new.items ≡ take at buffer.old.items ++ label_text (take count bytes.now) }
+    ensures text { let shown = take count bytes.now in
+        take result buffer.new.items ≡ take at buffer.old.items ++ label_text shown }
     ensures held { result ≤ vec_len buffer.new }
 {
     let line = buffer.as_mut_slice();
@@ -195,8 +225,8 @@ pub fn put_long(
     requires plain { All (λ byte. shown_byte byte ≡ byte ∷ []) (take count bytes.now) }
     requires within { count ≤ length bytes.now }
     requires index { at ≤ vec_len buffer.old }
-    ensures text { let shown = take count bytes.now in
-        IfOk result (λ end. take end buffer.new.items ≡ take at buffer.old.items ++ label_text shown) }
+    ensures text { let shown = take count bytes.now in IfOk result (λ end.
+        take end buffer.new.items ≡ take at buffer.old.items ++ label_text shown) }
     ensures held { IfOk result (λ end. end ≤ vec_len buffer.new) }
 {
     with_room(count + 2, buffer, at)?;
