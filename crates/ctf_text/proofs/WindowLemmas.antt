@@ -5,7 +5,8 @@ use Rattle.std.proofs.lemmas.Bool.Decides.{nat_tests}
 use Rattle.std.proofs.lemmas.Iterator.Adapters.{position_from-zero}
 use Rattle.std.proofs.lemmas.List.{get_or-map, get_or-take, get_or-drop, take-take, take_all, take-append-le, length-drop, length-take-le, take_more_set}
 use Rattle.std.proofs.Math.Seq.{take-add, take-append-add}
-use Rattle.std.proofs.lemmas.List.Elements.{All-head, All-tail, All-append, All-from_get_or}
+use Rattle.std.proofs.lemmas.List.Elements.{All-head, All-tail, All-append, All-take, All-get_or, All-from_get_or}
+use Rattle.std.proofs.lemmas.List.Sums.{prefix_len_is}
 use Rattle.std.proofs.lemmas.List.Quantifiers.{position-Some}
 use Rattle.std.proofs.lemmas.Nat.Bits.{bit_at_or, bit_at-zero}
 use Rattle.std.proofs.lemmas.Simd.{bit_mask_l, length-put_chunk, take_more_put_chunk}
@@ -166,3 +167,69 @@ found false k n same = cc
 -- the bytes before the first zero byte
 pub before_first_zero : (bytes : List ℕ) (n : ℕ) → position (λ x. nat_eq x 0) bytes ≡ Some n → take_while (λ x. not (nat_eq x 0)) bytes ≡ take n bytes
 before_first_zero bytes n first = ap (λ k. take k bytes) (found _ (prefix_len (λ x. not (nat_eq x 0)) bytes) n first)
+
+-- ---- many windows
+
+-- one window more holds no zero byte
+abbrev pub NotZero : ℕ → Type 0
+NotZero byte = nat_eq byte 0 ≡ false
+
+pub window_more : (bytes window : List ℕ) (begin mask : ℕ) → begin + 16 ≤ length bytes → window ≡ take 16 (drop begin bytes) → mask ≡ mask_l (map (λ x. nat_eq x 0) window) → mask ≡ 0 → All NotZero (take begin bytes) → All NotZero (take (begin + 16) bytes)
+window_more bytes window begin mask within is marks none before =
+    let there : length window ≡ 16 = ap length is ∙ length-take-le 16 (drop begin bytes) (omega (arith, length-drop begin bytes)) in
+    let each : (k : ℕ) → k < length window → NotZero (get_or window k 0) = λ k inside.
+    not_marked (λ x. nat_eq x 0) window k inside (ap (λ m. bit_at m k) (sym marks ∙ none) ∙ bit_at-zero k) in
+    let here = subst (All NotZero) is (All-from_get_or NotZero window 0 each) in
+    subst (All NotZero) (sym (take-add begin 16 bytes)) (All-append NotZero (take begin bytes) (take 16 (drop begin bytes)) before here)
+
+-- a place, so many further
+abbrev pub further : ℕ → Option ℕ → Option ℕ
+further k None = None
+further k (Some n) = Some (k + n)
+
+cond_further : (b : Bool) (k n : ℕ) (r : Option ℕ) → cond b (Some (k + n)) (further k r) ≡ further k (cond b (Some n) r)
+cond_further true k n r = refl
+cond_further false k n r = refl
+
+place_further : (test : ℕ → Bool) (k from : ℕ) (bytes : List ℕ) → position_from test (k + from) bytes ≡ further k (position_from test from bytes)
+place_further test k from [] = refl
+place_further test k from (byte ∷ bytes) =
+    let next : k + from + 1 ≡ k + (from + 1) = omega arith in
+    let rest = ap (λ n. position_from test n bytes) next ∙ place_further test k (from + 1) bytes in
+    ap (λ r. cond (test byte) (Some (k + from)) r) rest ∙ cond_further (test byte) k from (position_from test (from + 1) bytes)
+
+none_before : (bytes : List ℕ) (k from : ℕ) → k ≤ length bytes → All NotZero (take k bytes) → position_from (λ x. nat_eq x 0) from bytes ≡ position_from (λ x. nat_eq x 0) (k + from) (drop k bytes)
+none_before bytes zero from within none =
+    let same : from ≡ 0 + from = omega arith in
+    ap (λ n. position_from (λ x. nat_eq x 0) n bytes) same
+none_before [] (suc k) from within none = absurd (omega arith)
+none_before (byte ∷ bytes) (suc k) from within none =
+    let here : nat_eq byte 0 ≡ false = All-head NotZero byte (take k bytes) none in
+    let next : k + (from + 1) ≡ suc k + from = omega arith in
+    ap (λ b. cond b (Some from) (position_from (λ x. nat_eq x 0) (from + 1) bytes)) here
+    ∙ (none_before bytes k (from + 1) (omega arith) (All-tail NotZero byte (take k bytes) none) ∙ ap (λ n. position_from (λ x. nat_eq x 0) n (drop k bytes)) next)
+
+-- the first zero byte is behind bytes that are none
+pub zero_behind : (bytes : List ℕ) (k : ℕ) (r : Option ℕ) → k ≤ length bytes → All NotZero (take k bytes) → r ≡ position (λ x. nat_eq x 0) (behind k bytes) → further k r ≡ position (λ x. nat_eq x 0) bytes
+zero_behind bytes k r within none found =
+    let test : ℕ → Bool = λ x. nat_eq x 0 in
+    let rest : r ≡ position_from test 0 (drop k bytes) = found ∙ ap (position test) (behind_is k bytes) ∙ position_from-zero test (drop k bytes) in
+    let begin : k + 0 ≡ k = omega arith in
+    ap (further k) rest ∙ sym (place_further test k 0 (drop k bytes)) ∙ sym (none_before bytes k 0 within none) ∙ sym (position_from-zero test bytes)
+
+-- some bytes are written behind a quote, and one behind them
+pub long_written : (bytes line mid : List ℕ) (at end : ℕ) → end ≡ at + length bytes → end < length mid → take end mid ≡ take at line ++ bytes → take (end + 1) (set mid end 34) ≡ take at line ++ (bytes ++ (34 ∷ []))
+long_written bytes line mid at end is within wrote =
+    take_more_set mid end 34 within ∙ ap (λ xs. xs ++ (34 ∷ [])) wrote ∙ append_assoc (take at line) bytes (34 ∷ [])
+
+-- fewer bytes that are shown as they are
+pub plain_fewer : (bytes : List ℕ) (k n : ℕ) → k ≤ n → All IsPlain (take n bytes) → All IsPlain (take k bytes)
+plain_fewer bytes k n fewer plain = subst (All IsPlain) (take-take k n bytes fewer) (All-take IsPlain k (take n bytes) plain)
+
+-- bytes that are shown as they are, up to the first zero byte or the end
+pub text_shown : (bytes : List ℕ) (n : ℕ) → n ≤ length bytes → All IsPlain (take n bytes) → (n < length bytes → get_or bytes n 0 ≡ 0) → take n bytes ≡ take_while (λ x. not (nat_eq x 0)) bytes
+text_shown bytes n within plain there =
+    let each : (k : ℕ) → k < n → not (nat_eq (get_or bytes k 0) 0) ≡ true = λ k below.
+    let here = All-get_or IsPlain (take n bytes) k 0 (omega (arith, length-take-le n bytes within)) plain in
+    ap not (not_zero (get_or bytes k 0) (subst IsPlain (get_or-take n bytes k 0 below) here)) in
+    ap (λ k. take k bytes) (sym (prefix_len_is (λ x. not (nat_eq x 0)) bytes n 0 within each (λ inside. ap (λ x. not (nat_eq x 0)) (there inside))))

@@ -59,7 +59,7 @@ fn glyphs(numbers: u8x16) -> u8x16
 
 /// Writes the bytes in lanes.
 #[inline(always)]
-fn put_lanes(lanes: u8x16, line: &mut [u8], at: usize)
+pub fn put_lanes(lanes: u8x16, line: &mut [u8], at: usize)
     requires { at + 16 ≤ length line.old }
     ensures { take (at + 16) line.new ≡ take at line.old ++ lanes }
 {

@@ -1,8 +1,11 @@
 //! Room in a line's buffer.
 
-ghost use Rattle.std.specs.Prelude.{◌≡◌, ◌+◌, ◌*◌, ◌^◌, ◌≤◌, take, vec_len, IfOk, IsTrue};
+ghost use Rattle.std.specs.Prelude.{◌≡◌, ◌+◌, ◌*◌, ◌/◌, ◌^◌, ◌<◌, ◌≤◌, take, vec_len, IfOk, IsTrue};
 
 use ctf_list::NoMemory;
+
+/// From how many bytes on a buffer is long.
+const LONG: usize = 1 << 20;
 
 /// Makes room for so many bytes at an index of a buffer. What stands before the index is kept; what stands
 /// behind it may be any bytes. It fails where memory is refused, and the buffer is then any buffer.
@@ -45,7 +48,7 @@ pub fn holds_text(count: usize, room: usize) -> bool
     count + 1 < room / 4
 }
 
-/// Makes room where the buffer is too short. It gets at least twice as long.
+/// Makes room where the buffer is too short.
 #[cold]
 #[inline(never)]
 fn grow(need: usize, buffer: &mut Vec<u8>, at: usize) -> Result<(), NoMemory>
@@ -56,7 +59,19 @@ fn grow(need: usize, buffer: &mut Vec<u8>, at: usize) -> Result<(), NoMemory>
     let Some(end) = at.checked_add(need) else {
         return Err(NoMemory);
     };
-    let length = end.max(buffer.len().saturating_mul(2));
+    let length = end.max(longer(buffer.len()));
+    buffer.reserve_exact(length.saturating_sub(buffer.len()))?;
     buffer.resize(length, 0)?;
     Ok(())
+}
+
+/// How long, in bytes, a buffer of this length gets at the least. A short one doubles, so that it rarely moves; one from
+/// 1 MiB on gets a sixteenth longer, so that little of its memory is unused.
+fn longer(length: usize) -> usize
+    ensures short { length < LONG → result ≤ 2 * length }
+    ensures long { LONG ≤ length → result ≤ length + length / 16 }
+    ensures more { length ≤ result }
+{
+    let more = if length < LONG { length } else { length / 16 };
+    length.saturating_add(more)
 }

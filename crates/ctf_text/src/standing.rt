@@ -1,6 +1,7 @@
 //! Texts of values where they stand, out of the packet's bits.
 
-ghost use Rattle.std.specs.Prelude.{ℕ, List, pos, ◌≡◌, true, false, ◌+◌, ◌*◌, ◌^◌, ◌++◌, ◌∷◌, ◌≤◌, ◌<◌, Some, length, nat_eq, position, take, vec_len, IfSome, IsTrue};
+ghost use Rattle.std.specs.Prelude.{ℕ, List, pos, ◌≡◌, true, false, ◌+◌, ◌*◌, ◌^◌, ◌++◌, ◌∷◌, ◌≤◌, ◌<◌, Some, length, nat_eq, not, position, take, vec_len, IfOk, IfSome, IsTrue};
+ghost use Rattle.std.specs.List.{take_while};
 ghost use Rattle.ctf_bits.specs.Number.{number, signed_number};
 ghost use Rattle.ctf_class.specs.Names.{label_text};
 ghost use Rattle.ctf_class.specs.declared.route.Length.TheVariants.{Fixed};
@@ -13,10 +14,13 @@ ghost use Rattle.ctf_text.specs.Texts as texts;
 use crate::content::Content;
 use crate::number::{LONGEST_NUMBER, put_signed_number, put_unsigned_number};
 use crate::text::put_quoted;
-use crate::window::{count_longer, count_short, put_longer, put_short};
+use crate::window::{
+    count_long, count_longer, count_short, count_text, first_zero, put_long, put_longer, put_short,
+};
 use ctf_bits::{is_unsigned, sint_within, uint_within, up};
 use ctf_class::{Align, Integer};
-use ctf_decode::{before_zero, bytes_at, bytes_from, zero_in};
+use ctf_decode::{bytes_at, bytes_from};
+use ctf_list::NoMemory;
 
 /// Where a structure ends whose text was written.
 #[derive(Clone, Copy)]
@@ -92,10 +96,15 @@ pub(crate) fn put_integer(
 ) -> Option<IntegerEnds>
     requires start { place ≤ packet.now.end }
     requires room { at + LONGEST_NUMBER ≤ length line.old }
-    ensures puts { IfSome result (λ e. PutsOne (forms.integer align integer.now) (texts.integer_text integer.now) packet.now.bytes.now packet.now.end place e.place (take at line.old) (take e.text line.new)) }
+    ensures puts { let content = packet.now in let form = forms.integer align integer.now in
+        let shown = texts.integer_text integer.now in let before = take at line.old in
+        IfSome result (λ e. PutsOne form shown content.bytes.now content.end place e.place
+        before (take e.text line.new)) }
     ensures within { IfSome result (λ e. e.place ≤ packet.now.end) }
     ensures near { IfSome result (λ e. e.text ≤ at + LONGEST_NUMBER) }
-    ensures number { IfSome result (λ e. integer.now.is_signed ≡ false → StandsAsNumber (forms.integer align integer.now) packet.now.bytes.now packet.now.end place e.bits) }
+    ensures number { let content = packet.now in let form = forms.integer align integer.now in
+        IfSome result (λ e. integer.now.is_signed ≡ false →
+        StandsAsNumber form content.bytes.now content.end place e.bits) }
 {
     let size = integer.size.bits();
     let begin = align.up(place);
@@ -124,8 +133,9 @@ pub(crate) fn put_integer(
 fn is_negative(integer: &Integer, bits: u64) -> bool
     requires { bits < 2 ^ bits_of integer.now }
     ensures signed { IsTrue result → integer.now.is_signed ≡ true }
-    ensures plain { result ≡ false → integer.now.is_signed ≡ true → (bytes : List ℕ) (p : ℕ) → bits ≡ number integer.now.order bytes p (bits_of integer.now)
-        → signed_number integer.now.order bytes p (bits_of integer.now) ≡ pos bits }
+    ensures plain { let i = integer.now in let size = bits_of i in
+        result ≡ false → i.is_signed ≡ true → (bytes : List ℕ) (p : ℕ) →
+        bits ≡ number i.order bytes p size → signed_number i.order bytes p size ≡ pos bits }
 {
     integer.is_signed & !is_unsigned(bits, integer.size.bits())
 }
@@ -151,7 +161,9 @@ pub(crate) fn put_string(
 ) -> Option<Ends>
     requires start { place ≤ packet.now.end }
     requires index { at ≤ vec_len buffer.old }
-    ensures puts { IfSome result (λ e. (a : ℕ) → PutsOne (forms.string a) texts.string_text packet.now.bytes.now packet.now.end place e.place (take at buffer.old.items) (take e.text buffer.new.items)) }
+    ensures puts { let content = packet.now in let before = take at buffer.old.items in
+        IfSome result (λ e. (a : ℕ) → PutsOne (forms.string a) texts.string_text
+        content.bytes.now content.end place e.place before (take e.text buffer.new.items)) }
     ensures within { IfSome result (λ e. e.place ≤ packet.now.end) }
     ensures held { IfSome result (λ e. e.text ≤ vec_len buffer.new) }
 {
@@ -174,7 +186,10 @@ pub(crate) fn put_string(
 fn put_longer_string(bytes: &[u8], begin: u64, buffer: &mut Vec<u8>, at: usize) -> Option<Ends>
     requires bounded { begin + 8 * length bytes.now ≤ 2 ^ 62 }
     requires index { at ≤ vec_len buffer.old }
-    ensures puts { IfSome result (λ e. (n : ℕ) × (position (λ x. nat_eq x 0) bytes.now ≡ Some n) × (e.place ≡ begin + 8 * (n + 1)) × (take e.text buffer.new.items ≡ take at buffer.old.items ++ label_text (take n bytes.now))) }
+    ensures puts { let before = take at buffer.old.items in IfSome result (λ e.
+        (n : ℕ) × (position (λ x. nat_eq x 0) bytes.now ≡ Some n) ×
+        (e.place ≡ begin + 8 * (n + 1)) ×
+        (take e.text buffer.new.items ≡ before ++ label_text (take n bytes.now))) }
     ensures within { IfSome result (λ e. e.place ≤ begin + 8 * length bytes.now) }
     ensures held { IfSome result (λ e. e.text ≤ vec_len buffer.new) }
 {
@@ -183,7 +198,29 @@ fn put_longer_string(bytes: &[u8], begin: u64, buffer: &mut Vec<u8>, at: usize) 
         let text = put_longer(bytes, count, buffer, at);
         return Some(Ends { place, text });
     }
-    let count = zero_in(bytes)?;
+    put_long_string(bytes, begin, buffer, at)
+}
+
+/// Writes the string of any length that these bytes, which begin at this place, begin with. Mostly nothing of it is escaped.
+#[inline(never)]
+fn put_long_string(bytes: &[u8], begin: u64, buffer: &mut Vec<u8>, at: usize) -> Option<Ends>
+    requires bounded { begin + 8 * length bytes.now ≤ 2 ^ 62 }
+    requires index { at ≤ vec_len buffer.old }
+    ensures puts { let before = take at buffer.old.items in IfSome result (λ e.
+        (n : ℕ) × (position (λ x. nat_eq x 0) bytes.now ≡ Some n) ×
+        (e.place ≡ begin + 8 * (n + 1)) ×
+        (take e.text buffer.new.items ≡ before ++ label_text (take n bytes.now))) }
+    ensures within { IfSome result (λ e. e.place ≤ begin + 8 * length bytes.now) }
+    ensures held { IfSome result (λ e. e.text ≤ vec_len buffer.new) }
+{
+    if let Some(count) = count_long(bytes) {
+        let place = begin + 8 * (count as u64 + 1);
+        let Ok(text) = put_long(bytes, count, buffer, at) else {
+            return None;
+        };
+        return Some(Ends { place, text });
+    }
+    let count = first_zero(bytes)?;
     let Ok(text) = put_quoted(&bytes[..count], buffer, at) else {
         return None;
     };
@@ -204,7 +241,9 @@ pub(crate) fn put_fixed_text(
 ) -> Option<Ends>
     requires start { place ≤ packet.now.end }
     requires index { at ≤ vec_len buffer.old }
-    ensures puts { IfSome result (λ e. (a : ℕ) → PutsOne (forms.text a (Fixed count)) texts.string_text packet.now.bytes.now packet.now.end place e.place (take at buffer.old.items) (take e.text buffer.new.items)) }
+    ensures puts { let content = packet.now in let before = take at buffer.old.items in
+        IfSome result (λ e. (a : ℕ) → PutsOne (forms.text a (Fixed count)) texts.string_text
+        content.bytes.now content.end place e.place before (take e.text buffer.new.items)) }
     ensures within { IfSome result (λ e. e.place ≤ packet.now.end) }
     ensures held { IfSome result (λ e. e.text ≤ vec_len buffer.new) }
 {
@@ -222,12 +261,39 @@ pub(crate) fn put_fixed_text(
             text: put_short(bytes, short, buffer, at),
         });
     }
-    let bytes = before_zero(bytes);
-    let Ok(text) = put_quoted(bytes, buffer, at) else {
+    let Ok(text) = put_longer_text(bytes, buffer, at) else {
         return None;
     };
     Some(Ends {
         place: begin + 8 * count,
         text,
     })
+}
+
+/// Writes the bytes before the first zero byte, or all of them, and gives the index behind their text. What stands before
+/// the index is kept. At an error the buffer is any buffer.
+#[inline(never)]
+fn put_longer_text(bytes: &[u8], buffer: &mut Vec<u8>, at: usize) -> Result<usize, NoMemory>
+    requires { at ≤ vec_len buffer.old }
+    ensures text { let shown = take_while (λ x. not (nat_eq x 0)) bytes.now in IfOk result (λ end.
+        take end buffer.new.items ≡ take at buffer.old.items ++ label_text shown) }
+    ensures held { IfOk result (λ end. end ≤ vec_len buffer.new) }
+{
+    if let Some(count) = count_longer(bytes, buffer.len() - at) {
+        return Ok(put_longer(bytes, count, buffer, at));
+    }
+    match count_text(bytes) {
+        Some(count) => put_long(bytes, count, buffer, at),
+        None => put_quoted(up_to_zero(bytes), buffer, at),
+    }
+}
+
+/// The bytes before the first zero byte, or all of them.
+fn up_to_zero(bytes: &[u8]) -> &[u8]
+    ensures { result.now ≡ take_while (λ x. not (nat_eq x 0)) bytes.now }
+{
+    match first_zero(bytes) {
+        Some(count) => &bytes[..count],
+        None => bytes,
+    }
 }

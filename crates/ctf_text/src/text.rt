@@ -7,13 +7,15 @@ ghost use Rattle.ctf_class.specs.Names.{label_text};
 
 use crate::mark::{put_both_ends, put_bytes};
 use crate::room::{holds_text, with_room_for_text};
+use crate::window::count_plain;
 use ctf_list::NoMemory;
 
 /// Writes a text, escaped and in quotes, at an index of a buffer, and gives the index behind it. What stands
-/// before the index is kept. At an error the buffer is any buffer.
+/// before the index is kept. It fails where memory is refused, and the buffer is then any buffer.
 pub fn put_quoted(bytes: &[u8], buffer: &mut Vec<u8>, at: usize) -> Result<usize, NoMemory>
     requires { at ≤ vec_len buffer.old }
-    ensures text { IfOk result (λ end. take end buffer.new.items ≡ take at buffer.old.items ++ label_text bytes.now) }
+    ensures text { IfOk result (λ end.
+        take end buffer.new.items ≡ take at buffer.old.items ++ label_text bytes.now) }
     ensures held { IfOk result (λ end. end ≤ vec_len buffer.new) }
 {
     if holds_text(bytes.len(), buffer.len() - at) {
@@ -22,19 +24,21 @@ pub fn put_quoted(bytes: &[u8], buffer: &mut Vec<u8>, at: usize) -> Result<usize
     put_with_room(bytes, buffer, at)
 }
 
-/// The same where the buffer may be too short. It is rare, and so it takes no part in what else is written.
+/// Writes a text, escaped and in quotes, where the buffer may be too short. It is rare, and so it takes no part in what
+/// else is written.
 #[cold]
 #[inline(never)]
 fn put_with_room(bytes: &[u8], buffer: &mut Vec<u8>, at: usize) -> Result<usize, NoMemory>
     requires { at ≤ vec_len buffer.old }
-    ensures text { IfOk result (λ end. take end buffer.new.items ≡ take at buffer.old.items ++ label_text bytes.now) }
+    ensures text { IfOk result (λ end.
+        take end buffer.new.items ≡ take at buffer.old.items ++ label_text bytes.now) }
     ensures held { IfOk result (λ end. end ≤ vec_len buffer.new) }
 {
     with_room_for_text(bytes.len(), buffer, at)?;
     Ok(put_in_quotes(bytes, buffer.as_mut_slice(), at))
 }
 
-/// The same in a line that has room for it.
+/// Writes a text, escaped and in quotes, at an index of a line that has room for it.
 #[inline(always)]
 fn put_in_quotes(bytes: &[u8], line: &mut [u8], at: usize) -> usize
     requires { at + 4 * length bytes.now + 8 ≤ length line.old }
@@ -64,7 +68,7 @@ fn put_escaped(bytes: &[u8], line: &mut [u8], at: usize) -> usize
     put_short(bytes, line, at)
 }
 
-/// The same of a long text.
+/// Writes a long text, escaped, by steps.
 #[inline(never)]
 fn put_long(bytes: &[u8], line: &mut [u8], at: usize) -> usize
     requires { at + 4 * length bytes.now ≤ length line.old }
@@ -79,7 +83,7 @@ fn put_long(bytes: &[u8], line: &mut [u8], at: usize) -> usize
     put_short(&bytes[STEP * steps..], line, to)
 }
 
-/// The same of so many bytes as are written at once.
+/// Writes the bytes of a step, escaped.
 #[inline(always)]
 fn put_step(bytes: &[u8], line: &mut [u8], at: usize) -> usize
     requires whole { length bytes.now ≡ STEP }
@@ -87,13 +91,13 @@ fn put_step(bytes: &[u8], line: &mut [u8], at: usize) -> usize
     ensures text { take result line.new ≡ take at line.old ++ escaped bytes.now }
     ensures near { result ≤ at + 4 * STEP }
 {
-    if !are_plain(bytes) {
+    if count_plain(bytes) < STEP {
         return put_each(bytes, line, at);
     }
     put_bytes(bytes, line, at)
 }
 
-/// The same of a text of up to two steps.
+/// Writes a text of up to two steps, escaped.
 #[inline(always)]
 fn put_short(bytes: &[u8], line: &mut [u8], at: usize) -> usize
     requires few { length bytes.now ≤ 2 * STEP }
@@ -109,9 +113,9 @@ fn put_short(bytes: &[u8], line: &mut [u8], at: usize) -> usize
     }
 }
 
-/// The same of a text that its first and its last so many bytes cover. Both are written at once: what stands
-/// in both of them is written twice. It is not inlined, since looking at several bytes in one step is lost
-/// where it is merged for several counts.
+/// Writes a text, escaped, that its first and its last so many bytes cover. Both are written at once: what stands in
+/// both of them is written twice. It is not inlined, since looking at several bytes in one step is lost where it is
+/// merged for several counts.
 #[inline(never)]
 fn put_ends<const COUNT: usize>(bytes: &[u8], line: &mut [u8], at: usize) -> usize
     requires enough { COUNT ≤ length bytes.now }
@@ -142,7 +146,7 @@ fn are_plain(bytes: &[u8]) -> bool
     plain
 }
 
-/// The same byte by byte.
+/// Writes a text, escaped, byte by byte.
 #[inline(never)]
 fn put_each(bytes: &[u8], line: &mut [u8], at: usize) -> usize
     requires { at + 4 * length bytes.now ≤ length line.old }
@@ -156,7 +160,7 @@ fn put_each(bytes: &[u8], line: &mut [u8], at: usize) -> usize
     to
 }
 
-/// The same of one byte.
+/// Writes a byte, escaped where it must be.
 #[inline(always)]
 fn put_byte(byte: u8, line: &mut [u8], at: usize) -> usize
     requires { at + 4 ≤ length line.old }
@@ -179,7 +183,7 @@ fn is_plain(byte: u8) -> bool
     (byte >= 0x20) & (byte != b'"') & (byte != b'\\') & (byte != 0x7F)
 }
 
-/// The same of a byte that may be escaped.
+/// Writes a byte that mostly is escaped.
 #[tactic(auto, unfolding(ctf_class::specs::Escapes::shown_byte))]
 fn put_escape(byte: u8, line: &mut [u8], at: usize) -> usize
     requires { at + 4 ≤ length line.old }
@@ -214,7 +218,8 @@ fn put_pair(letter: u8, line: &mut [u8], at: usize) -> usize
 /// Writes `\x` and the two digits of a byte.
 fn put_number(byte: u8, line: &mut [u8], at: usize) -> usize
     requires { at + 4 ≤ length line.old }
-    ensures text { take result line.new ≡ take at line.old ++ (92 ∷ 120 ∷ hex_digit (byte / 16) ∷ hex_digit (byte % 16) ∷ []) }
+    ensures text { take result line.new ≡ take at line.old ++
+        (92 ∷ 120 ∷ hex_digit (byte / 16) ∷ hex_digit (byte % 16) ∷ []) }
     ensures near { result ≤ at + 4 }
 {
     line[at] = b'\\';

@@ -11,8 +11,8 @@ returns-clause-puts c a =
     let content = c.args.packet.now.end in
     let n = c.args.count in
     let before = take c.args.at c.args.buffer.now.items in
-    let after = take c.in-Ok.text c.put_quoted.new.buffer.items in
-    let bytes = c.before_zero-bytes.ensures ∙ ap (take_while (λ x. not (nat_eq x 0))) (c.bytes_at-bytes.ensures ∙ ap (λ m. take n (drop (m / 8) packet)) c.up-begin.ensures.value) in
+    let after = take c.in-Ok.text c.put_longer_text.new.buffer.items in
+    let bytes = ap (take_while (λ x. not (nat_eq x 0))) (c.bytes_at-bytes.ensures ∙ ap (λ m. take n (drop (m / 8) packet)) c.up-begin.ensures.value) in
     puts_text packet content c.args.place (c.up-begin.result + 8 * n) n before after (ap (λ m. m + 8 * n) c.up-begin.ensures.value) (grind (arith, c.if-count-packet.false, c.if-begin-packet.false))
     (c.in-Ok.ensures.text ∙ ap (λ xs. before ++ label_text xs) bytes) a
 
