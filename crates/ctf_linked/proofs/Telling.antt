@@ -41,40 +41,24 @@ record Keeps (shape : Shape) (c : Class) : Type 0 where
 abbrev told : Class → Told Class
 told c = Ok c
 
-abbrev gives : {A : Type 0} → A → Told A
-gives a = Ok a
-
-abbrev given_or : {A : Type 0} → A → Told A → A
-given_or other (Ok a) = a
-given_or other (Err fault) = other
-
-same_made : {A : Type 0} (a b : A) → gives a ≡ gives b → a ≡ b
-same_made a b e = ap (given_or a) e
-
-abbrev failed : {A : Type 0} → ResolveFault → Told A
-failed fault = Err fault
-
-not_made : {A : Type 0} (fault : ResolveFault) (a : A) → failed fault ≡ gives a → ⊥
-not_made fault a e = cc
-
 keeps_made : (shape : Shape) (what : Kind) (c : Class) → told (class_by shape what) ≡ told c → Keeps shape c
 keeps_made shape what c e =
-    let same : class_by shape what ≡ c = same_made (class_by shape what) c e in
+    let same : class_by shape what ≡ c = cc in
     record { align = sym (ap (λ (x : Class). x.align) same); depth = sym (ap (λ (x : Class). x.depth) same); nodes = sym (ap (λ (x : Class). x.nodes) same) }
 
 keeps_bind : {A : Type 0} (shape : Shape) (c : Class) (told : Told A) (f : A → Told Class) → ((a : A) → f a ≡ Ok c → Keeps shape c) → (told >>= f) ≡ Ok c → Keeps shape c
 keeps_bind shape c (Ok a) f h e = h a e
-keeps_bind shape c (Err fault) f h e = absurd (not_made fault c e)
+keeps_bind shape c (Err fault) f h e = absurd (cc)
 
 keeps_unless : (shape : Shape) (c : Class) (faults : List ResolveFault) (told : Told Class) → (told ≡ Ok c → Keeps shape c) → unless faults told ≡ Ok c → Keeps shape c
 keeps_unless shape c [] told h e = h e
-keeps_unless shape c (fault ∷ more) told h e = absurd (not_made fault c e)
+keeps_unless shape c (fault ∷ more) told h e = absurd (cc)
 
 -- The trace's order and clocks.
 module _ (order : Order) (clocks : List Clock) where
   keeps : (spot : Spot) (shape : Shape) (c : Class) → class_told order clocks spot shape ≡ Ok c → Keeps shape c
   keeps spot (integer i) c e = keeps_unless (integer i) c (mapping_faults clocks (spot, integer i)) _ (λ h. keeps_made (integer i) _ c h) e
-  keeps spot float c e = absurd (not_made _ c e)
+  keeps spot float c e = absurd (cc)
   keeps spot string c e = keeps_made string kind.String c e
   keeps spot (enum i labels) c e = keeps_unless (enum i labels) c (mapping_faults clocks (spot, enum i labels)) _ (λ h. keeps_made (enum i labels) _ c h) e
   keeps spot (struct align members) c e =
@@ -110,7 +94,7 @@ module _ (order : Order) (clocks : List Clock) where
 -- what leads to a value
 bind_ok : {A B : Type 0} (t : Told A) (f : A → Told B) (b : B) → (t >>= f) ≡ Ok b → (a : A) × (t ≡ Ok a) × (f a ≡ Ok b)
 bind_ok (Ok a) f b e = (a, refl, e)
-bind_ok (Err fault) f b e = absurd (not_made fault b e)
+bind_ok (Err fault) f b e = absurd (cc)
 
 -- what members keep of their shapes, all together
 record Sums (ms : Members) (made : List Member) : Type 0 where
@@ -127,10 +111,10 @@ abbrev a_member : Member → Told Member
 a_member m = Ok m
 
 same_members : (a b : List Member) → some_members a ≡ some_members b → a ≡ b
-same_members a b e = same_made a b e
+same_members a b e = cc
 
 same_member : (a b : Member) → a_member a ≡ a_member b → a ≡ b
-same_member a b e = same_made a b e
+same_member a b e = cc
 
 sums_kept : (at : List Field → Field → Told Member) → KeptAt at → (earlier : List Field) (ms : Members) (made : List Member) → each_told at earlier (fields_in ms) ≡ Ok made → Sums ms made
 sums_kept at kept earlier no_member made e =

@@ -8,20 +8,18 @@ use Rattle.std.proofs.lemmas.List.Folds.{list_any-append}
 use Rattle.std.proofs.lemmas.Option.{slice_get_within, slice_get-map}
 use Rattle.tsdl_tree.specs.declared.tree.BlockKind.TheVariants.{Trace, Stream as StreamKind, Event}
 use Rattle.ctf_bits.specs.declared.number.Order.{Order}
-use Rattle.ctf_class.specs.declared.class.Class.{Class}
 use Rattle.ctf_class.specs.declared.route.Scope.TheVariants.{EventContext, EventFields}
 use Rattle.ctf_class.specs.declared.trace.EventClass.{EventClass}
 use Rattle.ctf_meaning.specs.declared.fault.ResolveFault.{ResolveFault}
 use Rattle.ctf_meaning.specs.declared.fault.ResolveFault.TheVariants.{NoMemory, Attribute, Twice}
-use Rattle.ctf_meaning.specs.Name.{Word}
 use Rattle.ctf_meaning.specs.Written.{BlockEntry, Declaration, Block, Table, Names}
-use Rattle.ctf_meaning.specs.There.{first, ◌>>=◌}
+use Rattle.ctf_meaning.specs.There.{first}
 use Rattle.ctf_meaning.specs.Settings.{when, text_of}
 use Rattle.ctf_meaning.specs.Blocks.{value_at, id_of}
 use Rattle.ctf_meaning.specs.Scopes.{Home}
 use Rattle.ctf_meaning.specs.Streams.{Stream, streams, stream_of, is_event, trace_of, home_of_event}
 use Rattle.ctf_meaning.specs.Faults.{scope_links, event_links, link_faults}
-use Rattle.ctf_meaning.specs.Denotes.{scope_class, host_of}
+use Rattle.ctf_meaning.specs.Denotes.{scope_class}
 use Rattle.ctf_attributes.specs.declared.event.Event.{Event as Settings}
 use Rattle.ctf_attributes.specs.Settled.{IsEvent}
 use Rattle.ctf_types.specs.declared.ids.Ids.{Ids}
@@ -35,18 +33,13 @@ use Rattle.ctf_types.proofs.Found.{place_is}
 use Rattle.ctf_types.proofs.Heads.{none_of}
 use Rattle.ctf_meaning.proofs.Lists.{some_same}
 
--- what is made of four values that are there
-made_of : {A B C D E : Type 0} (o : Option A) (p : Option B) (q : Option C) (r : Option D) (f : A → B → C → D → E) (a : A) (b : B) (c : C) (d : D) →
-    o ≡ Some a → p ≡ Some b → q ≡ Some c → r ≡ Some d → (o >>= λ w. p >>= λ x. q >>= λ y. r >>= λ z. Some (f w x y z)) ≡ Some (f a b c d)
-made_of o p q r f a b c d is-a is-b is-c is-d = λ j. is-a j >>= λ w. is-b j >>= λ x. is-c j >>= λ y. is-d j >>= λ z. Some (f w x y z)
-
-abbrev event_by : Option Word → ℕ → Word → Option Class → Class → EventClass
-event_by host id name context fields = record { id = id; heading = record { host = host; name = name }; context = context; fields = fields }
+then_is : {A B : Type 0} (f : A → Option B) (o : Option A) (a : A) → o ≡ Some a → option_and_then f o ≡ f a
+then_is f o a e = ap (option_and_then f) e
 
 -- settings in which nothing is wrong tell no fault
 pub no_fault : {R : Type 0} (faults : List ResolveFault) (f : ResolveFault) → faults ≡ [] → (f ≡ NoMemory) ⊎ (first faults ≡ Some f) → (f ≡ NoMemory) ⊎ R
 no_fault faults f none (inl refused) = inl refused
-no_fault faults f none (inr told) = absurd (let e : first [] ≡ Some f = sym (ap first none) ∙ told in cc)
+no_fault faults f none (inr told) = absurd (grind (arith, ap first none, told))
 
 -- the stream that the settings say
 pub said : (text : List Declaration) (es : List BlockEntry) (event : Settings) (ss : List StreamAt) (r : Option Stream) → IsEvent es event → map stream_at ss ≡ streams text →
@@ -54,7 +47,7 @@ pub said : (text : List Declaration) (es : List BlockEntry) (event : Settings) (
 said text es event ss r is all e = sym (e ∙ (λ j. stream_said (all j) (is.stream_id j)))
 
 take_next : {X : Type 0} (xs : List X) (k : ℕ) (x : X) → slice_get xs k ≡ Some x → take (k + 1) xs ≡ take k xs ++ x ∷ []
-take_next [] k x e = absurd cc
+take_next [] k x e = absurd (grind (arith, e))
 take_next (y ∷ ys) zero x e = ap (λ z. z ∷ []) (some_same y x e)
 take_next (y ∷ ys) (suc k) x e =
     let one : suc k + 1 ≡ suc (k + 1) = omega arith in
@@ -108,9 +101,10 @@ module _ (text : List Declaration) (k : ℕ) (es : List BlockEntry) where
               s = stream_at st;
               stream = stream;
               stands = stands;
-              made = made_of (id_of es) (value_at es (codes "name") >>= text_of) (scope_class text order (home_of_event text k es) EventContext)
-                  (scope_class text order (home_of_event text k es) EventFields >>= λ c. c)
-                  (event_by (host_of text)) event.id event.name e.context e.fields is.id is.name here.context (ap (λ o. o >>= λ c. c) here.fields)
+              made = then_is _ (id_of es) event.id is.id
+                  ∙ then_is _ (option_and_then text_of (value_at es (codes "name"))) event.name is.name
+                  ∙ then_is _ (scope_class text order (home_of_event text k es) EventContext) e.context here.context
+                  ∙ then_is _ (option_and_then (λ c. c) (scope_class text order (home_of_event text k es) EventFields)) e.fields (ap (option_and_then (λ c. c)) here.fields)
                   ∙ (λ i. Some (record { id = sym here.ids i; heading = sym here.heading i; context = e.context; fields = e.fields }));
             },
           );
