@@ -4,7 +4,7 @@ use Rattle.std.specs.Result.{IsErr, IsErrAnd}
 use mathlib.Core.Bool.{true≢false}
 use Rattle.ctf_meaning.specs.declared.fault.ResolveFault.{ResolveFault}
 use Rattle.ctf_meaning.specs.There.{first}
-use Rattle.ctf_attributes.specs.Tells.{Tells}
+use Rattle.ctf_attributes.specs.Tells.{Tells, TellsFirst}
 
 there : Option ResolveFault → Bool
 there None = false
@@ -38,3 +38,8 @@ first-of-two z a b f clean h = ap (λ x. first (x ++ a ++ b)) clean ∙ h
 pub handed : {V : Type 0} (faults : List ResolveFault) (P : V → Type 0) (r : Result V ResolveFault) (f : ResolveFault) → IsErr r × IsErrAnd r (λ e. e ≡ f) → first faults ≡ Some f → Tells faults P r
 handed faults P (Ok v) f h k = absurd h.1
 handed faults P (Err e) f h k = inr (k ∙ ap (λ x. Some x) (sym h.1))
+
+-- what is told behind other faults, of which there is none
+pub tells-behind : {V : Type 0} (xs ys : List ResolveFault) (P : V → Type 0) (r : Result V ResolveFault) → xs ≡ [] → TellsFirst ys P r → Tells (xs ++ ys) P r
+tells-behind xs ys P (Ok v) clean h = (both xs ys clean h.0, h.1)
+tells-behind xs ys P (Err f) clean h = inr (after xs ys f clean h)
