@@ -68,3 +68,9 @@ returns-in-Err-clause-quiet g c = rw (← c.self.view_is) (λ tells open_ quiet.
     let setting : Setting = record { trim = inside.trim; style = inside.printer.style; traces = inside.traces.items; names = names_of inside.merge.readers } in
     absurd (not_quiet setting (left_by (ended_by inside.ended) (coming_of inside.merge)) (coming_of inside.merge) _ is.rest (open_coming _ _ open_) (is.coming tells.sources)
     (sym (c.in-Within.ensures ∙ ap (verdict_of c.self.inside.trim) (c.front_time.ensures is.next is.first))) quiet))
+
+pub returns-in-After-clause-room : goal.returns-in-After-clause-room
+returns-in-After-clause-room g c = rw (← c.self.view_is) refl
+
+pub returns-in-After-clause-readers : goal.returns-in-After-clause-readers
+returns-in-After-clause-readers g c = rw (← c.self.view_is) refl
