@@ -1,6 +1,6 @@
 //! Classes around others.
 
-ghost use Rattle.std.specs.Prelude.{◌≡◌, IfOk};
+ghost use Rattle.std.specs.Prelude.{◌≡◌, ◌+◌, IfOk};
 ghost use Rattle.ctf_class.specs.declared.class.Kind.TheVariants as kind;
 ghost use Rattle.ctf_meaning.specs.Shapes.{fields_in};
 ghost use Rattle.ctf_meaning.specs.Links as links;
@@ -36,12 +36,23 @@ fn sums_of(members: &[Member]) -> Result<Sums, NoMemory>
     Ok(Sums { depth, nodes })
 }
 
+impl Sums {
+    /// The sums with a class around. More than 2^32 - 1 are refused, since no memory holds so many.
+    fn outward(self) -> Result<Sums, NoMemory>
+        ensures depth { IfOk result (λ sums. sums.depth ≡ 1 + self.depth) }
+        ensures nodes { IfOk result (λ sums. sums.nodes ≡ 1 + self.nodes) }
+    {
+        let depth = self.depth.checked_add(1).ok_or(NoMemory)?;
+        let nodes = self.nodes.checked_add(1).ok_or(NoMemory)?;
+        Ok(Sums { depth, nodes })
+    }
+}
+
 /// A class around others.
 fn around(align: Align, sums: Sums, kind: Kind) -> Result<Class, NoMemory>
     ensures { IfOk result (λ class. class ≡ class_around align sums.depth sums.nodes kind) }
 {
-    let depth = sums.depth.checked_add(1).ok_or(NoMemory)?;
-    let nodes = sums.nodes.checked_add(1).ok_or(NoMemory)?;
+    let Sums { depth, nodes } = sums.outward()?;
     Ok(Class {
         align,
         depth,

@@ -67,9 +67,9 @@ impl<'a> Text<'a> {
             (IsEventOf text self.now.order (home_by home.now) event.id event.name)
             (λ f. (f ≡ fault.NoMemory) ⊎ Contains (scope_links text (home_by home.now) kind.Event) f) }
     {
+        let heading = Heading::new(alloc, copied(alloc, self.host)?, event.name)?;
         let context = self.class(alloc, home, Scope::EventContext)?;
         let fields = self.class(alloc, home, Scope::EventFields)?;
-        let heading = Heading::new(alloc, copied(alloc, self.host)?, event.name)?;
         match fields {
             Some(fields) => Ok(EventClass {
                 id: event.id,

@@ -64,10 +64,10 @@ impl<'a> Text<'a> {
             stream: Some(number),
             event: None,
         };
+        let moved = self.moved_clock(alloc, number)?;
         let packet_context = self.class(alloc, &home, Scope::PacketContext)?;
         let event_header = self.class(alloc, &home, Scope::EventHeader)?;
         let event_context = self.class(alloc, &home, Scope::StreamEventContext)?;
-        let moved = self.moved_clock(alloc, number)?;
         Ok(Head {
             id,
             packet_context,

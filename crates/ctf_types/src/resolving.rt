@@ -52,10 +52,10 @@ fn resolve_walked(
     requires walked { IsWalked text (map (map placed_seen) rows.now) }
     ensures { Resolves text result }
 {
+    let trace = trace(alloc, declarations)?;
     let streams = Indexed::new(alloc, streams(alloc, declarations)?)?;
     let clocks = clocks(alloc, declarations)?;
     let clocks = Clocks::new(alloc, clocks.as_slice())?;
-    let trace = trace(alloc, declarations)?;
     let host = host(declarations);
     let text = Text {
         rows,
@@ -113,8 +113,8 @@ fn finished(
     Ok(TraceClass {
         uuid: trace.settings.uuid,
         host: copied(alloc, host)?,
-        packet_header: header_of(parts.headers),
         streams: Indexed::new(alloc, streams)?,
+        packet_header: header_of(parts.headers),
     })
 }
 

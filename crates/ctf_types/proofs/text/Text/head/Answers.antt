@@ -4,7 +4,7 @@ use Rattle.ctf_types.proofs.text.Text.head.Goals as goal
 
 pub returns-in_err-packet_context : goal.returns-in_err-packet_context
 returns-in_err-packet_context g c =
-    let p = err_from_is_err_and c.from_residual.result c.from_residual.ensures.1 in rw (p.1, p.2)
+    let p = err_from_is_err_and c.from_residual-in_err-packet_context.result c.from_residual-in_err-packet_context.ensures.1 in rw (p.1, p.2)
     (widened c.in_err-packet_context.field-0.0 (context_fails g.text c.args.self.now.order c.args.number c.args.self.now.trace c.requires.trace c.in_err-packet_context.field-0.0) c.in_err-packet_context.ensures)
 
 pub returns-in_err-event_header : goal.returns-in_err-event_header
