@@ -1,10 +1,11 @@
 -- The first of faults in a row.
-use Rattle.std.proofs.Common.{◌≡◌, Bool, true, false, List, [], ◌∷◌, ◌++◌, Option, Some, None, Result, Ok, Err, inr, sym, ap, ◌∙◌}
+use Rattle.std.proofs.Common.{◌≡◌, Bool, true, false, List, [], ◌∷◌, ◌++◌, Option, Some, None, Result, Ok, Err, ◌⊎◌, inl, inr, sym, ap, ◌∙◌}
 use Rattle.std.specs.Result.{IsErr, IsErrAnd}
 use mathlib.Core.Bool.{true≢false}
 use Rattle.ctf_meaning.specs.declared.fault.ResolveFault.{ResolveFault}
+use Rattle.ctf_meaning.specs.declared.fault.ResolveFault.TheVariants.{NoMemory}
 use Rattle.ctf_meaning.specs.There.{first}
-use Rattle.ctf_attributes.specs.Tells.{Tells}
+use Rattle.ctf_attributes.specs.Tells.{Tells, TellsFirst}
 
 there : Option ResolveFault → Bool
 there None = false
@@ -38,3 +39,18 @@ first-of-two z a b f clean h = ap (λ x. first (x ++ a ++ b)) clean ∙ h
 pub handed : {V : Type 0} (faults : List ResolveFault) (P : V → Type 0) (r : Result V ResolveFault) (f : ResolveFault) → IsErr r × IsErrAnd r (λ e. e ≡ f) → first faults ≡ Some f → Tells faults P r
 handed faults P (Ok v) f h k = absurd h.1
 handed faults P (Err e) f h k = inr (k ∙ ap (λ x. Some x) (sym h.1))
+
+-- what is told behind other faults, of which there is none
+pub tells-behind : {V : Type 0} (xs ys : List ResolveFault) (P : V → Type 0) (r : Result V ResolveFault) → xs ≡ [] → TellsFirst ys P r → Tells (xs ++ ys) P r
+tells-behind xs ys P (Ok v) clean h = (both xs ys clean h.0, h.1)
+tells-behind xs ys P (Err f) clean h = inr (after xs ys f clean h)
+
+-- the same where memory may have been refused
+pub told-behind : (xs ys : List ResolveFault) (f : ResolveFault) → xs ≡ [] → (f ≡ NoMemory) ⊎ (first ys ≡ Some f) → (f ≡ NoMemory) ⊎ (first (xs ++ ys) ≡ Some f)
+told-behind xs ys f clean (inl refused) = inl refused
+told-behind xs ys f clean (inr told) = inr (after xs ys f clean told)
+
+pub handed-told : {V : Type 0} (faults : List ResolveFault) (P : V → Type 0) (r : Result V ResolveFault) (f : ResolveFault) → IsErr r × IsErrAnd r (λ e. e ≡ f) → (f ≡ NoMemory) ⊎ (first faults ≡ Some f) → Tells faults P r
+handed-told faults P (Ok v) f h k = absurd h.1
+handed-told faults P (Err e) f h (inl refused) = inl (h.1 ∙ refused)
+handed-told faults P (Err e) f h (inr told) = inr (told ∙ ap (λ x. Some x) (sym h.1))

@@ -8,3 +8,4 @@ pub mod Remembered
 pub mod Settled
 pub mod Counted
 pub mod Declarations
+pub mod BlockClasses
