@@ -20,7 +20,8 @@ pub fn alignment(align: Option<u64>) -> Result<Align, ResolveFault>
 
 /// The alignment of so many bits.
 pub fn aligned(bits: u64) -> Result<Align, ResolveFault>
-    ensures told { TellsFirst (when (not (is_alignment bits)) faults.SizeOrAlignment) (λ align. align ≡ bits) result }
+    ensures told { TellsFirst (when (not (is_alignment bits)) faults.SizeOrAlignment)
+        (λ align. align ≡ bits) result }
 {
     Align::new(bits).ok_or(ResolveFault::SizeOrAlignment)
 }

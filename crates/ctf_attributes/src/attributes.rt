@@ -24,7 +24,8 @@ const LARGEST_SIZE: u64 = 64;
 
 /// The size of so many bits.
 fn sized(bits: u64) -> Result<Width, ResolveFault>
-    ensures told { TellsFirst (when (not (is_size (pos bits))) faults.SizeOrAlignment) (λ size. size ≡ bits) result }
+    ensures told { TellsFirst (when (not (is_size (pos bits))) faults.SizeOrAlignment)
+        (λ size. size ≡ bits) result }
 {
     if bits > LARGEST_SIZE {
         return Err(ResolveFault::SizeOrAlignment);
@@ -34,7 +35,8 @@ fn sized(bits: u64) -> Result<Width, ResolveFault>
 
 /// The size of an integer.
 pub fn size(settings: &[Setting]) -> Result<Width, ResolveFault>
-    ensures told { TellsFirst (size_faults settings.now) (λ size. size ≡ size_of settings.now) result }
+    ensures told { TellsFirst (size_faults settings.now) (λ size. size ≡ size_of settings.now)
+        result }
 {
     let value = attribute(settings, b"size").ok_or(ResolveFault::Attribute)?;
     match count(value) {
@@ -45,7 +47,9 @@ pub fn size(settings: &[Setting]) -> Result<Width, ResolveFault>
 
 /// The alignment of an integer.
 pub fn align(settings: &[Setting], size: Width) -> Result<Align, ResolveFault>
-    ensures told { TellsFirst (align_faults settings.now) (λ align. align ≡ known_as count_of (align_by_size size) (value_of settings.now (codes "align"))) result }
+    ensures told { TellsFirst (align_faults settings.now)
+        (λ align. align ≡
+        known_as count_of (align_by_size size) (value_of settings.now (codes "align"))) result }
 {
     match attribute(settings, b"align") {
         Some(value) => match count(value) {
@@ -58,7 +62,8 @@ pub fn align(settings: &[Setting], size: Width) -> Result<Align, ResolveFault>
 
 /// What is wrong with a value that is no number from 0 on.
 fn uncounted(value: &Value) -> ResolveFault
-    ensures { result ≡ (if is_none (number_of value.now) then faults.Attribute else faults.SizeOrAlignment) }
+    ensures { result ≡ (if is_none (number_of value.now) then faults.Attribute else
+        faults.SizeOrAlignment) }
 {
     match number(value) {
         Some(_) => ResolveFault::SizeOrAlignment,
@@ -68,7 +73,8 @@ fn uncounted(value: &Value) -> ResolveFault
 
 /// Whether an integer is signed.
 pub fn sign(settings: &[Setting]) -> Result<bool, ResolveFault>
-    ensures told { TellsFirst (wrong sign_of (value_of settings.now (codes "signed"))) (λ is_signed. is_signed ≡ known_as sign_of false (value_of settings.now (codes "signed"))) result }
+    ensures told { TellsFirst (wrong sign_of (value_of settings.now (codes "signed"))) (λ is_signed.
+        is_signed ≡ known_as sign_of false (value_of settings.now (codes "signed"))) result }
 {
     match attribute(settings, b"signed") {
         Some(value) => reading::sign(value).ok_or(ResolveFault::Attribute),
@@ -78,7 +84,8 @@ pub fn sign(settings: &[Setting]) -> Result<bool, ResolveFault>
 
 /// The base of an integer.
 pub fn base(settings: &[Setting]) -> Result<Base, ResolveFault>
-    ensures told { TellsFirst (wrong base_of (value_of settings.now (codes "base"))) (λ b. b ≡ known_as base_of base.Decimal (value_of settings.now (codes "base"))) result }
+    ensures told { TellsFirst (wrong base_of (value_of settings.now (codes "base")))
+        (λ b. b ≡ known_as base_of base.Decimal (value_of settings.now (codes "base"))) result }
 {
     match attribute(settings, b"base") {
         Some(value) => reading::base(value).ok_or(ResolveFault::Attribute),
@@ -88,7 +95,9 @@ pub fn base(settings: &[Setting]) -> Result<Base, ResolveFault>
 
 /// The byte order of an integer, `None` where it is the trace's.
 pub fn order(settings: &[Setting]) -> Result<Option<Order>, ResolveFault>
-    ensures told { TellsFirst (wrong order_of (value_of settings.now (codes "byte_order"))) (λ order. order ≡ known_as order_of None (value_of settings.now (codes "byte_order"))) result }
+    ensures told { TellsFirst (wrong order_of (value_of settings.now (codes "byte_order")))
+        (λ order. order ≡ known_as order_of None (value_of settings.now (codes "byte_order")))
+        result }
 {
     match attribute(settings, b"byte_order") {
         Some(value) => reading::order(value).ok_or(ResolveFault::Attribute),
@@ -98,7 +107,9 @@ pub fn order(settings: &[Setting]) -> Result<Option<Order>, ResolveFault>
 
 /// Whether the encoding of an integer or a string is one of characters.
 pub fn is_text(settings: &[Setting]) -> Result<bool, ResolveFault>
-    ensures told { TellsFirst (wrong is_text_of (value_of settings.now (codes "encoding"))) (λ is_text. is_text ≡ known_as is_text_of false (value_of settings.now (codes "encoding"))) result }
+    ensures told { TellsFirst (wrong is_text_of (value_of settings.now (codes "encoding")))
+        (λ is_text. is_text ≡ known_as is_text_of false (value_of settings.now (codes "encoding")))
+        result }
 {
     match attribute(settings, b"encoding") {
         Some(value) => reading::is_text(value).ok_or(ResolveFault::Attribute),
@@ -108,7 +119,8 @@ pub fn is_text(settings: &[Setting]) -> Result<bool, ResolveFault>
 
 /// The clock to which an integer is mapped.
 pub fn clock(alloc: Global, settings: &[Setting]) -> Result<Option<List<u8>>, ResolveFault>
-    ensures told { Tells (wrong clock_of (value_of settings.now (codes "map"))) (λ clock. clock ≡ option_and_then clock_of (value_of settings.now (codes "map"))) result }
+    ensures told { Tells (wrong clock_of (value_of settings.now (codes "map")))
+        (λ clock. clock ≡ option_and_then clock_of (value_of settings.now (codes "map"))) result }
 {
     let Some(value) = attribute(settings, b"map") else {
         return Ok(None);

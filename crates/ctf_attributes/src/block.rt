@@ -32,7 +32,9 @@ pub fn value_at<'a>(entries: &'a [BlockEntry], name: &[u8]) -> Option<&'a Value>
 
 /// How many entries have a name.
 fn count(entries: &[BlockEntry], name: EntryName) -> usize
-    ensures { result ≡ length (filter (λ e. is_value_of (words_of name) (entry_of e) || is_class_of (words_of name) (entry_of e)) entries.now) }
+    ensures { result ≡ length (filter
+        (λ e. is_value_of (words_of name) (entry_of e) || is_class_of (words_of name) (entry_of e))
+        entries.now) }
 {
     entries
         .iter()
@@ -73,7 +75,9 @@ fn has_value(entries: &[BlockEntry], name: EntryName) -> bool
 
 /// Fails with `Attribute` where one of these names stands twice.
 pub fn none_twice(entries: &[BlockEntry], names: &[EntryName]) -> Result<(), ResolveFault>
-    ensures told { TellsFirst (flat_map (λ name. when (stands_twice (map entry_of entries.now) name) faults.Attribute) (map words_of names.now)) Nothing result }
+    ensures told { TellsFirst (flat_map
+        (λ name. when (stands_twice (map entry_of entries.now) name) faults.Attribute)
+        (map words_of names.now)) Nothing result }
 {
     for name in names {
         if is_twice(entries, *name) {
@@ -85,7 +89,9 @@ pub fn none_twice(entries: &[BlockEntry], names: &[EntryName]) -> Result<(), Res
 
 /// Fails with `Attribute` where an entry is a class of one of these names.
 pub fn no_classes(entries: &[BlockEntry], names: &[EntryName]) -> Result<(), ResolveFault>
-    ensures told { TellsFirst (flat_map (λ name. when (list_any (is_class_of name) (map entry_of entries.now)) faults.Attribute) (map words_of names.now)) Nothing result }
+    ensures told { TellsFirst (flat_map
+        (λ name. when (list_any (is_class_of name) (map entry_of entries.now)) faults.Attribute)
+        (map words_of names.now)) Nothing result }
 {
     for name in names {
         if has_class(entries, *name) {
@@ -97,7 +103,9 @@ pub fn no_classes(entries: &[BlockEntry], names: &[EntryName]) -> Result<(), Res
 
 /// Fails with `Attribute` where an entry is a value of one of these names.
 pub fn no_values(entries: &[BlockEntry], names: &[EntryName]) -> Result<(), ResolveFault>
-    ensures told { TellsFirst (flat_map (λ name. when (list_any (is_value_of name) (map entry_of entries.now)) faults.Attribute) (map words_of names.now)) Nothing result }
+    ensures told { TellsFirst (flat_map
+        (λ name. when (list_any (is_value_of name) (map entry_of entries.now)) faults.Attribute)
+        (map words_of names.now)) Nothing result }
 {
     for name in names {
         if has_value(entries, *name) {
@@ -109,7 +117,9 @@ pub fn no_values(entries: &[BlockEntry], names: &[EntryName]) -> Result<(), Reso
 
 /// The id of a stream or an event, 0 where it has none.
 pub fn id(entries: &[BlockEntry]) -> Result<u64, ResolveFault>
-    ensures told { TellsFirst (wrong count_of (blocks.value_at (map entry_of entries.now) (codes "id"))) (λ id. id_of (map entry_of entries.now) ≡ Some id) result }
+    ensures told { TellsFirst (wrong count_of
+        (blocks.value_at (map entry_of entries.now) (codes "id")))
+        (λ id. id_of (map entry_of entries.now) ≡ Some id) result }
 {
     match value_at(entries, b"id") {
         Some(value) => value::count(value).ok_or(ResolveFault::Attribute),

@@ -20,7 +20,8 @@ const DEFAULT_FREQUENCY: u64 = 1_000_000_000;
 /// The clock of a `clock` block (CTF 1.8.3, section 8). It fails with `Attribute`, or where memory is
 /// refused.
 pub fn clock(alloc: Global, settings: &[Setting]) -> Result<Clock, ResolveFault>
-    ensures told { Tells (clock_faults settings.now) (λ clock. clock_by settings.now ≡ Some clock) result }
+    ensures told { Tells (clock_faults settings.now) (λ clock. clock_by settings.now ≡ Some clock)
+        result }
 {
     each_once(settings, &[b"name", b"freq", b"offset_s", b"offset"])?;
     let name = required_text(alloc, attribute(settings, b"name"))?;
@@ -37,7 +38,9 @@ pub fn clock(alloc: Global, settings: &[Setting]) -> Result<Clock, ResolveFault>
 
 /// How fast a clock is.
 fn frequency(settings: &[Setting]) -> Result<Frequency, ResolveFault>
-    ensures told { TellsFirst (wrong frequency_of (value_of settings.now (codes "freq"))) (λ frequency. frequency ≡ known_as frequency_of 1000000000 (value_of settings.now (codes "freq"))) result }
+    ensures told { TellsFirst (wrong frequency_of (value_of settings.now (codes "freq")))
+        (λ frequency. frequency ≡
+        known_as frequency_of 1000000000 (value_of settings.now (codes "freq"))) result }
 {
     match attribute(settings, b"freq") {
         Some(value) => reading::frequency(value).ok_or(ResolveFault::Attribute),
@@ -47,7 +50,8 @@ fn frequency(settings: &[Setting]) -> Result<Frequency, ResolveFault>
 
 /// An offset of a clock.
 fn offset(settings: &[Setting], name: &[u8]) -> Result<i64, ResolveFault>
-    ensures told { TellsFirst (wrong offset_of (value_of settings.now name.now)) (λ offset. offset ≡ known_as offset_of (pos 0) (value_of settings.now name.now)) result }
+    ensures told { TellsFirst (wrong offset_of (value_of settings.now name.now))
+        (λ offset. offset ≡ known_as offset_of (pos 0) (value_of settings.now name.now)) result }
 {
     match attribute(settings, name) {
         Some(value) => reading::offset(value).ok_or(ResolveFault::Attribute),

@@ -12,7 +12,8 @@ pub fn behind<'a>(beginning: &[u8], text: &'a [u8]) -> Option<&'a [u8]>
 
 /// What stands before an end.
 pub fn before<'a>(end: &[u8], text: &'a [u8]) -> Option<&'a [u8]>
-    ensures { option_copied result ≡ option_map reverse (meaning.behind (reverse end.now) (reverse text.now)) }
+    ensures { option_copied result ≡
+        option_map reverse (meaning.behind (reverse end.now) (reverse text.now)) }
 {
     text.strip_suffix(end)
 }

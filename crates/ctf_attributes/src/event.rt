@@ -31,7 +31,8 @@ pub struct Event {
 impl Event {
     /// The settings of an event. It fails with `Attribute`, or where memory is refused.
     pub fn read(alloc: Global, entries: &[BlockEntry]) -> Result<Event, ResolveFault>
-        ensures told { Tells (block_faults (Block kind.Event (map entry_of entries.now))) (IsEvent (map entry_of entries.now)) result }
+        ensures told { Tells (block_faults (Block kind.Event (map entry_of entries.now)))
+            (IsEvent (map entry_of entries.now)) result }
     {
         check_event(entries)?;
         let name = required_text(alloc, value_at(entries, b"name"))?;
@@ -47,7 +48,10 @@ impl Event {
 
 /// The stream that an event names.
 fn stream_id(entries: &[BlockEntry]) -> Result<Option<u64>, ResolveFault>
-    ensures told { TellsFirst (wrong count_of (blocks.value_at (map entry_of entries.now) (codes "stream_id"))) (λ id. id ≡ option_and_then count_of (blocks.value_at (map entry_of entries.now) (codes "stream_id"))) result }
+    ensures told { TellsFirst (wrong count_of
+        (blocks.value_at (map entry_of entries.now) (codes "stream_id")))
+        (λ id. id ≡ option_and_then count_of
+        (blocks.value_at (map entry_of entries.now) (codes "stream_id"))) result }
 {
     let Some(value) = value_at(entries, b"stream_id") else {
         return Ok(None);

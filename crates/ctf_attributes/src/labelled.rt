@@ -14,7 +14,8 @@ use std::alloc::Global;
 /// The labels of an enumeration with their numbers (CTF 1.8.3, section 4.1.8). It fails with `Attribute`, or
 /// where memory is refused.
 pub fn labels(alloc: Global, labels: &[tsdl_tree::Label]) -> Result<List<Label>, ResolveFault>
-    ensures told { Tells (label_faults labels.now) (λ numbered. numbered ≡ labels_of labels.now) result }
+    ensures told { Tells (label_faults labels.now) (λ numbered. numbered ≡ labels_of labels.now)
+        result }
 {
     let mut numbered = List::from_vec(Vec::with_capacity(alloc, labels.len())?);
     let mut next = 0;
@@ -32,7 +33,8 @@ pub fn labels(alloc: Global, labels: &[tsdl_tree::Label]) -> Result<List<Label>,
 
 /// The numbers of a label, where `next` is one past the end of the label before.
 fn numbers(next: i128, written: Option<tsdl_tree::Span>) -> Result<Span, ResolveFault>
-    ensures told { TellsFirst (span_faults next written) (λ span. span ≡ span_of next written) result }
+    ensures told { TellsFirst (span_faults next written) (λ span. span ≡ span_of next written)
+        result }
     ensures bounded { IfOk result (λ span. (span.last ≤ℤ next) ⊎ (span.last <ℤ pos (2 ^ 64))) }
 {
     let Some(written) = written else {

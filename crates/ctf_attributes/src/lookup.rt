@@ -41,7 +41,8 @@ pub fn once(settings: &[Setting], name: &[u8]) -> Result<(), ResolveFault>
 
 /// Fails with `Attribute` where one of these names stands twice.
 pub fn each_once(settings: &[Setting], names: &[&[u8]]) -> Result<(), ResolveFault>
-    ensures told { TellsFirst (flat_map (repeated settings.now) (map (λ name. name.now) names.now)) Nothing result }
+    ensures told { TellsFirst (flat_map (repeated settings.now) (map (λ name. name.now) names.now))
+        Nothing result }
 {
     for name in names {
         once(settings, name)?;

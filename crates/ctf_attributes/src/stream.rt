@@ -16,7 +16,8 @@ use tsdl_tree::BlockEntry;
 /// The id of a `stream` block, 0 where it has none (CTF 1.8.3, section 7.4 and appendix C.2). It fails with
 /// `Attribute`.
 pub fn stream_id(entries: &[BlockEntry]) -> Result<u64, ResolveFault>
-    ensures told { Tells (block_faults (Block kind.Stream (map entry_of entries.now))) (λ id. id_of (map entry_of entries.now) ≡ Some id) result }
+    ensures told { Tells (block_faults (Block kind.Stream (map entry_of entries.now)))
+        (λ id. id_of (map entry_of entries.now) ≡ Some id) result }
     ensures fault { IfErr result (λ fault. fault ≡ faults.Attribute) }
 {
     check_stream(entries)?;

@@ -41,7 +41,8 @@ pub struct Trace {
 impl Trace {
     /// The settings of a trace. It fails with `Attribute`, or where memory is refused.
     pub fn read(alloc: Global, entries: &[BlockEntry]) -> Result<Trace, ResolveFault>
-        ensures told { Tells (block_faults (Block kind.Trace (map entry_of entries.now))) (IsTrace (map entry_of entries.now)) result }
+        ensures told { Tells (block_faults (Block kind.Trace (map entry_of entries.now)))
+            (IsTrace (map entry_of entries.now)) result }
     {
         check_trace(entries)?;
         check_number(entries, b"major", MAJOR)?;
@@ -54,7 +55,10 @@ impl Trace {
 
 /// Fails with `Attribute` where no setting of a name has this number.
 fn check_number(entries: &[BlockEntry], name: &[u8], expected: u64) -> Result<(), ResolveFault>
-    ensures told { TellsFirst (when (not (option_map_or (is_count expected) (blocks.value_at (map entry_of entries.now) name.now) false)) faults.Attribute) Nothing result }
+    ensures told { TellsFirst (when
+        (not (option_map_or (is_count expected)
+        (blocks.value_at (map entry_of entries.now) name.now) false)) faults.Attribute) Nothing
+        result }
 {
     match value_at(entries, name) {
         Some(value) if is_count(value, expected) => Ok(()),
@@ -64,7 +68,11 @@ fn check_number(entries: &[BlockEntry], name: &[u8], expected: u64) -> Result<()
 
 /// The native byte order.
 fn order(entries: &[BlockEntry]) -> Result<Order, ResolveFault>
-    ensures told { TellsFirst (when (is_none (option_and_then trace_order_of (blocks.value_at (map entry_of entries.now) (codes "byte_order")))) faults.Attribute) (λ order. option_and_then trace_order_of (blocks.value_at (map entry_of entries.now) (codes "byte_order")) ≡ Some order) result }
+    ensures told { TellsFirst (when
+        (is_none (option_and_then trace_order_of
+        (blocks.value_at (map entry_of entries.now) (codes "byte_order")))) faults.Attribute)
+        (λ order. option_and_then trace_order_of
+        (blocks.value_at (map entry_of entries.now) (codes "byte_order")) ≡ Some order) result }
 {
     let value = value_at(entries, b"byte_order").ok_or(ResolveFault::Attribute)?;
     trace_order(value).ok_or(ResolveFault::Attribute)
@@ -72,7 +80,9 @@ fn order(entries: &[BlockEntry]) -> Result<Order, ResolveFault>
 
 /// The UUID.
 fn uuid(alloc: Global, entries: &[BlockEntry]) -> Result<Option<[u8; 16]>, ResolveFault>
-    ensures told { Tells (wrong uuid_of (blocks.value_at (map entry_of entries.now) (codes "uuid"))) (λ uuid. uuid ≡ option_and_then uuid_of (blocks.value_at (map entry_of entries.now) (codes "uuid"))) result }
+    ensures told { Tells (wrong uuid_of (blocks.value_at (map entry_of entries.now) (codes "uuid")))
+        (λ uuid. uuid ≡ option_and_then uuid_of
+        (blocks.value_at (map entry_of entries.now) (codes "uuid"))) result }
 {
     let Some(value) = value_at(entries, b"uuid") else {
         return Ok(None);

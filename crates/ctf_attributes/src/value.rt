@@ -108,7 +108,9 @@ pub fn text(alloc: Global, value: &Value) -> Result<Option<List<u8>>, NoMemory>
 /// The text of a value that must be there and have one. It fails with `Attribute`, or where memory is
 /// refused.
 pub fn required_text(alloc: Global, value: Option<&Value>) -> Result<List<u8>, ResolveFault>
-    ensures told { Tells (when (is_none (option_and_then settings.text_of (option_copied value.entry))) faults.Attribute) (λ text. option_and_then settings.text_of (option_copied value.entry) ≡ Some text) result }
+    ensures told { Tells (when
+        (is_none (option_and_then settings.text_of (option_copied value.entry))) faults.Attribute)
+        (λ text. option_and_then settings.text_of (option_copied value.entry) ≡ Some text) result }
 {
     let value = value.ok_or(ResolveFault::Attribute)?;
     text(alloc, value)?.ok_or(ResolveFault::Attribute)

@@ -54,9 +54,12 @@ impl Sink for DripSink {
         requires { 0 < length bytes.now }
         ensures some { IfOk result (λ count. 0 < count) }
         ensures bound { IfOk result (λ count. count ≤ length bytes.now) }
-        ensures appends { ⟦<DripSink as Sink>⟧.accepted self.new ≡ accepted_after result (⟦<DripSink as Sink>⟧.accepted self.old) bytes.now }
-        ensures failed { ⟦<DripSink as Sink>⟧.failures self.new ≡ failures_after result (⟦<DripSink as Sink>⟧.failures self.old) }
-        ensures refused { ⟦<DripSink as Sink>⟧.refusals self.new ≡ refusals_after result (⟦<DripSink as Sink>⟧.refusals self.old) }
+        ensures appends { ⟦<DripSink as Sink>⟧.accepted self.new ≡
+            accepted_after result (⟦<DripSink as Sink>⟧.accepted self.old) bytes.now }
+        ensures failed { ⟦<DripSink as Sink>⟧.failures self.new ≡
+            failures_after result (⟦<DripSink as Sink>⟧.failures self.old) }
+        ensures refused { ⟦<DripSink as Sink>⟧.refusals self.new ≡
+            refusals_after result (⟦<DripSink as Sink>⟧.refusals self.old) }
 
         // It takes a part where the piece is longer than its count.
         ensures part { IfOk result (λ count. count ≡ min (length bytes.now) (piece_of self.old)) }

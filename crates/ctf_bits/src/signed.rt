@@ -10,13 +10,14 @@ use crate::number::{Order, uint, uint_within};
 pub fn sint(bytes: &[u8], pos: u64, n: u32, order: Order) -> Option<i64>
     requires some_bits { 1 ≤ n }
     requires in_a_word { n ≤ 64 }
-    ensures { SomeIff result (pos + n ≤ 8 * length bytes.now) (signed_number order bytes.now pos n) }
+    ensures { SomeIff result (pos + n ≤ 8 * length bytes.now)
+        (signed_number order bytes.now pos n) }
 {
     let value = uint(bytes, pos, n, order)?;
     Some(twos_complement(value, n))
 }
 
-/// The same where the bytes are known to hold these bits.
+/// The number in two's complement of `n` bits, where the bytes are known to hold them.
 #[inline(always)]
 pub fn sint_within(bytes: &[u8], pos: u64, n: u32, order: Order) -> i64
     requires some_bits { 1 ≤ n }
@@ -34,7 +35,8 @@ pub fn is_unsigned(value: u64, n: u32) -> bool
     requires some_bits { 1 ≤ n }
     requires in_a_word { n ≤ 64 }
     requires bits { value < 2 ^ n }
-    ensures same { IsTrue result → (order : Order) (bytes : List ℕ) (p : ℕ) → value ≡ number order bytes p n → signed_number order bytes p n ≡ pos value }
+    ensures same { IsTrue result → (order : Order) (bytes : List ℕ) (p : ℕ) →
+        value ≡ number order bytes p n → signed_number order bytes p n ≡ pos value }
     ensures each { value < 2 ^ (n - 1) → IsTrue result }
 {
     value <= u64::MAX >> (64 - n) >> 1

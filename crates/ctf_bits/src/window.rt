@@ -42,7 +42,8 @@ impl Window {
     pub fn new(place: u64, size: u32, is_signed: bool) -> Option<Window>
         requires some_bits { 1 ≤ size }
         requires in_a_word { size ≤ 64 }
-        ensures { SomeIff result (place % 8 + size ≤ 64) (record { place = place; size = size; is_signed = is_signed }) }
+        ensures { SomeIff result (place % 8 + size ≤ 64)
+            (record { place = place; size = size; is_signed = is_signed }) }
     {
         let shift = (place % 8) as u32;
         if shift + size > 64 {
@@ -90,7 +91,7 @@ impl Window {
         Some(number)
     }
 
-    /// The same in two's complement.
+    /// The number that a window's bits are in two's complement.
     pub fn signed(&self, bytes: &[u8], first: usize) -> i64
         requires held { first + self.now.place / 8 + 8 ≤ length bytes.now }
         ensures { result ≡ signed_number Le bytes.now (8 * first + self.now.place) self.now.size }

@@ -65,7 +65,7 @@ impl FieldName {
     }
 }
 
-/// The same name once more. Nothing is copied; it fails where no more owners can be counted.
+/// A second owner of the name. Nothing is copied; it fails where no more owners can be counted.
 impl Clone for FieldName {
     ghost is_clone = { λ name other. other ≡ name };
 

@@ -79,7 +79,7 @@ impl Ready {
         at + self.length
     }
 
-    /// The same of a long text.
+    /// Writes a text that is longer than the words that stand in it.
     #[inline(never)]
     fn put_long(&self, line: &mut [u8], at: usize) -> usize
         requires long { HEAD ≤ length self.now }

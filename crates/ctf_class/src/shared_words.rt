@@ -50,7 +50,7 @@ impl SharedWords {
     }
 }
 
-/// The same words once more. Nothing is copied; it fails where no more owners can be counted.
+/// A second owner of the words. Nothing is copied; it fails where no more owners can be counted.
 impl Clone for SharedWords {
     ghost is_clone = { λ shared other. other ≡ shared };
 

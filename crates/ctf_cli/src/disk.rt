@@ -248,7 +248,10 @@ impl<R: Files> ReadFile<R> {
     fn read(&mut self, most: usize, buf: &mut [u8]) -> io::Result<usize>
         requires { 0 < length buf.old }
         ensures bound { ReadsAtMost result buf.new }
-        ensures bytes { ReadConsumes (prepend_known self.old.ahead.held.bytes (R.File.remaining self.old.file)) (prepend_known self.new.ahead.held.bytes (R.File.remaining self.new.file)) result buf.new }
+        ensures bytes { ReadConsumes
+            (prepend_known self.old.ahead.held.bytes (R.File.remaining self.old.file))
+            (prepend_known self.new.ahead.held.bytes (R.File.remaining self.new.file)) result
+            buf.new }
     {
         self.ahead.read(&mut self.file, most, buf)
     }

@@ -36,7 +36,8 @@ pub trait Folders {
     /// The bytes of a file, as many as `most` at the most.
     fn read(&self, alloc: Global, path: &str, most: u64) -> Result<Vec<u8>, FolderFault>
         ensures { IsTrue (tells self.now) → MatchResult result
-            (λ read. (bytes : List ℕ) × ((holds self.now).bytes path.now ≡ Some bytes) × (read.items ≡ take most bytes))
+            (λ read. (bytes : List ℕ) × ((holds self.now).bytes path.now ≡ Some bytes) ×
+            (read.items ≡ take most bytes))
             (files.IsFault ((holds self.now).bytes path.now ≡ None)) };
 
     /// Opens a file that is not empty; `None` where the path leads to something else. Links are followed. So many
@@ -48,6 +49,8 @@ pub trait Folders {
         before: usize,
     ) -> Result<Option<Self::Stream>, FolderFault>
         ensures { IsTrue (tells self.now) → MatchResult result
-            (λ opened. (holds self.now).found path.now ≡ files.found_of (files.given_by Self.Stream.tells Self.Stream.left Self.Stream.ending) opened)
+            (λ opened. (holds self.now).found path.now ≡
+            files.found_of (files.given_by Self.Stream.tells Self.Stream.left
+            Self.Stream.ending) opened)
             (files.IsFault ((holds self.now).found path.now ≡ files.closed)) };
 }

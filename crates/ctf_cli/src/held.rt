@@ -90,7 +90,8 @@ impl Held {
         requires nothing { self.old.bytes ≡ [] }
         requires room { 0 < self.old.room }
         ensures count { IfOk result (λ count. length self.new.bytes ≡ count) }
-        ensures bytes { OnOk result (Consumes (R.remaining reader.old) (R.remaining reader.new) self.new.bytes) }
+        ensures bytes { OnOk result
+            (Consumes (R.remaining reader.old) (R.remaining reader.new) self.new.bytes) }
         ensures end { OnOk result (self.new.bytes ≡ [] → IsAtEnd (R.remaining reader.new)) }
         ensures failed { OnErr result (Keeps (R.remaining reader.old) (R.remaining reader.new)) }
         ensures none { OnErr result (self.new.bytes ≡ []) }

@@ -27,8 +27,10 @@ pub struct LogWriter<O: Write + Drop> {
 impl<O: Write + Drop> LogWriter<O> {
     /// Holds back so many bytes at the most; with none each piece is passed on at once.
     pub fn new(alloc: Global, held: usize, writer: O) -> Result<LogWriter<O>, NoMemory>
-        ensures tells { IfOk result (λ log. ⟦<LogWriter<O> as Sink>⟧.tells log ≡ is_some (O.contents writer)) }
-        ensures accepted { IfOk result (λ log. ⟦<LogWriter<O> as Sink>⟧.accepted log ≡ unwrap_or (O.contents writer) []) }
+        ensures tells { IfOk result (λ log. ⟦<LogWriter<O> as Sink>⟧.tells log ≡
+            is_some (O.contents writer)) }
+        ensures accepted { IfOk result (λ log. ⟦<LogWriter<O> as Sink>⟧.accepted log ≡
+            unwrap_or (O.contents writer) []) }
         ensures failures { IfOk result (λ log. ⟦<LogWriter<O> as Sink>⟧.failures log ≡ 0) }
         ensures settled { IfOk result (λ log. IsTrue (⟦<LogWriter<O> as Log>⟧.settled log)) }
     {
@@ -42,7 +44,8 @@ impl<O: Write + Drop> LogWriter<O> {
     /// Drops what is still held back: nothing is written after a failure.
     pub fn close(self) -> O
         ensures as_it_was { result ≡ writer_of self }
-        ensures settled { IsTrue (⟦<LogWriter<O> as Log>⟧.settled self) → unwrap_or (O.contents result) [] ≡ ⟦<LogWriter<O> as Sink>⟧.accepted self }
+        ensures settled { IsTrue (⟦<LogWriter<O> as Log>⟧.settled self) →
+            unwrap_or (O.contents result) [] ≡ ⟦<LogWriter<O> as Sink>⟧.accepted self }
     {
         let LogWriter {
             writer,
@@ -55,7 +58,8 @@ impl<O: Write + Drop> LogWriter<O> {
     /// Passes on what is held back. What was not taken is held on after a fault.
     #[inline(never)]
     fn pass_on(&mut self) -> Result<(), SinkFault>
-        ensures keeps { Keeps (log_contents O.contents self.old) (log_contents O.contents self.new) }
+        ensures keeps { Keeps (log_contents O.contents self.old)
+            (log_contents O.contents self.new) }
         ensures empty { OnOk result (self.new.held.bytes ≡ []) }
         ensures failed { failures_of self.new ≡ failures_put result (failures_of self.old) }
         ensures fault { IfErr result (λ fault. fault ≡ SinkFault.Failed) }
@@ -74,7 +78,8 @@ impl<O: Write + Drop> LogWriter<O> {
         requires { self.old.held.bytes ≡ [] }
         ensures some { IfOk result (λ count. 0 < count) }
         ensures bound { IfOk result (λ count. count ≤ length bytes.now) }
-        ensures appends { WriteAppends (log_contents O.contents self.old) (log_contents O.contents self.new) result bytes.now }
+        ensures appends { WriteAppends (log_contents O.contents self.old)
+            (log_contents O.contents self.new) result bytes.now }
         ensures failed { failures_of self.new ≡ failures_after result (failures_of self.old) }
         ensures fault { IfErr result (λ fault. fault ≡ SinkFault.Failed) }
     {
@@ -92,7 +97,8 @@ impl<O: Write + Drop> LogWriter<O> {
         requires { 0 < length bytes.now }
         ensures some { IfOk result (λ count. 0 < count) }
         ensures bound { IfOk result (λ count. count ≤ length bytes.now) }
-        ensures appends { WriteAppends (log_contents O.contents self.old) (log_contents O.contents self.new) result bytes.now }
+        ensures appends { WriteAppends (log_contents O.contents self.old)
+            (log_contents O.contents self.new) result bytes.now }
         ensures failed { failures_of self.new ≡ failures_after result (failures_of self.old) }
         ensures fault { IfErr result (λ fault. fault ≡ SinkFault.Failed) }
     {

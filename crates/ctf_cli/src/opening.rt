@@ -75,7 +75,8 @@ pub fn open_traces<F: Folders>(
     dirs: &[Text],
 ) -> Result<Vec<Trace<F::Stream>>, Stop>
     ensures { IsTrue (F.tells folders.now) → MatchResult result
-        (λ traces. held.AreTraces (F.holds folders.now) dirs.now (traces_of (files.given_by F.Stream.tells F.Stream.left F.Stream.ending) traces.items))
+        (λ traces. held.AreTraces (F.holds folders.now) dirs.now
+        (traces_of (files.given_by F.Stream.tells F.Stream.left F.Stream.ending) traces.items))
         (held.IsStop (held.AreBlocked (F.holds folders.now) dirs.now)) }
 {
     let mut traces = Vec::new(alloc);
@@ -96,7 +97,8 @@ fn open_trace<F: Folders>(
     opened: usize,
 ) -> Result<Trace<F::Stream>, Stop>
     ensures { IsTrue (F.tells folders.now) → MatchResult result
-        (λ trace. held.IsTrace (F.holds folders.now) dir.now (trace_of (files.given_by F.Stream.tells F.Stream.left F.Stream.ending) trace))
+        (λ trace. held.IsTrace (F.holds folders.now) dir.now
+        (trace_of (files.given_by F.Stream.tells F.Stream.left F.Stream.ending) trace))
         (held.IsStop (held.IsBlocked (F.holds folders.now) dir.now)) }
 {
     let names = list(alloc, folders, dir)?;
@@ -113,8 +115,11 @@ fn open_trace<F: Folders>(
 /// The names of the files that may be streams, in their order. No folder has an empty path.
 fn list<F: Folders>(alloc: Global, folders: &F, dir: &str) -> Result<Vec<String>, Stop>
     ensures { IsTrue (F.tells folders.now) → MatchResult result
-        (λ names. (listed : List (List ℕ)) × (held.names_in (F.holds folders.now) dir.now ≡ Some listed) × held.AreStreamNames listed (map string_bytes names.items))
-        (held.IsStop (λ path. (path ≡ dir.now) × (held.names_in (F.holds folders.now) dir.now ≡ None))) }
+        (λ names. (listed : List (List ℕ)) ×
+        (held.names_in (F.holds folders.now) dir.now ≡ Some listed) ×
+        held.AreStreamNames listed (map string_bytes names.items))
+        (held.IsStop (λ path. (path ≡ dir.now) ×
+        (held.names_in (F.holds folders.now) dir.now ≡ None))) }
 {
     if dir.is_empty() {
         return Err(unreadable(alloc, dir));
@@ -128,8 +133,11 @@ fn list<F: Folders>(alloc: Global, folders: &F, dir: &str) -> Result<Vec<String>
 /// The bytes of the file `metadata`, or the beginning of one that is too long.
 fn read_metadata<F: Folders>(alloc: Global, folders: &F, dir: &str) -> Result<Vec<u8>, Stop>
     ensures { IsTrue (F.tells folders.now) → MatchResult result
-        (λ metadata. (bytes : List ℕ) × ((F.holds folders.now).bytes (held.metadata_path dir.now) ≡ Some bytes) × (metadata.items ≡ take held.METADATA_READ bytes))
-        (held.IsStop (λ path. (path ≡ held.metadata_path dir.now) × ((F.holds folders.now).bytes (held.metadata_path dir.now) ≡ None))) }
+        (λ metadata. (bytes : List ℕ) ×
+        ((F.holds folders.now).bytes (held.metadata_path dir.now) ≡ Some bytes) ×
+        (metadata.items ≡ take held.METADATA_READ bytes))
+        (held.IsStop (λ path. (path ≡ held.metadata_path dir.now) ×
+        ((F.holds folders.now).bytes (held.metadata_path dir.now) ≡ None))) }
 {
     let path = path_in(alloc, dir, "metadata")?;
     match folders.read(alloc, path.as_str(), METADATA_BYTES) {
@@ -147,8 +155,11 @@ fn open_streams<F: Folders>(
     opened: usize,
 ) -> Result<Vec<(String, F::Stream)>, Stop>
     ensures { IsTrue (F.tells folders.now) → MatchResult result
-        (λ streams. held.streams_in (F.holds folders.now) dir.now (map string_bytes names.now) ≡ Ok (map (stream_of (files.given_by F.Stream.tells F.Stream.left F.Stream.ending)) streams.items))
-        (held.IsStop (λ path. held.streams_in (F.holds folders.now) dir.now (map string_bytes names.now) ≡ Err path)) }
+        (λ streams. held.streams_in (F.holds folders.now) dir.now (map string_bytes names.now) ≡
+        Ok (map (stream_of (files.given_by F.Stream.tells F.Stream.left F.Stream.ending))
+        streams.items))
+        (held.IsStop (λ path. held.streams_in (F.holds folders.now) dir.now
+        (map string_bytes names.now) ≡ Err path)) }
 {
     let mut streams = Vec::new(alloc);
     for name in names {
@@ -167,7 +178,10 @@ fn push_stream<S: Drop>(
     name: &str,
     stream: Option<S>,
 ) -> Result<(), NoMemory>
-    ensures { OnOk result ((given : S → inputs.Given) → map (stream_of given) streams.new.items ≡ map (stream_of given) streams.old.items ++ held.stream_if name.now (option_map given stream)) }
+    ensures { OnOk result ((given : S → inputs.Given) →
+        map (stream_of given) streams.new.items ≡
+        map (stream_of given) streams.old.items ++ held.stream_if name.now
+        (option_map given stream)) }
 {
     match stream {
         Some(stream) => {
@@ -188,8 +202,10 @@ fn open_stream<F: Folders>(
     before: usize,
 ) -> Result<Option<F::Stream>, Stop>
     ensures { IsTrue (F.tells folders.now) → MatchResult result
-        (λ opened. (F.holds folders.now).found (path_join dir.now name.now) ≡ files.found_of (files.given_by F.Stream.tells F.Stream.left F.Stream.ending) opened)
-        (held.IsStop (λ path. (path ≡ path_join dir.now name.now) × ((F.holds folders.now).found path ≡ files.closed))) }
+        (λ opened. (F.holds folders.now).found (path_join dir.now name.now) ≡
+        files.found_of (files.given_by F.Stream.tells F.Stream.left F.Stream.ending) opened)
+        (held.IsStop (λ path. (path ≡ path_join dir.now name.now) ×
+        ((F.holds folders.now).found path ≡ files.closed))) }
 {
     let path = path_in(alloc, dir, name)?;
     match folders.open(alloc, path.as_str(), before) {

@@ -26,9 +26,12 @@ pub fn program<F: Folders, W: Log, E: Sink>(
 ) -> u8
     // What was written, and the status, are those of the traces in the folders, of the first path that cannot be read, or
     // of the words.
-    ensures ends { let log = ends.side_of W.accepted W.settled W.failures W.refusals in let messages = ends.plain_side_of E.accepted E.failures E.refusals in
-        IsTrue (F.tells folders.now) → IsTrue (W.tells out.old) → IsTrue (E.tells err.old) → ends.Ends (map string_bytes words.now) (F.holds folders.now)
-        (record { out = log out.old; err = messages err.old }) (record { out = log out.new; err = messages err.new }) result }
+    ensures ends { let log = ends.side_of W.accepted W.settled W.failures W.refusals in
+        let messages = ends.plain_side_of E.accepted E.failures E.refusals in
+        IsTrue (F.tells folders.now) → IsTrue (W.tells out.old) → IsTrue (E.tells err.old) →
+        ends.Ends (map string_bytes words.now) (F.holds folders.now)
+        (record { out = log out.old; err = messages err.old })
+        (record { out = log out.new; err = messages err.new }) result }
 
     // Of any folders and sinks: on success no write of the log failed, and nothing of it is held back.
     ensures unfailing { result ≡ 0 → W.failures out.new ≡ W.failures out.old }
@@ -51,9 +54,12 @@ fn print<F: Folders, W: Log, E: Sink>(
     out: &mut W,
     err: &mut E,
 ) -> u8
-    ensures ends { let log = ends.side_of W.accepted W.settled W.failures W.refusals in let messages = ends.plain_side_of E.accepted E.failures E.refusals in
-        IsTrue (F.tells folders.now) → IsTrue (W.tells out.old) → IsTrue (E.tells err.old) → ends.EndsFor options.now (F.holds folders.now)
-        (record { out = log out.old; err = messages err.old }) (record { out = log out.new; err = messages err.new }) result }
+    ensures ends { let log = ends.side_of W.accepted W.settled W.failures W.refusals in
+        let messages = ends.plain_side_of E.accepted E.failures E.refusals in
+        IsTrue (F.tells folders.now) → IsTrue (W.tells out.old) → IsTrue (E.tells err.old) →
+        ends.EndsFor options.now (F.holds folders.now)
+        (record { out = log out.old; err = messages err.old })
+        (record { out = log out.new; err = messages err.new }) result }
     ensures unfailing { result ≡ 0 → W.failures out.new ≡ W.failures out.old }
     ensures settled { result ≡ 0 → IsTrue (W.settled out.new) }
     ensures status { (result ≡ 0) ⊎ (result ≡ 1) }
@@ -70,8 +76,11 @@ fn print<F: Folders, W: Log, E: Sink>(
 
 /// Prints how the program is used.
 fn help<W: Log, E: Sink>(out: &mut W, err: &mut E) -> u8
-    ensures helps { let log = ends.side_of W.accepted W.settled W.failures W.refusals in let messages = ends.plain_side_of E.accepted E.failures E.refusals in
-        IsTrue (W.tells out.old) → IsTrue (E.tells err.old) → ends.Helps (record { out = log out.old; err = messages err.old }) (record { out = log out.new; err = messages err.new }) result }
+    ensures helps { let log = ends.side_of W.accepted W.settled W.failures W.refusals in
+        let messages = ends.plain_side_of E.accepted E.failures E.refusals in
+        IsTrue (W.tells out.old) → IsTrue (E.tells err.old) →
+        ends.Helps (record { out = log out.old; err = messages err.old })
+        (record { out = log out.new; err = messages err.new }) result }
     ensures unfailing { result ≡ 0 → W.failures out.new ≡ W.failures out.old }
     ensures settled { result ≡ 0 → IsTrue (W.settled out.new) }
     ensures status { (result ≡ 0) ⊎ (result ≡ 1) }
@@ -83,7 +92,9 @@ fn help<W: Log, E: Sink>(out: &mut W, err: &mut E) -> u8
 
 /// Writes a text of the log.
 fn put<W: Log>(out: &mut W, text: &[u8]) -> Outcome
-    ensures puts { IsTrue (W.tells out.old) → ends.Puts text.now result (ends.side_of W.accepted W.settled W.failures W.refusals out.old) (ends.side_of W.accepted W.settled W.failures W.refusals out.new) }
+    ensures puts { IsTrue (W.tells out.old) →
+        ends.Puts text.now result (ends.side_of W.accepted W.settled W.failures W.refusals out.old)
+        (ends.side_of W.accepted W.settled W.failures W.refusals out.new) }
     ensures tells { IsTrue (W.tells out.old) → IsTrue (W.tells out.new) }
     ensures unfailing { result ≡ Outcome.Done → W.failures out.new ≡ W.failures out.old }
 {
@@ -96,7 +107,9 @@ fn put<W: Log>(out: &mut W, text: &[u8]) -> Outcome
 
 /// Passes on what is held back of the log, unless a write has failed. It gives how the program ends.
 fn pass_on<W: Log>(outcome: Outcome, out: &mut W) -> Outcome
-    ensures passes { IsTrue (W.tells out.old) → ends.Settles (ends.side_of W.accepted W.settled W.failures W.refusals out.old) (ends.side_of W.accepted W.settled W.failures W.refusals out.new) outcome result }
+    ensures passes { IsTrue (W.tells out.old) →
+        ends.Settles (ends.side_of W.accepted W.settled W.failures W.refusals out.old)
+        (ends.side_of W.accepted W.settled W.failures W.refusals out.new) outcome result }
     ensures done { result ≡ Outcome.Done → outcome ≡ Outcome.Done }
     ensures unfailing { result ≡ Outcome.Done → W.failures out.new ≡ W.failures out.old }
     ensures settled { result ≡ Outcome.Done → IsTrue (W.settled out.new) }
@@ -113,7 +126,10 @@ fn pass_on<W: Log>(outcome: Outcome, out: &mut W) -> Outcome
 
 /// Tries to write the line of an outcome, and gives its status.
 fn end<E: Sink>(outcome: Outcome, err: &mut E) -> u8
-    ensures says { IsTrue (E.tells err.old) → ends.Says (outcome_text outcome) (ends.plain_side_of E.accepted E.failures E.refusals err.old) (ends.plain_side_of E.accepted E.failures E.refusals err.new) }
+    ensures says { IsTrue (E.tells err.old) →
+        ends.Says (outcome_text outcome)
+        (ends.plain_side_of E.accepted E.failures E.refusals err.old)
+        (ends.plain_side_of E.accepted E.failures E.refusals err.new) }
     ensures status { result ≡ status_of outcome }
 {
     let _ = put_all(err, outcome.text());
@@ -122,7 +138,9 @@ fn end<E: Sink>(outcome: Outcome, err: &mut E) -> u8
 
 /// Tries to write a line that tells why nothing is printed, and gives the status.
 pub(crate) fn say<E: Sink>(line: &[u8], err: &mut E) -> u8
-    ensures says { IsTrue (E.tells err.old) → ends.Says line.now (ends.plain_side_of E.accepted E.failures E.refusals err.old) (ends.plain_side_of E.accepted E.failures E.refusals err.new) }
+    ensures says { IsTrue (E.tells err.old) →
+        ends.Says line.now (ends.plain_side_of E.accepted E.failures E.refusals err.old)
+        (ends.plain_side_of E.accepted E.failures E.refusals err.new) }
     ensures status { result ≡ 1 }
 {
     let _ = put_all(err, line);

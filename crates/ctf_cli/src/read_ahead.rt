@@ -49,7 +49,8 @@ impl ReadAhead {
     ) -> io::Result<usize>
         requires { 0 < length buf.old }
         ensures bound { ReadsAtMost result buf.new }
-        ensures bytes { ReadConsumes (prepend_known self.old.held.bytes (R.remaining reader.old)) (prepend_known self.new.held.bytes (R.remaining reader.new)) result buf.new }
+        ensures bytes { ReadConsumes (prepend_known self.old.held.bytes (R.remaining reader.old))
+            (prepend_known self.new.held.bytes (R.remaining reader.new)) result buf.new }
     {
         if !self.held.as_slice().is_empty() {
             return Ok(give(&mut self.held, buf));
@@ -70,7 +71,8 @@ impl ReadAhead {
     fn read_past<R: Read>(&mut self, reader: &mut R, buf: &mut [u8]) -> io::Result<usize>
         ensures held { self.new.held ≡ self.old.held }
         ensures bound { ReadsAtMost result buf.new }
-        ensures bytes { ReadConsumes (R.remaining reader.old) (R.remaining reader.new) result buf.new }
+        ensures bytes { ReadConsumes (R.remaining reader.old) (R.remaining reader.new) result
+            buf.new }
     {
         let count = read_uninterrupted(reader, buf)?;
         self.small = self.small.saturating_add(count);
@@ -81,7 +83,8 @@ impl ReadAhead {
     fn fill<R: Read>(&mut self, reader: &mut R) -> io::Result<()>
         requires nothing { self.old.held.bytes ≡ [] }
         requires room { 0 < self.old.held.room }
-        ensures bytes { OnOk result (Consumes (R.remaining reader.old) (R.remaining reader.new) self.new.held.bytes) }
+        ensures bytes { OnOk result
+            (Consumes (R.remaining reader.old) (R.remaining reader.new) self.new.held.bytes) }
         ensures end { OnOk result (self.new.held.bytes ≡ [] → IsAtEnd (R.remaining reader.new)) }
         ensures failed { OnErr result (Keeps (R.remaining reader.old) (R.remaining reader.new)) }
         ensures none { OnErr result (self.new.held.bytes ≡ []) }

@@ -52,7 +52,8 @@ fn compound_class(
     seen: &Visible<'_>,
     compound: &Compound,
 ) -> Result<Known, ResolveFault>
-    ensures { (word : Option Word) → Follows (shape_told (visible seen.now) (body_form compound.now word)) known result }
+    ensures { (word : Option Word) →
+        Follows (shape_told (visible seen.now) (body_form compound.now word)) known result }
 {
     match compound {
         Compound::Struct { items, align } => {
@@ -76,7 +77,8 @@ pub fn structure(
     fields: Vec<Field>,
 ) -> Result<Known, ResolveFault>
     ensures { let all = map field fields.items in
-        Follows (unless (structure_faults align) (compound_told all (plain.structure align all))) known result }
+        Follows (unless (structure_faults align) (compound_told all (plain.structure align all)))
+        known result }
 {
     let least = alignment(align)?;
     Known::structure(alloc, least, fields)
@@ -95,7 +97,8 @@ fn variant(alloc: Global, tag: &Option<Path>, fields: Vec<Field>) -> Result<Know
 /// The members of a body. Its names end with it.
 #[cycle(classes)]
 fn body(alloc: Global, outer: &Visible<'_>, items: &[Item]) -> Result<Vec<Field>, ResolveFault>
-    ensures { Follows (body_told (visible outer.now) nothing_seen [] (items_from (map item_form items.now))) (λ fields. map field fields.items) result }
+    ensures { Follows (body_told (visible outer.now) nothing_seen []
+        (items_from (map item_form items.now))) (λ fields. map field fields.items) result }
 {
     let mut own = BlockNames::new(alloc);
     let mut fields = Vec::new(alloc);
@@ -114,7 +117,9 @@ fn member(
     item: &Item,
     fields: &mut Vec<Field>,
 ) -> Result<(), ResolveFault>
-    ensures { Follows (member_told (visible outer.now) (names_in own.old, map field fields.old.items) (item_form item.now)) (λ _. (names_in own.new, map field fields.new.items)) result }
+    ensures { Follows (member_told (visible outer.now)
+        (names_in own.old, map field fields.old.items) (item_form item.now))
+        (λ _. (names_in own.new, map field fields.new.items)) result }
 {
     match item {
         Item::Fields { class, declarators } => {
@@ -138,7 +143,8 @@ pub fn types(
     own: &mut BlockNames,
     declaration: &TypeDeclaration,
 ) -> Result<(), ResolveFault>
-    ensures { Follows (names_told (visible outer.now) (names_in own.old) (item_of declaration.now)) (λ _. names_in own.new) result }
+    ensures { Follows (names_told (visible outer.now) (names_in own.old) (item_of declaration.now))
+        (λ _. names_in own.new) result }
 {
     match declaration {
         TypeDeclaration::Alias { class, name } => {
@@ -164,7 +170,8 @@ pub fn class_within(
     own: &BlockNames,
     specifier: &Specifier,
 ) -> Result<Known, ResolveFault>
-    ensures { Follows (shape_told (within (names_in own.now) (visible outer.now)) (form_of specifier.now)) known result }
+    ensures { Follows (shape_told (within (names_in own.now) (visible outer.now))
+        (form_of specifier.now)) known result }
 {
     let seen = Visible::Inside {
         names: &*own,
@@ -173,7 +180,7 @@ pub fn class_within(
     class_of(alloc, &seen, specifier)
 }
 
-/// The same of a compound.
+/// The class of a compound that is declared within a block.
 #[cycle(classes)]
 fn compound_within(
     alloc: Global,
@@ -181,7 +188,9 @@ fn compound_within(
     own: &BlockNames,
     compound: &Compound,
 ) -> Result<Known, ResolveFault>
-    ensures { (word : Option Word) → Follows (shape_told (within (names_in own.now) (visible outer.now)) (body_form compound.now word)) known result }
+    ensures { (word : Option Word) →
+        Follows (shape_told (within (names_in own.now) (visible outer.now))
+        (body_form compound.now word)) known result }
 {
     let seen = Visible::Inside {
         names: &*own,

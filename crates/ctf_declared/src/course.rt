@@ -51,7 +51,8 @@ impl Course {
 
     /// One more declaration, which gives no class to a scope.
     fn push_plain(&mut self, alloc: Global) -> Result<(), AllocError>
-        ensures { OnOk result (walked self.new ≡ plain_row (walked self.old) (names_in self.old.names)) }
+        ensures { OnOk result (walked self.new ≡
+            plain_row (walked self.old) (names_in self.old.names)) }
     {
         self.rows.push(List::new(alloc))?;
         Ok(())
@@ -60,7 +61,8 @@ impl Course {
     /// One more declaration with its scopes. It fails where the class of one is no structure or has a
     /// floating-point class in it, and where the scopes have too many classes.
     fn push_row(&mut self, row: List<ScopeShape>) -> Result<(), ResolveFault>
-        ensures { Follows (scopes_told (walked self.old) (map placed_seen row)) (λ _. walked self.new) result }
+        ensures { Follows (scopes_told (walked self.old) (map placed_seen row))
+            (λ _. walked self.new) result }
     {
         check_all(row.as_slice())?;
         let nodes = count_all(self.nodes, row.as_slice())?;
@@ -100,7 +102,8 @@ fn block_row(
     kind: BlockKind,
     entries: &[BlockEntry],
 ) -> Result<List<ScopeShape>, ResolveFault>
-    ensures { Follows (row_told (names_in names.now) kind (map entry_of entries.now)) (map placed_seen) result }
+    ensures { Follows (row_told (names_in names.now) kind (map entry_of entries.now))
+        (map placed_seen) result }
 {
     let outer = Visible::Nothing;
     let seen = Visible::Inside {
@@ -120,8 +123,10 @@ fn block(
     entries: &[BlockEntry],
 ) -> Result<(), ResolveFault>
     ensures told { (before : List written.Declaration) → Remembers earlier.old before →
-        Follows (declaration_told before (walked course.old) (Block kind (map entry_of entries.now))) (λ _. walked course.new) result }
-    ensures kept { (before : List written.Declaration) → Remembers earlier.old before → OnOk result (Remembers earlier.new (before ++ Block kind (map entry_of entries.now) ∷ [])) }
+        Follows (declaration_told before (walked course.old)
+        (Block kind (map entry_of entries.now))) (λ _. walked course.new) result }
+    ensures kept { (before : List written.Declaration) → Remembers earlier.old before →
+        OnOk result (Remembers earlier.new (before ++ Block kind (map entry_of entries.now) ∷ [])) }
 {
     earlier.add_block(alloc, kind, entries)?;
     let row = block_row(alloc, &course.names, kind, entries)?;
@@ -137,8 +142,10 @@ fn table(
     settings: &[Setting],
 ) -> Result<(), ResolveFault>
     ensures told { (before : List written.Declaration) → Remembers earlier.old before →
-        Follows (declaration_told before (walked course.old) (Table kind settings.now)) (λ _. walked course.new) result }
-    ensures kept { (before : List written.Declaration) → Remembers earlier.old before → OnOk result (Remembers earlier.new (before ++ Table kind settings.now ∷ [])) }
+        Follows (declaration_told before (walked course.old) (Table kind settings.now))
+        (λ _. walked course.new) result }
+    ensures kept { (before : List written.Declaration) → Remembers earlier.old before →
+        OnOk result (Remembers earlier.new (before ++ Table kind settings.now ∷ [])) }
 {
     earlier.add_table(alloc, kind, settings)?;
     course.push_plain(alloc)?;
@@ -151,7 +158,8 @@ fn text_types(
     names: &mut BlockNames,
     declaration: &TypeDeclaration,
 ) -> Result<(), ResolveFault>
-    ensures { Follows (names_told nothing_seen (names_in names.old) (item_of declaration.now)) (λ _. names_in names.new) result }
+    ensures { Follows (names_told nothing_seen (names_in names.old) (item_of declaration.now))
+        (λ _. names_in names.new) result }
 {
     let outer = Visible::Nothing;
     types(alloc, &outer, names, declaration)
@@ -163,7 +171,9 @@ fn names(
     course: &mut Course,
     declaration: &TypeDeclaration,
 ) -> Result<(), ResolveFault>
-    ensures { (before : List written.Declaration) → Follows (declaration_told before (walked course.old) (Names (item_of declaration.now))) (λ _. walked course.new) result }
+    ensures { (before : List written.Declaration) →
+        Follows (declaration_told before (walked course.old) (Names (item_of declaration.now)))
+        (λ _. walked course.new) result }
 {
     text_types(alloc, &mut course.names, declaration)?;
     course.push_plain(alloc)?;
@@ -178,8 +188,10 @@ pub fn declaration(
     declaration: &Declaration,
 ) -> Result<(), ResolveFault>
     ensures told { (before : List written.Declaration) → Remembers earlier.old before →
-        Follows (declaration_told before (walked course.old) (declaration_of declaration.now)) (λ _. walked course.new) result }
-    ensures kept { (before : List written.Declaration) → Remembers earlier.old before → OnOk result (Remembers earlier.new (before ++ declaration_of declaration.now ∷ [])) }
+        Follows (declaration_told before (walked course.old) (declaration_of declaration.now))
+        (λ _. walked course.new) result }
+    ensures kept { (before : List written.Declaration) → Remembers earlier.old before →
+        OnOk result (Remembers earlier.new (before ++ declaration_of declaration.now ∷ [])) }
 {
     match declaration {
         Declaration::Block { kind, entries } => block(

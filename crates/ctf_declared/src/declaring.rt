@@ -26,7 +26,8 @@ use tsdl_tree::{Compound, Declarator, Length, Specifier, Word};
 
 /// The name that a compound with a body declares.
 pub fn compound_name<'a>(word: &'a Word, compound: &Compound) -> Name<'a>
-    ensures { parts.own_name (body_form compound.now (Some word.now)) ≡ given_by (Some (name result)) }
+    ensures { parts.own_name (body_form compound.now (Some word.now)) ≡
+        given_by (Some (name result)) }
 {
     match compound {
         Compound::Struct { .. } => Name::Struct(word.as_slice()),
@@ -56,7 +57,9 @@ pub fn declare_one(
     class: &Known,
     lengths: &[Length],
 ) -> Result<(), ResolveFault>
-    ensures { Follows (declare_each (names_in own.old) (known class.now) (record { name = name given.entry; lengths = lengths.now } ∷ [])) (λ _. names_in own.new) result }
+    ensures { Follows (declare_each (names_in own.old) (known class.now)
+        (record { name = name given.entry; lengths = lengths.now } ∷ []))
+        (λ _. names_in own.new) result }
 {
     let key = key(alloc, given)?;
     if own.has(key.as_slice()) {
@@ -77,7 +80,8 @@ pub fn declare_name(
     given: Option<Name<'_>>,
     class: &Known,
 ) -> Result<(), ResolveFault>
-    ensures { Follows (declare (names_in own.old) (known class.now) (given_by (option_map name given.entry))) (λ _. names_in own.new) result }
+    ensures { Follows (declare (names_in own.old) (known class.now)
+        (given_by (option_map name given.entry))) (λ _. names_in own.new) result }
 {
     if class.is_too_deep() {
         return Err(ResolveFault::TooDeep);
@@ -96,7 +100,9 @@ pub fn declare_alias(
     words: &[Word],
     class: &Known,
 ) -> Result<(), ResolveFault>
-    ensures { Follows (declare (names_in own.old) (known class.now) (parts.own_name (form_of specifier.now) ++ plainly (meant.Plain words.now) ∷ [])) (λ _. names_in own.new) result }
+    ensures { Follows (declare (names_in own.old) (known class.now)
+        (parts.own_name (form_of specifier.now) ++ plainly (meant.Plain words.now) ∷ []))
+        (λ _. names_in own.new) result }
 {
     declare_name(alloc, own, own_name(specifier), class)?;
     declare_one(alloc, own, Name::Plain(words), class, &[])
@@ -110,7 +116,9 @@ pub fn declare_definition(
     declarators: &[Declarator],
     class: &Known,
 ) -> Result<(), ResolveFault>
-    ensures { Follows (declare (names_in own.old) (known class.now) (parts.own_name (form_of specifier.now) ++ map by_declarator declarators.now)) (λ _. names_in own.new) result }
+    ensures { Follows (declare (names_in own.old) (known class.now)
+        (parts.own_name (form_of specifier.now) ++ map by_declarator declarators.now))
+        (λ _. names_in own.new) result }
 {
     declare_name(alloc, own, own_name(specifier), class)?;
     declare_declarators(alloc, own, declarators, class)
@@ -123,7 +131,8 @@ fn declare_declarators(
     declarators: &[Declarator],
     class: &Known,
 ) -> Result<(), ResolveFault>
-    ensures { Follows (declare_each (names_in own.old) (known class.now) (map by_declarator declarators.now)) (λ _. names_in own.new) result }
+    ensures { Follows (declare_each (names_in own.old) (known class.now)
+        (map by_declarator declarators.now)) (λ _. names_in own.new) result }
 {
     for declarator in declarators {
         declare_declarator(alloc, own, declarator, class)?;
@@ -138,7 +147,8 @@ fn declare_declarator(
     declarator: &Declarator,
     class: &Known,
 ) -> Result<(), ResolveFault>
-    ensures { Follows (declare_each (names_in own.old) (known class.now) (by_declarator declarator.now ∷ [])) (λ _. names_in own.new) result }
+    ensures { Follows (declare_each (names_in own.old) (known class.now)
+        (by_declarator declarator.now ∷ [])) (λ _. names_in own.new) result }
 {
     let words = [List::from_slice(alloc, declarator.name.as_slice())?];
     declare_one(
@@ -152,7 +162,9 @@ fn declare_declarator(
 
 /// Whether the class with the arrays of some declarator is deeper than classes may be. Nothing is made.
 pub fn has_deep(class: &Known, declarators: &[Declarator]) -> bool
-    ensures { result ≡ list_any (λ d. nat_lt most_deep (depth_of (plain.arrays d.lengths (known class.now)))) declarators.now }
+    ensures { result ≡ list_any
+        (λ d. nat_lt most_deep (depth_of (plain.arrays d.lengths (known class.now))))
+        declarators.now }
 {
     declarators.iter().any(|declarator| class.is_too_deep_with(declarator.lengths.as_slice()))
 }
@@ -164,7 +176,8 @@ pub fn push_fields(
     declarators: &[Declarator],
     fields: &mut Vec<Field>,
 ) -> Result<(), NoMemory>
-    ensures { OnOk result (map field fields.new.items ≡ map field fields.old.items ++ plain.declared (Some (known class.now)) declarators.now) }
+    ensures { OnOk result (map field fields.new.items ≡
+        map field fields.old.items ++ plain.declared (Some (known class.now)) declarators.now) }
 {
     for declarator in declarators {
         let field = field_by(alloc, class, declarator)?;
@@ -175,7 +188,12 @@ pub fn push_fields(
 
 /// The member of a declarator.
 fn field_by(alloc: Global, class: &Known, declarator: &Declarator) -> Result<Field, NoMemory>
-    ensures { IfOk result (λ f. field f ≡ record { name = declarator.now.name; shape = plain.arrays declarator.now.lengths (known class.now) }) }
+    ensures { IfOk result (λ f.
+        field f ≡ record {
+          name = declarator.now.name;
+          shape = plain.arrays declarator.now.lengths
+              (known class.now);
+        }) }
 {
     let name = List::from_slice(alloc, declarator.name.as_slice())?;
     let known = class.arrays(alloc, declarator.lengths.as_slice())?;

@@ -46,8 +46,11 @@ impl Earlier {
 
     /// Keeps that there is a trace. It fails with `Twice` where there was one.
     fn add_trace(&mut self) -> Result<(), ResolveFault>
-        ensures told { (before : List Declaration) → Remembers self.old before → Tells (when (list_any is_trace before) faults.Twice) Nothing result }
-        ensures kept { (before : List Declaration) (entries : List written.BlockEntry) → Remembers self.old before → OnOk result (Remembers self.new (before ++ Block block.Trace entries ∷ [])) }
+        ensures told { (before : List Declaration) → Remembers self.old before →
+            Tells (when (list_any is_trace before) faults.Twice) Nothing result }
+        ensures kept { (before : List Declaration) (entries : List written.BlockEntry) →
+            Remembers self.old before →
+            OnOk result (Remembers self.new (before ++ Block block.Trace entries ∷ [])) }
     {
         if self.has_trace {
             return Err(ResolveFault::Twice);
@@ -58,8 +61,12 @@ impl Earlier {
 
     /// Keeps the id of a stream. It fails with `Twice` where there was one of it.
     fn add_stream(&mut self, id: u64) -> Result<(), ResolveFault>
-        ensures told { (before : List Declaration) → Remembers self.old before → Tells (when (list_any (nat_eq id) (filter_map stream_id_of before)) faults.Twice) Nothing result }
-        ensures kept { (before : List Declaration) (entries : List written.BlockEntry) → meant.id_of entries ≡ Some id → Remembers self.old before → OnOk result (Remembers self.new (before ++ Block block.Stream entries ∷ [])) }
+        ensures told { (before : List Declaration) → Remembers self.old before →
+            Tells (when (list_any (nat_eq id) (filter_map stream_id_of before)) faults.Twice)
+            Nothing result }
+        ensures kept { (before : List Declaration) (entries : List written.BlockEntry) →
+            meant.id_of entries ≡ Some id → Remembers self.old before →
+            OnOk result (Remembers self.new (before ++ Block block.Stream entries ∷ [])) }
     {
         if !self.streams.insert(id)? {
             return Err(ResolveFault::Twice);
@@ -69,8 +76,12 @@ impl Earlier {
 
     /// Keeps the name of a clock. It fails with `Twice` where there was one of it.
     fn add_clock(&mut self, name: Vec<u8>) -> Result<(), ResolveFault>
-        ensures told { (before : List Declaration) → Remembers self.old before → Tells (when (list_any (λ c. same_word c.name name.items) (clocks_of before)) faults.Twice) Nothing result }
-        ensures kept { (before : List Declaration) (settings : List Setting) (c : Clock) → clock_by settings ≡ Some c → c.name ≡ name.items → Remembers self.old before → OnOk result (Remembers self.new (before ++ Table table.Clock settings ∷ [])) }
+        ensures told { (before : List Declaration) → Remembers self.old before →
+            Tells (when (list_any (λ c. same_word c.name name.items) (clocks_of before))
+            faults.Twice) Nothing result }
+        ensures kept { (before : List Declaration) (settings : List Setting) (c : Clock) →
+            clock_by settings ≡ Some c → c.name ≡ name.items → Remembers self.old before →
+            OnOk result (Remembers self.new (before ++ Table table.Clock settings ∷ [])) }
     {
         if !self.clocks.insert(name)? {
             return Err(ResolveFault::Twice);
@@ -87,8 +98,11 @@ impl Earlier {
         entries: &[BlockEntry],
     ) -> Result<(), ResolveFault>
         ensures told { (before : List Declaration) → Remembers self.old before →
-            Tells (block_faults (Block kind (map entry_of entries.now)) ++ twice_faults before (Block kind (map entry_of entries.now))) Nothing result }
-        ensures kept { (before : List Declaration) → Remembers self.old before → OnOk result (Remembers self.new (before ++ Block kind (map entry_of entries.now) ∷ [])) }
+            Tells (block_faults (Block kind (map entry_of entries.now)) ++ twice_faults before
+            (Block kind (map entry_of entries.now))) Nothing result }
+        ensures kept { (before : List Declaration) → Remembers self.old before →
+            OnOk result (Remembers self.new
+            (before ++ Block kind (map entry_of entries.now) ∷ [])) }
     {
         match kind {
             BlockKind::Trace => {
@@ -115,8 +129,11 @@ impl Earlier {
         settings: &[Setting],
     ) -> Result<(), ResolveFault>
         ensures told { (before : List Declaration) → Remembers self.old before →
-            Tells (minus_faults settings.now ++ block_faults (Table kind settings.now) ++ twice_faults before (Table kind settings.now)) Nothing result }
-        ensures kept { (before : List Declaration) → Remembers self.old before → OnOk result (Remembers self.new (before ++ Table kind settings.now ∷ [])) }
+            Tells (minus_faults settings.now ++ block_faults
+            (Table kind settings.now) ++ twice_faults before (Table kind settings.now)) Nothing
+            result }
+        ensures kept { (before : List Declaration) → Remembers self.old before →
+            OnOk result (Remembers self.new (before ++ Table kind settings.now ∷ [])) }
     {
         numbers(settings)?;
         match kind {

@@ -29,7 +29,8 @@ pub fn classes_in<'a>(
     outer: &Visible<'_>,
     entries: &'a [BlockEntry],
 ) -> Result<Vec<NamedClass<'a>>, ResolveFault>
-    ensures { Follows (classes_told (visible outer.now) (map entry_of entries.now)) (λ classes. map named_class classes.items) result }
+    ensures { Follows (classes_told (visible outer.now) (map entry_of entries.now))
+        (λ classes. map named_class classes.items) result }
 {
     let mut names = BlockNames::new(alloc);
     let mut classes = Vec::new(alloc);
@@ -47,7 +48,8 @@ fn entry_in<'a>(
     classes: &mut Vec<NamedClass<'a>>,
     entry: &'a BlockEntry,
 ) -> Result<(), ResolveFault>
-    ensures { Follows (entry_told (visible outer.now) (held names.old classes.old.items) (entry_of entry.now)) (λ _. held names.new classes.new.items) result }
+    ensures { Follows (entry_told (visible outer.now) (held names.old classes.old.items)
+        (entry_of entry.now)) (λ _. held names.new classes.new.items) result }
 {
     match entry {
         BlockEntry::Setting(setting) => number_in(setting),

@@ -37,7 +37,7 @@ fn named<'a>(
     }
 }
 
-/// The same class once more.
+/// The class that a name means, as a second owner of it.
 fn used(alloc: Global, seen: &Visible<'_>, given: Name<'_>) -> Result<Known, ResolveFault>
     ensures { Follows (named_told (visible seen.now) (name given.entry)) known result }
 {
@@ -53,7 +53,8 @@ fn used_variant(
     word: &Word,
     tag: &Option<Path>,
 ) -> Result<Known, ResolveFault>
-    ensures { Follows (shape_told (visible seen.now) (written.Named (meant.Variant word.now) tag.now)) known result }
+    ensures { Follows (shape_told (visible seen.now)
+        (written.Named (meant.Variant word.now) tag.now)) known result }
 {
     let class = named(alloc, seen, Name::Variant(word.as_slice()))?;
     let tagged = class.with_tag(alloc, tag)?;
@@ -82,7 +83,8 @@ fn integer_named(
     seen: &Visible<'_>,
     words: &[Word],
 ) -> Result<DeclaredInteger, ResolveFault>
-    ensures { Follows (container_told (visible seen.now) (Some (container.Named (record { words = words.now })))) (λ i. i) result }
+    ensures { Follows (container_told (visible seen.now)
+        (Some (container.Named (record { words = words.now })))) (λ i. i) result }
 {
     let class = named(alloc, seen, Name::Plain(words))?;
     match class.integer_in() {

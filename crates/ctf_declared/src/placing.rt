@@ -46,7 +46,8 @@ fn own_scopes(kind: BlockKind) -> &'static [Scope]
 
 /// The first class of a scope in a block.
 fn class_for<'a, 'b>(classes: &'a [NamedClass<'b>], scope: Scope) -> Option<&'a Known>
-    ensures { option_known result ≡ class_named (map named_class classes.now) (blocks.entry_name scope) }
+    ensures { option_known result ≡
+        class_named (map named_class classes.now) (blocks.entry_name scope) }
 {
     for class in classes {
         if is_entry_of(class.name, scope) {
@@ -75,7 +76,9 @@ fn placed_class(
     classes: &[NamedClass<'_>],
     scope: Scope,
 ) -> Result<Option<Known>, ResolveFault>
-    ensures { Follows (Ok (option_or (class_named (map named_class classes.now) (blocks.entry_name scope)) (missing_scope scope))) (option_map known) result }
+    ensures { Follows (Ok (option_or
+        (class_named (map named_class classes.now) (blocks.entry_name scope))
+        (missing_scope scope))) (option_map known) result }
 {
     match class_for(classes, scope) {
         Some(class) => {
@@ -93,7 +96,9 @@ fn place(
     scope: Scope,
     row: &mut List<ScopeShape>,
 ) -> Result<(), ResolveFault>
-    ensures { Follows (Ok (map placed_seen row.old ++ filter_map (placed_in (map named_class classes.now)) (scope ∷ []))) (λ _. map placed_seen row.new) result }
+    ensures { Follows (Ok (map placed_seen row.old ++ filter_map
+        (placed_in (map named_class classes.now)) (scope ∷ []))) (λ _. map placed_seen row.new)
+        result }
 {
     match placed_class(alloc, classes, scope)? {
         Some(shape) => {
@@ -133,7 +138,7 @@ fn check(class: &Known) -> Result<(), ResolveFault>
     Ok(())
 }
 
-/// The same for the classes of several scopes.
+/// Checks the classes of several scopes, one after the other.
 pub fn check_all(row: &[ScopeShape]) -> Result<(), ResolveFault>
     ensures { Tells (flat_map (λ p. scope_faults p.1) (map placed_seen row.now)) Nothing result }
 {

@@ -54,7 +54,8 @@ impl BlockNames {
 
     /// Gives the key a class.
     pub fn insert(&mut self, key: Vec<u16>, class: Known) -> Result<(), AllocError>
-        ensures { (name : Name) → key.items ≡ key_of name → OnOk result (names_in self.new ≡ with_name (names_in self.old) name (known class)) }
+        ensures { (name : Name) → key.items ≡ key_of name →
+            OnOk result (names_in self.new ≡ with_name (names_in self.old) name (known class)) }
     {
         self.classes.insert(key, class)?;
         Ok(())

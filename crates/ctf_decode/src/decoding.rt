@@ -46,11 +46,15 @@ pub fn decode_into(
     requires start { start ≤ content }
     requires content { content ≤ 2 ^ 62 }
     requires held { content ≤ 8 * length packet.now }
-    ensures value { IfOk result (λ r. Stands (form class.now) (input_in packet.now content scopes.now) [] start (val value.new) r.end) }
+    ensures value { IfOk result
+        (λ r. Stands (form class.now) (input_in packet.now content scopes.now) [] start
+        (val value.new) r.end) }
     ensures counted { IfOk result (λ r. r.spent ≡ scopes.now.spent + count (val value.new)) }
     ensures few { IfOk result (λ r. r.spent ≤ MOST_VALUES) }
     ensures within { IfOk result (λ r. r.end ≤ content) }
-    ensures fault { IfErr result (Told (Breaks (form class.now) (input_in packet.now content scopes.now) [] start scopes.now.spent)) }
+    ensures fault { IfErr result
+        (Told (Breaks (form class.now) (input_in packet.now content scopes.now) [] start
+        scopes.now.spent)) }
 {
     let packet = Packet {
         bytes: packet,
@@ -87,11 +91,15 @@ pub fn decode(
     requires start { start ≤ content }
     requires content { content ≤ 2 ^ 62 }
     requires held { content ≤ 8 * length packet.now }
-    ensures value { IfOk result (λ d. Stands (form class.now) (input_in packet.now content scopes.now) [] start (val d.value) d.end) }
+    ensures value { IfOk result
+        (λ d. Stands (form class.now) (input_in packet.now content scopes.now) [] start
+        (val d.value) d.end) }
     ensures counted { IfOk result (λ d. d.spent ≡ scopes.now.spent + count (val d.value)) }
     ensures few { IfOk result (λ d. d.spent ≤ MOST_VALUES) }
     ensures within { IfOk result (λ d. d.end ≤ content) }
-    ensures fault { IfErr result (Told (Breaks (form class.now) (input_in packet.now content scopes.now) [] start scopes.now.spent)) }
+    ensures fault { IfErr result
+        (Told (Breaks (form class.now) (input_in packet.now content scopes.now) [] start
+        scopes.now.spent)) }
 {
     let mut value = Value::Unsigned(0);
     let reached = decode_into(alloc, class, packet, start, content, scopes, &mut value)?;
@@ -114,7 +122,8 @@ pub fn decode_within(
     at: Reached,
 ) -> Result<Decoded, DecodeFault>
     requires start { at.end ≤ packet.now.content }
-    ensures decodes { let found = walk (form class.now) (input packet.now) (env frame.now) at.end at.spent in
+    ensures decodes { let found = walk (form class.now) (input packet.now)
+        (env frame.now) at.end at.spent in
         Decodes result found }
     ensures within { IfOk result (λ d. d.end ≤ packet.now.content) }
     ensures few { IfOk result (λ d. d.spent ≤ MOST_VALUES) }

@@ -54,7 +54,8 @@ fn down<'a>(steps: &[u32], value: &'a Value) -> Option<&'a Value>
 
 /// The value that some steps lead to in an earlier scope.
 fn in_scope<'a>(scopes: &'a Scopes, scope: Scope, steps: &[u32]) -> Option<&'a Value>
-    ensures { option_map val (option_copied result) ≡ option_and_then (values.down steps.now) (earlier scopes.now scope) }
+    ensures { option_map val (option_copied result) ≡
+        option_and_then (values.down steps.now) (earlier scopes.now scope) }
 {
     match scopes.get(scope) {
         None => None,
@@ -64,7 +65,8 @@ fn in_scope<'a>(scopes: &'a Scopes, scope: Scope, steps: &[u32]) -> Option<&'a V
 
 /// The value that some steps lead to among the earlier members of one structure.
 fn inside<'a>(members: &'a [Value], steps: &[u32]) -> Option<&'a Value>
-    ensures { option_map val (option_copied result) ≡ routes.inside steps.now (map val members.now) }
+    ensures { option_map val (option_copied result) ≡
+        routes.inside steps.now (map val members.now) }
 {
     match steps {
         [] => None,
@@ -74,7 +76,8 @@ fn inside<'a>(members: &'a [Value], steps: &[u32]) -> Option<&'a Value>
 
 /// The value that some steps lead to in one of these members.
 fn member<'a>(members: &'a [Value], first: usize, rest: &[u32]) -> Option<&'a Value>
-    ensures { option_map val (option_copied result) ≡ option_and_then (values.down rest.now) (option_map val (slice_get members.now first)) }
+    ensures { option_map val (option_copied result) ≡
+        option_and_then (values.down rest.now) (option_map val (slice_get members.now first)) }
 {
     if first < members.len() {
         down(rest, &members[first])
@@ -86,7 +89,8 @@ fn member<'a>(members: &'a [Value], first: usize, rest: &[u32]) -> Option<&'a Va
 /// The value that a route leads to, if there is one.
 #[tactic(auto, unfolding(crate::specs::Routes::found))]
 pub fn find<'a>(route: &Route, scopes: &'a Scopes, frame: &'a Frame<'a>) -> Option<&'a Value>
-    ensures { option_map val (option_copied result) ≡ routes.found route.now (earlier scopes.now) (env frame.now) }
+    ensures { option_map val (option_copied result) ≡
+        routes.found route.now (earlier scopes.now) (env frame.now) }
 {
     let steps = route.steps.as_slice();
     match route.origin {

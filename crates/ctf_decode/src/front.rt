@@ -35,14 +35,20 @@ pub fn decode_front(
 ) -> Result<Front, DecodeFault>
     requires start { start ≤ 8 * length front.now }
     requires content { 8 * length front.now ≤ 2 ^ 62 }
-    ensures value { IfOk result (OnDone (λ d. Stands (form class.now) (input_in front.now (8 * length front.now) scopes.now) [] start (val d.value) d.end)) }
+    ensures value { IfOk result
+        (OnDone (λ d. Stands (form class.now) (input_in front.now (8 * length front.now) scopes.now)
+        [] start (val d.value) d.end)) }
     ensures counted { IfOk result (OnDone (λ d. d.spent ≡ scopes.now.spent + count (val d.value))) }
     ensures few { IfOk result (OnDone (λ d. d.spent ≤ MOST_VALUES)) }
     ensures within { IfOk result (OnDone (λ d. d.end ≤ 8 * length front.now)) }
-    ensures ends { IfOk result (OnNeed (λ n. Breaks (form class.now) (input_in front.now (8 * length front.now) scopes.now) [] start scopes.now.spent (past n))) }
+    ensures ends { IfOk result
+        (OnNeed (λ n. Breaks (form class.now) (input_in front.now (8 * length front.now) scopes.now)
+        [] start scopes.now.spent (past n))) }
     ensures beyond { IfOk result (OnNeed (λ n. 8 * length front.now < n)) }
     ensures needed { IfOk result (OnNeed (Needed (form class.now) front.now scopes.now start)) }
-    ensures fault { IfErr result (ToldInFront (Breaks (form class.now) (input_in front.now (8 * length front.now) scopes.now) [] start scopes.now.spent)) }
+    ensures fault { IfErr result
+        (ToldInFront (Breaks (form class.now) (input_in front.now (8 * length front.now) scopes.now)
+        [] start scopes.now.spent)) }
 {
     let content = 8 * front.len() as u64;
     match decode(alloc, class, front, start, content, scopes) {

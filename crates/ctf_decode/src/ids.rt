@@ -48,7 +48,9 @@ fn last_in(class: &Class, value: &Value, last: &mut Option<i128>)
 /// Keeps the last number in members and in what they hold.
 #[cycle(ids)]
 fn last_in_members(members: &[Member], values: &[Value], last: &mut Option<i128>)
-    ensures { last.new ≡ last_or last.old (fields.member_ids (parts_of (map member_part members.now)) (vals_of (map val values.now))) }
+    ensures { last.new ≡ last_or last.old
+        (fields.member_ids (parts_of (map member_part members.now))
+        (vals_of (map val values.now))) }
 {
     for (i, member) in members.iter().enumerate() {
         if i >= values.len() {
@@ -63,7 +65,8 @@ fn last_in_members(members: &[Member], values: &[Value], last: &mut Option<i128>
 /// Keeps the last number in elements.
 #[cycle(ids)]
 fn last_in_elements(element: &Class, values: &[Value], last: &mut Option<i128>)
-    ensures { last.new ≡ last_or last.old (fields.of_each (fields.ids (form element.now)) (vals_of (map val values.now))) }
+    ensures { last.new ≡ last_or last.old
+        (fields.of_each (fields.ids (form element.now)) (vals_of (map val values.now))) }
 {
     for value in values {
         last_in(element, value, last);
@@ -73,7 +76,9 @@ fn last_in_elements(element: &Class, values: &[Value], last: &mut Option<i128>)
 /// Keeps the last number in an option.
 #[cycle(ids)]
 fn last_in_option(options: &[Member], value: &Value, last: &mut Option<i128>)
-    ensures { last.new ≡ last_or last.old (fields.of_choice (fields.choice_in (val value.now)) (λ i v. fields.option_ids (parts_of (map member_part options.now)) i v)) }
+    ensures { last.new ≡ last_or last.old
+        (fields.of_choice (fields.choice_in (val value.now))
+        (λ i v. fields.option_ids (parts_of (map member_part options.now)) i v)) }
 {
     if let Some((i, inner)) = choice_in(value) {
         last_in_chosen(options, i, inner, last);
@@ -83,7 +88,8 @@ fn last_in_option(options: &[Member], value: &Value, last: &mut Option<i128>)
 /// Keeps the last number in the value of option i.
 #[cycle(ids)]
 fn last_in_chosen(options: &[Member], i: usize, inner: &Value, last: &mut Option<i128>)
-    ensures { last.new ≡ last_or last.old (fields.option_ids (parts_of (map member_part options.now)) i (val inner.now)) }
+    ensures { last.new ≡ last_or last.old
+        (fields.option_ids (parts_of (map member_part options.now)) i (val inner.now)) }
 {
     if i < options.len() {
         last_in(&options[i].class, inner, last);
@@ -94,7 +100,8 @@ fn last_in_chosen(options: &[Member], i: usize, inner: &Value, last: &mut Option
 /// last one stays.
 #[inline(always)]
 pub fn named_id(member: &Member, value: &Value, last: &mut Option<i128>)
-    ensures { last.new ≡ last_or last.old (fields.named_id member.now.name (form member.now.class) (val value.now)) }
+    ensures { last.new ≡ last_or last.old
+        (fields.named_id member.now.name (form member.now.class) (val value.now)) }
 {
     if is_id(member.name.as_slice()) {
         number_in(&member.class, value, last);

@@ -25,8 +25,12 @@ pub fn integer_into(
 ) -> Result<(), Stopped>
     requires start { at.old.end ≤ packet.now.content }
     ensures gives { let b = next_multiple_of at.old.end align in
-        Gives result at.new (val value.new) (begin (input packet.now) at.old.spent (leaf (input packet.now) (b + bits_of integer.now) at.old.spent (integer_at (input packet.now) integer.now b))) }
-    ensures within { IfOk result (λ _. (at.new.end ≤ packet.now.content) × (at.new.spent ≤ MOST_VALUES)) }
+        Gives result at.new (val value.new)
+        (begin (input packet.now) at.old.spent
+        (leaf (input packet.now) (b + bits_of integer.now) at.old.spent
+        (integer_at (input packet.now) integer.now b))) }
+    ensures within { IfOk result (λ _. (at.new.end ≤ packet.now.content) ×
+        (at.new.spent ≤ MOST_VALUES)) }
 {
     if at.spent >= MOST_VALUES {
         return Err(at.stop_full());
@@ -60,8 +64,12 @@ pub fn enumeration_into(
 ) -> Result<(), Stopped>
     requires start { at.old.end ≤ packet.now.content }
     ensures gives { let b = next_multiple_of at.old.end align in
-        Gives result at.new (val value.new) (begin (input packet.now) at.old.spent (leaf (input packet.now) (b + bits_of container.now) at.old.spent (label_at (input packet.now) container.now b))) }
-    ensures within { IfOk result (λ _. (at.new.end ≤ packet.now.content) × (at.new.spent ≤ MOST_VALUES)) }
+        Gives result at.new (val value.new)
+        (begin (input packet.now) at.old.spent
+        (leaf (input packet.now) (b + bits_of container.now) at.old.spent
+        (label_at (input packet.now) container.now b))) }
+    ensures within { IfOk result (λ _. (at.new.end ≤ packet.now.content) ×
+        (at.new.spent ≤ MOST_VALUES)) }
 {
     if at.spent >= MOST_VALUES {
         return Err(at.stop_full());

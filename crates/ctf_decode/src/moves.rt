@@ -16,7 +16,8 @@ use std::alloc::Global;
 /// The width in bits and the unsigned number of each integer of a value that sets the clock, in the order
 /// of decoding. A part of the value that is no value of its class gives nothing.
 pub fn moving(alloc: Global, class: &Class, value: &Value) -> Result<Vec<(u32, u64)>, NoMemory>
-    ensures value { IfOk result (λ found. found.items ≡ fields.moved (form class.now) (val value.now)) }
+    ensures value { IfOk result
+        (λ found. found.items ≡ fields.moved (form class.now) (val value.now)) }
     ensures stamps { IfOk result (λ found. All IsStamp found.items) }
 {
     let mut found = Vec::new(alloc);
@@ -31,7 +32,8 @@ pub fn moving_into(
     value: &Value,
     found: &mut Vec<(u32, u64)>,
 ) -> Result<(), NoMemory>
-    ensures value { IfOk result (λ _. found.new.items ≡ fields.moved (form class.now) (val value.now)) }
+    ensures value { IfOk result
+        (λ _. found.new.items ≡ fields.moved (form class.now) (val value.now)) }
     ensures stamps { IfOk result (λ _. All IsStamp found.new.items) }
 {
     found.clear();
@@ -42,7 +44,8 @@ pub fn moving_into(
 #[cycle(moved)]
 fn put_moved(class: &Class, value: &Value, found: &mut Vec<(u32, u64)>) -> Result<(), NoMemory>
     requires stamps { All IsStamp found.old.items }
-    ensures value { IfOk result (λ _. found.new.items ≡ found.old.items ++ fields.moved (form class.now) (val value.now)) }
+    ensures value { IfOk result
+        (λ _. found.new.items ≡ found.old.items ++ fields.moved (form class.now) (val value.now)) }
     ensures stamps { IfOk result (λ _. All IsStamp found.new.items) }
 {
     match &class.kind {
@@ -68,7 +71,10 @@ fn put_members(
     found: &mut Vec<(u32, u64)>,
 ) -> Result<(), NoMemory>
     requires stamps { All IsStamp found.old.items }
-    ensures value { IfOk result (λ _. found.new.items ≡ found.old.items ++ fields.member_moved (parts_of (map member_part members.now)) (vals_of (map val values.now))) }
+    ensures value { IfOk result
+        (λ _. found.new.items ≡
+        found.old.items ++ fields.member_moved (parts_of (map member_part members.now))
+        (vals_of (map val values.now))) }
     ensures stamps { IfOk result (λ _. All IsStamp found.new.items) }
 {
     for (i, member) in members.iter().enumerate() {
@@ -88,7 +94,9 @@ fn put_elements(
     found: &mut Vec<(u32, u64)>,
 ) -> Result<(), NoMemory>
     requires stamps { All IsStamp found.old.items }
-    ensures value { IfOk result (λ _. found.new.items ≡ found.old.items ++ fields.of_each (fields.moved (form element.now)) (vals_of (map val values.now))) }
+    ensures value { IfOk result
+        (λ _. found.new.items ≡ found.old.items ++ fields.of_each (fields.moved (form element.now))
+        (vals_of (map val values.now))) }
     ensures stamps { IfOk result (λ _. All IsStamp found.new.items) }
 {
     for value in values {
@@ -105,7 +113,10 @@ fn put_option(
     found: &mut Vec<(u32, u64)>,
 ) -> Result<(), NoMemory>
     requires stamps { All IsStamp found.old.items }
-    ensures value { IfOk result (λ _. found.new.items ≡ found.old.items ++ fields.of_choice (fields.choice_in (val value.now)) (λ i v. fields.option_moved (parts_of (map member_part options.now)) i v)) }
+    ensures value { IfOk result
+        (λ _. found.new.items ≡
+        found.old.items ++ fields.of_choice (fields.choice_in (val value.now))
+        (λ i v. fields.option_moved (parts_of (map member_part options.now)) i v)) }
     ensures stamps { IfOk result (λ _. All IsStamp found.new.items) }
 {
     match choice_in(value) {
@@ -123,7 +134,10 @@ fn put_chosen(
     found: &mut Vec<(u32, u64)>,
 ) -> Result<(), NoMemory>
     requires stamps { All IsStamp found.old.items }
-    ensures value { IfOk result (λ _. found.new.items ≡ found.old.items ++ fields.option_moved (parts_of (map member_part options.now)) i (val inner.now)) }
+    ensures value { IfOk result
+        (λ _. found.new.items ≡
+        found.old.items ++ fields.option_moved (parts_of (map member_part options.now)) i
+        (val inner.now)) }
     ensures stamps { IfOk result (λ _. All IsStamp found.new.items) }
 {
     if i >= options.len() {
@@ -139,7 +153,8 @@ fn put_integer(
     found: &mut Vec<(u32, u64)>,
 ) -> Result<(), NoMemory>
     requires stamps { All IsStamp found.old.items }
-    ensures value { IfOk result (λ _. found.new.items ≡ found.old.items ++ fields.moved_in integer.now (val value.now)) }
+    ensures value { IfOk result
+        (λ _. found.new.items ≡ found.old.items ++ fields.moved_in integer.now (val value.now)) }
     ensures stamps { IfOk result (λ _. All IsStamp found.new.items) }
 {
     if !integer.is_moving {
@@ -154,7 +169,8 @@ fn put_integer(
 
 fn put_unsigned(size: Width, value: &Value, found: &mut Vec<(u32, u64)>) -> Result<(), NoMemory>
     requires stamps { All IsStamp found.old.items }
-    ensures value { IfOk result (λ _. found.new.items ≡ found.old.items ++ fields.unsigned_pair size (val value.now)) }
+    ensures value { IfOk result
+        (λ _. found.new.items ≡ found.old.items ++ fields.unsigned_pair size (val value.now)) }
     ensures stamps { IfOk result (λ _. All IsStamp found.new.items) }
 {
     match value {
@@ -171,7 +187,8 @@ fn put_unsigned(size: Width, value: &Value, found: &mut Vec<(u32, u64)>) -> Resu
 /// Puts a number, if so many bits hold it.
 fn put_number(size: Width, number: u64, found: &mut Vec<(u32, u64)>) -> Result<(), NoMemory>
     requires stamps { All IsStamp found.old.items }
-    ensures value { IfOk result (λ _. found.new.items ≡ found.old.items ++ fields.unsigned_pair size (unsigned number)) }
+    ensures value { IfOk result
+        (λ _. found.new.items ≡ found.old.items ++ fields.unsigned_pair size (unsigned number)) }
     ensures stamps { IfOk result (λ _. All IsStamp found.new.items) }
 {
     let bits = size.bits();
@@ -183,7 +200,8 @@ fn put_number(size: Width, number: u64, found: &mut Vec<(u32, u64)>) -> Result<(
 
 fn put_signed(size: Width, value: &Value, found: &mut Vec<(u32, u64)>) -> Result<(), NoMemory>
     requires stamps { All IsStamp found.old.items }
-    ensures value { IfOk result (λ _. found.new.items ≡ found.old.items ++ fields.signed_pair size (val value.now)) }
+    ensures value { IfOk result
+        (λ _. found.new.items ≡ found.old.items ++ fields.signed_pair size (val value.now)) }
     ensures stamps { IfOk result (λ _. All IsStamp found.new.items) }
 {
     match value {
@@ -200,7 +218,8 @@ fn put_signed(size: Width, value: &Value, found: &mut Vec<(u32, u64)>) -> Result
 /// Puts the bits of a number in two's complement, if so many hold it.
 fn put_bits(size: Width, number: i64, found: &mut Vec<(u32, u64)>) -> Result<(), NoMemory>
     requires stamps { All IsStamp found.old.items }
-    ensures value { IfOk result (λ _. found.new.items ≡ found.old.items ++ fields.bits_pair size number) }
+    ensures value { IfOk result
+        (λ _. found.new.items ≡ found.old.items ++ fields.bits_pair size number) }
     ensures stamps { IfOk result (λ _. All IsStamp found.new.items) }
 {
     let bits = size.bits();

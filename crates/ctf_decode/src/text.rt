@@ -59,8 +59,11 @@ pub fn string_into(
     value: &mut Value,
 ) -> Result<(), Stopped>
     requires start { at.old.end ≤ packet.now.content }
-    ensures gives { Gives result at.new (val value.new) (begin (input packet.now) at.old.spent (string_at (input packet.now) (next_multiple_of at.old.end 8) at.old.spent)) }
-    ensures within { IfOk result (λ _. (at.new.end ≤ packet.now.content) × (at.new.spent ≤ MOST_VALUES)) }
+    ensures gives { Gives result at.new (val value.new)
+        (begin (input packet.now) at.old.spent
+        (string_at (input packet.now) (next_multiple_of at.old.end 8) at.old.spent)) }
+    ensures within { IfOk result (λ _. (at.new.end ≤ packet.now.content) ×
+        (at.new.spent ≤ MOST_VALUES)) }
 {
     if at.spent >= MOST_VALUES {
         return Err(at.stop_full());
@@ -113,8 +116,12 @@ pub fn characters_into(
 ) -> Result<(), Stopped>
     requires start { at.old.end ≤ packet.now.content }
     ensures gives { let b = next_multiple_of at.old.end 8 in
-        Gives result at.new (val value.new) (begin (input packet.now) at.old.spent (leaf (input packet.now) (b + 8 * count) at.old.spent (text_in (input packet.now) b count))) }
-    ensures within { IfOk result (λ _. (at.new.end ≤ packet.now.content) × (at.new.spent ≤ MOST_VALUES)) }
+        Gives result at.new (val value.new)
+        (begin (input packet.now) at.old.spent
+        (leaf (input packet.now) (b + 8 * count) at.old.spent
+        (text_in (input packet.now) b count))) }
+    ensures within { IfOk result (λ _. (at.new.end ≤ packet.now.content) ×
+        (at.new.spent ≤ MOST_VALUES)) }
 {
     if at.spent >= MOST_VALUES {
         return Err(at.stop_full());

@@ -30,8 +30,10 @@ pub fn value_into(
     value: &mut Value,
 ) -> Result<(), Stopped>
     requires start { at.old.end ≤ packet.now.content }
-    ensures gives { Gives result at.new (val value.new) (walk (form class.now) (input packet.now) (env frame.now) at.old.end at.old.spent) }
-    ensures within { IfOk result (λ _. (at.new.end ≤ packet.now.content) × (at.new.spent ≤ MOST_VALUES)) }
+    ensures gives { Gives result at.new (val value.new)
+        (walk (form class.now) (input packet.now) (env frame.now) at.old.end at.old.spent) }
+    ensures within { IfOk result (λ _. (at.new.end ≤ packet.now.content) ×
+        (at.new.spent ≤ MOST_VALUES)) }
 {
     match &class.kind {
         Kind::Integer(integer) => integer_into(integer, class.align, packet, at, value),
@@ -73,7 +75,7 @@ pub fn value_into(
     }
 }
 
-/// The same. Mostly it is a structure, which has no need to be told from other classes.
+/// Decodes the value of a scope in place of another. Mostly it is a structure, so that is looked at first.
 #[inline(always)]
 pub fn scope_into(
     alloc: Global,
@@ -84,8 +86,10 @@ pub fn scope_into(
     value: &mut Value,
 ) -> Result<(), Stopped>
     requires start { at.old.end ≤ packet.now.content }
-    ensures gives { Gives result at.new (val value.new) (walk (form class.now) (input packet.now) (env frame.now) at.old.end at.old.spent) }
-    ensures within { IfOk result (λ _. (at.new.end ≤ packet.now.content) × (at.new.spent ≤ MOST_VALUES)) }
+    ensures gives { Gives result at.new (val value.new)
+        (walk (form class.now) (input packet.now) (env frame.now) at.old.end at.old.spent) }
+    ensures within { IfOk result (λ _. (at.new.end ≤ packet.now.content) ×
+        (at.new.spent ≤ MOST_VALUES)) }
 {
     if let Kind::Structure { members } = &class.kind {
         let members = members.as_slice();
@@ -108,9 +112,12 @@ fn structure_into(
 ) -> Result<(), Stopped>
     requires start { at.old.end ≤ packet.now.content }
     ensures gives { let b = next_multiple_of at.old.end align in
-        Gives result at.new (val value.new) (begin (input packet.now) at.old.spent (open_at (input packet.now) b (and_then
-        (walk_members (parts_of (map member_part members.now)) (input packet.now) (env frame.now) [] b (at.old.spent + 1)) as_group))) }
-    ensures within { IfOk result (λ _. (at.new.end ≤ packet.now.content) × (at.new.spent ≤ MOST_VALUES)) }
+        Gives result at.new (val value.new)
+        (begin (input packet.now) at.old.spent (open_at (input packet.now) b (and_then
+        (walk_members (parts_of (map member_part members.now)) (input packet.now)
+        (env frame.now) [] b (at.old.spent + 1)) as_group))) }
+    ensures within { IfOk result (λ _. (at.new.end ≤ packet.now.content) ×
+        (at.new.spent ≤ MOST_VALUES)) }
 {
     if at.spent >= MOST_VALUES {
         return Err(at.stop_full());
@@ -141,8 +148,10 @@ fn new_group_into(
     requires start { at.old.end ≤ packet.now.content }
     requires spent { at.old.spent ≤ MOST_VALUES }
     ensures gives { Gives result at.new (val value.new) (and_then
-        (walk_members (parts_of (map member_part members.now)) (input packet.now) (env frame.now) [] at.old.end at.old.spent) as_group) }
-    ensures within { IfOk result (λ _. (at.new.end ≤ packet.now.content) × (at.new.spent ≤ MOST_VALUES)) }
+        (walk_members (parts_of (map member_part members.now)) (input packet.now)
+        (env frame.now) [] at.old.end at.old.spent) as_group) }
+    ensures within { IfOk result (λ _. (at.new.end ≤ packet.now.content) ×
+        (at.new.spent ≤ MOST_VALUES)) }
 {
     let mut values = List::new(alloc);
     members_into(alloc, members, packet, frame, at, &mut values)?;
@@ -186,8 +195,11 @@ fn members_into(
 ) -> Result<(), Stopped>
     requires start { at.old.end ≤ packet.now.content }
     requires spent { at.old.spent ≤ MOST_VALUES }
-    ensures gives { Gives result at.new (map val values.new) (walk_members (parts_of (map member_part members.now)) (input packet.now) (env frame.now) [] at.old.end at.old.spent) }
-    ensures within { IfOk result (λ _. (at.new.end ≤ packet.now.content) × (at.new.spent ≤ MOST_VALUES)) }
+    ensures gives { Gives result at.new (map val values.new)
+        (walk_members (parts_of (map member_part members.now)) (input packet.now)
+        (env frame.now) [] at.old.end at.old.spent) }
+    ensures within { IfOk result (λ _. (at.new.end ≤ packet.now.content) ×
+        (at.new.spent ≤ MOST_VALUES)) }
 {
     let Ok(()) = with_room(values, members.len()) else {
         return Err(at.stop_refused());
@@ -208,8 +220,11 @@ fn each_member_into(
     requires start { at.old.end ≤ packet.now.content }
     requires spent { at.old.spent ≤ MOST_VALUES }
     requires room { length values.old ≡ length members.now }
-    ensures gives { Gives result at.new (map val values.new) (walk_members (parts_of (map member_part members.now)) (input packet.now) (env frame.now) [] at.old.end at.old.spent) }
-    ensures within { IfOk result (λ _. (at.new.end ≤ packet.now.content) × (at.new.spent ≤ MOST_VALUES)) }
+    ensures gives { Gives result at.new (map val values.new)
+        (walk_members (parts_of (map member_part members.now)) (input packet.now)
+        (env frame.now) [] at.old.end at.old.spent) }
+    ensures within { IfOk result (λ _. (at.new.end ≤ packet.now.content) ×
+        (at.new.spent ≤ MOST_VALUES)) }
 {
     for (i, member) in members.iter().enumerate() {
         member_into(alloc, &member.class, packet, frame, at, values, i)?;
@@ -233,8 +248,12 @@ fn member_into(
 ) -> Result<(), Stopped>
     requires start { at.old.end ≤ packet.now.content }
     requires room { i < length values.old }
-    ensures gives { GivesNext result at.new (map val (take i values.old)) (map val (take (i + 1) values.new)) (walk (form class.now) (input packet.now) (map val (take i values.old) ∷ env frame.now) at.old.end at.old.spent) }
-    ensures within { IfOk result (λ _. (at.new.end ≤ packet.now.content) × (at.new.spent ≤ MOST_VALUES)) }
+    ensures gives { GivesNext result at.new (map val (take i values.old))
+        (map val (take (i + 1) values.new))
+        (walk (form class.now) (input packet.now) (map val (take i values.old) ∷ env frame.now)
+        at.old.end at.old.spent) }
+    ensures within { IfOk result (λ _. (at.new.end ≤ packet.now.content) ×
+        (at.new.spent ≤ MOST_VALUES)) }
 {
     if let Kind::Integer(integer) = &class.kind {
         return integer_into(integer, class.align, packet, at, &mut values[i]);
@@ -245,7 +264,7 @@ fn member_into(
     other_member_into(alloc, class, packet, frame, at, values, i)
 }
 
-/// The same of a member of another class.
+/// Decodes a member that is neither an integer nor a string in place of another value.
 #[cycle(walk)]
 #[inline(never)]
 fn other_member_into(
@@ -259,8 +278,12 @@ fn other_member_into(
 ) -> Result<(), Stopped>
     requires start { at.old.end ≤ packet.now.content }
     requires room { i < length values.old }
-    ensures gives { GivesNext result at.new (map val (take i values.old)) (map val (take (i + 1) values.new)) (walk (form class.now) (input packet.now) (map val (take i values.old) ∷ env frame.now) at.old.end at.old.spent) }
-    ensures within { IfOk result (λ _. (at.new.end ≤ packet.now.content) × (at.new.spent ≤ MOST_VALUES)) }
+    ensures gives { GivesNext result at.new (map val (take i values.old))
+        (map val (take (i + 1) values.new))
+        (walk (form class.now) (input packet.now) (map val (take i values.old) ∷ env frame.now)
+        at.old.end at.old.spent) }
+    ensures within { IfOk result (λ _. (at.new.end ≤ packet.now.content) ×
+        (at.new.spent ≤ MOST_VALUES)) }
 {
     if let Kind::Text { length } = &class.kind {
         let inner = Frame::Within(&values[..i], &*frame);
@@ -288,8 +311,12 @@ fn inner_member_into(
 ) -> Result<(), Stopped>
     requires start { at.old.end ≤ packet.now.content }
     requires room { i < length values.old }
-    ensures gives { GivesNext result at.new (map val (take i values.old)) (map val (take (i + 1) values.new)) (walk (form class.now) (input packet.now) (map val (take i values.old) ∷ env frame.now) at.old.end at.old.spent) }
-    ensures within { IfOk result (λ _. (at.new.end ≤ packet.now.content) × (at.new.spent ≤ MOST_VALUES)) }
+    ensures gives { GivesNext result at.new (map val (take i values.old))
+        (map val (take (i + 1) values.new))
+        (walk (form class.now) (input packet.now) (map val (take i values.old) ∷ env frame.now)
+        at.old.end at.old.spent) }
+    ensures within { IfOk result (λ _. (at.new.end ≤ packet.now.content) ×
+        (at.new.spent ≤ MOST_VALUES)) }
 {
     let mut value = mem::replace(&mut values[i], Value::Unsigned(0));
     let inner = Frame::Within(&values[..i], &*frame);
@@ -311,9 +338,12 @@ fn array_into(
 ) -> Result<(), Stopped>
     requires start { at.old.end ≤ packet.now.content }
     ensures gives { let b = next_multiple_of at.old.end element.now.align in
-        Gives result at.new (val value.new) (begin (input packet.now) at.old.spent (open_at (input packet.now) b (and_then
-        (repeat (walk (form element.now) (input packet.now) (env frame.now)) count [] b (at.old.spent + 1)) as_list))) }
-    ensures within { IfOk result (λ _. (at.new.end ≤ packet.now.content) × (at.new.spent ≤ MOST_VALUES)) }
+        Gives result at.new (val value.new)
+        (begin (input packet.now) at.old.spent (open_at (input packet.now) b (and_then
+        (repeat (walk (form element.now) (input packet.now) (env frame.now)) count [] b
+        (at.old.spent + 1)) as_list))) }
+    ensures within { IfOk result (λ _. (at.new.end ≤ packet.now.content) ×
+        (at.new.spent ≤ MOST_VALUES)) }
 {
     if at.spent >= MOST_VALUES {
         return Err(at.stop_full());
@@ -346,8 +376,11 @@ fn elements_into(
 ) -> Result<(), Stopped>
     requires start { at.old.end ≤ packet.now.content }
     requires spent { at.old.spent ≤ MOST_VALUES }
-    ensures gives { Gives result at.new (map val values.new.items) (repeat (walk (form element.now) (input packet.now) (env frame.now)) count [] at.old.end at.old.spent) }
-    ensures within { IfOk result (λ _. (at.new.end ≤ packet.now.content) × (at.new.spent ≤ MOST_VALUES)) }
+    ensures gives { Gives result at.new (map val values.new.items)
+        (repeat (walk (form element.now) (input packet.now) (env frame.now)) count [] at.old.end
+        at.old.spent) }
+    ensures within { IfOk result (λ _. (at.new.end ≤ packet.now.content) ×
+        (at.new.spent ≤ MOST_VALUES)) }
 {
     for i in 0..count {
         element_into(alloc, element, packet, frame, at, values, i as usize)?;
@@ -369,8 +402,11 @@ fn element_into(
 ) -> Result<(), Stopped>
     requires start { at.old.end ≤ packet.now.content }
     requires room { i ≤ length values.old.items }
-    ensures gives { GivesNext result at.new (map val (take i values.old.items)) (map val (take (i + 1) values.new.items)) (walk (form element.now) (input packet.now) (env frame.now) at.old.end at.old.spent) }
-    ensures within { IfOk result (λ _. (at.new.end ≤ packet.now.content) × (at.new.spent ≤ MOST_VALUES) × (i < length values.new.items)) }
+    ensures gives { GivesNext result at.new (map val (take i values.old.items))
+        (map val (take (i + 1) values.new.items))
+        (walk (form element.now) (input packet.now) (env frame.now) at.old.end at.old.spent) }
+    ensures within { IfOk result (λ _. (at.new.end ≤ packet.now.content) ×
+        (at.new.spent ≤ MOST_VALUES) × (i < length values.new.items)) }
 {
     if i == values.len() {
         let Ok(()) = values.push(Value::Unsigned(0)) else {
@@ -395,9 +431,12 @@ fn choice_into(
     value: &mut Value,
 ) -> Result<(), Stopped>
     requires start { at.old.end ≤ packet.now.content }
-    ensures gives { Gives result at.new (val value.new) (begin (input packet.now) at.old.spent (with_option chosen (λ i. and_then
-        (walk_option (parts_of (map member_part options.now)) i (input packet.now) (env frame.now) at.old.end (at.old.spent + 1)) (as_choice i)))) }
-    ensures within { IfOk result (λ _. (at.new.end ≤ packet.now.content) × (at.new.spent ≤ MOST_VALUES)) }
+    ensures gives { Gives result at.new (val value.new)
+        (begin (input packet.now) at.old.spent (with_option chosen (λ i. and_then
+        (walk_option (parts_of (map member_part options.now)) i (input packet.now)
+        (env frame.now) at.old.end (at.old.spent + 1)) (as_choice i)))) }
+    ensures within { IfOk result (λ _. (at.new.end ≤ packet.now.content) ×
+        (at.new.spent ≤ MOST_VALUES)) }
 {
     if at.spent >= MOST_VALUES {
         return Err(at.stop_full());
@@ -422,8 +461,10 @@ fn option_into(
 ) -> Result<(), Stopped>
     requires start { at.old.end ≤ packet.now.content }
     ensures gives { Gives result at.new (val value.new) (and_then
-        (walk_option (parts_of (map member_part options.now)) i (input packet.now) (env frame.now) at.old.end at.old.spent) (as_choice i)) }
-    ensures within { IfOk result (λ _. (at.new.end ≤ packet.now.content) × (at.new.spent ≤ MOST_VALUES)) }
+        (walk_option (parts_of (map member_part options.now)) i (input packet.now)
+        (env frame.now) at.old.end at.old.spent) (as_choice i)) }
+    ensures within { IfOk result (λ _. (at.new.end ≤ packet.now.content) ×
+        (at.new.spent ≤ MOST_VALUES)) }
 {
     if i >= options.len() {
         return Err(at.stop_unchosen());
@@ -449,8 +490,11 @@ fn new_choice_into(
     value: &mut Value,
 ) -> Result<(), Stopped>
     requires start { at.old.end ≤ packet.now.content }
-    ensures gives { Gives result at.new (val value.new) (and_then (walk (form class.now) (input packet.now) (env frame.now) at.old.end at.old.spent) (as_choice i)) }
-    ensures within { IfOk result (λ _. (at.new.end ≤ packet.now.content) × (at.new.spent ≤ MOST_VALUES)) }
+    ensures gives { Gives result at.new (val value.new)
+        (and_then (walk (form class.now) (input packet.now) (env frame.now) at.old.end at.old.spent)
+        (as_choice i)) }
+    ensures within { IfOk result (λ _. (at.new.end ≤ packet.now.content) ×
+        (at.new.spent ≤ MOST_VALUES)) }
 {
     let mut inner = Value::Unsigned(0);
     value_into(alloc, class, packet, frame, at, &mut inner)?;

@@ -16,9 +16,14 @@ use ctf_packet::{StreamFault, number_in, role, told_sizes};
 ///
 /// F5 exactly where the sizes that it tells can't be.
 pub fn sized<'a>(begun: Begun<'a>, context: Option<&Value>) -> Result<Want<'a>, StreamFault>
-    ensures judged { (shift : Shift) (values : Values) → Judged shift values result (wants.sized (begun_of shift values begun.entry)
-        (roles.number_in (roles.role (codes "packet_size") (option_map form begun.entry.stream.now.packet_context) (option_map val (option_copied context.entry))))
-        (roles.number_in (roles.role (codes "content_size") (option_map form begun.entry.stream.now.packet_context) (option_map val (option_copied context.entry))))) }
+    ensures judged { (shift : Shift) (values : Values) →
+        Judged shift values result (wants.sized (begun_of shift values begun.entry)
+        (roles.number_in (roles.role (codes "packet_size")
+        (option_map form begun.entry.stream.now.packet_context)
+        (option_map val (option_copied context.entry))))
+        (roles.number_in (roles.role (codes "content_size")
+        (option_map form begun.entry.stream.now.packet_context)
+        (option_map val (option_copied context.entry))))) }
     ensures first { IfOk result (EndsAt begun.entry.first) }
 {
     let class = begun.stream.packet_context();

@@ -52,7 +52,7 @@ pub(crate) struct ToldHead<'a> {
     pub(crate) spent: u64,
 }
 
-/// The same, with the plan of the records of its event class.
+/// A header that was told, with the plan of the records of its event class.
 #[derive(Clone, Copy)]
 pub(crate) struct PlannedHead<'a> {
     pub(crate) told: ToldHead<'a>,

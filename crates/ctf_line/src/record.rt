@@ -89,7 +89,7 @@ pub fn written_line<'a>(
     Some(with_text(told.head, standing))
 }
 
-/// The same of a header that is told by its class.
+/// The event record at a place, as its text, where its header is told by its class.
 #[inline(always)]
 fn written_by_class<'a>(
     packet: &OpenPacket<'a>,
@@ -285,7 +285,7 @@ fn put_planned_body(
     put_record(packet, told.head, part, bytes, told.spent, place, line)
 }
 
-/// The same by the plan alone.
+/// Writes the text of the event record that begins at `place` at the front of a line, by the plan alone.
 #[inline(always)]
 fn put_by_plan(
     packet: &OpenPacket<'_>,

@@ -67,7 +67,8 @@ impl<'a> Clocks<'a> {
 
     /// The clock to which an integer is mapped where it stands.
     fn clock_at(&self, spot: &Spot<'_>, integer: &DeclaredInteger) -> Option<&Clock>
-        ensures { option_copied result ≡ meaning.clock_at self.now.clocks.now (spot_by spot.now) integer.now }
+        ensures { option_copied result ≡
+            meaning.clock_at self.now.clocks.now (spot_by spot.now) integer.now }
     {
         match &integer.clock {
             Some(name) => self.named(name.as_slice()),
@@ -83,7 +84,8 @@ impl<'a> Clocks<'a> {
 
     /// The clock that an integer moves where it stands.
     pub fn moved_clock(&self, spot: &Spot<'_>, integer: &DeclaredInteger) -> Option<&Clock>
-        ensures { option_copied result ≡ meaning.moved_clock self.now.clocks.now (spot_by spot.now) integer.now }
+        ensures { option_copied result ≡
+            meaning.moved_clock self.now.clocks.now (spot_by spot.now) integer.now }
     {
         if moves_in(spot) {
             self.clock_at(spot, integer)

@@ -52,7 +52,8 @@ fn outward(out: u32) -> Result<u32, NoMemory>
 
 /// The first member of a name, where it is one of so many: its place and its class.
 fn member_before<'a>(members: &'a Members, count: usize, word: &[u8]) -> Option<(usize, &'a Shape)>
-    ensures { option_map place_and_shape result ≡ class_named word.now (take count (fields_in (views.members members.now))) }
+    ensures { option_map place_and_shape result ≡
+        class_named word.now (take count (fields_in (views.members members.now))) }
 {
     let (place, shape) = members.get(word)?;
     if place < count {
@@ -65,7 +66,8 @@ fn member_before<'a>(members: &'a Members, count: usize, word: &[u8]) -> Option<
 /// The first member of a name in a class: its place and its class. A class that is no structure has
 /// none.
 fn member_of<'a>(shape: &'a Shape, word: &[u8]) -> Option<(usize, &'a Shape)>
-    ensures { option_map place_and_shape result ≡ class_named word.now (members_of (views.shape shape.now)) }
+    ensures { option_map place_and_shape result ≡
+        class_named word.now (members_of (views.shape shape.now)) }
 {
     match shape {
         Shape::Structure { members, .. } => members.get(word),
@@ -86,7 +88,8 @@ fn down<'a>(
     shape: &'a Shape,
     words: &[Word],
 ) -> Result<Option<&'a Shape>, NoMemory>
-    ensures { IfOk result (λ found. option_map (λ s. (steps.new, views.shape s.now)) found ≡ option_map (further steps.old) (down (views.shape shape.now) words.now)) }
+    ensures { IfOk result (λ found. option_map (λ s. (steps.new, views.shape s.now)) found ≡
+        option_map (further steps.old) (down (views.shape shape.now) words.now)) }
 {
     let mut at = shape;
     for word in words {
@@ -117,7 +120,9 @@ fn found_behind<'a>(
     shape: &'a Shape,
     words: &[Word],
 ) -> Result<Option<Found<'a>>, NoMemory>
-    ensures { IfOk result (λ found. option_map found_by found ≡ option_map (λ f. route_from origin (further way f)) (down (views.shape shape.now) words.now)) }
+    ensures { IfOk result (λ found. option_map found_by found ≡
+        option_map (λ f. route_from origin (further way f))
+        (down (views.shape shape.now) words.now)) }
 {
     let mut steps = way;
     match down(&mut steps, shape, words)? {
@@ -136,7 +141,8 @@ fn found_in<'a>(
     frame: &Frame<'a>,
     words: &[Word],
 ) -> Result<Option<Found<'a>>, NoMemory>
-    ensures { IfOk result (λ found. option_map found_by found ≡ option_map (route_from origin) (field_at (frame_by frame.now).fields words.now)) }
+    ensures { IfOk result (λ found. option_map found_by found ≡
+        option_map (route_from origin) (field_at (frame_by frame.now).fields words.now)) }
 {
     match words {
         [] => Ok(None),
@@ -171,7 +177,8 @@ fn found_below<'a>(
     origin: Origin,
     frame: &Frame<'a>,
 ) -> Result<Option<Found<'a>>, NoMemory>
-    ensures { IfOk result (λ found. option_map found_by found ≡ paths.found_below scope words.now (origin, frame_by frame.now)) }
+    ensures { IfOk result (λ found. option_map found_by found ≡
+        paths.found_below scope words.now (origin, frame_by frame.now)) }
 {
     if rank(frame.scope) != rank(scope) {
         return Ok(None);
@@ -182,7 +189,7 @@ fn found_below<'a>(
     }
 }
 
-/// The same in the nearest structure around into which they lead, from this one on.
+/// What the words find in the nearest structure around into which they lead, from this one on.
 fn below_around<'a>(
     alloc: Global,
     scope: Scope,
@@ -190,7 +197,9 @@ fn below_around<'a>(
     around: &'a Around<'a>,
     out: u32,
 ) -> Result<Option<Found<'a>>, NoMemory>
-    ensures { IfOk result (λ found. option_map found_by found ≡ first (filter_map (paths.found_below scope words.now) (enclosing out (frames_around around.now)))) }
+    ensures { IfOk result (λ found. option_map found_by found ≡
+        first (filter_map (paths.found_below scope words.now)
+        (enclosing out (frames_around around.now)))) }
 {
     match around {
         Around::Outside => Ok(None),
@@ -203,14 +212,16 @@ fn below_around<'a>(
     }
 }
 
-/// The same in the nearest scope before.
+/// What the words find in the nearest scope before.
 fn below_before<'a>(
     alloc: Global,
     scope: Scope,
     words: &[Word],
     before: &'a [Earlier<'a>],
 ) -> Result<Option<Found<'a>>, NoMemory>
-    ensures { IfOk result (λ found. option_map found_by found ≡ first (filter_map (paths.found_below scope words.now) (of_scopes (map earlier_by before.now)))) }
+    ensures { IfOk result (λ found. option_map found_by found ≡
+        first (filter_map (paths.found_below scope words.now)
+        (of_scopes (map earlier_by before.now)))) }
 {
     for earlier in before {
         let frame = earlier.frame();
@@ -238,7 +249,8 @@ fn start_around<'a>(
     around: &'a Around<'a>,
     out: u32,
 ) -> Result<Option<Start<'a>>, NoMemory>
-    ensures { IfOk result (λ start. option_map start_by start ≡ find (λ p. paths.has_member path.now p.1) (enclosing out (frames_around around.now))) }
+    ensures { IfOk result (λ start. option_map start_by start ≡
+        find (λ p. paths.has_member path.now p.1) (enclosing out (frames_around around.now))) }
 {
     match around {
         Around::Outside => Ok(None),
@@ -257,7 +269,8 @@ fn start_around<'a>(
 
 /// The nearest scope before that has such a member.
 fn start_before<'a>(path: &[Word], before: &'a [Earlier<'a>]) -> Option<Start<'a>>
-    ensures { option_map start_by result ≡ find (λ p. paths.has_member path.now p.1) (of_scopes (map earlier_by before.now)) }
+    ensures { option_map start_by result ≡
+        find (λ p. paths.has_member path.now p.1) (of_scopes (map earlier_by before.now)) }
 {
     for earlier in before {
         let frame = earlier.frame();
@@ -273,7 +286,8 @@ fn start_before<'a>(path: &[Word], before: &'a [Earlier<'a>]) -> Option<Start<'a
 
 /// Where a path begins that does not begin with the name of a scope.
 fn start_of<'a>(spot: &Spot<'a>, path: &[Word]) -> Result<Option<Start<'a>>, NoMemory>
-    ensures { IfOk result (λ start. option_map start_by start ≡ find (λ p. paths.has_member path.now p.1) (paths.frames (spot_by spot.now))) }
+    ensures { IfOk result (λ start. option_map start_by start ≡
+        find (λ p. paths.has_member path.now p.1) (paths.frames (spot_by spot.now))) }
 {
     match start_around(path, spot.around, 0)? {
         Some(start) => Ok(Some(start)),
@@ -287,7 +301,8 @@ fn found_near<'a>(
     spot: &Spot<'a>,
     path: &[Word],
 ) -> Result<Option<Found<'a>>, NoMemory>
-    ensures { IfOk result (λ found. option_map found_by found ≡ paths.found_near (spot_by spot.now) path.now) }
+    ensures { IfOk result (λ found. option_map found_by found ≡
+        paths.found_near (spot_by spot.now) path.now) }
 {
     match start_of(spot, path)? {
         None => Ok(None),
@@ -302,7 +317,8 @@ fn found_from_scope<'a>(
     scope: Scope,
     words: &[Word],
 ) -> Result<Option<Found<'a>>, NoMemory>
-    ensures { IfOk result (λ found. option_map found_by found ≡ first (filter_map (paths.found_below scope words.now) (paths.frames (spot_by spot.now)))) }
+    ensures { IfOk result (λ found. option_map found_by found ≡
+        first (filter_map (paths.found_below scope words.now) (paths.frames (spot_by spot.now)))) }
 {
     match below_around(alloc, scope, words, spot.around, 0)? {
         Some(found) => Ok(Some(found)),
@@ -316,7 +332,8 @@ pub fn found_at<'a>(
     spot: &Spot<'a>,
     path: &[Word],
 ) -> Result<Option<Found<'a>>, NoMemory>
-    ensures { IfOk result (λ found. option_map found_by found ≡ paths.found_at (spot_by spot.now) path.now) }
+    ensures { IfOk result (λ found. option_map found_by found ≡
+        paths.found_at (spot_by spot.now) path.now) }
 {
     match scope_named(path) {
         None => found_near(alloc, spot, path),

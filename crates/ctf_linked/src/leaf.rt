@@ -35,7 +35,8 @@ pub fn integer_class(
     spot: &Spot<'_>,
     declared: &DeclaredInteger,
 ) -> Result<Class, ResolveFault>
-    ensures { Follows (class_told order clocks.now.clocks.now (spot_by spot.now) (integer declared.now)) (λ c. c) result }
+    ensures { Follows (class_told order clocks.now.clocks.now (spot_by spot.now)
+        (integer declared.now)) (λ c. c) result }
 {
     if clocks.is_unknown(declared) {
         return Err(ResolveFault::Clock);
@@ -57,7 +58,8 @@ pub fn enumeration_class(
     declared: &DeclaredInteger,
     labels: &Shared<Labels>,
 ) -> Result<Class, ResolveFault>
-    ensures { Follows (class_told order clocks.now.clocks.now (spot_by spot.now) (enum declared.now labels.now)) (λ c. c) result }
+    ensures { Follows (class_told order clocks.now.clocks.now (spot_by spot.now)
+        (enum declared.now labels.now)) (λ c. c) result }
 {
     if clocks.is_unknown(declared) {
         return Err(ResolveFault::Clock);

@@ -30,7 +30,8 @@ pub fn class_of(
     spot: &Spot<'_>,
     shape: &Shape,
 ) -> Result<Class, ResolveFault>
-    ensures { Follows (class_told order clocks.now.clocks.now (spot_by spot.now) (views.shape shape.now)) (λ c. c) result }
+    ensures { Follows (class_told order clocks.now.clocks.now (spot_by spot.now)
+        (views.shape shape.now)) (λ c. c) result }
 {
     match shape {
         Shape::Integer(integer) => integer_class(order, clocks, spot, integer),
@@ -64,7 +65,8 @@ fn structure_class(
     align: Align,
     members: &Members,
 ) -> Result<Class, ResolveFault>
-    ensures { Follows (class_told order clocks.now.clocks.now (spot_by spot.now) (struct align (views.members members.now))) (λ c. c) result }
+    ensures { Follows (class_told order clocks.now.clocks.now (spot_by spot.now)
+        (struct align (views.members members.now))) (λ c. c) result }
 {
     let made = members_in(alloc, order, clocks, spot, members)?;
     Ok(structure_of(align, made)?)
@@ -79,7 +81,8 @@ fn members_in(
     spot: &Spot<'_>,
     members: &Members,
 ) -> Result<List<Member>, ResolveFault>
-    ensures { Follows (each_told (member_told order clocks.now.clocks.now (spot_by spot.now)) [] (fields_in (views.members members.now))) (λ ms. ms) result }
+    ensures { Follows (each_told (member_told order clocks.now.clocks.now (spot_by spot.now)) []
+        (fields_in (views.members members.now))) (λ ms. ms) result }
 {
     let mut made = List::new(alloc);
     for place in 0..members.len() {
@@ -100,7 +103,10 @@ fn member_at(
     place: usize,
 ) -> Result<Member, ResolveFault>
     requires { place < length (fields_in (views.members members.now)) }
-    ensures { let fields = fields_in (views.members members.now) in (f : Field) → slice_get fields place ≡ Some f → Follows (member_told order clocks.now.clocks.now (spot_by spot.now) (take place fields) f) (λ m. m) result }
+    ensures { let fields = fields_in (views.members members.now) in
+        (f : Field) → slice_get fields place ≡ Some f →
+        Follows (member_told order clocks.now.clocks.now (spot_by spot.now) (take place fields) f)
+        (λ m. m) result }
 {
     let around = (&*spot).around(&*members, place);
     let inner = (&*spot).member(&around, (&*members).name(place));
@@ -119,7 +125,8 @@ fn variant_class(
     tag: &Option<Path>,
     options: &Members,
 ) -> Result<Class, ResolveFault>
-    ensures { Follows (class_told order clocks.now.clocks.now (spot_by spot.now) (variant tag.now (views.members options.now))) (λ c. c) result }
+    ensures { Follows (class_told order clocks.now.clocks.now (spot_by spot.now)
+        (variant tag.now (views.members options.now))) (λ c. c) result }
 {
     let found = tag_at(alloc, spot, tag)?;
     let below = spot.below();
@@ -136,7 +143,8 @@ fn options_in(
     spot: &Spot<'_>,
     options: &Members,
 ) -> Result<List<Member>, ResolveFault>
-    ensures { Follows (each_told (option_told order clocks.now.clocks.now (spot_by spot.now)) [] (fields_in (views.members options.now))) (λ ms. ms) result }
+    ensures { Follows (each_told (option_told order clocks.now.clocks.now (spot_by spot.now)) []
+        (fields_in (views.members options.now))) (λ ms. ms) result }
 {
     let mut made = List::new(alloc);
     for place in 0..options.len() {
@@ -157,7 +165,10 @@ fn option_at(
     place: usize,
 ) -> Result<Member, ResolveFault>
     requires { place < length (fields_in (views.members options.now)) }
-    ensures { let fields = fields_in (views.members options.now) in (f : Field) → slice_get fields place ≡ Some f → Follows (option_told order clocks.now.clocks.now (spot_by spot.now) (take place fields) f) (λ m. m) result }
+    ensures { let fields = fields_in (views.members options.now) in
+        (f : Field) → slice_get fields place ≡ Some f →
+        Follows (option_told order clocks.now.clocks.now (spot_by spot.now) (take place fields) f)
+        (λ m. m) result }
 {
     let class = class_of(alloc, order, clocks, spot, options.shape(place))?;
     let name = options.field_name(place).clone()?;
@@ -174,7 +185,8 @@ fn array_class(
     count: u64,
     element: &Shape,
 ) -> Result<Class, ResolveFault>
-    ensures { Follows (class_told order clocks.now.clocks.now (spot_by spot.now) (array count (views.shape element.now))) (λ c. c) result }
+    ensures { Follows (class_told order clocks.now.clocks.now (spot_by spot.now)
+        (array count (views.shape element.now))) (λ c. c) result }
 {
     let below = spot.below();
     let class = class_of(alloc, order, clocks, &below, element)?;
@@ -191,7 +203,8 @@ fn sequence_class(
     path: &[Word],
     element: &Shape,
 ) -> Result<Class, ResolveFault>
-    ensures { Follows (class_told order clocks.now.clocks.now (spot_by spot.now) (sequence path.now (views.shape element.now))) (λ c. c) result }
+    ensures { Follows (class_told order clocks.now.clocks.now (spot_by spot.now)
+        (sequence path.now (views.shape element.now))) (λ c. c) result }
 {
     let route = length_at(alloc, spot, path)?;
     let below = spot.below();

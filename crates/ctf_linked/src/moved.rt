@@ -36,7 +36,8 @@ impl<'a> Moved<'a> {
 
     /// One clock more, where there is one.
     fn with(self, clock: Option<&'a Clock>) -> Moved<'a>
-        ensures { (old : List trace.Clock) → Tells self.entry old → Tells result (old ++ cons_option (option_copied clock.entry) []) }
+        ensures { (old : List trace.Clock) → Tells self.entry old →
+            Tells result (old ++ cons_option (option_copied clock.entry) []) }
     {
         match clock {
             None => self,
@@ -46,7 +47,8 @@ impl<'a> Moved<'a> {
 
     /// One clock more.
     fn and(self, next: &'a Clock) -> Moved<'a>
-        ensures { (old : List trace.Clock) → Tells self.entry old → Tells result (old ++ next.now ∷ []) }
+        ensures { (old : List trace.Clock) → Tells self.entry old →
+            Tells result (old ++ next.now ∷ []) }
     {
         match self.first {
             None => Moved {
@@ -69,7 +71,9 @@ pub fn moved_in<'a>(
     shape: &Shape,
     moved: Moved<'a>,
 ) -> Moved<'a>
-    ensures { (old : List trace.Clock) → Tells moved.entry old → Tells result (old ++ moved_clocks clocks.now.clocks.now (spot_by spot.now) (views.shape shape.now)) }
+    ensures { (old : List trace.Clock) → Tells moved.entry old →
+        Tells result (old ++ moved_clocks clocks.now.clocks.now (spot_by spot.now)
+        (views.shape shape.now)) }
 {
     match shape {
         Shape::Integer(integer) => moved.with(clocks.moved_clock(spot, integer)),
@@ -100,7 +104,9 @@ fn moved_members<'a>(
     members: &Members,
     mut moved: Moved<'a>,
 ) -> Moved<'a>
-    ensures { (old : List trace.Clock) → Tells moved.entry old → Tells result (old ++ each_moved (member_moved clocks.now.clocks.now (spot_by spot.now)) [] (fields_in (views.members members.now))) }
+    ensures { (old : List trace.Clock) → Tells moved.entry old →
+        Tells result (old ++ each_moved (member_moved clocks.now.clocks.now (spot_by spot.now)) []
+        (fields_in (views.members members.now))) }
 {
     for place in 0..members.len() {
         moved = moved_member(clocks, spot, members, place, moved);
@@ -118,7 +124,11 @@ fn moved_member<'a>(
     moved: Moved<'a>,
 ) -> Moved<'a>
     requires { place < length (fields_in (views.members members.now)) }
-    ensures { let fields = fields_in (views.members members.now) in (f : Field) → slice_get fields place ≡ Some f → (old : List trace.Clock) → Tells moved.entry old → Tells result (old ++ member_moved clocks.now.clocks.now (spot_by spot.now) (take place fields) f) }
+    ensures { let fields = fields_in (views.members members.now) in
+        (f : Field) → slice_get fields place ≡ Some f → (old : List trace.Clock) →
+        Tells moved.entry old →
+        Tells result (old ++ member_moved clocks.now.clocks.now (spot_by spot.now)
+        (take place fields) f) }
 {
     let around = (&*spot).around(&*members, place);
     let inner = (&*spot).member(&around, (&*members).name(place));
@@ -133,7 +143,9 @@ fn moved_options<'a>(
     options: &Members,
     mut moved: Moved<'a>,
 ) -> Moved<'a>
-    ensures { (old : List trace.Clock) → Tells moved.entry old → Tells result (old ++ each_moved (option_moved clocks.now.clocks.now (spot_by spot.now)) [] (fields_in (views.members options.now))) }
+    ensures { (old : List trace.Clock) → Tells moved.entry old →
+        Tells result (old ++ each_moved (option_moved clocks.now.clocks.now (spot_by spot.now)) []
+        (fields_in (views.members options.now))) }
 {
     for place in 0..options.len() {
         moved = moved_option(clocks, spot, options, place, moved);
@@ -151,7 +163,11 @@ fn moved_option<'a>(
     moved: Moved<'a>,
 ) -> Moved<'a>
     requires { place < length (fields_in (views.members options.now)) }
-    ensures { let fields = fields_in (views.members options.now) in (f : Field) → slice_get fields place ≡ Some f → (old : List trace.Clock) → Tells moved.entry old → Tells result (old ++ option_moved clocks.now.clocks.now (spot_by spot.now) (take place fields) f) }
+    ensures { let fields = fields_in (views.members options.now) in
+        (f : Field) → slice_get fields place ≡ Some f → (old : List trace.Clock) →
+        Tells moved.entry old →
+        Tells result (old ++ option_moved clocks.now.clocks.now (spot_by spot.now)
+        (take place fields) f) }
 {
     moved_in(clocks, spot, options.shape(place), moved)
 }

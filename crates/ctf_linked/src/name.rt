@@ -50,7 +50,8 @@ fn behind_three<'a>(
     third: &[u8],
     path: &'a [Word],
 ) -> Option<&'a [Word]>
-    ensures { option_copied result ≡ behind_words (first.now ∷ second.now ∷ third.now ∷ []) path.now }
+    ensures { option_copied result ≡
+        behind_words (first.now ∷ second.now ∷ third.now ∷ []) path.now }
 {
     behind_word(third, behind_two(first, second, path)?)
 }

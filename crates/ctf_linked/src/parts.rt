@@ -63,7 +63,8 @@ fn around(align: Align, sums: Sums, kind: Kind) -> Result<Class, NoMemory>
 
 /// The class of a structure.
 pub fn structure_of(align: Align, members: List<Member>) -> Result<Class, NoMemory>
-    ensures { IfOk result (λ class. class ≡ class_around align (depth_in members) (nodes_in members) (kind.Structure members)) }
+    ensures { IfOk result (λ class.
+        class ≡ class_around align (depth_in members) (nodes_in members) (kind.Structure members)) }
 {
     let sums = sums_of(members.as_slice())?;
     around(align, sums, Kind::Structure { members })
@@ -76,7 +77,10 @@ pub fn variant_of(
     declared: &Members,
     options: List<Member>,
 ) -> Result<Class, NoMemory>
-    ensures { IfOk result (λ class. class ≡ class_around 1 (depth_in options) (nodes_in options) (kind.Variant tag.entry.route (links.choices_of (fields_in (views.members declared.now)) tag.entry.labels.now) options)) }
+    ensures { IfOk result (λ class.
+        class ≡ class_around 1 (depth_in options) (nodes_in options)
+        (kind.Variant tag.entry.route
+        (links.choices_of (fields_in (views.members declared.now)) tag.entry.labels.now) options)) }
 {
     let sums = sums_of(options.as_slice())?;
     let Tag { route, labels } = tag;
@@ -96,7 +100,9 @@ pub fn array_of(
     declared: &Shape,
     element: Class,
 ) -> Result<Class, NoMemory>
-    ensures { IfOk result (λ class. class ≡ class_around element.align element.depth element.nodes (links.array_kind length (views.shape declared.now) element)) }
+    ensures { IfOk result (λ class.
+        class ≡ class_around element.align element.depth element.nodes
+        (links.array_kind length (views.shape declared.now) element)) }
 {
     let align = element.align;
     let sums = Sums {
@@ -114,7 +120,8 @@ fn array_kind(
     declared: &Shape,
     element: Class,
 ) -> Result<Kind, NoMemory>
-    ensures { IfOk result (λ what. what ≡ links.array_kind length (views.shape declared.now) element) }
+    ensures { IfOk result (λ what.
+        what ≡ links.array_kind length (views.shape declared.now) element) }
 {
     if is_character(declared) {
         Ok(Kind::Text { length })

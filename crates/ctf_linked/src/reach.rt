@@ -58,7 +58,8 @@ fn labels_in<'a>(shape: &'a Shape) -> Option<&'a Shared<Labels>>
 
 /// Where the field stands that says a sequence's length (CTF 1.8.3, section 4.2.4).
 pub fn length_at(alloc: Global, spot: &Spot<'_>, path: &[Word]) -> Result<Route, ResolveFault>
-    ensures { Follows (there_or LengthOrTag (paths.length_at (spot_by spot.now) path.now)) (λ route. route) result }
+    ensures { Follows (there_or LengthOrTag (paths.length_at (spot_by spot.now) path.now))
+        (λ route. route) result }
 {
     match found_at(alloc, spot, path)? {
         None => Err(ResolveFault::LengthOrTag),
@@ -68,7 +69,8 @@ pub fn length_at(alloc: Global, spot: &Spot<'_>, path: &[Word]) -> Result<Route,
 
 /// The route to a field that is a length.
 fn length_of(found: Found<'_>) -> Result<Route, ResolveFault>
-    ensures { Follows (there_or LengthOrTag (length_of (found_by found.entry))) (λ route. route) result }
+    ensures { Follows (there_or LengthOrTag (length_of (found_by found.entry)))
+        (λ route. route) result }
 {
     let Found { route, shape } = found;
     if is_length(shape) {
@@ -84,7 +86,8 @@ pub fn tag_at<'a>(
     spot: &Spot<'a>,
     tag: &Option<Path>,
 ) -> Result<Tag<'a>, ResolveFault>
-    ensures { Follows (there_or LengthOrTag (paths.tag_at (spot_by spot.now) tag.now)) tag_by result }
+    ensures { Follows (there_or LengthOrTag (paths.tag_at (spot_by spot.now) tag.now)) tag_by
+        result }
 {
     match tag {
         None => Err(ResolveFault::LengthOrTag),

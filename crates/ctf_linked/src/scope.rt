@@ -31,7 +31,8 @@ pub fn scope_class(
     before: &[Earlier<'_>],
     shape: &Shape,
 ) -> Result<Class, ResolveFault>
-    ensures { Follows (class_told order clocks.now.clocks.now (scope_spot scope (map earlier_by before.now)) (views.shape shape.now)) (λ c. c) result }
+    ensures { Follows (class_told order clocks.now.clocks.now
+        (scope_spot scope (map earlier_by before.now)) (views.shape shape.now)) (λ c. c) result }
 {
     let around = Around::Outside;
     let spot = Spot::scope(scope, &around, before);
@@ -47,7 +48,9 @@ pub fn scope_moved<'a>(
     shape: &Shape,
     moved: Moved<'a>,
 ) -> Moved<'a>
-    ensures { (old : List trace.Clock) → Tells moved.entry old → Tells result (old ++ moved_clocks clocks.now.clocks.now (scope_spot scope (map earlier_by before.now)) (views.shape shape.now)) }
+    ensures { (old : List trace.Clock) → Tells moved.entry old →
+        Tells result (old ++ moved_clocks clocks.now.clocks.now
+        (scope_spot scope (map earlier_by before.now)) (views.shape shape.now)) }
 {
     let around = Around::Outside;
     let spot = Spot::scope(scope, &around, before);

@@ -108,7 +108,9 @@ impl<'a> Spot<'a> {
 
     /// What stands around a member of the structure here, behind so many others.
     pub fn around(&self, members: &'a Members, count: usize) -> Around<'a>
-        ensures { let s = spot_by self.now in frames_around result ≡ frame_in s (take count (fields_in (views.members members.now))) ∷ s.around }
+        ensures { let s = spot_by self.now in
+            frames_around result ≡
+            frame_in s (take count (fields_in (views.members members.now))) ∷ s.around }
     {
         let frame = Frame {
             scope: self.scope,
@@ -121,7 +123,9 @@ impl<'a> Spot<'a> {
 
     /// The spot of a member of the structure here, by what stands around it.
     pub fn member<'b>(&'b self, around: &'b Around<'b>, word: &'b [u8]) -> Spot<'b>
-        ensures { let s = spot_by self.now in (earlier : List Field) → frames_around around.now ≡ frame_in s earlier ∷ s.around → spot_by result ≡ at_member s earlier word.now }
+        ensures { let s = spot_by self.now in
+            (earlier : List Field) → frames_around around.now ≡ frame_in s earlier ∷ s.around →
+            spot_by result ≡ at_member s earlier word.now }
     {
         Spot {
             scope: self.scope,

@@ -20,7 +20,8 @@ pub enum Trail<'a> {
 
 /// What stands behind the name of a class.
 pub fn behind_trail<'a>(trail: &Trail<'_>, path: &'a [Word]) -> Option<&'a [Word]>
-    ensures { option_copied result ≡ option_and_then (λ name. behind_words name path.now) (name_of trail.now) }
+    ensures { option_copied result ≡
+        option_and_then (λ name. behind_words name path.now) (name_of trail.now) }
 {
     match trail {
         Trail::Broken => None,

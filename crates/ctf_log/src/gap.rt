@@ -22,7 +22,10 @@ pub(crate) fn append_gap(
     noun: &[u8],
     gap: &Gap<'_>,
 ) -> Result<(), NoMemory>
-    ensures text { OnOk result (text.new.items ≡ text.old.items ++ lines.gap_line verb.now noun.now stamper.old gap.now.name.now (gap_of gap.now 0 0)) }
+    ensures text { OnOk result
+        (text.new.items ≡
+        text.old.items ++ lines.gap_line verb.now noun.now stamper.old gap.now.name.now
+        (gap_of gap.now 0 0)) }
     ensures style { stamper.new ≡ stamper.old }
 {
     append_count(text, verb, noun, gap.count)?;
@@ -33,7 +36,8 @@ pub(crate) fn append_gap(
 
 /// Appends what was not written, and how many.
 fn append_count(text: &mut Vec<u8>, verb: &[u8], noun: &[u8], count: u64) -> Result<(), NoMemory>
-    ensures { OnOk result (text.new.items ≡ text.old.items ++ lines.count_text verb.now noun.now count) }
+    ensures { OnOk result (text.new.items ≡
+        text.old.items ++ lines.count_text verb.now noun.now count) }
 {
     text.extend_from_slice(b"WARNING: tracer ")?;
     text.extend_from_slice(verb)?;
@@ -69,7 +73,8 @@ fn append_interval(
     from: Option<Moment>,
     to: Option<Moment>,
 ) -> Result<(), NoMemory>
-    ensures text { OnOk result (text.new.items ≡ text.old.items ++ lines.interval stamper.old from to) }
+    ensures text { OnOk result
+        (text.new.items ≡ text.old.items ++ lines.interval stamper.old from to) }
     ensures style { stamper.new ≡ stamper.old }
 {
     let Some(from) = from else {

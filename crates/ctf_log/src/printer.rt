@@ -60,7 +60,10 @@ impl Printer {
     /// Makes the line of an item, with its newline. `last` is the time of the event record with a time that
     /// was printed before, in nanoseconds since the epoch. At an error there is no text.
     pub fn print(&mut self, item: &Item<'_>, last: Option<i64>) -> Result<(), NoMemory>
-        ensures line { (trace : TraceClass) (name : List ℕ) (end length : ℕ) → IsOf trace name item.now → OnOk result (self.new.text ≡ lines.line_of self.old.style last name (item_of item.now end length)) }
+        ensures line { (trace : TraceClass) (name : List ℕ) (end length : ℕ) →
+            IsOf trace name item.now →
+            OnOk result (self.new.text ≡
+            lines.line_of self.old.style last name (item_of item.now end length)) }
         ensures refused { OnErr result (self.new.text ≡ []) }
         ensures style { self.new.style ≡ self.old.style }
     {
@@ -74,7 +77,9 @@ impl Printer {
     /// Makes the line of an event record, with its newline, out of the text of the event record. At an error there is no
     /// text.
     pub fn print_text(&mut self, event: &EventText<'_>, last: Option<i64>) -> Result<(), NoMemory>
-        ensures line { (e : items.Event Classes) → event.now.moment ≡ e.clock → event.now.text.now ≡ event_text e → OnOk result (self.new.text ≡ lines.event_line self.old.style last e) }
+        ensures line { (e : items.Event Classes) → event.now.moment ≡ e.clock →
+            event.now.text.now ≡ event_text e →
+            OnOk result (self.new.text ≡ lines.event_line self.old.style last e) }
         ensures refused { OnErr result (self.new.text ≡ []) }
         ensures style { self.new.style ≡ self.old.style }
     {
@@ -93,7 +98,9 @@ impl Printer {
 
     /// Makes the line of an event record.
     fn print_event(&mut self, event: &Event<'_>, last: Option<i64>) -> Result<(), NoMemory>
-        ensures line { PartIsRight event.now → OnOk result (self.new.text ≡ lines.event_line self.old.style last (event_of event.now 0 0)) }
+        ensures line { PartIsRight event.now →
+            OnOk result (self.new.text ≡
+            lines.event_line self.old.style last (event_of event.now 0 0)) }
         ensures refused { OnErr result (self.new.text ≡ []) }
         ensures style { self.new.style ≡ self.old.style }
     {
@@ -105,7 +112,9 @@ impl Printer {
 
     /// Makes the message about a gap.
     fn print_gap(&mut self, verb: &[u8], noun: &[u8], gap: &Gap<'_>) -> Result<(), NoMemory>
-        ensures line { OnOk result (self.new.text ≡ lines.gap_line verb.now noun.now self.old.style gap.now.name.now (gap_of gap.now 0 0)) }
+        ensures line { OnOk result
+            (self.new.text ≡ lines.gap_line verb.now noun.now self.old.style gap.now.name.now
+            (gap_of gap.now 0 0)) }
         ensures refused { OnErr result (self.new.text ≡ []) }
         ensures style { self.new.style ≡ self.old.style }
     {
@@ -133,7 +142,9 @@ fn put_event(
     last: Option<i64>,
     line: &mut Vec<u8>,
 ) -> Result<usize, NoMemory>
-    ensures line { PartIsRight event.now → IfOk result (λ end. take end line.new.items ≡ lines.event_line stamper.old last (event_of event.now 0 0)) }
+    ensures line { PartIsRight event.now →
+        IfOk result (λ end. take end line.new.items ≡
+        lines.event_line stamper.old last (event_of event.now 0 0)) }
     ensures held { IfOk result (λ end. end ≤ vec_len line.new) }
     ensures style { stamper.new ≡ stamper.old }
 {
@@ -152,7 +163,8 @@ fn put_text(
     last: Option<i64>,
     line: &mut Vec<u8>,
 ) -> Result<usize, NoMemory>
-    ensures line { IfOk result (λ end. take end line.new.items ≡ stamp_part stamper.old event.now.moment last ++ (event.now.text.now ++ lines.newline)) }
+    ensures line { IfOk result (λ end. take end line.new.items ≡
+        stamp_part stamper.old event.now.moment last ++ (event.now.text.now ++ lines.newline)) }
     ensures held { IfOk result (λ end. end ≤ vec_len line.new) }
     ensures style { stamper.new ≡ stamper.old }
 {
@@ -188,7 +200,9 @@ fn put_behind_stamp(
     at: usize,
 ) -> Result<usize, NoMemory>
     requires { at ≤ vec_len line.old }
-    ensures text { PartIsRight event.now → IfOk result (λ end. take end line.new.items ≡ take at line.old.items ++ event_text (event_of event.now 0 0)) }
+    ensures text { PartIsRight event.now →
+        IfOk result (λ end. take end line.new.items ≡
+        take at line.old.items ++ event_text (event_of event.now 0 0)) }
     ensures held { IfOk result (λ end. end ≤ vec_len line.new) }
 {
     if let Some(part) = event.part {
@@ -197,7 +211,7 @@ fn put_behind_stamp(
     put_with_part(event, packet, line, at)
 }
 
-/// The same, where the text of the packet's part is made first.
+/// Writes what stands behind the stamp of an event record, and makes the text of the packet's part first.
 #[inline(never)]
 fn put_with_part(
     event: &Event<'_>,
@@ -206,7 +220,8 @@ fn put_with_part(
     at: usize,
 ) -> Result<usize, NoMemory>
     requires { at ≤ vec_len line.old }
-    ensures text { IfOk result (λ end. take end line.new.items ≡ take at line.old.items ++ event_text (event_of event.now 0 0)) }
+    ensures text { IfOk result (λ end. take end line.new.items ≡
+        take at line.old.items ++ event_text (event_of event.now 0 0)) }
     ensures held { IfOk result (λ end. end ≤ vec_len line.new) }
 {
     let context = event.value(Scope::PacketContext);
@@ -223,7 +238,8 @@ fn put_body(
     at: usize,
 ) -> Result<usize, NoMemory>
     requires { at ≤ vec_len line.old }
-    ensures text { IfOk result (λ end. take end line.new.items ≡ take at line.old.items ++ body_text packet.now (event_of event.now 0 0)) }
+    ensures text { IfOk result (λ end. take end line.new.items ≡
+        take at line.old.items ++ body_text packet.now (event_of event.now 0 0)) }
     ensures held { IfOk result (λ end. end ≤ vec_len line.new) }
 {
     let shared = event.value(Scope::StreamEventContext);
@@ -252,7 +268,9 @@ pub fn line(
     style: Style,
     last: Option<i64>,
 ) -> Result<Vec<u8>, NoMemory>
-    ensures { (trace : TraceClass) (name : List ℕ) (end length : ℕ) → IsOf trace name item.now → IfOk result (λ text. text.items ≡ lines.line_of style last name (item_of item.now end length)) }
+    ensures { (trace : TraceClass) (name : List ℕ) (end length : ℕ) → IsOf trace name item.now →
+        IfOk result (λ text.
+        text.items ≡ lines.line_of style last name (item_of item.now end length)) }
 {
     let mut printer = Printer::new(alloc, style);
     printer.print(item, last)?;

@@ -176,10 +176,12 @@ impl<'a, S: Source + Drop> Merge<'a, S> {
     /// Fetches the first item of each stream, also where one has a fault. What is to come is the merged list
     /// of what was to come of the readers.
     pub fn new(alloc: Global, readers: Vec<StreamReader<'a, S>>) -> Result<Merge<'a, S>, NoMemory>
-        ensures told { IfOk result (λ m. EachTells readers.entry.items → MergedOrRefused (merged (map coming readers.entry.items)) (coming_of m)) }
+        ensures told { IfOk result (λ m. EachTells readers.entry.items →
+            MergedOrRefused (merged (map coming readers.entry.items)) (coming_of m)) }
         ensures each { IfOk result (λ m. EachComes readers.entry.items m.readers) }
         ensures fetched { IfOk result (λ m. EachFetched m.readers) }
-        ensures rises { IfOk result (λ m. EachTells readers.entry.items → EachRises readers.entry.items → ComingRises m) }
+        ensures rises { IfOk result (λ m. EachTells readers.entry.items →
+            EachRises readers.entry.items → ComingRises m) }
         ensures open { IfOk result (λ m. m.over ≡ false) }
         ensures names { IfOk result (λ m. names_of m.readers ≡ names_of readers.entry.items) }
         ensures traces { IfOk result (λ m. traces_of m.readers ≡ traces_of readers.entry.items) }
@@ -187,9 +189,11 @@ impl<'a, S: Source + Drop> Merge<'a, S> {
 
         // The bytes taken are those that the sources gave, and no more than the items in front need.
         ensures tells { IfOk result (λ m. EachTells readers.entry.items → EachTells m.readers) }
-        ensures counted { IfOk result (λ m. EachTells readers.entry.items → given_of m.readers ≡ given_of readers.entry.items) }
+        ensures counted { IfOk result (λ m. EachTells readers.entry.items →
+            given_of m.readers ≡ given_of readers.entry.items) }
         ensures on_line { IfOk result (λ m. EachOnLine readers.entry.items → EachOnLine m.readers) }
-        ensures all_taken { IfOk result (λ m. EachTells readers.entry.items → EachAllTaken readers.entry.items → EachAllTaken m.readers) }
+        ensures all_taken { IfOk result (λ m. EachTells readers.entry.items →
+            EachAllTaken readers.entry.items → EachAllTaken m.readers) }
     {
         let mut readers = readers;
         fetch_each(&mut readers);
@@ -220,7 +224,8 @@ impl<'a, S: Source + Drop> Merge<'a, S> {
     pub fn next_stream(&self) -> Option<usize>
         ensures is { result ≡ number_in (first_now self.now) }
         ensures item { IfSome result (IsNext self.now) }
-        ensures none { EachTells self.now.readers → IfNone result ((coming_of self.now).items ≡ []) }
+        ensures none { EachTells self.now.readers →
+            IfNone result ((coming_of self.now).items ≡ []) }
     {
         match self.first() {
             First::Item(number) => Some(number),
@@ -244,7 +249,8 @@ impl<'a, S: Source + Drop> Merge<'a, S> {
     /// The fault that comes next.
     pub fn fault(&self) -> Option<MergeFault>
         ensures is { result ≡ fault_in (first_now self.now) }
-        ensures shows { EachTells self.now.readers → (coming_of self.now).items ≡ [] → result ≡ (coming_of self.now).fault }
+        ensures shows { EachTells self.now.readers → (coming_of self.now).items ≡ [] →
+            result ≡ (coming_of self.now).fault }
     {
         match self.first() {
             First::Fault(number, fault) => Some(MergeFault::Stream { number, fault }),
@@ -258,7 +264,8 @@ impl<'a, S: Source + Drop> Merge<'a, S> {
     #[inline(always)]
     pub fn leave(&mut self, number: usize)
         requires { IsNext self.old number }
-        ensures goes_on { EachTells self.old.readers → GoesOn (coming_of self.old) (coming_of self.new) }
+        ensures goes_on { EachTells self.old.readers →
+            GoesOn (coming_of self.old) (coming_of self.new) }
         ensures each { LeavesOne number self.old.readers self.new.readers }
         ensures fetched { EachFetched self.new.readers }
         ensures rises { EachTells self.old.readers → ComingRises self.old → ComingRises self.new }
@@ -267,13 +274,16 @@ impl<'a, S: Source + Drop> Merge<'a, S> {
         ensures writes { writes_of self.new.readers ≡ writes_of self.old.readers }
 
         // Of any sources: an item that is left took room.
-        ensures room { RoomLeft (first_now self.old) (room_of self.old.readers) (room_of self.new.readers) }
+        ensures room { RoomLeft (first_now self.old) (room_of self.old.readers)
+            (room_of self.new.readers) }
 
         // The bytes taken are those that the sources gave, and no more than the items in front need.
         ensures tells { EachTells self.old.readers → EachTells self.new.readers }
-        ensures counted { EachTells self.old.readers → given_of self.new.readers ≡ given_of self.old.readers }
+        ensures counted { EachTells self.old.readers →
+            given_of self.new.readers ≡ given_of self.old.readers }
         ensures on_line { EachOnLine self.old.readers → EachOnLine self.new.readers }
-        ensures all_taken { EachTells self.old.readers → EachAllTaken self.old.readers → EachAllTaken self.new.readers }
+        ensures all_taken { EachTells self.old.readers → EachAllTaken self.old.readers →
+            EachAllTaken self.new.readers }
     {
         let reader = &mut self.readers[number];
         reader.go_on();
@@ -285,7 +295,8 @@ impl<'a, S: Source + Drop> Merge<'a, S> {
     /// Leaves the item in front behind, and fetches the next one of its stream; or leaves the fault in front
     /// behind, and then nothing comes. The end stays.
     pub fn go_on(&mut self)
-        ensures goes_on { EachTells self.old.readers → GoesOn (coming_of self.old) (coming_of self.new) }
+        ensures goes_on { EachTells self.old.readers →
+            GoesOn (coming_of self.old) (coming_of self.new) }
         ensures each { LeavesFront (first_now self.old) self.old.readers self.new.readers }
         ensures fetched { EachFetched self.new.readers }
         ensures rises { EachTells self.old.readers → ComingRises self.old → ComingRises self.new }
@@ -294,13 +305,16 @@ impl<'a, S: Source + Drop> Merge<'a, S> {
         ensures writes { writes_of self.new.readers ≡ writes_of self.old.readers }
 
         // Of any sources: an item that is left took room.
-        ensures room { RoomLeft (first_now self.old) (room_of self.old.readers) (room_of self.new.readers) }
+        ensures room { RoomLeft (first_now self.old) (room_of self.old.readers)
+            (room_of self.new.readers) }
 
         // The bytes taken are those that the sources gave, and no more than the items in front need.
         ensures tells { EachTells self.old.readers → EachTells self.new.readers }
-        ensures counted { EachTells self.old.readers → given_of self.new.readers ≡ given_of self.old.readers }
+        ensures counted { EachTells self.old.readers →
+            given_of self.new.readers ≡ given_of self.old.readers }
         ensures on_line { EachOnLine self.old.readers → EachOnLine self.new.readers }
-        ensures all_taken { EachTells self.old.readers → EachAllTaken self.old.readers → EachAllTaken self.new.readers }
+        ensures all_taken { EachTells self.old.readers → EachAllTaken self.old.readers →
+            EachAllTaken self.new.readers }
     {
         match self.stage {
             Stage::Going => {
@@ -319,7 +333,8 @@ impl<'a, S: Source + Drop> Merge<'a, S> {
     ///
     /// An error is the fault of a stream behind the items before, F1 to F11, F13, F14 or `NoMemory`, with its number.
     pub fn next(&mut self) -> Result<Option<OwnedItem<'a>>, MergeFault>
-        ensures gives { EachTells self.old.readers → Gives (coming_of self.old) (coming_of self.new) result }
+        ensures gives { EachTells self.old.readers →
+            Gives (coming_of self.old) (coming_of self.new) result }
         ensures each { LeavesFront (first_now self.old) self.old.readers self.new.readers }
         ensures fetched { EachFetched self.new.readers }
         ensures rises { EachTells self.old.readers → ComingRises self.old → ComingRises self.new }
@@ -336,9 +351,11 @@ impl<'a, S: Source + Drop> Merge<'a, S> {
 
         // The bytes taken are those that the sources gave, and no more than the items in front need.
         ensures tells { EachTells self.old.readers → EachTells self.new.readers }
-        ensures counted { EachTells self.old.readers → given_of self.new.readers ≡ given_of self.old.readers }
+        ensures counted { EachTells self.old.readers →
+            given_of self.new.readers ≡ given_of self.old.readers }
         ensures on_line { EachOnLine self.old.readers → EachOnLine self.new.readers }
-        ensures all_taken { EachTells self.old.readers → EachAllTaken self.old.readers → EachAllTaken self.new.readers }
+        ensures all_taken { EachTells self.old.readers → EachAllTaken self.old.readers →
+            EachAllTaken self.new.readers }
     {
         match self.stage {
             Stage::Going => match self.turns.first() {
@@ -369,7 +386,8 @@ impl<'a, S: Source + Drop> Merge<'a, S> {
 
     /// The reader of one stream.
     pub fn reader(&self, number: usize) -> Option<&StreamReader<'a, S>>
-        ensures { MatchOption result (slice_get self.now.readers number ≡ None) (λ r. slice_get self.now.readers number ≡ Some r.now) }
+        ensures { MatchOption result (slice_get self.now.readers number ≡ None)
+            (λ r. slice_get self.now.readers number ≡ Some r.now) }
     {
         self.readers.get(number)
     }

@@ -53,7 +53,8 @@ fn integer_or_zero(text: Option<&str>) -> Option<i64>
 
 /// The seconds and the nanoseconds that are added to each time.
 pub(crate) fn shift_of(seconds: Option<&str>, nanos: Option<&str>) -> Result<Shift, Usage>
-    ensures { result ≡ ok_or (asked.shift_of (asked.given seconds.entry) (asked.given nanos.entry)) Usage.Bad }
+    ensures { result ≡ ok_or (asked.shift_of (asked.given seconds.entry) (asked.given nanos.entry))
+        Usage.Bad }
 {
     let (Some(seconds), Some(nanos)) = (integer_or_zero(seconds), integer_or_zero(nanos)) else {
         return Err(Usage::Bad);
@@ -116,7 +117,8 @@ pub(crate) fn trim_of(
     both: Option<&str>,
 ) -> Result<Trim, Usage>
     ensures { MatchResult result
-        (asked.IsTrim zone.now (asked.given begin.entry) (asked.given end.entry) (asked.given both.entry))
+        (asked.IsTrim zone.now (asked.given begin.entry) (asked.given end.entry)
+        (asked.given both.entry))
         (λ usage. (usage ≡ Usage.Bad) × asked.IsNoTrim zone.now (asked.given begin.entry)
         (asked.given end.entry) (asked.given both.entry)) }
 {

@@ -81,7 +81,8 @@ fn read_clock(text: &str) -> Option<Clock>
 /// A date and a time of day, with a space between them. `None` where the text has another form, and
 /// where there is no such date or time of day.
 pub(crate) fn civil(text: &str) -> Option<DateTime>
-    ensures { MatchOption result (IfSome (times.civil_in text.now) (λ civil. times.IsCivil civil → ⊥))
+    ensures { MatchOption result (IfSome (times.civil_in text.now) (λ civil. times.IsCivil civil →
+        ⊥))
         (λ time. IsSomeAnd (times.civil_in text.now) (λ civil. times.HasParts civil time)) }
 {
     let (date, time) = halves(text, ' ')?;

@@ -38,7 +38,8 @@ fn with_flag<'a>(
 
 /// Adds the folders.
 fn with_dirs<'a>(alloc: Global, command: Command<'a>) -> Result<Command<'a>, AllocError>
-    ensures { IfOk result (λ after. app_of after ≡ with_rule (app_of command.entry) commands.dirs_rule) }
+    ensures { IfOk result (λ after. app_of after ≡
+        with_rule (app_of command.entry) commands.dirs_rule) }
 {
     let dirs = Arg::new(alloc, "dirs")
         .action(ArgAction::Append)

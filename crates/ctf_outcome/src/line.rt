@@ -16,7 +16,8 @@ pub fn metadata_line(
     fault: &LoadFault,
     trace: Option<&str>,
 ) -> Result<Vec<u8>, NoMemory>
-    ensures { IfOk result (λ text. text.items ≡ lines.metadata_line fault.now (option_copied trace.entry)) }
+    ensures { IfOk result (λ text.
+        text.items ≡ lines.metadata_line fault.now (option_copied trace.entry)) }
 {
     let mut text = Vec::from_slice(alloc, b"ERROR: ")?;
     append_load(&mut text, fault)?;
@@ -27,7 +28,8 @@ pub fn metadata_line(
 
 /// Appends which trace a line speaks of.
 fn append_trace(alloc: Global, text: &mut Vec<u8>, trace: Option<&str>) -> Result<(), NoMemory>
-    ensures { OnOk result (text.new.items ≡ text.old.items ++ lines.of_trace (option_copied trace.entry)) }
+    ensures { OnOk result (text.new.items ≡
+        text.old.items ++ lines.of_trace (option_copied trace.entry)) }
 {
     match trace {
         None => Ok(()),

@@ -50,7 +50,7 @@ fn tell(line: &Timeline, class: &Class, value: &Value, told: &mut Told) -> bool
     tell_any(line, class, value, told)
 }
 
-/// The same of a scope. Mostly it is a structure, whose members are told without a call.
+/// Sets the clock by the integers of a scope, and keeps its last `id`. Mostly it is a structure, which takes no call.
 #[inline(always)]
 pub(crate) fn tell_scope(line: &Timeline, class: &Class, value: &Value, told: &mut Told) -> bool
     ensures clock { Moves line.now (value_moves class.now value.now) told.old result told.new }
@@ -62,7 +62,7 @@ pub(crate) fn tell_scope(line: &Timeline, class: &Class, value: &Value, told: &m
     tell(line, class, value, told)
 }
 
-/// The same, where it is seldom a structure or an integer.
+/// Sets the clock by the integers of a value that is seldom a structure or an integer, and keeps its last `id`.
 #[cycle(told)]
 #[inline(never)]
 fn tell_any(line: &Timeline, class: &Class, value: &Value, told: &mut Told) -> bool
@@ -88,7 +88,7 @@ fn tell_any(line: &Timeline, class: &Class, value: &Value, told: &mut Told) -> b
     }
 }
 
-/// The same of members.
+/// Sets the clock by the integers of members, and keeps their last `id`.
 #[cycle(told)]
 #[inline(always)]
 fn tell_members(line: &Timeline, members: &[Member], values: &[Value], told: &mut Told) -> bool
@@ -108,7 +108,7 @@ fn tell_members(line: &Timeline, members: &[Member], values: &[Value], told: &mu
     true
 }
 
-/// The same of one member. A variant goes to its option at once.
+/// Sets the clock by the integers of one member, and keeps its last `id`. A variant goes to its option at once.
 #[cycle(told)]
 #[inline(always)]
 fn tell_member(line: &Timeline, class: &Class, value: &Value, told: &mut Told) -> bool
@@ -132,7 +132,7 @@ fn tell_member(line: &Timeline, class: &Class, value: &Value, told: &mut Told) -
     tell(line, class, value, told)
 }
 
-/// The same of elements.
+/// Sets the clock by the integers of elements, and keeps their last `id`.
 #[cycle(told)]
 fn tell_elements(line: &Timeline, element: &Class, values: &[Value], told: &mut Told) -> bool
     ensures clock { Moves line.now (element_moves element.now values.now) told.old result told.new }
@@ -146,7 +146,7 @@ fn tell_elements(line: &Timeline, element: &Class, values: &[Value], told: &mut 
     true
 }
 
-/// The same of an option.
+/// Sets the clock by the integers of the option that was chosen, and keeps its last `id`.
 #[cycle(told)]
 #[inline(always)]
 fn tell_option(line: &Timeline, options: &[Member], value: &Value, told: &mut Told) -> bool
@@ -159,7 +159,7 @@ fn tell_option(line: &Timeline, options: &[Member], value: &Value, told: &mut To
     }
 }
 
-/// The same of the value of option i.
+/// Sets the clock by the integers of the value of option i, and keeps its last `id`.
 #[cycle(told)]
 #[inline(always)]
 fn tell_chosen(

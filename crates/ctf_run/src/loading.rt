@@ -49,7 +49,8 @@ impl<T: Drop> From<AllocFailed<T>> for Unloaded {
 
 /// The classes of traces; or the fault of the first one that has none.
 pub(crate) fn load_all<S>(alloc: Global, traces: &[Trace<S>]) -> Result<Vec<TraceClass>, Unloaded>
-    ensures { MatchResult result (λ classes. HaveClasses traces.now classes.items) (IsUnloaded traces.now) }
+    ensures { MatchResult result (λ classes. HaveClasses traces.now classes.items)
+        (IsUnloaded traces.now) }
 {
     let mut classes = Vec::new(alloc);
     let mut number = 0;

@@ -20,7 +20,8 @@ pub(crate) fn named<'a, S: Drop>(
 ) -> Result<Vec<Streams<'a, S>>, NoMemory>
     requires { length traces.items ≡ length classes.now }
     ensures { (given : S → Given) → IfOk result (λ named. sessions.inputs_from given 0 named.items
-        ≡ inputs_from (are_several (traces_of given traces.items)) 0 (traces_of given traces.items) classes.now) }
+        ≡ inputs_from (are_several (traces_of given traces.items)) 0 (traces_of given traces.items)
+        classes.now) }
 {
     let several = traces.len() > 1;
     let mut named = Vec::new(alloc);
@@ -48,7 +49,9 @@ fn shown<S: Drop>(
     trace: &str,
     streams: Vec<(String, S)>,
 ) -> Result<Vec<(String, S)>, NoMemory>
-    ensures { (given : S → Given) → IfOk result (λ shown. map (stream_of given) shown.items ≡ map (shown_as several trace.now) (map (stream_of given) streams.items)) }
+    ensures { (given : S → Given) →
+        IfOk result (λ shown. map (stream_of given) shown.items ≡
+        map (shown_as several trace.now) (map (stream_of given) streams.items)) }
 {
     if several {
         joined(alloc, trace, streams)
@@ -63,7 +66,9 @@ fn joined<S: Drop>(
     trace: &str,
     streams: Vec<(String, S)>,
 ) -> Result<Vec<(String, S)>, NoMemory>
-    ensures { (given : S → Given) → IfOk result (λ joined. map (stream_of given) joined.items ≡ map (shown_as true trace.now) (map (stream_of given) streams.items)) }
+    ensures { (given : S → Given) →
+        IfOk result (λ joined. map (stream_of given) joined.items ≡
+        map (shown_as true trace.now) (map (stream_of given) streams.items)) }
 {
     let mut joined = Vec::with_capacity(alloc, streams.len())?;
     for (name, source) in streams {

@@ -15,7 +15,8 @@ pub trait Log: Sink {
     fn settle(&mut self) -> Result<(), SinkFault>
         ensures settles { OnOk result (IsTrue (settled self.new)) }
         ensures stays { IsTrue (Self.tells self.old) → IsTrue (Self.tells self.new) }
-        ensures keeps { IsTrue (Self.tells self.old) → Self.accepted self.new ≡ Self.accepted self.old }
+        ensures keeps { IsTrue (Self.tells self.old) →
+            Self.accepted self.new ≡ Self.accepted self.old }
         ensures failed { Self.failures self.new ≡ failures_put result (Self.failures self.old) }
         ensures refused { Self.refusals self.new ≡ refusals_put result (Self.refusals self.old) };
 }

@@ -18,8 +18,15 @@ pub(crate) fn open_all<'a, S: Source + Drop>(
     traces: Vec<Streams<'a, S>>,
     shift: Shift,
 ) -> Result<(Vec<StreamReader<'a, S>>, Vec<usize>), NoMemory>
-    ensures opened { IfOk result (λ r. EachOpens shift (inputs_from (λ s. record { tells = S.tells s; bytes = S.left s; ending = S.ending s }) 0 traces.entry.items) r.0.items) }
-    ensures numbers { IfOk result (λ r. r.1.items ≡ map (λ i. i.trace) (inputs_from (λ s. record { tells = S.tells s; bytes = S.left s; ending = S.ending s }) 0 traces.entry.items)) }
+    ensures opened { IfOk result
+        (λ r. EachOpens shift
+        (inputs_from (λ s. record { tells = S.tells s; bytes = S.left s; ending = S.ending s }) 0
+        traces.entry.items) r.0.items) }
+    ensures numbers { IfOk result
+        (λ r. r.1.items ≡
+        map (λ i. i.trace)
+        (inputs_from (λ s. record { tells = S.tells s; bytes = S.left s; ending = S.ending s }) 0
+        traces.entry.items)) }
 {
     let mut readers = Vec::new(alloc);
     let mut numbers = Vec::new(alloc);
@@ -51,8 +58,12 @@ fn open_streams<'a, S: Source + Drop>(
     numbers: &mut Vec<usize>,
 ) -> Result<(), NoMemory>
     ensures opened { (inputs : List Input) → EachOpens shift inputs readers.old.items
-        → OnOk result (EachOpens shift (inputs ++ map (input_of (λ s. record { tells = S.tells s; bytes = S.left s; ending = S.ending s }) number class.now) streams.items) readers.new.items) }
-    ensures numbers { OnOk result (numbers.new.items ≡ numbers.old.items ++ map (λ s. number) streams.items) }
+        → OnOk result (EachOpens shift
+        (inputs ++ map (input_of
+        (λ s. record { tells = S.tells s; bytes = S.left s; ending = S.ending s }) number
+        class.now) streams.items) readers.new.items) }
+    ensures numbers { OnOk result
+        (numbers.new.items ≡ numbers.old.items ++ map (λ s. number) streams.items) }
 {
     for (name, source) in streams {
         let name = Text::from_string(name);
@@ -63,7 +74,7 @@ fn open_streams<'a, S: Source + Drop>(
     Ok(())
 }
 
-/// The same reader, which tells event records as texts where they can be.
+/// A reader that from now on gives event records as texts, where these can be made without the values.
 fn asked<'a, S: Source + Drop>(reader: StreamReader<'a, S>) -> StreamReader<'a, S>
     ensures { (made : Bool) × (result ≡ record reader.entry { writes = made }) }
 {

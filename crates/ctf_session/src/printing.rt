@@ -32,7 +32,7 @@ pub(crate) fn last_after(last: Option<i64>, item: &Item<'_>) -> Option<i64>
     }
 }
 
-/// The same behind an event record at this moment.
+/// The last printed time, after an event record at this moment was printed.
 pub(crate) fn last_behind(last: Option<i64>, moment: Option<Moment>) -> Option<i64>
     ensures { result ≡ answers.or_last last (option_map (λ m. m.time) moment) }
 {

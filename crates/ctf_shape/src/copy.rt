@@ -7,7 +7,7 @@ use ctf_meaning::DeclaredInteger;
 use std::alloc::Global;
 use tsdl_tree::Path;
 
-/// The same integer once more.
+/// A copy of an integer.
 pub fn copied(alloc: Global, integer: &DeclaredInteger) -> Result<DeclaredInteger, NoMemory>
     ensures { IfOk result (λ copy. copy ≡ integer.now) }
 {
@@ -26,7 +26,7 @@ pub fn copied(alloc: Global, integer: &DeclaredInteger) -> Result<DeclaredIntege
     })
 }
 
-/// The same words once more.
+/// A copy of the words of a path.
 pub fn copied_path(alloc: Global, path: &Path) -> Result<Path, NoMemory>
     ensures { IfOk result (λ copy. copy ≡ path.now) }
 {

@@ -103,7 +103,8 @@ impl Known {
     /// 4.2.1). It has no two members of one name.
     pub fn structure(alloc: Global, least: Align, fields: Vec<Field>) -> Result<Known, ResolveFault>
         ensures { let all = map field fields.items in
-            Follows (compound_told all (plain.struct (largest least all) (members_from all))) known result }
+            Follows (compound_told all (plain.struct (largest least all) (members_from all))) known
+            result }
     {
         let facts = facts_of(least, fields.as_slice());
         let align = facts.align;
@@ -161,7 +162,7 @@ impl Known {
         }
     }
 
-    /// The same class once more. Nothing is copied.
+    /// A second owner of the class. Nothing is copied.
     pub fn share(&self) -> Result<Known, NoMemory>
         ensures { IfOk result (λ k. known k ≡ known self.now) }
     {

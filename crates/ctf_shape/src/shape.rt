@@ -76,7 +76,8 @@ impl Members {
     /// The name of one.
     pub fn name(&self, place: usize) -> &[u8]
         requires { place < length (fields_in (members self.now)) }
-        ensures { option_map (λ f. f.name) (slice_get (fields_in (members self.now)) place) ≡ Some result.now }
+        ensures { option_map (λ f. f.name) (slice_get (fields_in (members self.now)) place) ≡
+            Some result.now }
     {
         self.field_name(place).as_slice()
     }
@@ -84,7 +85,8 @@ impl Members {
     /// The name of one, with what is printed for it.
     pub fn field_name(&self, place: usize) -> &FieldName
         requires { place < length (fields_in (members self.now)) }
-        ensures { option_map (λ f. f.name) (slice_get (fields_in (members self.now)) place) ≡ Some result.now }
+        ensures { option_map (λ f. f.name) (slice_get (fields_in (members self.now)) place) ≡
+            Some result.now }
     {
         item_at(self.names.get().as_slice(), place)
     }
@@ -92,7 +94,8 @@ impl Members {
     /// The class of one, which is less deep than the compound.
     pub fn shape(&self, place: usize) -> &Shape
         requires { place < length (fields_in (members self.now)) }
-        ensures value { option_map (λ f. f.shape) (slice_get (fields_in (members self.now)) place) ≡ Some (shape result.now) }
+        ensures value { option_map (λ f. f.shape) (slice_get (fields_in (members self.now)) place) ≡
+            Some (shape result.now) }
         ensures depth { depth_of (shape result.now) ≤ depth_of_members (members self.now) }
     {
         item_at(self.shapes.get().as_slice(), place).get()
@@ -100,7 +103,8 @@ impl Members {
 
     /// The first of a name: its place and its class.
     pub fn get(&self, name: &[u8]) -> Option<(usize, &Shape)>
-        ensures { option_map place_and_shape result ≡ option_map place_and_class (member_named name.now (fields_in (members self.now))) }
+        ensures { option_map place_and_shape result ≡
+            option_map place_and_class (member_named name.now (fields_in (members self.now))) }
     {
         let place = self.names.get().place(name)?;
         let shape = self.shapes.get().as_slice().get(place)?;
@@ -109,14 +113,15 @@ impl Members {
 
     /// The choices of a variant that has these options, as the labels of its tag make them.
     pub fn choices(&self, alloc: Global, labels: &Shared<Labels>) -> Result<Choices, NoMemory>
-        ensures { IfOk result (λ choices. choices ≡ choices_of (fields_in (members self.now)) labels.now) }
+        ensures { IfOk result (λ choices.
+            choices ≡ choices_of (fields_in (members self.now)) labels.now) }
     {
         let labels = labels.clone()?;
         let names = self.names.clone()?;
         Choices::new(alloc, labels, names, self.len())
     }
 
-    /// The same members once more. Nothing is copied.
+    /// A second owner of the members. Nothing is copied.
     pub fn share(&self) -> Result<Members, NoMemory>
         ensures { IfOk result (λ shared. members shared ≡ members self.now) }
     {

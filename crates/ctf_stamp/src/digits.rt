@@ -140,7 +140,7 @@ fn put_decimal(number: u64, line: &mut [u8], at: usize) -> usize
     put_long(number, line, at)
 }
 
-/// The same of any number.
+/// Writes a number of any size in decimal.
 #[inline(never)]
 fn put_long(number: u64, line: &mut [u8], at: usize) -> usize
     requires { at + 20 ≤ length line.old }

@@ -100,7 +100,8 @@ impl Stamper {
     fn put_civil(&mut self, time: i64, line: &mut [u8], at: usize) -> usize
         requires { at + MOST_STAMP ≤ length line.old }
         ensures put { IsPut line.old line.new at result
-            (head_at self.old.clock (second_of (civil_at self.old.zone time)) ++ fraction (civil_at self.old.zone time)) }
+            (head_at self.old.clock (second_of (civil_at self.old.zone time)) ++ fraction
+            (civil_at self.old.zone time)) }
         ensures short { result ≤ at + MOST_STAMP }
         ensures style { self.new ≡ self.old }
     {
@@ -146,7 +147,9 @@ impl Stamper {
     /// The stamp of a moment, if the style shows `hh:mm:ss` alone before the dot and its second is the one that is kept.
     #[inline(always)]
     fn kept(&self, moment: Moment) -> Option<Kept>
-        ensures stamp { IfSome result (λ kept. take 8 kept.text ++ (codes "." ++ last_digits 9 kept.nanos) ≡ stamp self.now moment) }
+        ensures stamp { IfSome result
+            (λ kept. take 8 kept.text ++ (codes "." ++ last_digits 9 kept.nanos) ≡
+            stamp self.now moment) }
         ensures nine { IfSome result (λ kept. kept.nanos < 1000000000) }
     {
         let ClockStyle::Time = self.style.clock else {
@@ -183,7 +186,8 @@ impl Stamper {
     #[tactic(auto, using(crate::proofs::Groups::digits_long))]
     fn put_end(&self, last: Option<i64>, time: i64, line: &mut [u8], at: usize) -> usize
         requires { at + 36 ≤ length line.old }
-        ensures put { IsPut line.old line.new at result (codes "] " ++ delta_part self.now last time) }
+        ensures put { IsPut line.old line.new at result
+            (codes "] " ++ delta_part self.now last time) }
         ensures short { result ≤ at + 36 }
     {
         if !self.style.delta {
@@ -203,7 +207,8 @@ impl Stamper {
 /// The time since the one before, in nanoseconds, if it is below a second. It takes neither a division nor a product.
 #[inline(always)]
 fn short_since(last: Option<i64>, time: i64) -> Option<u32>
-    ensures text { IfSome result (λ nanos. delta_text last time ≡ codes "+0." ++ last_digits 9 nanos) }
+    ensures text { IfSome result (λ nanos. delta_text last time ≡
+        codes "+0." ++ last_digits 9 nanos) }
     ensures nine { IfSome result (λ nanos. nanos < 1000000000) }
 {
     let before = last?;
@@ -222,7 +227,8 @@ fn short_since(last: Option<i64>, time: i64) -> Option<u32>
 #[inline(never)]
 fn put_any_delta(last: Option<i64>, time: i64, line: &mut [u8], at: usize) -> usize
     requires { at + 36 ≤ length line.old }
-    ensures put { IsPut line.old line.new at result (codes "] (" ++ (delta_text last time ++ codes ") ")) }
+    ensures put { IsPut line.old line.new at result
+        (codes "] (" ++ (delta_text last time ++ codes ") ")) }
     ensures short { result ≤ at + 36 }
 {
     let at = put_bytes(b"] (", line, at);

@@ -10,7 +10,8 @@ use ctf_list::NoMemory;
 
 /// Appends the stamp of a moment. Where memory is refused the text is as it was.
 pub fn append_stamp(text: &mut Vec<u8>, style: &Style, moment: Moment) -> Result<(), NoMemory>
-    ensures appended { IfOk result (λ _. text.new.items ≡ text.old.items ++ stamp style.now moment) }
+    ensures appended { IfOk result
+        (λ _. text.new.items ≡ text.old.items ++ stamp style.now moment) }
     ensures unchanged { OnErr result (text.new.items ≡ text.old.items) }
 {
     let mut room = [0; MOST_STAMP];

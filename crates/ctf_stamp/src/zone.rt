@@ -91,7 +91,7 @@ impl Zone {
         Ok(self.picked(civil))
     }
 
-    /// The same, without the form that growths need.
+    /// The instant of a civil time, in nanoseconds since the epoch, as the time-zone library gives it.
     fn picked(&self, civil: DateTime) -> Option<i64>
         ensures { result ≡ instant_in self.now civil }
     {

@@ -31,7 +31,8 @@ fn time_of(front: &Front, packet: &Packet) -> Option<i64>
     other_time(front, packet)
 }
 
-/// The same out of the way of written event records. In one `match` with these, it would be a table of jumps.
+/// The time of an item that is no written event record, out of the way of these.
+/// In one `match` with these, it would be a table of jumps.
 #[cold]
 #[inline(never)]
 fn other_time(front: &Front, packet: &Packet) -> Option<i64>

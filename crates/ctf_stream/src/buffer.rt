@@ -90,8 +90,10 @@ impl Buffer {
         requires { length self.old ≤ target }
         ensures tells { IsTrue (S.tells source.old) → IsTrue (S.tells source.new) }
         ensures same_end { IsTrue (S.tells source.old) → S.ending source.new ≡ S.ending source.old }
-        ensures kept { IsTrue (S.tells source.old) → self.new ++ S.left source.new ≡ self.old ++ S.left source.old }
-        ensures fills { IsTrue (S.tells source.old) → Fills (S.ending source.old) (S.left source.new) result }
+        ensures kept { IsTrue (S.tells source.old) →
+            self.new ++ S.left source.new ≡ self.old ++ S.left source.old }
+        ensures fills { IsTrue (S.tells source.old) →
+            Fills (S.ending source.old) (S.left source.new) result }
         ensures counts { Counts target (length self.new) result }
         ensures grown { length self.old ≤ length self.new }
         ensures bounded { length self.new ≤ target }
@@ -115,11 +117,15 @@ impl Buffer {
         requires { length self.old < target }
         ensures tells { IsTrue (S.tells source.old) → IsTrue (S.tells source.new) }
         ensures same_end { IsTrue (S.tells source.old) → S.ending source.new ≡ S.ending source.old }
-        ensures kept { IsTrue (S.tells source.old) → self.new ++ S.left source.new ≡ self.old ++ S.left source.old }
-        ensures ended { IsTrue (S.tells source.old) → IfOk result (λ ended. IfSome ended (λ e. (e ≡ S.ending source.old) × (S.left source.new ≡ []))) }
+        ensures kept { IsTrue (S.tells source.old) →
+            self.new ++ S.left source.new ≡ self.old ++ S.left source.old }
+        ensures ended { IsTrue (S.tells source.old) →
+            IfOk result (λ ended.
+            IfSome ended (λ e. (e ≡ S.ending source.old) × (S.left source.new ≡ []))) }
         ensures more { IfOk result (λ ended. ended ≡ None → length self.old < length self.new) }
         ensures refused { IfErr result (λ fault. fault ≡ NoMemory) }
-        ensures nothing { IfOk result (λ ended. IfSome ended (λ _. length self.old ≡ length self.new)) }
+        ensures nothing { IfOk result
+            (λ ended. IfSome ended (λ _. length self.old ≡ length self.new)) }
         ensures grown { length self.old ≤ length self.new }
         ensures bounded { length self.new ≤ target }
         ensures first { take (length self.old) self.new ≡ self.old }
@@ -150,9 +156,15 @@ fn take_behind<S: Source>(
     ensures same_end { IsTrue (S.tells source.old) → S.ending source.new ≡ S.ending source.old }
     ensures first { take filled bytes.new ≡ take filled bytes.old }
     ensures within { IfOk result (λ count. filled + count ≤ end) }
-    ensures kept { IsTrue (S.tells source.old) → IfOk result (λ count. take (filled + count) bytes.new ++ S.left source.new ≡ take filled bytes.old ++ S.left source.old) }
-    ensures clean { IsTrue (S.tells source.old) → IfOk result (λ count. count ≡ 0 → (S.ending source.old ≡ Clean) × (S.left source.new ≡ [])) }
-    ensures failed { IsTrue (S.tells source.old) → OnErr result ((S.ending source.old ≡ Failed) × (S.left source.old ≡ []) × (S.left source.new ≡ [])) }
+    ensures kept { IsTrue (S.tells source.old) →
+        IfOk result (λ count. take (filled + count) bytes.new ++ S.left source.new ≡
+        take filled bytes.old ++ S.left source.old) }
+    ensures clean { IsTrue (S.tells source.old) →
+        IfOk result (λ count. count ≡ 0 → (S.ending source.old ≡ Clean) ×
+        (S.left source.new ≡ [])) }
+    ensures failed { IsTrue (S.tells source.old) →
+        OnErr result ((S.ending source.old ≡ Failed) × (S.left source.old ≡ []) ×
+        (S.left source.new ≡ [])) }
 {
     source.take(&mut bytes[filled..end])
 }
@@ -165,8 +177,10 @@ fn grow(bytes: &mut Vec<u8>, filled: usize, target: usize) -> Result<(), StreamF
     ensures first { take filled bytes.new.items ≡ take filled bytes.old.items }
     ensures there { filled ≤ length bytes.new.items }
     ensures room { OnOk result (filled < length bytes.new.items) }
-    ensures near { target ≤ filled + 65536 → length bytes.new.items ≤ max (length bytes.old.items) target }
-    ensures far { filled + 65536 < target → length bytes.new.items ≤ max (length bytes.old.items) (filled + max filled 4096) }
+    ensures near { target ≤ filled + 65536 →
+        length bytes.new.items ≤ max (length bytes.old.items) target }
+    ensures far { filled + 65536 < target →
+        length bytes.new.items ≤ max (length bytes.old.items) (filled + max filled 4096) }
     ensures refused { IfErr result (λ fault. fault ≡ NoMemory) }
 {
     if filled < bytes.len() {

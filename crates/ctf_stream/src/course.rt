@@ -97,7 +97,10 @@ impl<'a> Course<'a> {
     ) -> Option<Front<'a>>
         requires stands { Stands self.old }
         requires part { HasPart self.old }
-        ensures advances { (ending : Ending) (left : List ℕ) → IfSome result (λ front. Advances (coming_of ending left self.old) (coming_of ending left self.new) self.new.cut self.new.scopes self.new.buffer self.new.packet left (Ok (Some front))) }
+        ensures advances { (ending : Ending) (left : List ℕ) →
+            IfSome result (λ front.
+            Advances (coming_of ending left self.old) (coming_of ending left self.new) self.new.cut
+            self.new.scopes self.new.buffer self.new.packet left (Ok (Some front))) }
         ensures stands { Stands self.new }
         ensures part { HasPart self.new }
         ensures taken { self.new.taken ≡ self.old.taken }
@@ -139,8 +142,13 @@ impl<'a> Course<'a> {
         ensures tells { IsTrue (S.tells source.old) → IsTrue (S.tells source.new) }
         ensures same_end { IsTrue (S.tells source.old) → S.ending source.new ≡ S.ending source.old }
         ensures advances { let ending = S.ending source.old in
-            IsTrue (S.tells source.old) → Advances (coming_of ending (S.left source.old) self.old) (coming_of ending (S.left source.new) self.new) self.new.cut self.new.scopes self.new.buffer self.new.packet (S.left source.new) result }
-        ensures counted { IsTrue (S.tells source.old) → self.new.taken + length (S.left source.new) ≡ self.old.taken + length (S.left source.old) }
+            IsTrue (S.tells source.old) →
+            Advances (coming_of ending (S.left source.old) self.old)
+            (coming_of ending (S.left source.new) self.new) self.new.cut self.new.scopes
+            self.new.buffer self.new.packet (S.left source.new) result }
+        ensures counted { IsTrue (S.tells source.old) →
+            self.new.taken + length (S.left source.new) ≡
+            self.old.taken + length (S.left source.old) }
         ensures stands { OnOk result (Stands self.new) }
         ensures part { OnOk result (HasPart self.new) }
         ensures found { IfOk result (IsOfPacket self.new.packet) }
@@ -177,8 +185,13 @@ impl<'a> Course<'a> {
         ensures tells { IsTrue (S.tells source.old) → IsTrue (S.tells source.new) }
         ensures same_end { IsTrue (S.tells source.old) → S.ending source.new ≡ S.ending source.old }
         ensures enters { let ending = S.ending source.old in
-            IsTrue (S.tells source.old) → Enters (coming_of ending (S.left source.old) self.old) (coming_of ending (S.left source.new) self.new) self.new.cut (S.left source.new) result }
-        ensures counted { IsTrue (S.tells source.old) → self.new.taken + length (S.left source.new) ≡ self.old.taken + length (S.left source.old) }
+            IsTrue (S.tells source.old) →
+            Enters (coming_of ending (S.left source.old) self.old)
+            (coming_of ending (S.left source.new) self.new) self.new.cut
+            (S.left source.new) result }
+        ensures counted { IsTrue (S.tells source.old) →
+            self.new.taken + length (S.left source.new) ≡
+            self.old.taken + length (S.left source.old) }
         ensures stands { OnOk result (Stands self.new) }
         ensures part { OnOk result (HasPart self.new) }
         ensures none { IfOk result (λ found. found ≡ false → self.new.packet ≡ None) }
@@ -223,7 +236,9 @@ impl<'a> Course<'a> {
     ) -> Result<Option<Front<'a>>, StreamFault>
         requires stands { Stands self.old }
         requires part { HasPart self.old }
-        ensures steps { (ending : Ending) (left : List ℕ) → StepsWithin (coming_of ending left self.old) (coming_of ending left self.new) self.new.cut self.new.scopes self.new.buffer self.new.packet result }
+        ensures steps { (ending : Ending) (left : List ℕ) →
+            StepsWithin (coming_of ending left self.old) (coming_of ending left self.new)
+            self.new.cut self.new.scopes self.new.buffer self.new.packet result }
         ensures stands { OnOk result (Stands self.new) }
         ensures part { OnOk result (HasPart self.new) }
         ensures taken { self.new.taken ≡ self.old.taken }
@@ -262,7 +277,8 @@ impl<'a> Course<'a> {
     pub(crate) fn told<'r>(&'r self, front: &'r Front<'a>, name: &'r str) -> Option<Told<'r>>
         requires part { HasPart self.now }
         requires holds { HoldsIn self.now self.now.packet front.now }
-        ensures tells { Tells self.now.cut.trace.now name.now (item_at self.now self.now.packet front.now) result }
+        ensures tells { Tells self.now.cut.trace.now name.now
+            (item_at self.now self.now.packet front.now) result }
         ensures made { IfSome result IsMadeTold }
         ensures asked { IfSome result (IsAsked self.now.writes) }
     {
@@ -323,7 +339,9 @@ impl<'a> Course<'a> {
 
 /// What a stream has come to behind a packet.
 fn reached_behind(packet: &Packet<'_>) -> Reached
-    ensures { (shift : Shift) (values : Values) → result ≡ packets.reached_behind (opened_of shift values packet.now.opened) packet.now.clock }
+    ensures { (shift : Shift) (values : Values) →
+        result ≡ packets.reached_behind (opened_of shift values packet.now.opened)
+        packet.now.clock }
 {
     Reached {
         stream: packet.opened.stream.id(),

@@ -56,8 +56,10 @@ fn fill_whole<S: Source>(
     requires { length buffer.old ≤ count }
     ensures tells { IsTrue (S.tells source.old) → IsTrue (S.tells source.new) }
     ensures same_end { IsTrue (S.tells source.old) → S.ending source.new ≡ S.ending source.old }
-    ensures kept { IsTrue (S.tells source.old) → buffer.new ++ S.left source.new ≡ buffer.old ++ S.left source.old }
-    ensures takes { IsTrue (S.tells source.old) → TakesWhole (S.ending source.old) count buffer.new (S.left source.new) result }
+    ensures kept { IsTrue (S.tells source.old) →
+        buffer.new ++ S.left source.new ≡ buffer.old ++ S.left source.old }
+    ensures takes { IsTrue (S.tells source.old) →
+        TakesWhole (S.ending source.old) count buffer.new (S.left source.new) result }
     ensures whole { OnOk result (length buffer.new ≡ count) }
     ensures few { length buffer.new ≤ count }
 {
@@ -72,8 +74,10 @@ fn fill_rest<S: Source>(source: &mut S, buffer: &mut Buffer) -> Result<Ending, S
     requires { length buffer.old ≤ longest_bytes }
     ensures tells { IsTrue (S.tells source.old) → IsTrue (S.tells source.new) }
     ensures same_end { IsTrue (S.tells source.old) → S.ending source.new ≡ S.ending source.old }
-    ensures kept { IsTrue (S.tells source.old) → buffer.new ++ S.left source.new ≡ buffer.old ++ S.left source.old }
-    ensures takes { IsTrue (S.tells source.old) → TakesRest (S.ending source.old) buffer.new (S.left source.new) result }
+    ensures kept { IsTrue (S.tells source.old) →
+        buffer.new ++ S.left source.new ≡ buffer.old ++ S.left source.old }
+    ensures takes { IsTrue (S.tells source.old) →
+        TakesRest (S.ending source.old) buffer.new (S.left source.new) result }
     ensures whole { OnOk result (length buffer.new ≤ longest_bytes) }
     ensures few { length buffer.new ≤ longest_bytes + 1 }
     ensures grown { length buffer.old ≤ length buffer.new }
@@ -105,11 +109,15 @@ impl<'a> CutPoint<'a> {
         requires empty { buffer.old ≡ [] }
         ensures tells { IsTrue (S.tells source.old) → IsTrue (S.tells source.new) }
         ensures same_end { IsTrue (S.tells source.old) → S.ending source.new ≡ S.ending source.old }
-        ensures kept { IsTrue (S.tells source.old) → buffer.new ++ S.left source.new ≡ S.left source.old }
+        ensures kept { IsTrue (S.tells source.old) →
+            buffer.new ++ S.left source.new ≡ S.left source.old }
         ensures fetches { let cut = self.now in
             let trace = trace_form cut.shift cut.trace.now in
             let ending = S.ending source.old in
-            IsTrue (S.tells source.old) → Fetches cut.shift scopes.new trace ending cut.at (from_bytes trace ending cut.reached cut.at (S.left source.old)) buffer.new (S.left source.new) result }
+            IsTrue (S.tells source.old) →
+            Fetches cut.shift scopes.new trace ending cut.at
+            (from_bytes trace ending cut.reached cut.at (S.left source.old)) buffer.new
+            (S.left source.new) result }
         ensures at { FetchesAt self.now.at buffer.new self.now.shift result }
         ensures begins { IfOk result (λ packet. self.now.at ≤ 2 ^ 60 ⊎ (packet ≡ None)) }
         ensures few { length buffer.new ≤ longest_bytes + 1 }
@@ -141,9 +149,13 @@ impl<'a> CutPoint<'a> {
         requires one { length buffer.old ≡ 1 }
         ensures tells { IsTrue (S.tells source.old) → IsTrue (S.tells source.new) }
         ensures same_end { IsTrue (S.tells source.old) → S.ending source.new ≡ S.ending source.old }
-        ensures kept { IsTrue (S.tells source.old) → buffer.new ++ S.left source.new ≡ buffer.old ++ S.left source.old }
+        ensures kept { IsTrue (S.tells source.old) →
+            buffer.new ++ S.left source.new ≡ buffer.old ++ S.left source.old }
         ensures opens { let cut = self.now in
-            IsTrue (S.tells source.old) → Opens cut.shift scopes.new (open_at (trace_form cut.shift cut.trace.now) (S.ending source.old) cut.reached cut.at (buffer.old ++ S.left source.old)) result }
+            IsTrue (S.tells source.old) →
+            Opens cut.shift scopes.new
+            (open_at (trace_form cut.shift cut.trace.now) (S.ending source.old) cut.reached
+            cut.at (buffer.old ++ S.left source.old)) result }
         ensures at { IfOk result (FetchedAt self.now.at buffer.new self.now.shift) }
         ensures alone { OnOk result (packet_values (values_of scopes.new) ≡ values_of scopes.new) }
         ensures few { length buffer.new ≤ longest_bytes + 1 }
@@ -171,10 +183,18 @@ impl<'a> CutPoint<'a> {
         requires one { length buffer.old ≡ 1 }
         ensures tells { IsTrue (S.tells source.old) → IsTrue (S.tells source.new) }
         ensures same_end { IsTrue (S.tells source.old) → S.ending source.new ≡ S.ending source.old }
-        ensures kept { IsTrue (S.tells source.old) → buffer.new ++ S.left source.new ≡ buffer.old ++ S.left source.old }
-        ensures asks { let cut = self.now in IfOk result (λ opening. wants.wanted (trace_form cut.shift cut.trace.now) cut.reached buffer.new ≡ want_of cut.shift scopes.new opening opening.sizes) }
+        ensures kept { IsTrue (S.tells source.old) →
+            buffer.new ++ S.left source.new ≡ buffer.old ++ S.left source.old }
+        ensures asks { let cut = self.now in
+            IfOk result (λ opening.
+            wants.wanted (trace_form cut.shift cut.trace.now) cut.reached buffer.new ≡
+            want_of cut.shift scopes.new opening opening.sizes) }
         ensures faulty { let cut = self.now in
-            IsTrue (S.tells source.old) → IfErr result (OrNoMemory (λ fault. open_at (trace_form cut.shift cut.trace.now) (S.ending source.old) cut.reached cut.at (buffer.new ++ S.left source.new) ≡ Err fault)) }
+            IsTrue (S.tells source.old) →
+            IfErr result (OrNoMemory
+            (λ fault. open_at (trace_form cut.shift cut.trace.now)
+            (S.ending source.old) cut.reached cut.at (buffer.new ++ S.left source.new) ≡
+            Err fault)) }
         ensures fits { IfOk result (λ opening. FitsOpening (length buffer.new) opening.sizes) }
         ensures first { IfOk result (λ opening. opening.begun.first ≤ 8 * length buffer.new) }
         ensures some { 0 < length buffer.new }
@@ -220,12 +240,16 @@ fn fill_sizes<S: Source>(
 ) -> Result<Sizes, StreamFault>
     requires fits { FitsOpening (length buffer.old) opening.sizes }
     requires few { length buffer.old ≤ longest_bytes }
-    requires possible { IfSome opening.sizes (λ sizes. are_possible sizes opening.begun.first ≡ true) }
+    requires possible { IfSome opening.sizes (λ sizes. are_possible sizes opening.begun.first ≡
+        true) }
     ensures tells { IsTrue (S.tells source.old) → IsTrue (S.tells source.new) }
     ensures same_end { IsTrue (S.tells source.old) → S.ending source.new ≡ S.ending source.old }
-    ensures kept { IsTrue (S.tells source.old) → buffer.new ++ S.left source.new ≡ buffer.old ++ S.left source.old }
+    ensures kept { IsTrue (S.tells source.old) →
+        buffer.new ++ S.left source.new ≡ buffer.old ++ S.left source.old }
     ensures few { length buffer.new ≤ longest_bytes + 1 }
-    ensures takes { IsTrue (S.tells source.old) → TakesSized (S.ending source.old) opening.entry.begun.first buffer.new (S.left source.new) opening.entry.sizes result }
+    ensures takes { IsTrue (S.tells source.old) →
+        TakesSized (S.ending source.old) opening.entry.begun.first buffer.new
+        (S.left source.new) opening.entry.sizes result }
     ensures fitting { IfOk result (Fitting opening.entry.begun.first (length buffer.new)) }
     ensures packet { IfOk result (λ sizes. sizes.packet ≡ 8 * length buffer.new) }
 {

@@ -42,16 +42,20 @@ pub(crate) fn value_on_demand<S: Source>(
     requires few { length buffer.old ≤ longest_bytes }
     ensures tells { IsTrue (S.tells source.old) → IsTrue (S.tells source.new) }
     ensures same_end { IsTrue (S.tells source.old) → S.ending source.new ≡ S.ending source.old }
-    ensures kept { IsTrue (S.tells source.old) → buffer.new ++ S.left source.new ≡ buffer.old ++ S.left source.old }
+    ensures kept { IsTrue (S.tells source.old) →
+        buffer.new ++ S.left source.new ≡ buffer.old ++ S.left source.old }
     ensures first { take (length buffer.old) buffer.new ≡ buffer.old }
     ensures grown { length buffer.old ≤ length buffer.new }
     ensures few { length buffer.new ≤ longest_bytes }
     ensures value { IfOk result (IsFound (found_at class.now place.now buffer.new)) }
     ensures within { IfOk result (λ d. d.end ≤ min (8 * length buffer.new) longest) }
     ensures forward { IfOk result (λ d. place.now.end ≤ d.end) }
-    ensures near { IfOk result (λ d. 8 * length buffer.new ≤ max (8 * length buffer.old) (d.end + 7)) }
+    ensures near { IfOk result
+        (λ d. 8 * length buffer.new ≤ max (8 * length buffer.old) (d.end + 7)) }
     ensures faulty { let all = buffer.new ++ S.left source.new in
-        IsTrue (S.tells source.old) → IfErr result (OrNoMemory (Failed (S.ending source.old) (found_at class.now place.now all))) }
+        IsTrue (S.tells source.old) →
+        IfErr result (OrNoMemory
+        (Failed (S.ending source.old) (found_at class.now place.now all))) }
 {
     if let Some(end) = least_end(class, place) {
         return whole_on_demand(class, end, place, source, buffer);
@@ -94,16 +98,20 @@ fn members_on_demand<S: Source>(
     requires few { length buffer.old ≤ longest_bytes }
     ensures tells { IsTrue (S.tells source.old) → IsTrue (S.tells source.new) }
     ensures same_end { IsTrue (S.tells source.old) → S.ending source.new ≡ S.ending source.old }
-    ensures kept { IsTrue (S.tells source.old) → buffer.new ++ S.left source.new ≡ buffer.old ++ S.left source.old }
+    ensures kept { IsTrue (S.tells source.old) →
+        buffer.new ++ S.left source.new ≡ buffer.old ++ S.left source.old }
     ensures first { take (length buffer.old) buffer.new ≡ buffer.old }
     ensures grown { length buffer.old ≤ length buffer.new }
     ensures few { length buffer.new ≤ longest_bytes }
     ensures value { IfOk result (IsFound (members_at members.now place.now buffer.new)) }
     ensures within { IfOk result (λ d. d.end ≤ min (8 * length buffer.new) longest) }
     ensures forward { IfOk result (λ d. place.now.end ≤ d.end) }
-    ensures near { IfOk result (λ d. 8 * length buffer.new ≤ max (8 * length buffer.old) (d.end + 7)) }
+    ensures near { IfOk result
+        (λ d. 8 * length buffer.new ≤ max (8 * length buffer.old) (d.end + 7)) }
     ensures faulty { let all = buffer.new ++ S.left source.new in
-        IsTrue (S.tells source.old) → IfErr result (OrNoMemory (Failed (S.ending source.old) (members_at members.now place.now all))) }
+        IsTrue (S.tells source.old) →
+        IfErr result (OrNoMemory
+        (Failed (S.ending source.old) (members_at members.now place.now all))) }
 {
     let mut values = List::new(place.alloc);
     let mut end = place.end;
@@ -141,16 +149,20 @@ fn elements_on_demand<S: Source>(
     requires few { length buffer.old ≤ longest_bytes }
     ensures tells { IsTrue (S.tells source.old) → IsTrue (S.tells source.new) }
     ensures same_end { IsTrue (S.tells source.old) → S.ending source.new ≡ S.ending source.old }
-    ensures kept { IsTrue (S.tells source.old) → buffer.new ++ S.left source.new ≡ buffer.old ++ S.left source.old }
+    ensures kept { IsTrue (S.tells source.old) →
+        buffer.new ++ S.left source.new ≡ buffer.old ++ S.left source.old }
     ensures first { take (length buffer.old) buffer.new ≡ buffer.old }
     ensures grown { length buffer.old ≤ length buffer.new }
     ensures few { length buffer.new ≤ longest_bytes }
     ensures value { IfOk result (IsFound (elements_at element.now count place.now buffer.new)) }
     ensures within { IfOk result (λ d. d.end ≤ min (8 * length buffer.new) longest) }
     ensures forward { IfOk result (λ d. place.now.end ≤ d.end) }
-    ensures near { IfOk result (λ d. 8 * length buffer.new ≤ max (8 * length buffer.old) (d.end + 7)) }
+    ensures near { IfOk result
+        (λ d. 8 * length buffer.new ≤ max (8 * length buffer.old) (d.end + 7)) }
     ensures faulty { let all = buffer.new ++ S.left source.new in
-        IsTrue (S.tells source.old) → IfErr result (OrNoMemory (Failed (S.ending source.old) (elements_at element.now count place.now all))) }
+        IsTrue (S.tells source.old) →
+        IfErr result (OrNoMemory
+        (Failed (S.ending source.old) (elements_at element.now count place.now all))) }
 {
     let mut values = List::new(place.alloc);
     let mut end = place.end;
@@ -187,16 +199,20 @@ fn option_on_demand<S: Source>(
     requires few { length buffer.old ≤ longest_bytes }
     ensures tells { IsTrue (S.tells source.old) → IsTrue (S.tells source.new) }
     ensures same_end { IsTrue (S.tells source.old) → S.ending source.new ≡ S.ending source.old }
-    ensures kept { IsTrue (S.tells source.old) → buffer.new ++ S.left source.new ≡ buffer.old ++ S.left source.old }
+    ensures kept { IsTrue (S.tells source.old) →
+        buffer.new ++ S.left source.new ≡ buffer.old ++ S.left source.old }
     ensures first { take (length buffer.old) buffer.new ≡ buffer.old }
     ensures grown { length buffer.old ≤ length buffer.new }
     ensures few { length buffer.new ≤ longest_bytes }
     ensures value { IfOk result (IsFound (options_at options.now chosen place.now buffer.new)) }
     ensures within { IfOk result (λ d. d.end ≤ min (8 * length buffer.new) longest) }
     ensures forward { IfOk result (λ d. place.now.end ≤ d.end) }
-    ensures near { IfOk result (λ d. 8 * length buffer.new ≤ max (8 * length buffer.old) (d.end + 7)) }
+    ensures near { IfOk result
+        (λ d. 8 * length buffer.new ≤ max (8 * length buffer.old) (d.end + 7)) }
     ensures faulty { let all = buffer.new ++ S.left source.new in
-        IsTrue (S.tells source.old) → IfErr result (OrNoMemory (Failed (S.ending source.old) (options_at options.now chosen place.now all))) }
+        IsTrue (S.tells source.old) →
+        IfErr result (OrNoMemory
+        (Failed (S.ending source.old) (options_at options.now chosen place.now all))) }
 {
     if place.spent >= MOST_VALUES {
         return Err(StreamFault::TooManyValues);

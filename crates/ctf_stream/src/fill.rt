@@ -18,8 +18,10 @@ pub(crate) fn fill_front<S: Source>(
     requires beyond { min (8 * length buffer.old) longest < bits }
     ensures tells { IsTrue (S.tells source.old) → IsTrue (S.tells source.new) }
     ensures same_end { IsTrue (S.tells source.old) → S.ending source.new ≡ S.ending source.old }
-    ensures kept { IsTrue (S.tells source.old) → buffer.new ++ S.left source.new ≡ buffer.old ++ S.left source.old }
-    ensures takes { IsTrue (S.tells source.old) → TakesMore (S.ending source.old) bits buffer.new (S.left source.new) result }
+    ensures kept { IsTrue (S.tells source.old) →
+        buffer.new ++ S.left source.new ≡ buffer.old ++ S.left source.old }
+    ensures takes { IsTrue (S.tells source.old) →
+        TakesMore (S.ending source.old) bits buffer.new (S.left source.new) result }
     ensures bits { OnOk result (length buffer.new ≡ (bits + 7) / 8) }
     ensures bounded { OnOk result (bits ≤ longest) }
     ensures first { take (length buffer.old) buffer.new ≡ buffer.old }

@@ -32,7 +32,8 @@ impl<'a> Course<'a> {
         requires stands { Stands self.old }
         requires within { IsSome self.old.packet }
         requires holds { HoldsIn self.old self.old.packet front.now }
-        ensures given { IfOk result (λ x. item_at self.old self.old.packet front.now ≡ item (item_of x self.old.taken (length self.old.buffer))) }
+        ensures given { IfOk result (λ x. item_at self.old self.old.packet front.now ≡
+            item (item_of x self.old.taken (length self.old.buffer))) }
         ensures of { IfOk result (IsOf self.old.cut.trace.now name.now) }
         ensures cut { self.new.cut ≡ self.old.cut }
         ensures packet { self.new.packet ≡ self.old.packet }
@@ -40,7 +41,8 @@ impl<'a> Course<'a> {
         ensures taken { self.new.taken ≡ self.old.taken }
         ensures part { self.new.part ≡ self.old.part }
         ensures writes { self.new.writes ≡ self.old.writes }
-        ensures values { OnOk result (packet_values (values_of self.new.scopes) ≡ packet_values (values_of self.old.scopes)) }
+        ensures values { OnOk result (packet_values (values_of self.new.scopes) ≡
+            packet_values (values_of self.old.scopes)) }
     {
         let packet = match &self.packet {
             None => unreachable!(),
@@ -98,8 +100,14 @@ fn read_again<'a>(
     requires start { written.now.begin ≤ packet.now.content }
     requires content { packet.now.content ≤ 2 ^ 62 }
     requires held { packet.now.content ≤ 8 * length bytes.now }
-    ensures records { (shift : Shift) → packet.now.line ≡ (stream_form shift packet.now.stream.now).line → IfOk result (λ r. record_at (opened_of shift (packet_values (values_of scopes.old)) packet.now) bytes.now written.now.before written.now.begin ≡ Ok (recorded_of packet.now.stream.now (values_of scopes.new) r)) }
-    ensures packet { OnOk result (packet_values (values_of scopes.new) ≡ packet_values (values_of scopes.old)) }
+    ensures records { (shift : Shift) →
+        packet.now.line ≡ (stream_form shift packet.now.stream.now).line →
+        IfOk result (λ r.
+        record_at (opened_of shift (packet_values (values_of scopes.old)) packet.now) bytes.now
+        written.now.before written.now.begin ≡
+        Ok (recorded_of packet.now.stream.now (values_of scopes.new) r)) }
+    ensures packet { OnOk result (packet_values (values_of scopes.new) ≡
+        packet_values (values_of scopes.old)) }
 {
     match next_record(
         alloc,

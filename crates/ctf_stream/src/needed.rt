@@ -30,16 +30,21 @@ pub(crate) fn opened<'a, S: Source>(
     requires few { length buffer.old ≤ longest_bytes }
     ensures tells { IsTrue (S.tells source.old) → IsTrue (S.tells source.new) }
     ensures same_end { IsTrue (S.tells source.old) → S.ending source.new ≡ S.ending source.old }
-    ensures kept { IsTrue (S.tells source.old) → buffer.new ++ S.left source.new ≡ buffer.old ++ S.left source.old }
+    ensures kept { IsTrue (S.tells source.old) →
+        buffer.new ++ S.left source.new ≡ buffer.old ++ S.left source.old }
     ensures first { take (length buffer.old) buffer.new ≡ buffer.old }
     ensures grown { length buffer.old ≤ length buffer.new }
     ensures few { length buffer.new ≤ longest_bytes }
     ensures opens { IfOk result (IsOpened place.now (next_multiple_of place.now.end align)) }
     ensures within { IfOk result (λ inner. inner.end ≤ min (8 * length buffer.new) longest) }
     ensures forward { IfOk result (λ inner. place.now.end ≤ inner.end) }
-    ensures near { IfOk result (λ inner. 8 * length buffer.new ≤ max (8 * length buffer.old) (inner.end + 7)) }
+    ensures near { IfOk result
+        (λ inner. 8 * length buffer.new ≤ max (8 * length buffer.old) (inner.end + 7)) }
     ensures faulty { let all = buffer.new ++ S.left source.new in
-        IsTrue (S.tells source.old) → IfErr result (OrNoMemory (FailsToOpen (S.ending source.old) place.now (next_multiple_of place.now.end align) all)) }
+        IsTrue (S.tells source.old) →
+        IfErr result (OrNoMemory
+        (FailsToOpen (S.ending source.old) place.now (next_multiple_of place.now.end align)
+        all)) }
 {
     if place.spent >= MOST_VALUES {
         return Err(StreamFault::TooManyValues);
@@ -68,16 +73,20 @@ pub(crate) fn leaf_on_demand<S: Source>(
     requires few { length buffer.old ≤ longest_bytes }
     ensures tells { IsTrue (S.tells source.old) → IsTrue (S.tells source.new) }
     ensures same_end { IsTrue (S.tells source.old) → S.ending source.new ≡ S.ending source.old }
-    ensures kept { IsTrue (S.tells source.old) → buffer.new ++ S.left source.new ≡ buffer.old ++ S.left source.old }
+    ensures kept { IsTrue (S.tells source.old) →
+        buffer.new ++ S.left source.new ≡ buffer.old ++ S.left source.old }
     ensures first { take (length buffer.old) buffer.new ≡ buffer.old }
     ensures grown { length buffer.old ≤ length buffer.new }
     ensures few { length buffer.new ≤ longest_bytes }
     ensures value { IfOk result (IsFound (found_at class.now place.now buffer.new)) }
     ensures within { IfOk result (λ d. d.end ≤ min (8 * length buffer.new) longest) }
     ensures forward { IfOk result (λ d. place.now.end ≤ d.end) }
-    ensures near { IfOk result (λ d. 8 * length buffer.new ≤ max (8 * length buffer.old) (d.end + 7)) }
+    ensures near { IfOk result
+        (λ d. 8 * length buffer.new ≤ max (8 * length buffer.old) (d.end + 7)) }
     ensures faulty { let all = buffer.new ++ S.left source.new in
-        IsTrue (S.tells source.old) → IfErr result (OrNoMemory (Failed (S.ending source.old) (found_at class.now place.now all))) }
+        IsTrue (S.tells source.old) →
+        IfErr result (OrNoMemory
+        (Failed (S.ending source.old) (found_at class.now place.now all))) }
 {
     loop {
         match decoded(class, place, buffer.as_slice()) {
@@ -153,16 +162,20 @@ pub(crate) fn string_on_demand<S: Source>(
     requires string { class.now.kind ≡ String }
     ensures tells { IsTrue (S.tells source.old) → IsTrue (S.tells source.new) }
     ensures same_end { IsTrue (S.tells source.old) → S.ending source.new ≡ S.ending source.old }
-    ensures kept { IsTrue (S.tells source.old) → buffer.new ++ S.left source.new ≡ buffer.old ++ S.left source.old }
+    ensures kept { IsTrue (S.tells source.old) →
+        buffer.new ++ S.left source.new ≡ buffer.old ++ S.left source.old }
     ensures first { take (length buffer.old) buffer.new ≡ buffer.old }
     ensures grown { length buffer.old ≤ length buffer.new }
     ensures few { length buffer.new ≤ longest_bytes }
     ensures value { IfOk result (IsFound (found_at class.now place.now buffer.new)) }
     ensures within { IfOk result (λ d. d.end ≤ min (8 * length buffer.new) longest) }
     ensures forward { IfOk result (λ d. place.now.end ≤ d.end) }
-    ensures near { IfOk result (λ d. 8 * length buffer.new ≤ max (8 * length buffer.old) (d.end + 7)) }
+    ensures near { IfOk result
+        (λ d. 8 * length buffer.new ≤ max (8 * length buffer.old) (d.end + 7)) }
     ensures faulty { let all = buffer.new ++ S.left source.new in
-        IsTrue (S.tells source.old) → IfErr result (OrNoMemory (Failed (S.ending source.old) (found_at class.now place.now all))) }
+        IsTrue (S.tells source.old) →
+        IfErr result (OrNoMemory
+        (Failed (S.ending source.old) (found_at class.now place.now all))) }
 {
     if place.spent >= MOST_VALUES {
         return Err(StreamFault::TooManyValues);
@@ -182,13 +195,15 @@ fn take_text<S: Source>(
     requires few { length buffer.old ≤ longest_bytes }
     ensures tells { IsTrue (S.tells source.old) → IsTrue (S.tells source.new) }
     ensures same_end { IsTrue (S.tells source.old) → S.ending source.new ≡ S.ending source.old }
-    ensures kept { IsTrue (S.tells source.old) → buffer.new ++ S.left source.new ≡ buffer.old ++ S.left source.old }
+    ensures kept { IsTrue (S.tells source.old) →
+        buffer.new ++ S.left source.new ≡ buffer.old ++ S.left source.old }
     ensures first { take (length buffer.old) buffer.new ≡ buffer.old }
     ensures grown { length buffer.old ≤ length buffer.new }
     ensures few { length buffer.new ≤ longest_bytes }
     ensures near { OnOk result (EndsNear place.now (length buffer.old) buffer.new) }
     ensures faulty { let all = buffer.new ++ S.left source.new in
-        IsTrue (S.tells source.old) → IfErr result (OrNoMemory (Failed (S.ending source.old) (text_at place.now all))) }
+        IsTrue (S.tells source.old) →
+        IfErr result (OrNoMemory (Failed (S.ending source.old) (text_at place.now all))) }
 {
     let mut next = (up(place.end, 8) / 8) as usize;
     while text_byte(place, next, source, buffer)? != 0 {
@@ -206,18 +221,22 @@ fn text_byte<S: Source>(
 ) -> Result<u8, StreamFault>
     requires begun { place.now.spent < MOST_VALUES }
     requires few { length buffer.old ≤ longest_bytes }
-    requires asks { length buffer.old ≤ next → text_at place.now buffer.old ≡ Err (past (8 * (next + 1))) }
+    requires asks { length buffer.old ≤ next →
+        text_at place.now buffer.old ≡ Err (past (8 * (next + 1))) }
     ensures tells { IsTrue (S.tells source.old) → IsTrue (S.tells source.new) }
     ensures same_end { IsTrue (S.tells source.old) → S.ending source.new ≡ S.ending source.old }
-    ensures kept { IsTrue (S.tells source.old) → buffer.new ++ S.left source.new ≡ buffer.old ++ S.left source.old }
+    ensures kept { IsTrue (S.tells source.old) →
+        buffer.new ++ S.left source.new ≡ buffer.old ++ S.left source.old }
     ensures first { take (length buffer.old) buffer.new ≡ buffer.old }
     ensures grown { length buffer.old ≤ length buffer.new }
     ensures few { length buffer.new ≤ longest_bytes }
     ensures byte { IfOk result (λ byte. byte ≡ get_or buffer.new next 0) }
     ensures there { OnOk result (next < length buffer.new) }
-    ensures near { (before : ℕ) → EndsNear place.now before buffer.old → OnOk result (EndsNear place.now before buffer.new) }
+    ensures near { (before : ℕ) → EndsNear place.now before buffer.old →
+        OnOk result (EndsNear place.now before buffer.new) }
     ensures faulty { let all = buffer.new ++ S.left source.new in
-        IsTrue (S.tells source.old) → IfErr result (OrNoMemory (Failed (S.ending source.old) (text_at place.now all))) }
+        IsTrue (S.tells source.old) →
+        IfErr result (OrNoMemory (Failed (S.ending source.old) (text_at place.now all))) }
 {
     if next < buffer.len() {
         return Ok(buffer.as_slice()[next]);

@@ -52,8 +52,10 @@ pub struct OwnedGap {
 impl<'a> OwnedItem<'a> {
     /// The item by reference.
     pub fn as_item(&self) -> Item<'_>
-        ensures item { (end length : ℕ) → shown.item_of result end length ≡ owned.item_of self.now end length }
-        ensures of { (trace : TraceClass) (name : List ℕ) → owned.IsOf trace name self.now → shown.IsOf trace name result }
+        ensures item { (end length : ℕ) →
+            shown.item_of result end length ≡ owned.item_of self.now end length }
+        ensures of { (trace : TraceClass) (name : List ℕ) → owned.IsOf trace name self.now →
+            shown.IsOf trace name result }
     {
         match self {
             OwnedItem::Event(event) => Item::Event(event.as_event()),
@@ -106,7 +108,7 @@ impl<'a> OwnedEvent<'a> {
 }
 
 impl OwnedGap {
-    /// The same by reference.
+    /// What is missing, by reference.
     pub fn as_gap(&self) -> Gap<'_>
         ensures count { result.count ≡ self.now.count }
         ensures moment { result.moment ≡ self.now.moment }

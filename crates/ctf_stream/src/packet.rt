@@ -78,8 +78,15 @@ impl<'a> Packet<'a> {
     ) -> Option<Front<'a>>
         requires within { Within bytes.now self.old }
         requires looked { IsShortOf self.old.opened.stream.now self.old.short }
-        ensures takes { (shift : Shift) (known : Known) (follows : Option Moment → Run Classes) → self.old.opened.line ≡ (stream_form shift self.old.opened.stream.now).line → IfSome result (λ front. TakesItem shift follows (left_in shift known bytes.now follows self.old) self.new known bytes.now (Ok (Some front))) }
-        ensures written { (shift : Shift) (known : Known) → self.old.opened.line ≡ (stream_form shift self.old.opened.stream.now).line → IfSome result (HoldsFront writes shift known bytes.now part.now line.new.items self.new) }
+        ensures takes { (shift : Shift) (known : Known) (follows : Option Moment → Run Classes) →
+            self.old.opened.line ≡ (stream_form shift self.old.opened.stream.now).line →
+            IfSome result (λ front.
+            TakesItem shift follows (left_in shift known bytes.now follows self.old) self.new known
+            bytes.now (Ok (Some front))) }
+        ensures written { (shift : Shift) (known : Known) →
+            self.old.opened.line ≡ (stream_form shift self.old.opened.stream.now).line →
+            IfSome result (HoldsFront writes shift known bytes.now part.now line.new.items
+            self.new) }
         ensures room { IfSome result (λ _. room_in self.new < room_in self.old) }
         ensures opened { self.new.opened ≡ self.old.opened }
         ensures short { self.new.short ≡ self.old.short }
@@ -129,13 +136,21 @@ impl<'a> Packet<'a> {
         line: &mut Vec<u8>,
     ) -> Result<Option<Front<'a>>, StreamFault>
         requires { Within bytes.now self.old }
-        ensures takes { (shift : Shift) (follows : Option Moment → Run Classes) → self.old.opened.line ≡ (stream_form shift self.old.opened.stream.now).line → TakesItem shift follows (left_in shift scopes.old bytes.now follows self.old) self.new scopes.new bytes.now result }
-        ensures written { (shift : Shift) → self.old.opened.line ≡ (stream_form shift self.old.opened.stream.now).line → IfOk result (λ front. IfSome front (HoldsFront writes shift scopes.new bytes.now part.now line.new.items self.new)) }
+        ensures takes { (shift : Shift) (follows : Option Moment → Run Classes) →
+            self.old.opened.line ≡ (stream_form shift self.old.opened.stream.now).line →
+            TakesItem shift follows (left_in shift scopes.old bytes.now follows self.old) self.new
+            scopes.new bytes.now result }
+        ensures written { (shift : Shift) →
+            self.old.opened.line ≡ (stream_form shift self.old.opened.stream.now).line →
+            IfOk result (λ front.
+            IfSome front (HoldsFront writes shift scopes.new bytes.now part.now line.new.items
+            self.new)) }
         ensures room { TakesRoom (room_in self.old) (room_in self.new) result }
         ensures opened { self.new.opened ≡ self.old.opened }
         ensures short { self.new.short ≡ self.old.short }
         ensures place { self.new.place ≤ self.new.opened.content }
-        ensures packet { OnOk result (packet_values (values_of scopes.new) ≡ packet_values (values_of scopes.old)) }
+        ensures packet { OnOk result (packet_values (values_of scopes.new) ≡
+            packet_values (values_of scopes.old)) }
     {
         if let Some(count) = self.lost {
             self.lost = None;
@@ -190,11 +205,17 @@ fn event_at<'a>(
     requires start { place ≤ packet.now.content }
     requires content { packet.now.content ≤ 2 ^ 62 }
     requires held { packet.now.content ≤ 8 * length bytes.now }
-    ensures makes { (shift : Shift) → packet.now.line ≡ (stream_form shift packet.now.stream.now).line → Makes packet.now.stream.now (record_at (opened_of shift (packet_values (values_of scopes.old)) packet.now) bytes.now clock place) part.now scopes.new line.new.items result }
+    ensures makes { (shift : Shift) →
+        packet.now.line ≡ (stream_form shift packet.now.stream.now).line →
+        Makes packet.now.stream.now
+        (record_at (opened_of shift (packet_values (values_of scopes.old)) packet.now) bytes.now
+        clock place) part.now scopes.new line.new.items result }
     ensures within { IfOk result (λ r. r.record.end ≤ packet.now.content) }
     ensures forward { IfOk result (λ r. place < r.record.end) }
-    ensures packet { OnOk result (packet_values (values_of scopes.new) ≡ packet_values (values_of scopes.old)) }
-    ensures text { IfOk result (λ r. IfSome r.text (λ end. (end ≤ length line.new.items) × IsTrue writes)) }
+    ensures packet { OnOk result (packet_values (values_of scopes.new) ≡
+        packet_values (values_of scopes.old)) }
+    ensures text { IfOk result
+        (λ r. IfSome r.text (λ end. (end ≤ length line.new.items) × IsTrue writes)) }
 {
     if writes {
         return next_line(

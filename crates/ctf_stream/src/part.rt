@@ -47,7 +47,9 @@ impl PacketPart {
         class: Option<&Class>,
         context: Option<&Value>,
     ) -> Result<(), NoMemory>
-        ensures { OnOk result (self.new ≡ packet_part (option_copied class.entry) (option_map val (option_copied context.entry))) }
+        ensures { OnOk result (self.new ≡
+            packet_part (option_copied class.entry)
+            (option_map val (option_copied context.entry))) }
     {
         self.end = 0;
         self.end = put_packet_part(class, context, &mut self.bytes, 0)?;

@@ -85,7 +85,8 @@ impl<'a, S: Source + Drop> StreamReader<'a, S> {
         source: S,
         shift: Shift,
     ) -> StreamReader<'a, S>
-        ensures told { IsTrue (S.tells source) → coming result ≡ run_of (trace_form shift trace.now) (S.ending source) (S.left source) }
+        ensures told { IsTrue (S.tells source) →
+            coming result ≡ run_of (trace_form shift trace.now) (S.ending source) (S.left source) }
         ensures trace { result.trace ≡ trace.now }
         ensures name { result.name ≡ name }
         ensures tells { result.tells ≡ S.tells source }
@@ -112,7 +113,7 @@ impl<'a, S: Source + Drop> StreamReader<'a, S> {
         }
     }
 
-    /// The same reader. From now on it tells event records as texts, where these can be made without the values.
+    /// From now on the reader tells event records as texts, where these can be made without the values.
     pub fn writing(self) -> StreamReader<'a, S>
         ensures { result ≡ record self.entry { writes = true } }
     {
@@ -136,9 +137,11 @@ impl<'a, S: Source + Drop> StreamReader<'a, S> {
 
         // The bytes taken are those that the source gave, and no more than the next item needs.
         ensures tells { IsTrue self.old.tells → IsTrue self.new.tells }
-        ensures counted { IsTrue self.old.tells → self.new.taken + length self.new.left ≡ self.old.taken + length self.old.left }
+        ensures counted { IsTrue self.old.tells →
+            self.new.taken + length self.new.left ≡ self.old.taken + length self.old.left }
         ensures on_line { IsOnLine self.new }
-        ensures all_taken { IsTrue self.old.tells → IsLast self.old.ahead ⊎ IsAllTaken self.new.ahead self.new.left }
+        ensures all_taken { IsTrue self.old.tells →
+            IsLast self.old.ahead ⊎ IsAllTaken self.new.ahead self.new.left }
     {
         match &self.head {
             Head::Ended => return,
@@ -167,7 +170,8 @@ impl<'a, S: Source + Drop> StreamReader<'a, S> {
         ensures writes { self.new.writes ≡ self.old.writes }
         ensures name { self.new.name ≡ self.old.name }
         ensures tells { IsTrue self.old.tells → IsTrue self.new.tells }
-        ensures counted { IsTrue self.old.tells → self.new.taken + length self.new.left ≡ self.old.taken + length self.old.left }
+        ensures counted { IsTrue self.old.tells →
+            self.new.taken + length self.new.left ≡ self.old.taken + length self.old.left }
         ensures on_line { IsOnLine self.new }
         ensures all_taken { IsTrue self.old.tells → IsAllTaken self.new.ahead self.new.left }
     {
@@ -210,9 +214,11 @@ impl<'a, S: Source + Drop> StreamReader<'a, S> {
 
         // The bytes taken are those that the source gave, and no more than the item needs.
         ensures tells { IsTrue self.old.tells → IsTrue self.new.tells }
-        ensures counted { IsTrue self.old.tells → self.new.taken + length self.new.left ≡ self.old.taken + length self.old.left }
+        ensures counted { IsTrue self.old.tells →
+            self.new.taken + length self.new.left ≡ self.old.taken + length self.old.left }
         ensures on_line { IsOnLine self.new }
-        ensures all_taken { IsTrue self.old.tells → IsLast self.old.ahead ⊎ IsAllTaken self.new.ahead self.new.left }
+        ensures all_taken { IsTrue self.old.tells →
+            IsLast self.old.ahead ⊎ IsAllTaken self.new.ahead self.new.left }
     {
         self.fetch();
         self.give()
@@ -228,8 +234,10 @@ impl<'a, S: Source + Drop> StreamReader<'a, S> {
         ensures writes { self.new.writes ≡ self.old.writes }
         ensures name { self.new.name ≡ self.old.name }
         ensures tells { IsTrue self.old.tells → IsTrue self.new.tells }
-        ensures counted { IsTrue self.old.tells → self.new.taken + length self.new.left ≡ self.old.taken + length self.old.left }
-        ensures all_taken { IsTrue self.old.tells → IsFetched self.old.ahead ⊎ IsAllTaken self.new.ahead self.new.left }
+        ensures counted { IsTrue self.old.tells →
+            self.new.taken + length self.new.left ≡ self.old.taken + length self.old.left }
+        ensures all_taken { IsTrue self.old.tells →
+            IsFetched self.old.ahead ⊎ IsAllTaken self.new.ahead self.new.left }
     {
         match &self.head {
             Head::Start => self.go_on(),
@@ -293,7 +301,8 @@ impl<'a, S: Source + Drop> StreamReader<'a, S> {
     /// The item in front, if one stands there, with its values; `None` also of an event record that was read as a text. No
     /// memory is taken.
     pub fn head(&self) -> Option<Item<'_>>
-        ensures shows { ShowsValues self.now.writes self.now.trace self.now.name self.now.ahead result }
+        ensures shows { ShowsValues self.now.writes self.now.trace self.now.name self.now.ahead
+            result }
         ensures made { IfSome result IsMade }
     {
         match self.told() {

@@ -38,16 +38,20 @@ pub(crate) fn scope_on_demand<S: Source>(
     requires few { length buffer.old ≤ longest_bytes }
     ensures tells { IsTrue (S.tells source.old) → IsTrue (S.tells source.new) }
     ensures same_end { IsTrue (S.tells source.old) → S.ending source.new ≡ S.ending source.old }
-    ensures kept { IsTrue (S.tells source.old) → buffer.new ++ S.left source.new ≡ buffer.old ++ S.left source.old }
+    ensures kept { IsTrue (S.tells source.old) →
+        buffer.new ++ S.left source.new ≡ buffer.old ++ S.left source.old }
     ensures first { take (length buffer.old) buffer.new ≡ buffer.old }
     ensures grown { length buffer.old ≤ length buffer.new }
     ensures few { length buffer.new ≤ longest_bytes }
-    ensures puts { (more : List ℕ) → let asked = scope_asked next.now (buffer.new ++ more) scopes.old in
+    ensures puts { (more : List ℕ) →
+        let asked = scope_asked next.now (buffer.new ++ more) scopes.old in
         IfOk result (λ end. PutsAsked next.now.scope (values_of scopes.old) asked end scopes.new) }
     ensures within { IfOk result (λ end. end ≤ min (8 * length buffer.new) longest) }
     ensures forward { IfOk result (λ end. next.now.end ≤ end) }
-    ensures near { IfOk result (λ end. 8 * length buffer.new ≤ max (8 * length buffer.old) (end + 7)) }
-    ensures faulty { let found = scope_found (S.ending source.old) next.now (buffer.new ++ S.left source.new) scopes.old in
+    ensures near { IfOk result
+        (λ end. 8 * length buffer.new ≤ max (8 * length buffer.old) (end + 7)) }
+    ensures faulty { let found = scope_found (S.ending source.old) next.now
+        (buffer.new ++ S.left source.new) scopes.old in
         IsTrue (S.tells source.old) → IfErr result (OrNoMemory (FailsAs found)) }
 {
     match next.class {

@@ -76,7 +76,9 @@ fn put_elements(
 ) -> Option<Ends>
     requires start { begin ≤ packet.now.end }
     requires index { at ≤ vec_len buffer.old }
-    ensures puts { IfSome result (λ e. PutsElements (enclosed 91 93) align integer.now count packet.now.bytes.now packet.now.end begin e.place (take at buffer.old.items) (take e.text buffer.new.items)) }
+    ensures puts { IfSome result
+        (λ e. PutsElements (enclosed 91 93) align integer.now count packet.now.bytes.now
+        packet.now.end begin e.place (take at buffer.old.items) (take e.text buffer.new.items)) }
     ensures within { IfSome result (λ e. e.place ≤ packet.now.end) }
     ensures held { IfSome result (λ e. e.text ≤ vec_len buffer.new) }
 {
@@ -108,7 +110,9 @@ fn put_row(
 ) -> Option<Ends>
     requires start { begin ≤ packet.now.end }
     requires index { at ≤ vec_len buffer.old }
-    ensures puts { IfSome result (λ e. PutsElements (row 91) align integer.now count packet.now.bytes.now packet.now.end begin e.place (take at buffer.old.items) (take e.text buffer.new.items)) }
+    ensures puts { IfSome result
+        (λ e. PutsElements (row 91) align integer.now count packet.now.bytes.now packet.now.end
+        begin e.place (take at buffer.old.items) (take e.text buffer.new.items)) }
     ensures within { IfSome result (λ e. e.place ≤ packet.now.end) }
     ensures held { IfSome result (λ e. e.text ≤ vec_len buffer.new) }
 {
@@ -138,7 +142,11 @@ fn put_element(
 ) -> Option<Ends>
     requires start { place ≤ packet.now.end }
     requires index { at ≤ vec_len buffer.old }
-    ensures puts { IfSome result (λ e. PutsOne (forms.integer align integer.now) (λ v. lead ∷ 32 ∷ texts.element_text (texts.integer_text integer.now) i v) packet.now.bytes.now packet.now.end place e.place (take at buffer.old.items) (take e.text buffer.new.items)) }
+    ensures puts { IfSome result
+        (λ e. PutsOne (forms.integer align integer.now)
+        (λ v. lead ∷ 32 ∷ texts.element_text (texts.integer_text integer.now) i v)
+        packet.now.bytes.now packet.now.end place e.place (take at buffer.old.items)
+        (take e.text buffer.new.items)) }
     ensures within { IfSome result (λ e. e.place ≤ packet.now.end) }
     ensures held { IfSome result (λ e. e.text ≤ vec_len buffer.new) }
 {

@@ -349,7 +349,8 @@ fn put_array(
 ) -> Option<Next>
     requires start { place ≤ packet.now.end }
     requires index { at ≤ vec_len buffer.old }
-    ensures puts { let line = take at buffer.old.items in let shown = texts.value_text element.now in
+    ensures puts { let line = take at buffer.old.items in
+        let shown = texts.value_text element.now in
         (a : ℕ) (many : Length) → Counts many before count →
         let k = forms.array a many (form element.now) in
         Writes result before k (array_text shown) packet.now place line buffer.new.items }
@@ -377,7 +378,8 @@ fn put_items(
 ) -> Option<Next>
     requires start { place ≤ packet.now.end }
     requires index { at ≤ vec_len buffer.old }
-    ensures puts { let line = take at buffer.old.items in let shown = texts.value_text element.now in
+    ensures puts { let line = take at buffer.old.items in
+        let shown = texts.value_text element.now in
         (a : ℕ) (many : Length) → Counts many before count →
         let k = forms.array a many (form element.now) in
         Writes result before k (array_text shown) packet.now place line buffer.new.items }

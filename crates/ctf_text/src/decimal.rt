@@ -46,7 +46,7 @@ pub fn put_unsigned(number: u64, line: &mut [u8], at: usize) -> usize
     put_more(number, line, at)
 }
 
-/// The same of a number of more than four digits. Mostly it has up to eight.
+/// Writes a number of more than four digits. Mostly it has up to eight.
 #[inline(never)]
 fn put_more(number: u64, line: &mut [u8], at: usize) -> usize
     requires many { 10_000 ≤ number }
@@ -61,7 +61,7 @@ fn put_more(number: u64, line: &mut [u8], at: usize) -> usize
     put_many(number, line, at)
 }
 
-/// The same of a number of five to eight digits: up to four, and then four.
+/// Writes a number of five to eight digits: up to four, and then four.
 #[inline(always)]
 #[tactic(auto, using(crate::proofs::DecimalLemmas::length_four))]
 fn put_some(number: u32, line: &mut [u8], at: usize) -> usize
@@ -77,7 +77,7 @@ fn put_some(number: u32, line: &mut [u8], at: usize) -> usize
     end + 4
 }
 
-/// The same of a number of any size, by two digits at a time.
+/// Writes a number of any size, two digits at a time.
 #[tactic(auto, using(crate::proofs::DecimalLemmas::written_at))]
 #[inline(never)]
 fn put_many(number: u64, line: &mut [u8], at: usize) -> usize
@@ -91,7 +91,7 @@ fn put_many(number: u64, line: &mut [u8], at: usize) -> usize
     end
 }
 
-/// The same of a number of up to four digits. They are one word of a table, so that no jump depends on how many there are: a
+/// Writes a number of up to four digits. They are one word of a table, so that no jump depends on how many there are: a
 /// processor foresees that badly.
 #[inline(always)]
 fn put_few(number: u32, line: &mut [u8], at: usize) -> usize
@@ -136,7 +136,7 @@ fn four_digits(number: u32) -> u32
     u32::from(two_digits(number / 100)) + (u32::from(two_digits(number % 100)) << 16)
 }
 
-/// The same of a number of 64 bits that may be negative, with room for 21 bytes.
+/// Writes a number of 64 bits that may be negative in a line with room for 21 bytes.
 #[inline(always)]
 pub fn put_signed_short(number: i64, line: &mut [u8], at: usize) -> usize
     requires room { at + 21 ≤ length line.old }
@@ -150,7 +150,7 @@ pub fn put_signed_short(number: i64, line: &mut [u8], at: usize) -> usize
     put_unsigned(number.unsigned_abs(), line, at + 1)
 }
 
-/// The same of a number of 128 bits, with room for 40 bytes.
+/// Writes a number of 128 bits in a line with room for 40 bytes.
 pub fn put_signed(number: i128, line: &mut [u8], at: usize) -> usize
     requires room { at + 40 ≤ length line.old }
     ensures text { take result line.new ≡ take at line.old ++ signed_decimal number }
@@ -167,7 +167,7 @@ pub fn put_signed(number: i128, line: &mut [u8], at: usize) -> usize
     put_unsigned(far as u64, line, at + 1)
 }
 
-/// The same of a number of more than 64 bits.
+/// Writes a number of more than 64 bits.
 #[cold]
 #[inline(never)]
 fn put_wide(number: i128, line: &mut [u8], at: usize) -> usize

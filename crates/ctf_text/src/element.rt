@@ -14,17 +14,19 @@ use ctf_list::NoMemory;
 /// buffer.
 pub fn put_index(lead: u8, i: usize, buffer: &mut Vec<u8>, at: usize) -> Result<usize, NoMemory>
     requires { at ≤ vec_len buffer.old }
-    ensures text { IfOk result (λ end. take end buffer.new.items ≡ take at buffer.old.items ++ (lead ∷ 32 ∷ 91 ∷ (decimal i ++ codes "] = "))) }
+    ensures text { IfOk result (λ end. take end buffer.new.items ≡
+        take at buffer.old.items ++ (lead ∷ 32 ∷ 91 ∷ (decimal i ++ codes "] = "))) }
     ensures room { IfOk result (λ end. end + LONGEST_NUMBER ≤ vec_len buffer.new) }
 {
     with_room(LONGEST_NUMBER + 27, buffer, at)?;
     Ok(put_brackets(lead, i, buffer.as_mut_slice(), at))
 }
 
-/// The same in a line that has room for it.
+/// Writes the text of an index in a line that has room for it.
 fn put_brackets(lead: u8, i: usize, line: &mut [u8], at: usize) -> usize
     requires { at + 27 ≤ length line.old }
-    ensures text { take result line.new ≡ take at line.old ++ (lead ∷ 32 ∷ 91 ∷ (decimal i ++ codes "] = ")) }
+    ensures text { take result line.new ≡
+        take at line.old ++ (lead ∷ 32 ∷ 91 ∷ (decimal i ++ codes "] = ")) }
     ensures near { result ≤ at + 27 }
 {
     let begin = put_open(lead, line, at);

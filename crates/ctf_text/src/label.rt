@@ -23,7 +23,8 @@ pub fn put_labelled(
     at: usize,
 ) -> Result<usize, NoMemory>
     requires { at ≤ vec_len buffer.old }
-    ensures text { IfOk result (λ end. take end buffer.new.items ≡ take at buffer.old.items ++ labelled_text container.now labels.now number) }
+    ensures text { IfOk result (λ end. take end buffer.new.items ≡
+        take at buffer.old.items ++ labelled_text container.now labels.now number) }
     ensures held { IfOk result (λ end. end ≤ vec_len buffer.new) }
 {
     let end = put_names(labels, number, buffer, at)?;
@@ -34,7 +35,9 @@ pub fn put_labelled(
 /// Writes what stands behind the names.
 fn put_container(container: &Integer, number: i128, line: &mut [u8], at: usize) -> usize
     requires { at + (LONGEST_NUMBER + 20) ≤ length line.old }
-    ensures text { take result line.new ≡ take at line.old ++ (codes " : container = " ++ (number_text container.now number ++ codes " )")) }
+    ensures text { take result line.new ≡
+        take at line.old ++
+        (codes " : container = " ++ (number_text container.now number ++ codes " )")) }
     ensures near { result ≤ at + (LONGEST_NUMBER + 20) }
 {
     let begin = put_bytes(b" : container = ", line, at);
@@ -50,7 +53,8 @@ fn put_names(
     at: usize,
 ) -> Result<usize, NoMemory>
     requires { at ≤ vec_len buffer.old }
-    ensures text { IfOk result (λ end. take end buffer.new.items ≡ take at buffer.old.items ++ (codes "( " ++ names_text (names_of labels.now number))) }
+    ensures text { IfOk result (λ end. take end buffer.new.items ≡
+        take at buffer.old.items ++ (codes "( " ++ names_text (names_of labels.now number))) }
     ensures held { IfOk result (λ end. end ≤ vec_len buffer.new) }
 {
     match labels.next_shown(0, number) {
@@ -64,7 +68,8 @@ fn put_names(
 
 fn put_unknown(buffer: &mut Vec<u8>, at: usize) -> Result<usize, NoMemory>
     requires { at ≤ vec_len buffer.old }
-    ensures text { IfOk result (λ end. take end buffer.new.items ≡ take at buffer.old.items ++ codes "( <unknown>") }
+    ensures text { IfOk result (λ end. take end buffer.new.items ≡
+        take at buffer.old.items ++ codes "( <unknown>") }
     ensures held { IfOk result (λ end. end ≤ vec_len buffer.new) }
 {
     with_room(11, buffer, at)?;
@@ -78,7 +83,9 @@ fn put_several(
     at: usize,
 ) -> Result<usize, NoMemory>
     requires { at ≤ vec_len buffer.old }
-    ensures text { IfOk result (λ end. take end buffer.new.items ≡ take at buffer.old.items ++ (codes "( " ++ (row 123 (map label_text (names_of labels.now number)) ++ codes " }"))) }
+    ensures text { IfOk result (λ end. take end buffer.new.items ≡
+        take at buffer.old.items ++
+        (codes "( " ++ (row 123 (map label_text (names_of labels.now number)) ++ codes " }"))) }
     ensures held { IfOk result (λ end. end ≤ vec_len buffer.new) }
 {
     with_room(2, buffer, at)?;
@@ -96,7 +103,8 @@ fn put_each_name(
     at: usize,
 ) -> Result<usize, NoMemory>
     requires { at ≤ vec_len buffer.old }
-    ensures text { IfOk result (λ end. take end buffer.new.items ≡ take at buffer.old.items ++ row mark (map label_text (names_of labels.now number))) }
+    ensures text { IfOk result (λ end. take end buffer.new.items ≡
+        take at buffer.old.items ++ row mark (map label_text (names_of labels.now number))) }
     ensures held { IfOk result (λ end. end ≤ vec_len buffer.new) }
 {
     let mut end = at;
@@ -121,7 +129,8 @@ fn put_name(
 ) -> Result<usize, NoMemory>
     requires within { place < length labels.now }
     requires index { at ≤ vec_len buffer.old }
-    ensures text { IfOk result (λ end. take end buffer.new.items ≡ take at buffer.old.items ++ (mark ∷ 32 ∷ label_text (label_at labels.now place).name)) }
+    ensures text { IfOk result (λ end. take end buffer.new.items ≡
+        take at buffer.old.items ++ (mark ∷ 32 ∷ label_text (label_at labels.now place).name)) }
     ensures held { IfOk result (λ end. end ≤ vec_len buffer.new) }
 {
     let label = &labels.as_slice()[place];

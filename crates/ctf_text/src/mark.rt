@@ -18,8 +18,8 @@ pub fn put_bytes(bytes: &[u8], line: &mut [u8], at: usize) -> usize
     end
 }
 
-/// The same. Mostly there are 8 to 32 bytes, which their first and their last ones cover, so that they are written
-/// without a call.
+/// Writes bytes in a line that has room for them. Mostly there are 8 to 32, which their first and their last ones
+/// cover, so that they are written without a call.
 #[inline(always)]
 pub fn put_few(bytes: &[u8], line: &mut [u8], at: usize) -> usize
     requires { at + length bytes.now ≤ length line.old }
@@ -33,7 +33,7 @@ pub fn put_few(bytes: &[u8], line: &mut [u8], at: usize) -> usize
     }
 }
 
-/// The same of bytes that their first and their last so many cover. What stands in both is written twice.
+/// Writes bytes that their first and their last so many cover. What is in both is written twice.
 #[inline(always)]
 pub fn put_both_ends<const COUNT: usize>(bytes: &[u8], line: &mut [u8], at: usize) -> usize
     requires enough { COUNT ≤ length bytes.now }
@@ -47,7 +47,7 @@ pub fn put_both_ends<const COUNT: usize>(bytes: &[u8], line: &mut [u8], at: usiz
     put_bytes(&bytes[begin..], line, at + begin)
 }
 
-/// The same of 8 to 16 bytes, which are written as two words.
+/// Writes 8 to 16 bytes as two words.
 #[inline(always)]
 fn put_both_words(bytes: &[u8], line: &mut [u8], at: usize) -> usize
     requires enough { 8 ≤ length bytes.now }
@@ -61,7 +61,7 @@ fn put_both_words(bytes: &[u8], line: &mut [u8], at: usize) -> usize
     put_eight(&bytes[begin..], line, at + begin)
 }
 
-/// The same of eight bytes. All are read before the first is written, so that they go as one word.
+/// Writes eight bytes. All are read before the first is written, so that they go as one word.
 #[inline(always)]
 fn put_eight(bytes: &[u8], line: &mut [u8], at: usize) -> usize
     requires eight { length bytes.now ≡ 8 }
@@ -106,7 +106,8 @@ pub fn put_ready(
 ) -> Result<usize, NoMemory>
     requires index { at ≤ vec_len buffer.old }
     requires few { more ≤ 100 }
-    ensures text { IfOk result (λ end. take end buffer.new.items ≡ take at buffer.old.items ++ (mark ∷ 32 ∷ ready.now)) }
+    ensures text { IfOk result (λ end. take end buffer.new.items ≡
+        take at buffer.old.items ++ (mark ∷ 32 ∷ ready.now)) }
     ensures room { IfOk result (λ end. end + more ≤ vec_len buffer.new) }
 {
     with_room(ready.len() + more + 26, buffer, at)?;
@@ -119,7 +120,8 @@ pub fn put_ready(
 #[inline(always)]
 pub fn put_end(mark: u8, buffer: &mut Vec<u8>, at: usize) -> Result<usize, NoMemory>
     requires { at ≤ vec_len buffer.old }
-    ensures text { IfOk result (λ end. take end buffer.new.items ≡ take at buffer.old.items ++ (32 ∷ mark ∷ [])) }
+    ensures text { IfOk result (λ end. take end buffer.new.items ≡
+        take at buffer.old.items ++ (32 ∷ mark ∷ [])) }
     ensures held { IfOk result (λ end. end ≤ vec_len buffer.new) }
 {
     with_room(2, buffer, at)?;
@@ -132,7 +134,8 @@ pub fn put_end(mark: u8, buffer: &mut Vec<u8>, at: usize) -> Result<usize, NoMem
 /// Writes two marks that have nothing between them.
 pub fn put_nothing(left: u8, right: u8, buffer: &mut Vec<u8>, at: usize) -> Result<usize, NoMemory>
     requires { at ≤ vec_len buffer.old }
-    ensures text { IfOk result (λ end. take end buffer.new.items ≡ take at buffer.old.items ++ (left ∷ 32 ∷ right ∷ [])) }
+    ensures text { IfOk result (λ end. take end buffer.new.items ≡
+        take at buffer.old.items ++ (left ∷ 32 ∷ right ∷ [])) }
     ensures held { IfOk result (λ end. end ≤ vec_len buffer.new) }
 {
     with_room(3, buffer, at)?;

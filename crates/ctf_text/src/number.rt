@@ -27,7 +27,7 @@ pub fn put_unsigned_number(integer: &Integer, number: u64, line: &mut [u8], at: 
     }
 }
 
-/// The same of a signed number.
+/// Writes a signed number in the base of its integer.
 #[inline(always)]
 pub fn put_signed_number(integer: &Integer, number: i64, line: &mut [u8], at: usize) -> usize
     requires room { at + LONGEST_NUMBER ≤ length line.old }
@@ -40,7 +40,7 @@ pub fn put_signed_number(integer: &Integer, number: i64, line: &mut [u8], at: us
     }
 }
 
-/// The same of a number of 128 bits.
+/// Writes a number of 128 bits in the base of its integer.
 #[inline(never)]
 #[tactic(auto, using(crate::proofs::DigitsLemmas::length_hexadecimal, crate::proofs::DigitsLemmas::length_octal))]
 pub fn put_number(integer: &Integer, number: i128, line: &mut [u8], at: usize) -> usize

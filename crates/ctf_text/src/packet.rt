@@ -25,7 +25,9 @@ pub fn put_packet_part(
     at: usize,
 ) -> Result<usize, NoMemory>
     requires { at ≤ vec_len buffer.old }
-    ensures text { IfOk result (λ end. take end buffer.new.items ≡ take at buffer.old.items ++ lines.packet_part (option_copied class.entry) (option_map val (option_copied value.entry))) }
+    ensures text { IfOk result (λ end. take end buffer.new.items ≡
+        take at buffer.old.items ++ lines.packet_part (option_copied class.entry)
+        (option_map val (option_copied value.entry))) }
     ensures held { IfOk result (λ end. end ≤ vec_len buffer.new) }
 {
     match class {
@@ -64,7 +66,9 @@ fn put_context(
     at: usize,
 ) -> Result<usize, NoMemory>
     requires { at ≤ vec_len buffer.old }
-    ensures text { IfOk result (λ end. take end buffer.new.items ≡ take at buffer.old.items ++ lines.context_text (lines.shown_members members.now (vals_of (map val values.now)))) }
+    ensures text { IfOk result (λ end. take end buffer.new.items ≡
+        take at buffer.old.items ++ lines.context_text
+        (lines.shown_members members.now (vals_of (map val values.now)))) }
     ensures held { IfOk result (λ end. end ≤ vec_len buffer.new) }
 {
     let end = put_shown(members, values, buffer, at)?;
@@ -82,7 +86,9 @@ fn put_shown(
     at: usize,
 ) -> Result<usize, NoMemory>
     requires { at ≤ vec_len buffer.old }
-    ensures text { IfOk result (λ end. take end buffer.new.items ≡ take at buffer.old.items ++ row 123 (lines.shown_members members.now (vals_of (map val values.now)))) }
+    ensures text { IfOk result (λ end. take end buffer.new.items ≡
+        take at buffer.old.items ++ row 123
+        (lines.shown_members members.now (vals_of (map val values.now)))) }
     ensures held { IfOk result (λ end. end ≤ vec_len buffer.new) }
 {
     let mut end = at;

@@ -22,7 +22,8 @@ pub(crate) fn put_numbers(
 ) -> usize
     requires room { at + numbers_room numbers.now ≤ length line.old }
     requires held { All (λ n. first + n.window.place / 8 + 8 ≤ length bytes.now) numbers.now }
-    ensures text { take result line.new ≡ take at line.old ++ flat_map (plain_text bytes.now first) numbers.now }
+    ensures text { take result line.new ≡
+        take at line.old ++ flat_map (plain_text bytes.now first) numbers.now }
     ensures near { result + 24 ≤ at + numbers_room numbers.now }
 {
     let mut text = at;
@@ -37,7 +38,8 @@ pub(crate) fn put_numbers(
 fn put_number(number: &PlainNumber, bytes: &[u8], first: usize, line: &mut [u8], at: usize) -> usize
     requires room { at + length number.now.ready + 48 ≤ length line.old }
     requires held { first + number.now.window.place / 8 + 8 ≤ length bytes.now }
-    ensures text { take result line.new ≡ take at line.old ++ plain_text bytes.now first number.now }
+    ensures text { take result line.new ≡
+        take at line.old ++ plain_text bytes.now first number.now }
     ensures near { result ≤ at + length number.now.ready + 24 }
 {
     let begin = number.ready.put(line, at);
@@ -54,7 +56,8 @@ fn put_below_zero(window: &Window, bytes: &[u8], first: usize, line: &mut [u8], 
     requires signed { window.now.is_signed ≡ true }
     requires room { at + 21 ≤ length line.old }
     requires held { first + window.now.place / 8 + 8 ≤ length bytes.now }
-    ensures text { take result line.new ≡ take at line.old ++ signed_decimal (number_behind window.now bytes.now first) }
+    ensures text { take result line.new ≡
+        take at line.old ++ signed_decimal (number_behind window.now bytes.now first) }
     ensures near { result ≤ at + 21 }
 {
     put_signed_short(window.signed(bytes, first), line, at)

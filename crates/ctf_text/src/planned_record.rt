@@ -53,7 +53,10 @@ pub fn put_planned_record(
     requires start { place ≤ content }
     requires few { spent ≤ MOST_VALUES }
     requires index { at ≤ vec_len buffer.old }
-    ensures puts { (classes : List Class) → 0 < length classes → IsPlanOf classes plan.now → IfSome result (λ s. PutsScopes classes packet.now content place spent s.place s.spent (take at buffer.old.items) (take s.end buffer.new.items)) }
+    ensures puts { (classes : List Class) → 0 < length classes → IsPlanOf classes plan.now →
+        IfSome result (λ s.
+        PutsScopes classes packet.now content place spent s.place s.spent (take at buffer.old.items)
+        (take s.end buffer.new.items)) }
     ensures within { IfSome result (λ s. s.place ≤ content) }
     ensures held { IfSome result (λ s. s.end ≤ vec_len buffer.new) }
 {
@@ -95,7 +98,11 @@ fn put_runs(
     requires start { reach.old.place ≤ packet.now.end }
     requires few { reach.old.more ≤ MOST_VALUES }
     requires index { at ≤ vec_len buffer.old }
-    ensures puts { (slots : List Slot) → AreRuns slots runs.now → IfSome result (λ text. (line : List ℕ) × PutsFields slots packet.now.bytes.now packet.now.end (reached reach.old (take at buffer.old.items)) (reached reach.new line) × (take text buffer.new.items ≡ line ++ (32 ∷ 125 ∷ []))) }
+    ensures puts { (slots : List Slot) → AreRuns slots runs.now →
+        IfSome result (λ text. (line : List ℕ) ×
+        PutsFields slots packet.now.bytes.now packet.now.end
+        (reached reach.old (take at buffer.old.items)) (reached reach.new line) ×
+        (take text buffer.new.items ≡ line ++ (32 ∷ 125 ∷ []))) }
     ensures within { IfSome result (λ _. reach.new.place ≤ packet.now.end) }
     ensures few { IfSome result (λ _. reach.new.more ≤ MOST_VALUES) }
     ensures held { IfSome result (λ text. text ≤ vec_len buffer.new) }
@@ -127,7 +134,11 @@ fn put_run(
     requires start { reach.old.place ≤ packet.now.end }
     requires few { reach.old.more ≤ MOST_VALUES }
     requires index { at ≤ vec_len buffer.old }
-    ensures puts { (slots others : List Slot) → TakesRun slots run.now others → IfSome result (λ text. (used : List Slot) × (slots ≡ used ++ others) × PutsFields used packet.now.bytes.now packet.now.end (reached reach.old (take at buffer.old.items)) (reached reach.new (take text buffer.new.items))) }
+    ensures puts { (slots others : List Slot) → TakesRun slots run.now others →
+        IfSome result (λ text. (used : List Slot) × (slots ≡ used ++ others) ×
+        PutsFields used packet.now.bytes.now packet.now.end
+        (reached reach.old (take at buffer.old.items))
+        (reached reach.new (take text buffer.new.items))) }
     ensures within { IfSome result (λ _. reach.new.place ≤ packet.now.end) }
     ensures few { IfSome result (λ _. reach.new.more ≤ MOST_VALUES) }
     ensures held { IfSome result (λ text. text ≤ vec_len buffer.new) }
@@ -160,7 +171,8 @@ fn put_run_numbers(
 ) -> usize
     requires room { at + numbers_room numbers.now ≤ vec_len buffer.old }
     requires held { All (λ n. first + n.window.place / 8 + 8 ≤ length bytes.now) numbers.now }
-    ensures text { take result buffer.new.items ≡ take at buffer.old.items ++ flat_map (plain_text bytes.now first) numbers.now }
+    ensures text { take result buffer.new.items ≡
+        take at buffer.old.items ++ flat_map (plain_text bytes.now first) numbers.now }
     ensures near { result + 24 ≤ at + numbers_room numbers.now }
     ensures length { vec_len buffer.new ≡ vec_len buffer.old }
 {
@@ -193,8 +205,15 @@ fn put_field(
     requires few { reach.old.more ≤ MOST_VALUES }
     requires room { at + length field.now.ready + 90 ≤ vec_len buffer.old }
     requires run { run.now.span ≤ reach.old.place }
-    requires held { All (λ n. (reach.old.place - run.now.span) / 8 + n.window.place / 8 + 8 ≤ length packet.now.bytes.now) run.now.numbers }
-    ensures puts { (slot : Slot) → IsField slot field.now → IfSome result (λ text. (last : Option ℕ) × IsLastNumber last run.now.numbers packet.now.bytes.now ((reach.old.place - run.now.span) / 8) × PutsField slot packet.now.bytes.now packet.now.end (behind_number reach.old last (take at buffer.old.items)) (reached reach.new (take text buffer.new.items))) }
+    requires held { All (λ n. (reach.old.place - run.now.span) / 8 + n.window.place / 8 + 8 ≤
+        length packet.now.bytes.now) run.now.numbers }
+    ensures puts { (slot : Slot) → IsField slot field.now →
+        IfSome result (λ text. (last : Option ℕ) ×
+        IsLastNumber last run.now.numbers packet.now.bytes.now
+        ((reach.old.place - run.now.span) / 8) ×
+        PutsField slot packet.now.bytes.now packet.now.end
+        (behind_number reach.old last (take at buffer.old.items))
+        (reached reach.new (take text buffer.new.items))) }
     ensures within { IfSome result (λ _. reach.new.place ≤ packet.now.end) }
     ensures few { IfSome result (λ _. reach.new.more ≤ MOST_VALUES) }
     ensures held { IfSome result (λ text. text ≤ vec_len buffer.new) }
@@ -259,8 +278,15 @@ fn put_other(
     requires start { reach.old.place ≤ packet.now.end }
     requires few { reach.old.more ≤ MOST_VALUES }
     requires room { at + 66 ≤ vec_len buffer.old }
-    requires held { All (λ n. first + n.window.place / 8 + 8 ≤ length packet.now.bytes.now) numbers.now }
-    ensures puts { (index : ℕ) (member : Member) → AreIntegers index member are.now.integer are.now.align are.now.many → IfSome result (λ text. (last : Option ℕ) × IsLastNumber last numbers.now packet.now.bytes.now first × PutsOther index last (form member.class) (texts.value_text member.class) packet.now.bytes.now packet.now.end reach.old (take at buffer.old.items) reach.new (take text buffer.new.items)) }
+    requires held { All (λ n. first + n.window.place / 8 + 8 ≤ length packet.now.bytes.now)
+        numbers.now }
+    ensures puts { (index : ℕ) (member : Member) →
+        AreIntegers index member are.now.integer are.now.align are.now.many →
+        IfSome result (λ text. (last : Option ℕ) ×
+        IsLastNumber last numbers.now packet.now.bytes.now first ×
+        PutsOther index last (form member.class) (texts.value_text member.class)
+        packet.now.bytes.now packet.now.end reach.old (take at buffer.old.items) reach.new
+        (take text buffer.new.items)) }
     ensures within { IfSome result (λ _. reach.new.place ≤ packet.now.end) }
     ensures few { IfSome result (λ _. reach.new.more ≤ MOST_VALUES) }
     ensures held { IfSome result (λ text. text ≤ vec_len buffer.new) }

@@ -32,7 +32,10 @@ pub fn put_record(
     at: usize,
 ) -> Result<usize, NoMemory>
     requires { at ≤ vec_len buffer.old }
-    ensures text { IfOk result (λ end. take end buffer.new.items ≡ take at buffer.old.items ++ lines.record_text packet.now stream.now event.now (option_map val (option_copied shared.entry)) (option_map val (option_copied own.entry)) (val fields.now)) }
+    ensures text { IfOk result (λ end. take end buffer.new.items ≡
+        take at buffer.old.items ++ lines.record_text packet.now stream.now event.now
+        (option_map val (option_copied shared.entry)) (option_map val (option_copied own.entry))
+        (val fields.now)) }
     ensures held { IfOk result (λ end. end ≤ vec_len buffer.new) }
 {
     let end = put_front(&event.heading, packet, buffer, at)?;
@@ -54,7 +57,9 @@ pub fn put_front(
     at: usize,
 ) -> Result<usize, NoMemory>
     requires { at ≤ vec_len buffer.old }
-    ensures text { IfOk result (λ end. take end buffer.new.items ≡ take at buffer.old.items ++ (heading_text heading.now ++ flat_map (λ text. text ++ codes ", ") (lines.if_shown packet.now))) }
+    ensures text { IfOk result (λ end. take end buffer.new.items ≡
+        take at buffer.old.items ++ (heading_text heading.now ++ flat_map
+        (λ text. text ++ codes ", ") (lines.if_shown packet.now))) }
     ensures held { IfOk result (λ end. end ≤ vec_len buffer.new) }
 {
     let end = put_heading(heading, buffer, at)?;
@@ -65,7 +70,8 @@ pub fn put_front(
 #[inline(always)]
 fn put_heading(heading: &Heading, buffer: &mut Vec<u8>, at: usize) -> Result<usize, NoMemory>
     requires { at ≤ vec_len buffer.old }
-    ensures text { IfOk result (λ end. take end buffer.new.items ≡ take at buffer.old.items ++ heading_text heading.now) }
+    ensures text { IfOk result (λ end. take end buffer.new.items ≡
+        take at buffer.old.items ++ heading_text heading.now) }
     ensures held { IfOk result (λ end. end ≤ vec_len buffer.new) }
 {
     let ready = heading.ready();
@@ -77,7 +83,9 @@ fn put_heading(heading: &Heading, buffer: &mut Vec<u8>, at: usize) -> Result<usi
 #[inline(always)]
 fn put_shared_part(bytes: &[u8], buffer: &mut Vec<u8>, at: usize) -> Result<usize, NoMemory>
     requires { at ≤ vec_len buffer.old }
-    ensures text { IfOk result (λ end. take end buffer.new.items ≡ take at buffer.old.items ++ flat_map (λ text. text ++ codes ", ") (lines.if_shown bytes.now)) }
+    ensures text { IfOk result (λ end. take end buffer.new.items ≡
+        take at buffer.old.items ++ flat_map (λ text. text ++ codes ", ")
+        (lines.if_shown bytes.now)) }
     ensures held { IfOk result (λ end. end ≤ vec_len buffer.new) }
 {
     if bytes.is_empty() {
@@ -98,7 +106,10 @@ fn put_scope(
     at: usize,
 ) -> Result<usize, NoMemory>
     requires { at ≤ vec_len buffer.old }
-    ensures text { IfOk result (λ end. take end buffer.new.items ≡ take at buffer.old.items ++ flat_map (λ text. text ++ codes ", ") (lines.scope_texts (option_copied class.entry) (option_map val (option_copied value.entry)))) }
+    ensures text { IfOk result (λ end. take end buffer.new.items ≡
+        take at buffer.old.items ++ flat_map (λ text. text ++ codes ", ")
+        (lines.scope_texts (option_copied class.entry)
+        (option_map val (option_copied value.entry)))) }
     ensures held { IfOk result (λ end. end ≤ vec_len buffer.new) }
 {
     match class {
@@ -119,7 +130,9 @@ fn put_followed(
     at: usize,
 ) -> Result<usize, NoMemory>
     requires { at ≤ vec_len buffer.old }
-    ensures text { IfOk result (λ end. take end buffer.new.items ≡ take at buffer.old.items ++ flat_map (λ text. text ++ codes ", ") (lines.scope_texts (Some class.now) (Some (val value.now)))) }
+    ensures text { IfOk result (λ end. take end buffer.new.items ≡
+        take at buffer.old.items ++ flat_map (λ text. text ++ codes ", ")
+        (lines.scope_texts (Some class.now) (Some (val value.now)))) }
     ensures held { IfOk result (λ end. end ≤ vec_len buffer.new) }
 {
     let end = put_value(class, value, buffer, at)?;
@@ -131,7 +144,8 @@ fn put_followed(
 #[inline(always)]
 pub fn put_comma(buffer: &mut Vec<u8>, at: usize) -> Result<usize, NoMemory>
     requires { at ≤ vec_len buffer.old }
-    ensures text { IfOk result (λ end. take end buffer.new.items ≡ take at buffer.old.items ++ codes ", ") }
+    ensures text { IfOk result (λ end. take end buffer.new.items ≡
+        take at buffer.old.items ++ codes ", ") }
     ensures held { IfOk result (λ end. end ≤ vec_len buffer.new) }
 {
     with_room(2, buffer, at)?;

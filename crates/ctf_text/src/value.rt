@@ -34,7 +34,8 @@ pub fn put_value(
     at: usize,
 ) -> Result<usize, NoMemory>
     requires { at ≤ vec_len buffer.old }
-    ensures text { IfOk result (λ end. take end buffer.new.items ≡ take at buffer.old.items ++ texts.value_text class.now (val value.now)) }
+    ensures text { IfOk result (λ end. take end buffer.new.items ≡
+        take at buffer.old.items ++ texts.value_text class.now (val value.now)) }
     ensures held { IfOk result (λ end. end ≤ vec_len buffer.new) }
 {
     match &class.kind {
@@ -48,7 +49,7 @@ pub fn put_value(
     }
 }
 
-/// The same of a part of a value, where there is room for a number. Mostly it is an integer, or else a string.
+/// Writes a part of a value, where there is room for a number. Mostly it is an integer, or else a string.
 #[cycle(texts)]
 #[inline(always)]
 fn put_part(
@@ -58,7 +59,8 @@ fn put_part(
     at: usize,
 ) -> Result<usize, NoMemory>
     requires { at + LONGEST_NUMBER ≤ vec_len buffer.old }
-    ensures text { IfOk result (λ end. take end buffer.new.items ≡ take at buffer.old.items ++ texts.value_text class.now (val value.now)) }
+    ensures text { IfOk result (λ end. take end buffer.new.items ≡
+        take at buffer.old.items ++ texts.value_text class.now (val value.now)) }
     ensures held { IfOk result (λ end. end ≤ vec_len buffer.new) }
 {
     if let Kind::Integer(integer) = &class.kind {
@@ -70,7 +72,7 @@ fn put_part(
     put_field(class, value, buffer, at)
 }
 
-/// The same of another class. Few classes are told apart at once, so that no table of jumps is made, which a
+/// Writes a part that is no integer. Few classes are told apart at once, so that no table of jumps is made, which a
 /// processor foresees worse than comparisons.
 #[cycle(texts)]
 #[inline(never)]
@@ -81,7 +83,8 @@ fn put_field(
     at: usize,
 ) -> Result<usize, NoMemory>
     requires { at + LONGEST_NUMBER ≤ vec_len buffer.old }
-    ensures text { IfOk result (λ end. take end buffer.new.items ≡ take at buffer.old.items ++ texts.value_text class.now (val value.now)) }
+    ensures text { IfOk result (λ end. take end buffer.new.items ≡
+        take at buffer.old.items ++ texts.value_text class.now (val value.now)) }
     ensures held { IfOk result (λ end. end ≤ vec_len buffer.new) }
 {
     if let Kind::Text { length } = &class.kind {
@@ -93,12 +96,13 @@ fn put_field(
     put_any(class, value, buffer, at)
 }
 
-/// The same of any class. What it calls is not inlined, so that it saves nothing before it knows the class.
+/// Writes a value of any class. What it calls is not inlined, so that it saves nothing before it knows the class.
 #[cycle(texts)]
 #[inline(never)]
 fn put_any(class: &Class, value: &Value, buffer: &mut Vec<u8>, at: usize) -> Result<usize, NoMemory>
     requires { at + LONGEST_NUMBER ≤ vec_len buffer.old }
-    ensures text { IfOk result (λ end. take end buffer.new.items ≡ take at buffer.old.items ++ texts.value_text class.now (val value.now)) }
+    ensures text { IfOk result (λ end. take end buffer.new.items ≡
+        take at buffer.old.items ++ texts.value_text class.now (val value.now)) }
     ensures held { IfOk result (λ end. end ≤ vec_len buffer.new) }
 {
     match &class.kind {
@@ -126,7 +130,8 @@ fn put_any(class: &Class, value: &Value, buffer: &mut Vec<u8>, at: usize) -> Res
 #[inline(always)]
 fn put_integer(integer: &Integer, value: &Value, line: &mut [u8], at: usize) -> usize
     requires { at + LONGEST_NUMBER ≤ length line.old }
-    ensures text { take result line.new ≡ take at line.old ++ texts.integer_text integer.now (val value.now) }
+    ensures text { take result line.new ≡
+        take at line.old ++ texts.integer_text integer.now (val value.now) }
     ensures near { result ≤ at + LONGEST_NUMBER }
 {
     if let Value::Unsigned(number) = value {
@@ -148,7 +153,9 @@ fn put_enumeration(
     at: usize,
 ) -> Result<usize, NoMemory>
     requires { at ≤ vec_len buffer.old }
-    ensures text { IfOk result (λ end. take end buffer.new.items ≡ take at buffer.old.items ++ texts.enumeration_text container.now labels.now (val value.now)) }
+    ensures text { IfOk result (λ end. take end buffer.new.items ≡
+        take at buffer.old.items ++ texts.enumeration_text container.now labels.now
+        (val value.now)) }
     ensures held { IfOk result (λ end. end ≤ vec_len buffer.new) }
 {
     match value {
@@ -165,7 +172,8 @@ fn put_enumeration(
 /// Writes a string or an array of characters.
 fn put_string(value: &Value, buffer: &mut Vec<u8>, at: usize) -> Result<usize, NoMemory>
     requires { at ≤ vec_len buffer.old }
-    ensures text { IfOk result (λ end. take end buffer.new.items ≡ take at buffer.old.items ++ texts.string_text (val value.now)) }
+    ensures text { IfOk result (λ end. take end buffer.new.items ≡
+        take at buffer.old.items ++ texts.string_text (val value.now)) }
     ensures held { IfOk result (λ end. end ≤ vec_len buffer.new) }
 {
     if let Value::Text(bytes) = value {
@@ -184,7 +192,9 @@ fn put_structure(
     at: usize,
 ) -> Result<usize, NoMemory>
     requires { at ≤ vec_len buffer.old }
-    ensures text { IfOk result (λ end. take end buffer.new.items ≡ take at buffer.old.items ++ enclosed 123 125 (member_texts (map member_part members.now) (vals_of (map val values.now)))) }
+    ensures text { IfOk result (λ end. take end buffer.new.items ≡
+        take at buffer.old.items ++ enclosed 123 125
+        (member_texts (map member_part members.now) (vals_of (map val values.now)))) }
     ensures held { IfOk result (λ end. end ≤ vec_len buffer.new) }
 {
     if members.is_empty() {
@@ -206,7 +216,9 @@ fn put_members(
     at: usize,
 ) -> Result<usize, NoMemory>
     requires { at ≤ vec_len buffer.old }
-    ensures text { IfOk result (λ end. take end buffer.new.items ≡ take at buffer.old.items ++ row 123 (member_texts (map member_part members.now) (vals_of (map val values.now)))) }
+    ensures text { IfOk result (λ end. take end buffer.new.items ≡
+        take at buffer.old.items ++ row 123
+        (member_texts (map member_part members.now) (vals_of (map val values.now)))) }
     ensures held { IfOk result (λ end. end ≤ vec_len buffer.new) }
 {
     let mut end = at;
@@ -232,7 +244,9 @@ pub fn put_member(
     at: usize,
 ) -> Result<usize, NoMemory>
     requires { at ≤ vec_len buffer.old }
-    ensures text { IfOk result (λ end. take end buffer.new.items ≡ take at buffer.old.items ++ (lead ∷ 32 ∷ part_text (member_part member.now) (val value.now))) }
+    ensures text { IfOk result (λ end. take end buffer.new.items ≡
+        take at buffer.old.items ++ (lead ∷ 32 ∷ part_text (member_part member.now)
+        (val value.now))) }
     ensures held { IfOk result (λ end. end ≤ vec_len buffer.new) }
 {
     let begin = put_ready(lead, member.name.ready(), LONGEST_NUMBER, buffer, at)?;
@@ -249,7 +263,9 @@ fn put_choice(
     at: usize,
 ) -> Result<usize, NoMemory>
     requires { at ≤ vec_len buffer.old }
-    ensures text { IfOk result (λ end. take end buffer.new.items ≡ take at buffer.old.items ++ texts.chosen_text (map member_part options.now) (fields.choice_in (val value.now))) }
+    ensures text { IfOk result (λ end. take end buffer.new.items ≡
+        take at buffer.old.items ++ texts.chosen_text (map member_part options.now)
+        (fields.choice_in (val value.now))) }
     ensures held { IfOk result (λ end. end ≤ vec_len buffer.new) }
 {
     match choice_in(value) {
@@ -268,7 +284,9 @@ fn put_option(
     at: usize,
 ) -> Result<usize, NoMemory>
     requires { at ≤ vec_len buffer.old }
-    ensures text { IfOk result (λ end. take end buffer.new.items ≡ take at buffer.old.items ++ option_text (slice_get (map member_part options.now) i) (val value.now)) }
+    ensures text { IfOk result (λ end. take end buffer.new.items ≡
+        take at buffer.old.items ++ option_text (slice_get (map member_part options.now) i)
+        (val value.now)) }
     ensures held { IfOk result (λ end. end ≤ vec_len buffer.new) }
 {
     if i >= options.len() {
@@ -288,7 +306,9 @@ fn put_array(
     at: usize,
 ) -> Result<usize, NoMemory>
     requires { at ≤ vec_len buffer.old }
-    ensures text { IfOk result (λ end. take end buffer.new.items ≡ take at buffer.old.items ++ enclosed 91 93 (element_texts (texts.value_text element.now) 0 (vals_of (map val values.now)))) }
+    ensures text { IfOk result (λ end. take end buffer.new.items ≡
+        take at buffer.old.items ++ enclosed 91 93
+        (element_texts (texts.value_text element.now) 0 (vals_of (map val values.now)))) }
     ensures held { IfOk result (λ end. end ≤ vec_len buffer.new) }
 {
     if values.is_empty() {
@@ -307,7 +327,9 @@ fn put_elements(
     at: usize,
 ) -> Result<usize, NoMemory>
     requires { at ≤ vec_len buffer.old }
-    ensures text { IfOk result (λ end. take end buffer.new.items ≡ take at buffer.old.items ++ row 91 (element_texts (texts.value_text element.now) 0 (vals_of (map val values.now)))) }
+    ensures text { IfOk result (λ end. take end buffer.new.items ≡
+        take at buffer.old.items ++ row 91
+        (element_texts (texts.value_text element.now) 0 (vals_of (map val values.now)))) }
     ensures held { IfOk result (λ end. end ≤ vec_len buffer.new) }
 {
     let mut end = at;
@@ -330,7 +352,9 @@ fn put_element(
     at: usize,
 ) -> Result<usize, NoMemory>
     requires { at ≤ vec_len buffer.old }
-    ensures text { IfOk result (λ end. take end buffer.new.items ≡ take at buffer.old.items ++ (lead ∷ 32 ∷ texts.element_text (texts.value_text element.now) i (val value.now))) }
+    ensures text { IfOk result (λ end. take end buffer.new.items ≡
+        take at buffer.old.items ++ (lead ∷ 32 ∷ texts.element_text (texts.value_text element.now) i
+        (val value.now))) }
     ensures held { IfOk result (λ end. end ≤ vec_len buffer.new) }
 {
     let begin = put_index(lead, i, buffer, at)?;

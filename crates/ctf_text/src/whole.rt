@@ -32,7 +32,9 @@ pub fn packet_part(
     class: Option<&Class>,
     value: Option<&Value>,
 ) -> Result<Vec<u8>, NoMemory>
-    ensures { IfOk result (λ text. text.items ≡ lines.packet_part (option_copied class.entry) (option_map val (option_copied value.entry))) }
+    ensures { IfOk result (λ text.
+        text.items ≡ lines.packet_part (option_copied class.entry)
+        (option_map val (option_copied value.entry))) }
 {
     let mut text = Vec::new(alloc);
     let end = put_packet_part(class, value, &mut text, 0)?;
@@ -52,7 +54,10 @@ pub fn record_text(
     own: Option<&Value>,
     fields: &Value,
 ) -> Result<Vec<u8>, NoMemory>
-    ensures { IfOk result (λ text. text.items ≡ lines.record_text packet.now stream.now event.now (option_map val (option_copied shared.entry)) (option_map val (option_copied own.entry)) (val fields.now)) }
+    ensures { IfOk result (λ text.
+        text.items ≡ lines.record_text packet.now stream.now event.now
+        (option_map val (option_copied shared.entry)) (option_map val (option_copied own.entry))
+        (val fields.now)) }
 {
     let mut text = Vec::new(alloc);
     let end = put_record(packet, stream, event, shared, own, fields, &mut text, 0)?;

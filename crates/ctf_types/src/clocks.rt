@@ -15,7 +15,9 @@ use tsdl_tree::{Declaration, TableKind};
 /// The clocks in the order of the text.
 pub fn clocks(alloc: Global, declarations: &[Declaration]) -> Result<List<Clock>, ResolveFault>
     requires { AreSettled (map declaration_of declarations.now) }
-    ensures { MatchResult result (λ clocks. clocks ≡ meaning.clocks_of (map declaration_of declarations.now)) (λ f. f ≡ fault.NoMemory) }
+    ensures { MatchResult result
+        (λ clocks. clocks ≡ meaning.clocks_of (map declaration_of declarations.now))
+        (λ f. f ≡ fault.NoMemory) }
 {
     let mut found = Vec::new(alloc);
     for declaration in declarations {
@@ -29,7 +31,9 @@ pub fn clocks(alloc: Global, declarations: &[Declaration]) -> Result<List<Clock>
 /// The clock of a `clock` block.
 fn clock_of(alloc: Global, declaration: &Declaration) -> Result<Option<Clock>, ResolveFault>
     requires { IsSettled (declaration_of declaration.now) }
-    ensures { MatchResult result (λ clock. clock ≡ meaning.clock_of (declaration_of declaration.now)) (λ f. f ≡ fault.NoMemory) }
+    ensures { MatchResult result
+        (λ clock. clock ≡ meaning.clock_of (declaration_of declaration.now))
+        (λ f. f ≡ fault.NoMemory) }
 {
     match declaration {
         Declaration::Table {

@@ -37,11 +37,14 @@ impl<'a> Text<'a> {
     ) -> Result<Linked, ResolveFault>
         ghost text: { List WrittenDeclaration }
         requires whole { IsText text self.now }
-        requires stands { slice_get text number ≡ Some (Block kind.Event (map entry_of entries.now)) }
+        requires stands { slice_get text number ≡
+            Some (Block kind.Event (map entry_of entries.now)) }
         requires ids { AreIds text number ids.old }
         ensures row { MatchResult result
             (IsRow text self.now.order (number, Block kind.Event (map entry_of entries.now)))
-            (λ f. (f ≡ fault.NoMemory) ⊎ Contains (link_faults text (number, Block kind.Event (map entry_of entries.now))) f) }
+            (λ f. (f ≡ fault.NoMemory) ⊎
+            Contains (link_faults text (number, Block kind.Event (map entry_of entries.now)))
+            f) }
         ensures ids { OnOk result (AreIds text (number + 1) ids.new) }
     {
         let event = Event::read(alloc, entries)?;
@@ -65,7 +68,8 @@ impl<'a> Text<'a> {
         requires fields { HasFields text (home_by home.now) }
         ensures { MatchResult result
             (IsEventOf text self.now.order (home_by home.now) event.id event.name)
-            (λ f. (f ≡ fault.NoMemory) ⊎ Contains (scope_links text (home_by home.now) kind.Event) f) }
+            (λ f. (f ≡ fault.NoMemory) ⊎
+            Contains (scope_links text (home_by home.now) kind.Event) f) }
     {
         let heading = Heading::new(alloc, copied(alloc, self.host)?, event.name)?;
         let context = self.class(alloc, home, Scope::EventContext)?;

@@ -36,7 +36,8 @@ impl Parts {
     /// Puts what one more declaration gives behind what others gave.
     pub fn put(&mut self, row: Linked) -> Result<(), NoMemory>
         requires { IsBelow (length self.old.events) row }
-        ensures parted { (rows : List row_of) → IsParted rows self.old → IfOk result (λ _. IsParted (rows ++ row ∷ []) self.new) }
+        ensures parted { (rows : List row_of) → IsParted rows self.old →
+            IfOk result (λ _. IsParted (rows ++ row ∷ []) self.new) }
         ensures lists { IfOk result (λ _. length self.new.events ≡ length self.old.events) }
     {
         match row {
@@ -66,7 +67,8 @@ fn push_at(
     event: EventClass,
 ) -> Result<(), NoMemory>
     requires { place < length lists.old }
-    ensures { IfOk result (λ _. lists.new ≡ set lists.old place (get_or lists.old place [] ++ event ∷ [])) }
+    ensures { IfOk result (λ _.
+        lists.new ≡ set lists.old place (get_or lists.old place [] ++ event ∷ [])) }
 {
     Ok(lists.as_mut_slice()[place].push(event)?)
 }

@@ -31,7 +31,8 @@ impl Ids {
             (λ _. has self.old stream id ≡ false)
             (λ f. (f ≡ fault.NoMemory) ⊎ ((f ≡ fault.Twice) × (has self.old stream id ≡ true))) }
         ensures fits { id < 2 ^ 64 }
-        ensures kept { OnOk result ((s i : ℕ) → i < 2 ^ 64 → has self.new s i ≡ ((nat_eq stream s && nat_eq i id) || has self.old s i)) }
+        ensures kept { OnOk result ((s i : ℕ) → i < 2 ^ 64 →
+            has self.new s i ≡ ((nat_eq stream s && nat_eq i id) || has self.old s i)) }
     {
         let key = (u128::from(stream) << 64) + u128::from(id);
         if !self.keys.insert(key)? {

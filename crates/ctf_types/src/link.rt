@@ -38,7 +38,9 @@ impl<'a> Text<'a> {
         requires { IsText text self.now }
         ensures { MatchResult result
             (IsHeader text self.now.order number)
-            (λ f. (f ≡ fault.NoMemory) ⊎ Contains (scope_links text (record { trace = Some number; stream = None; event = None }) kind.Trace) f) }
+            (λ f. (f ≡ fault.NoMemory) ⊎
+            Contains (scope_links text
+            (record { trace = Some number; stream = None; event = None }) kind.Trace) f) }
     {
         let home = Home {
             trace: Some(number),
@@ -57,7 +59,8 @@ impl<'a> Text<'a> {
         requires { IsText text self.now }
         ensures { MatchResult result
             (HasHead text self.now.order number id)
-            (λ f. (f ≡ fault.NoMemory) ⊎ Contains (scope_links text (home_of_stream text (Some number)) kind.Stream) f) }
+            (λ f. (f ≡ fault.NoMemory) ⊎
+            Contains (scope_links text (home_of_stream text (Some number)) kind.Stream) f) }
     {
         let home = Home {
             trace: self.trace,
@@ -109,7 +112,8 @@ impl<'a> Text<'a> {
     ) -> Result<Moved<'a>, NoMemory>
         ghost text: { List WrittenDeclaration }
         requires { IsText text self.now }
-        ensures { IfOk result (λ more. (old : List Clock) → Tells moved.entry old → Tells more (old ++ scope_moves text (home_by home.now) scope)) }
+        ensures { IfOk result (λ more. (old : List Clock) → Tells moved.entry old →
+            Tells more (old ++ scope_moves text (home_by home.now) scope)) }
     {
         let Some(known) = self.shape(home, scope) else {
             return Ok(moved);
@@ -120,8 +124,10 @@ impl<'a> Text<'a> {
 
     /// The stream of an event with this `stream_id`.
     pub fn stream_of(&self, stream_id: Option<u64>) -> Option<&'a StreamAt>
-        ensures stands { IfSome result (λ s. (j : ℕ) × (slice_get self.now.streams.now j ≡ Some s.now)) }
-        ensures said { option_map stream_at (option_copied result) ≡ stream_said (map stream_at self.now.streams.now) stream_id }
+        ensures stands { IfSome result (λ s. (j : ℕ) ×
+            (slice_get self.now.streams.now j ≡ Some s.now)) }
+        ensures said { option_map stream_at (option_copied result) ≡
+            stream_said (map stream_at self.now.streams.now) stream_id }
     {
         match stream_id {
             Some(id) => self.streams.get(id),

@@ -24,7 +24,8 @@ impl<'a> Text<'a> {
         requires whole { IsText text self.now }
         ensures { MatchResult result
             (AllGiven text self.now.order)
-            (λ f. (f ≡ fault.NoMemory) ⊎ Contains (first_faults (map (link_faults text) (numbered text))) f) }
+            (λ f. (f ≡ fault.NoMemory) ⊎
+            Contains (first_faults (map (link_faults text) (numbered text))) f) }
     {
         let mut parts = Parts::new(alloc, self.streams.as_slice().len())?;
         let mut ids = Ids::new(alloc);

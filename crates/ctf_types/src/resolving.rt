@@ -33,7 +33,8 @@ use tsdl_tree::{Declaration, Tree};
 /// R9): of those that a declaration has by itself and by what stands before it, else of those by what stands
 /// elsewhere, else of those of the whole; or where memory is refused.
 pub fn resolve(alloc: Global, tree: &Tree) -> Result<TraceClass, ResolveFault>
-    ensures { MatchResult result (Denotes tree.now) (λ f. (f ≡ fault.NoMemory) ⊎ Faulty tree.now f) }
+    ensures { MatchResult result (Denotes tree.now) (λ f. (f ≡ fault.NoMemory) ⊎
+        Faulty tree.now f) }
 {
     match declared(alloc, tree) {
         Ok(rows) => resolve_walked(alloc, tree.declarations.as_slice(), rows.as_slice()),

@@ -32,7 +32,8 @@ impl<'a> Text<'a> {
         requires ids { AreIds text number ids.old }
         ensures row { MatchResult result
             (IsRow text self.now.order (number, declaration_of declaration.now))
-            (λ f. (f ≡ fault.NoMemory) ⊎ Contains (link_faults text (number, declaration_of declaration.now)) f) }
+            (λ f. (f ≡ fault.NoMemory) ⊎
+            Contains (link_faults text (number, declaration_of declaration.now)) f) }
         ensures ids { OnOk result (AreIds text (number + 1) ids.new) }
     {
         match declaration {
@@ -62,7 +63,8 @@ impl<'a> Text<'a> {
         requires ids { AreIds text number ids.old }
         ensures row { MatchResult result
             (IsRow text self.now.order (number, Block kind (map entry_of entries.now)))
-            (λ f. (f ≡ fault.NoMemory) ⊎ Contains (link_faults text (number, Block kind (map entry_of entries.now))) f) }
+            (λ f. (f ≡ fault.NoMemory) ⊎
+            Contains (link_faults text (number, Block kind (map entry_of entries.now))) f) }
         ensures ids { OnOk result (AreIds text (number + 1) ids.new) }
     {
         match kind {

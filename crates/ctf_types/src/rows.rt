@@ -13,14 +13,16 @@ use ctf_shape::Known;
 
 /// The class that a declaration gives to a scope.
 pub fn class_in<'a>(rows: &'a [List<ScopeShape>], number: usize, scope: Scope) -> Option<&'a Known>
-    ensures { option_map known (option_copied result) ≡ class_in_row (map (map placed_seen) rows.now) number scope }
+    ensures { option_map known (option_copied result) ≡
+        class_in_row (map (map placed_seen) rows.now) number scope }
 {
     class_of(rows.get(number)?.as_slice(), scope)
 }
 
 /// The class of a scope among those of a declaration.
 fn class_of(row: &[ScopeShape], scope: Scope) -> Option<&Known>
-    ensures { option_map known (option_copied result) ≡ class_among scope (map placed_seen row.now) }
+    ensures { option_map known (option_copied result) ≡
+        class_among scope (map placed_seen row.now) }
 {
     for placed in row {
         if rank(placed.scope) == rank(scope) {

@@ -35,7 +35,10 @@ impl HasId for StreamAt {
 /// The streams in the order of the text. A text without a `stream` block has one, of id 0.
 pub fn streams(alloc: Global, declarations: &[Declaration]) -> Result<List<StreamAt>, ResolveFault>
     requires { AreSettled (map declaration_of declarations.now) }
-    ensures { MatchResult result (λ streams. (map stream_at streams ≡ meaning.streams (map declaration_of declarations.now)) × ArePlaced streams) (λ f. f ≡ fault.NoMemory) }
+    ensures { MatchResult result
+        (λ streams. (map stream_at streams ≡
+        meaning.streams (map declaration_of declarations.now)) × ArePlaced streams)
+        (λ f. f ≡ fault.NoMemory) }
 {
     let mut found = written_streams(alloc, declarations)?;
     if found.is_empty() {
@@ -54,7 +57,10 @@ fn written_streams(
     declarations: &[Declaration],
 ) -> Result<List<StreamAt>, ResolveFault>
     requires { AreSettled (map declaration_of declarations.now) }
-    ensures { MatchResult result (λ streams. (map stream_at streams ≡ filter_map meaning.stream_by (meaning.numbered (map declaration_of declarations.now))) × ArePlaced streams) (λ f. f ≡ fault.NoMemory) }
+    ensures { MatchResult result
+        (λ streams. (map stream_at streams ≡
+        filter_map meaning.stream_by (meaning.numbered (map declaration_of declarations.now))) ×
+        ArePlaced streams) (λ f. f ≡ fault.NoMemory) }
 {
     let mut found = List::new(alloc);
     for (number, declaration) in declarations.iter().enumerate() {
@@ -72,7 +78,8 @@ fn written_streams(
 /// The id of a `stream` block.
 fn id_of(declaration: &Declaration) -> Result<Option<u64>, ResolveFault>
     requires { IsSettled (declaration_of declaration.now) }
-    ensures { MatchResult result (λ id. id ≡ stream_id_of (declaration_of declaration.now)) (λ f. f ≡ fault.NoMemory) }
+    ensures { MatchResult result (λ id. id ≡ stream_id_of (declaration_of declaration.now))
+        (λ f. f ≡ fault.NoMemory) }
 {
     match declaration {
         Declaration::Block {

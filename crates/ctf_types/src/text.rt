@@ -48,7 +48,8 @@ impl<'a> Text<'a> {
     fn structure(&self, home: &Home, scope: Scope) -> Option<Earlier<'a>>
         ghost text: { List WrittenDeclaration }
         requires { IsText text self.now }
-        ensures { option_map earlier_by result ≡ option_and_then (frame_by scope) (scope_of text (home_by home.now) scope) }
+        ensures { option_map earlier_by result ≡
+            option_and_then (frame_by scope) (scope_of text (home_by home.now) scope) }
     {
         match self.shape(home, scope)?.shape() {
             Shape::Structure { members, .. } => Some(Earlier { scope, members }),
@@ -65,7 +66,8 @@ impl<'a> Text<'a> {
     ) -> Result<Vec<Earlier<'a>>, NoMemory>
         ghost text: { List WrittenDeclaration }
         requires { IsText text self.now }
-        ensures { IfOk result (λ found. map earlier_by found.items ≡ frames_before text (home_by home.now) scope) }
+        ensures { IfOk result (λ found. map earlier_by found.items ≡
+            frames_before text (home_by home.now) scope) }
     {
         let mut found = Vec::new(alloc);
         let scopes = scopes_before(scope);

@@ -20,7 +20,8 @@ pub struct TraceAt {
 /// The first trace block.
 pub fn trace(alloc: Global, declarations: &[Declaration]) -> Result<Option<TraceAt>, ResolveFault>
     requires { AreSettled (map declaration_of declarations.now) }
-    ensures { MatchResult result (λ trace. IsTraceOf (map declaration_of declarations.now) trace) (λ f. f ≡ fault.NoMemory) }
+    ensures { MatchResult result (λ trace. IsTraceOf (map declaration_of declarations.now) trace)
+        (λ f. f ≡ fault.NoMemory) }
 {
     for (number, declaration) in declarations.iter().enumerate() {
         if let Some(settings) = settings_of(alloc, declaration)? {
@@ -33,7 +34,8 @@ pub fn trace(alloc: Global, declarations: &[Declaration]) -> Result<Option<Trace
 /// The settings of a `trace` block.
 fn settings_of(alloc: Global, declaration: &Declaration) -> Result<Option<Trace>, ResolveFault>
     requires { IsSettled (declaration_of declaration.now) }
-    ensures { MatchResult result (λ trace. IsTraceBlock (declaration_of declaration.now) trace) (λ f. f ≡ fault.NoMemory) }
+    ensures { MatchResult result (λ trace. IsTraceBlock (declaration_of declaration.now) trace)
+        (λ f. f ≡ fault.NoMemory) }
 {
     match declaration {
         Declaration::Block {

@@ -33,7 +33,8 @@ fn class_behind<'t, 'a>(
     name: Path,
     tokens: &'t [Token<'a>],
 ) -> Read<'t, 'a, BlockEntry>
-    ensures reads { Gives (λ x. (x.0, x.1.now)) result (class_behind (body_at depth) depth name tokens.now) }
+    ensures reads { Gives (λ x. (x.0, x.1.now)) result
+        (class_behind (body_at depth) depth name tokens.now) }
     ensures shorter { IfOk result (λ x. length x.1.now < length tokens.now) }
 {
     let rest = expect(Symbol::Assign, tokens)?;

@@ -213,7 +213,8 @@ fn variant<'t, 'a>(alloc: Global, depth: u32, tokens: &'t [Token<'a>]) -> Read<'
 #[cycle(classes)]
 #[tactic(auto, unfolding(tsdl_grammar::specs::Reading::compound_at))]
 fn compound<'t, 'a>(alloc: Global, depth: u32, tokens: &'t [Token<'a>]) -> Read<'t, 'a, Specifier>
-    ensures reads { Gives (λ x. (x.0, x.1.now)) result (compound_at (body_at depth) depth tokens.now) }
+    ensures reads { Gives (λ x. (x.0, x.1.now)) result
+        (compound_at (body_at depth) depth tokens.now) }
     ensures shorter { IfOk result (λ x. length x.1.now < length tokens.now) }
 {
     if begins(Symbol::Struct, tokens) {
@@ -235,7 +236,8 @@ pub(crate) fn class<'t, 'a>(
     depth: u32,
     tokens: &'t [Token<'a>],
 ) -> Read<'t, 'a, Specifier>
-    ensures reads { Gives (λ x. (x.0, x.1.now)) result (class_at (body_at depth) before_declarator depth tokens.now) }
+    ensures reads { Gives (λ x. (x.0, x.1.now)) result
+        (class_at (body_at depth) before_declarator depth tokens.now) }
     ensures within { IfOk result (λ x. length x.1.now ≤ length tokens.now) }
 {
     let tokens = past(Symbol::Const, tokens);
@@ -291,7 +293,8 @@ fn definition<'t, 'a>(
     depth: u32,
     tokens: &'t [Token<'a>],
 ) -> Read<'t, 'a, TypeDeclaration>
-    ensures reads { Gives (λ x. (x.0, x.1.now)) result (definition_at (body_at depth) depth tokens.now) }
+    ensures reads { Gives (λ x. (x.0, x.1.now)) result
+        (definition_at (body_at depth) depth tokens.now) }
     ensures shorter { IfOk result (λ x. length x.1.now < length tokens.now) }
 {
     let rest = expect(Symbol::Typedef, tokens)?;
@@ -307,7 +310,8 @@ pub(crate) fn type_declaration<'t, 'a>(
     depth: u32,
     tokens: &'t [Token<'a>],
 ) -> Read<'t, 'a, TypeDeclaration>
-    ensures reads { Gives (λ x. (x.0, x.1.now)) result (typedecl_at (body_at depth) depth tokens.now) }
+    ensures reads { Gives (λ x. (x.0, x.1.now)) result
+        (typedecl_at (body_at depth) depth tokens.now) }
     ensures shorter { IfOk result (λ x. length x.1.now < length tokens.now) }
 {
     if begins(Symbol::Typealias, tokens) {
@@ -350,7 +354,8 @@ fn item<'t, 'a>(alloc: Global, depth: u32, tokens: &'t [Token<'a>]) -> Read<'t, 
 /// The items up to a closing brace.
 #[cycle(classes)]
 fn items<'t, 'a>(alloc: Global, depth: u32, tokens: &'t [Token<'a>]) -> Read<'t, 'a, List<Item>>
-    ensures reads { Gives (λ x. (x.0, x.1.now)) result (all before_close (item_at (body_at depth) depth) tokens.now) }
+    ensures reads { Gives (λ x. (x.0, x.1.now)) result
+        (all before_close (item_at (body_at depth) depth) tokens.now) }
     ensures within { IfOk result (λ x. length x.1.now ≤ length tokens.now) }
 {
     let (mut found, mut rest) = start(room_for(alloc, goes_on(tokens))?, tokens);

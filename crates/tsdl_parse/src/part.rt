@@ -61,7 +61,8 @@ fn behind<'t, 'a, P: Part>(
     part: &P,
     tokens: &'t [Token<'a>],
 ) -> Read<'t, 'a, List<P::Tree>>
-    ensures reads { Gives (λ x. (x.0, x.1.now)) result (with_front found.items (all (P.comes part.now) (P.part_at part.now) tokens.now)) }
+    ensures reads { Gives (λ x. (x.0, x.1.now)) result
+        (with_front found.items (all (P.comes part.now) (P.part_at part.now) tokens.now)) }
     ensures within { IfOk result (λ x. length x.1.now ≤ length tokens.now) }
 {
     let (mut found, mut rest) = start(found, tokens);
@@ -81,7 +82,8 @@ pub(crate) fn many<'t, 'a, P: Part>(
     part: &P,
     tokens: &'t [Token<'a>],
 ) -> Read<'t, 'a, List<P::Tree>>
-    ensures reads { Gives (λ x. (x.0, x.1.now)) result (all (P.comes part.now) (P.part_at part.now) tokens.now) }
+    ensures reads { Gives (λ x. (x.0, x.1.now)) result
+        (all (P.comes part.now) (P.part_at part.now) tokens.now) }
     ensures within { IfOk result (λ x. length x.1.now ≤ length tokens.now) }
 {
     behind(alloc, room_for(alloc, part.comes(tokens))?, part, tokens)
@@ -94,7 +96,8 @@ pub(crate) fn more<'t, 'a, P: Part>(
     part: &P,
     tokens: &'t [Token<'a>],
 ) -> Read<'t, 'a, List<P::Tree>>
-    ensures reads { Gives (λ x. (x.0, x.1.now)) result (with_front (first ∷ []) (all (P.comes part.now) (P.part_at part.now) tokens.now)) }
+    ensures reads { Gives (λ x. (x.0, x.1.now)) result
+        (with_front (first ∷ []) (all (P.comes part.now) (P.part_at part.now) tokens.now)) }
     ensures within { IfOk result (λ x. length x.1.now ≤ length tokens.now) }
 {
     let mut found = room_for(alloc, true)?;
@@ -109,7 +112,8 @@ pub(crate) fn at_most_one<'t, 'a, P: Part>(
     part: &P,
     tokens: &'t [Token<'a>],
 ) -> Read<'t, 'a, Option<P::Tree>>
-    ensures reads { Gives (λ x. (x.0, x.1.now)) result (optional (P.comes part.now) (P.part_at part.now) tokens.now) }
+    ensures reads { Gives (λ x. (x.0, x.1.now)) result
+        (optional (P.comes part.now) (P.part_at part.now) tokens.now) }
     ensures within { IfOk result (λ x. length x.1.now ≤ length tokens.now) }
 {
     if !part.comes(tokens) {

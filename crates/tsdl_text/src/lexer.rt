@@ -318,7 +318,8 @@ fn newlines(bytes: &[u8]) -> usize
 /// line (CTF 1.8.3, C.1). It fails with the line of the first place at which no token, blank or comment
 /// begins (S1), and where memory is refused.
 pub fn tokens<'a>(alloc: Global, text: &'a [u8]) -> Result<Vec<Token<'a>>, MetaFault>
-    ensures { MatchResult result (λ found. Lexes text.now (map lexeme found.items)) (TokensRefused text.now) }
+    ensures { MatchResult result (λ found. Lexes text.now (map lexeme found.items))
+        (TokensRefused text.now) }
 {
     let mut found = Vec::new(alloc);
     let mut start = 0;

@@ -119,7 +119,8 @@ fn packet<'a>(order: Order, id: &[u8], rest: &'a [u8]) -> Result<(&'a [u8], usiz
 /// The contents of packets, joined.
 fn contents(alloc: Global, order: Order, bytes: &[u8]) -> Result<Vec<u8>, MetaFault>
     requires { order_of bytes.now ≡ Some order }
-    ensures { MatchResult result (λ text. IsJoined order bytes.now text.items) (λ fault. JoinRefused order bytes.now fault) }
+    ensures { MatchResult result (λ text. IsJoined order bytes.now text.items)
+        (λ fault. JoinRefused order bytes.now fault) }
 {
     if bytes.len() < HEADER_LEN {
         return Err(MetaFault::CutShort);

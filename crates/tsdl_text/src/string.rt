@@ -36,7 +36,8 @@ pub(crate) fn digit_count(base: u8, most: usize, text: &[u8]) -> usize
 /// The number that digits spell in a base, where 64 bits hold it.
 pub(crate) fn number(base: u64, digits: &[u8]) -> Option<u64>
     requires { 1 ≤ base }
-    ensures { MatchOption result (2 ^ 64 ≤ number base digits.now) (λ value. value ≡ number base digits.now) }
+    ensures { MatchOption result (2 ^ 64 ≤ number base digits.now)
+        (λ value. value ≡ number base digits.now) }
 {
     let mut value = 0u64;
     for digit in digits {
@@ -53,7 +54,8 @@ fn numeric(base: u8, most: usize, skipped: usize, text: &[u8]) -> Option<(u8, us
     requires base { 1 ≤ base }
     requires few { skipped ≤ 2 }
     ensures value { result ≡ numeric_at base most skipped text.now }
-    ensures some { IfSome result (λ found. (skipped < found.1) × (found.1 ≤ skipped + length text.now)) }
+    ensures some { IfSome result (λ found. (skipped < found.1) ×
+        (found.1 ≤ skipped + length text.now)) }
 {
     let count = digit_count(base, most, text);
     if count == 0 {
@@ -82,7 +84,7 @@ fn simple_escape(character: u8) -> Option<u8>
     }
 }
 
-/// The same for a character behind its backslash.
+/// The character that is written after a backslash, and how many bytes it takes with it.
 #[tactic(auto, unfolding(crate::specs::Strings::escape_at))]
 fn escaped(text: &[u8]) -> Option<(u8, usize)>
     ensures value { result ≡ escape_at text.now }

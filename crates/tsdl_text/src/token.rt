@@ -241,12 +241,14 @@ impl Token<'_> {
     pub fn string(&self, alloc: Global) -> Result<Option<Vec<u8>>, NoMemory>
         // What the characters between the quotes stand for.
         ensures spelled { IfOk result (λ found. IfSome found
-            (λ value. (values : List ℕ) → StandsFor self.now.text.now values → value.items ≡ values)) }
+            (λ value. (values : List ℕ) → StandsFor self.now.text.now values →
+            value.items ≡ values)) }
 
         // What the layers above compute with, also of a slice that is no string.
         ensures string { IfOk result
             (λ found. MatchOption found (is_string self.now.kind ≡ false)
-            (λ value. (is_string self.now.kind ≡ true) × (value.items ≡ string_value self.now.text.now))) }
+            (λ value. (is_string self.now.kind ≡ true) ×
+            (value.items ≡ string_value self.now.text.now))) }
     {
         match self.kind {
             Kind::String => Ok(Some(string_value(alloc, self.text)?)),

@@ -10,5 +10,5 @@ pub returns : goal.returns
 returns c =
     follows_same (λ _. names_in c.declare_one.new.own) c.declare_one.result _ _
     (λ j. declare_each (names_in c.args.own.now) (known c.args.class.now)
-        (record { name = Plain ((c.in_ok-from_slice.ensures ∙ c.as_slice.ensures) j ∷ []); lengths = c.as_slice-2.ensures j } ∷ []))
+    (record { name = Plain ((c.in_ok-from_slice.ensures ∙ c.as_slice.ensures) j ∷ []); lengths = c.as_slice-2.ensures j } ∷ []))
     c.declare_one.ensures

@@ -14,8 +14,10 @@ returns-in_err-check_number c =
 pub returns-in_err-check_number-2 : goal.returns-in_err-check_number-2
 returns-in_err-check_number-2 c =
     let f = c.in_err-check_number-2.field-0.0 in
-    record { told = handed _ _ _ f c.from_residual-in_err-check_number-2.ensures
-        (after _ _ f c.in_ok-check_trace.ensures.told.0 (still _ _ f (still _ _ f (after _ _ f c.in_ok-check_number.ensures.told.0 c.in_err-check_number-2.ensures.told)))) }
+    record {
+      told = handed _ _ _ f c.from_residual-in_err-check_number-2.ensures
+          (after _ _ f c.in_ok-check_trace.ensures.told.0 (still _ _ f (still _ _ f (after _ _ f c.in_ok-check_number.ensures.told.0 c.in_err-check_number-2.ensures.told))));
+    }
 
 pub returns-in_err-order : goal.returns-in_err-order
 returns-in_err-order c =
@@ -27,8 +29,10 @@ pub returns-in_err-uuid : goal.returns-in_err-uuid
 returns-in_err-uuid c =
     let f = c.in_err-uuid.field-0.0 in
     let version = both _ _ c.in_ok-check_number.ensures.told.0 c.in_ok-check_number-2.ensures.told.0 in
-    record { told = handed-told _ _ _ f c.from_residual-in_err-uuid.ensures
-        (told-behind _ _ f c.in_ok-check_trace.ensures.told.0 (told-behind _ _ f (both _ _ version c.in_ok-order.ensures.told.0) c.in_err-uuid.ensures.told)) }
+    record {
+      told = handed-told _ _ _ f c.from_residual-in_err-uuid.ensures
+          (told-behind _ _ f c.in_ok-check_trace.ensures.told.0 (told-behind _ _ f (both _ _ version c.in_ok-order.ensures.told.0) c.in_err-uuid.ensures.told));
+    }
 
 pub returns : goal.returns
 returns c =
