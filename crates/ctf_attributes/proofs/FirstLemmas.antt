@@ -45,7 +45,7 @@ pub tells-behind : {V : Type 0} (xs ys : List ResolveFault) (P : V → Type 0) (
 tells-behind xs ys P (Ok v) clean h = (both xs ys clean h.0, h.1)
 tells-behind xs ys P (Err f) clean h = inr (after xs ys f clean h)
 
--- the same where memory may have been refused
+-- a fault, or that memory was refused, behind faults of which there is none
 pub told-behind : (xs ys : List ResolveFault) (f : ResolveFault) → xs ≡ [] → (f ≡ NoMemory) ⊎ (first ys ≡ Some f) → (f ≡ NoMemory) ⊎ (first (xs ++ ys) ≡ Some f)
 told-behind xs ys f clean (inl refused) = inl refused
 told-behind xs ys f clean (inr told) = inr (after xs ys f clean told)
