@@ -3,36 +3,38 @@
 //! - `width BITS`, `frequency CYCLES` and `align BITS` are the number that is kept, or `none`.
 //! - `span FIRST LAST NUMBER` is whether a number is one of these.
 
-use crate::told::Told;
-use crate::words::Words;
+use crate::row::Row;
 use ctf_class::{Align, Frequency, Span, Width};
 
-/// Puts what comes of a row of bounds, and answers whether it is one.
-pub fn put_row(told: &mut Told, kind: &str, words: &mut Words<'_>) -> bool {
-    match kind {
-        "width" => told.optional(width(words.number())),
-        "frequency" => told.optional(frequency(words.long())),
-        "align" => told.optional(align(words.long())),
-        "span" => {
-            let span = Span {
-                first: words.signed(),
-                last: words.signed(),
-            };
-            told.answer(span.covers(words.signed()));
-        }
-        _ => return false,
+/// Puts what comes of a row of bounds.
+pub fn put_row(row: &mut Row<'_>) {
+    match row.word() {
+        "width" => match Width::new(row.number()) {
+            Some(width) => row.put_number(b"", width.bits() as i128),
+            None => row.put(b"none"),
+        },
+        "frequency" => match Frequency::new(row.long()) {
+            Some(frequency) => row.put_number(b"", frequency.cycles() as i128),
+            None => row.put(b"none"),
+        },
+        "align" => match Align::new(row.long()) {
+            Some(align) => row.put_number(b"", align.bits() as i128),
+            None => row.put(b"none"),
+        },
+        _ => put_covers(row),
     }
-    true
 }
 
-fn width(bits: u32) -> Option<i128> {
-    Some(i128::from(Width::new(bits)?.bits()))
+/// Puts whether a number is one of a span.
+fn put_covers(row: &mut Row<'_>) {
+    let span = Span {
+        first: bound_of(row),
+        last: bound_of(row),
+    };
+    let number = bound_of(row);
+    row.put_answer(b"", span.covers(number));
 }
 
-fn frequency(cycles: u64) -> Option<i128> {
-    Some(i128::from(Frequency::new(cycles)?.cycles()))
-}
-
-fn align(bits: u64) -> Option<i128> {
-    Some(i128::from(Align::new(bits)?.bits()))
+fn bound_of(row: &mut Row<'_>) -> i128 {
+    row.word().parse::<i128>().unwrap_or(0)
 }

@@ -5,7 +5,7 @@
 //! as the member of this place says. So many bytes have the texts `text:ALIGN:LENGTH` and `spelled:ALIGN:PLACE`.
 //! `enum:ALIGN:SIZE` is an enumeration without labels. A member is named by its word.
 
-use crate::told::Told;
+use crate::row::Row;
 use ctf_bits::Order;
 use ctf_class::{
     Align, Base, Class, FieldName, Integer, Kind, Labels, Length, Member, Origin, Route, Width,
@@ -13,28 +13,30 @@ use ctf_class::{
 use ctf_list::{Boxed, List, Shared};
 use std::alloc::Global;
 
-/// The classes that words name, as members.
-pub fn members_of(alloc: Global, words: &str) -> Option<Vec<Member>> {
+/// The classes that words name, as members, without those that can't be.
+pub fn members_of(alloc: Global, words: &str) -> Vec<Member> {
     let mut members = Vec::new(alloc);
     for word in words.split(' ') {
-        add_class(alloc, &mut members, word)?;
+        add_class(alloc, &mut members, word);
     }
-    Some(members)
+    members
 }
 
 /// Adds the class that a word names behind those before it, or around the last of them.
 fn add_class(alloc: Global, members: &mut Vec<Member>, word: &str) -> Option<()> {
     let (kind, rest) = word.split_once(':')?;
-    let (align, number) = rest.split_once(':').unwrap_or((rest, "0"));
-    let align = Align::new(align.parse::<u64>().ok()?)?;
-    let name = FieldName::new(alloc, List::from_slice(alloc, word.as_bytes()).ok()?).ok()?;
-    let kind = kind_of(alloc, members, kind, number.parse::<u64>().ok()?)?;
+    let (align, number) = rest.split_once(':').unwrap_or((rest, ""));
+    let align = Align::new(align.parse::<u64>().unwrap_or(0))?;
+    let number = number.parse::<u64>().unwrap_or(0);
+    let name = List::from_slice(alloc, word.as_bytes()).ok()?;
+    let name = FieldName::new(alloc, name).ok()?;
+    let kind = kind_of(alloc, members, kind, number)?;
     let class = class(align, kind);
     members.push(Member { name, class }).ok()
 }
 
 /// A class, of which nothing here asks for its depth and its count.
-pub fn class(align: Align, kind: Kind) -> Class {
+fn class(align: Align, kind: Kind) -> Class {
     Class {
         align,
         depth: 1,
@@ -43,27 +45,24 @@ pub fn class(align: Align, kind: Kind) -> Class {
     }
 }
 
-/// What a class is.
-fn kind_of(alloc: Global, members: &mut Vec<Member>, kind: &str, number: u64) -> Option<Kind> {
-    match kind {
-        "integer" => integer(u32::try_from(number).ok()?),
-        "enum" => enumeration(alloc, u32::try_from(number).ok()?),
-        "string" => Some(Kind::String),
-        "text" => text_of(Length::Fixed(number)),
-        "spelled" => text_of(member_at(alloc, u32::try_from(number).ok()?)?),
-        "struct" => structure_of(members, usize::try_from(number).ok()?),
-        "array" => array_of(alloc, members, Length::Fixed(number)),
-        _ => array_of(
-            alloc,
-            members,
-            member_at(alloc, u32::try_from(number).ok()?)?,
-        ),
-    }
+/// The class of a scope: an integer of so many bits.
+pub fn scope(bits: u32) -> Option<Class> {
+    Some(class(Align::new(8)?, Kind::Integer(decimal(bits)?)))
 }
 
-/// An unsigned integer of so many bits, if there can be one.
-pub fn integer(bits: u32) -> Option<Kind> {
-    Some(Kind::Integer(decimal(bits)?))
+/// What a class is.
+fn kind_of(alloc: Global, members: &mut Vec<Member>, kind: &str, number: u64) -> Option<Kind> {
+    let short = u32::try_from(number).unwrap_or(0);
+    match kind {
+        "integer" => Some(Kind::Integer(decimal(short)?)),
+        "enum" => enumeration(alloc, decimal(short)?),
+        "string" => Some(Kind::String),
+        "text" => text_of(Length::Fixed(number)),
+        "spelled" => text_of(member_at(alloc, short)?),
+        "struct" => structure_of(members, number as usize),
+        "array" => array_of(alloc, members, Length::Fixed(number)),
+        _ => array_of(alloc, members, member_at(alloc, short)?),
+    }
 }
 
 /// What is known of an unsigned integer of so many bits.
@@ -77,9 +76,8 @@ fn decimal(bits: u32) -> Option<Integer> {
     })
 }
 
-/// An enumeration of so many bits, if there can be one, without labels.
-fn enumeration(alloc: Global, bits: u32) -> Option<Kind> {
-    let container = decimal(bits)?;
+/// An enumeration without labels.
+fn enumeration(alloc: Global, container: Integer) -> Option<Kind> {
     let labels = Labels::new(alloc, List::new(alloc)).ok()?;
     let labels = Shared::new(alloc, labels).ok()?;
     Some(Kind::Enumeration { container, labels })
@@ -114,28 +112,20 @@ fn member_at(alloc: Global, place: u32) -> Option<Length> {
 }
 
 /// Puts the words of an integer or of a structure, behind a space each.
-#[cycle(put)]
-pub fn put_class(told: &mut Told, class: &Class) {
+pub fn put_class(row: &mut Row<'_>, class: &Class) {
     match &class.kind {
-        Kind::Integer(integer) => put_word(told, b" integer:", class, integer.size.bits() as usize),
+        Kind::Integer(integer) => put_word(row, b" integer:", class, integer.size.bits() as i128),
         Kind::Structure { members } => {
-            put_members(told, members.as_slice());
-            put_word(told, b" struct:", class, members.len());
+            for member in members.as_slice() {
+                put_class(row, &member.class);
+            }
+            put_word(row, b" struct:", class, members.len() as i128);
         }
-        _ => told.put(b" another class"),
+        _ => row.put(b" another class"),
     }
 }
 
-#[cycle(put)]
-fn put_members(told: &mut Told, members: &[Member]) {
-    for member in members {
-        put_class(told, &member.class);
-    }
-}
-
-fn put_word(told: &mut Told, kind: &[u8], class: &Class, number: usize) {
-    told.put(kind);
-    told.number(i128::from(class.align.bits()));
-    told.put(b":");
-    told.number(number as i128);
+fn put_word(row: &mut Row<'_>, kind: &[u8], class: &Class, number: i128) {
+    row.put_number(kind, class.align.bits() as i128);
+    row.put_number(b":", number);
 }

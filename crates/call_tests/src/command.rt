@@ -6,107 +6,95 @@
 //! - `usage FAULT` is the line that is printed for a fault, `help`, `bad` or `memory`.
 //! - `files NAME NAME ..` are the names of the streams, out of those of a folder.
 
-use crate::told::Told;
-use crate::words::Words;
+use crate::row::Row;
 use ctf_list::Text;
 use ctf_options::{Options, Usage, options_of, stream_names};
-use ctf_stamp::{ClockStyle, Style, Trim};
-use std::alloc::Global;
+use ctf_stamp::ClockStyle;
+use std::alloc::{AllocError, Global};
 
-/// Puts what comes of a row of a command line, and answers whether it is one.
-pub fn put_row(alloc: Global, told: &mut Told, kind: &str, words: &mut Words<'_>) -> Option<bool> {
-    match kind {
-        "options" => put_options(alloc, told, kind, &words_of(alloc, words.rest())?),
-        "folders" => put_options(alloc, told, kind, &folders(alloc, words.number())?),
-        "usage" => told.put(usage_of(words.word()).text()),
-        "files" => put_names(
-            told,
-            &stream_names(alloc, names_of(alloc, words.rest())?).ok()?,
-        ),
-        _ => return Some(false),
+/// Puts what comes of a row of a command line.
+pub fn put_row(row: &mut Row<'_>) {
+    match row.word() {
+        "options" => put_options(row),
+        "folders" => put_folders(row),
+        "usage" => put_usage(row),
+        _ => put_names(row),
     }
-    Some(true)
 }
 
-/// The words of a command line.
-fn words_of(alloc: Global, row: &str) -> Option<Vec<String>> {
+/// A word, and those of a text behind it.
+fn words_of(
+    alloc: Global,
+    first: &str,
+    text: &str,
+    separator: &str,
+) -> Result<Vec<String>, AllocError> {
     let mut words = Vec::new(alloc);
-    add_name(alloc, &mut words, "bt-ctf")?;
-    for word in row.split("; ") {
-        add_name(alloc, &mut words, word)?;
+    words.push(String::from_str(alloc, first)?)?;
+    for word in text.split(separator) {
+        words.push(String::from_str(alloc, word)?)?;
     }
-    Some(words)
+    Ok(words)
 }
 
-/// A command line with so many folders.
-fn folders(alloc: Global, count: u32) -> Option<Vec<String>> {
-    let mut words = Vec::new(alloc);
-    add_name(alloc, &mut words, "bt-ctf")?;
-    for _ in 0..count {
-        add_name(alloc, &mut words, "d")?;
-    }
-    Some(words)
-}
-
-fn names_of(alloc: Global, row: &str) -> Option<Vec<String>> {
-    let mut names = Vec::new(alloc);
-    for name in row.split(' ') {
-        add_name(alloc, &mut names, name)?;
-    }
-    Some(names)
-}
-
-fn add_name(alloc: Global, names: &mut Vec<String>, name: &str) -> Option<()> {
-    names.push(String::from_str(alloc, name).ok()?).ok()
-}
-
-/// Puts what words ask for, or how many folders they name.
-fn put_options(alloc: Global, told: &mut Told, kind: &str, words: &[String]) {
-    match options_of(alloc, words) {
-        Ok(options) => match kind {
-            "options" => put_asked(told, &options),
-            _ => told.number(options.dirs.len() as i128),
-        },
-        Err(usage) => told.put(word_of(usage)),
+/// Puts what words ask for.
+fn put_options(row: &mut Row<'_>) {
+    match options_from(row.alloc, row.words) {
+        Ok(options) => put_asked(row, &options),
+        Err(usage) => row.put(word_of(usage)),
     }
 }
 
-fn put_asked(told: &mut Told, options: &Options) {
-    put_trim(told, options.trim);
-    put_style(told, &options.style);
-    told.put(b", shift ");
-    told.number(i128::from(options.shift.seconds));
-    told.put(b" ");
-    told.number(i128::from(options.shift.nanos));
-    told.put(b", in");
-    put_dirs(told, options.dirs.as_slice());
+/// Puts how many folders come of so many.
+fn put_folders(row: &mut Row<'_>) {
+    let count = row.long() as usize;
+    let Ok(words) = "; d".repeat(row.alloc, count) else {
+        return;
+    };
+    match options_from(row.alloc, words.get(2..).unwrap_or("")) {
+        Ok(options) => row.put_number(b"", options.dirs.len() as i128),
+        Err(usage) => row.put(word_of(usage)),
+    }
 }
 
-/// Puts the times that are printed.
-fn put_trim(told: &mut Told, trim: Trim) {
-    told.optional(trim.begin.map(i128::from));
-    told.put(b" to ");
-    told.optional(trim.end.map(i128::from));
+/// What words ask for behind the name of the program.
+fn options_from(alloc: Global, text: &str) -> Result<Options, Usage> {
+    match words_of(alloc, "bt-ctf", text, "; ") {
+        Ok(words) => options_of(alloc, &words),
+        Err(_) => Err(Usage::NoMemory),
+    }
 }
 
-/// Puts how times are printed.
-fn put_style(told: &mut Told, style: &Style) {
-    told.put(match style.clock {
+fn put_asked(row: &mut Row<'_>, options: &Options) {
+    put_time(row, options.trim.begin);
+    row.put(b" to ");
+    put_time(row, options.trim.end);
+    row.put(match options.style.clock {
         ClockStyle::Time => b", time",
         ClockStyle::Date => b", date",
         ClockStyle::Seconds => b", seconds",
         ClockStyle::Cycles => b", cycles",
     });
-    if style.delta {
-        told.put(b", delta");
+    if options.style.delta {
+        row.put(b", delta");
+    }
+    row.put_number(b", shift ", options.shift.seconds as i128);
+    row.put_number(b" ", options.shift.nanos as i128);
+    row.put(b", in");
+    put_dirs(row, options.dirs.as_slice());
+}
+
+fn put_time(row: &mut Row<'_>, time: Option<i64>) {
+    match time {
+        Some(time) => row.put_number(b"", time as i128),
+        None => row.put(b"none"),
     }
 }
 
-/// Puts folders.
-fn put_dirs(told: &mut Told, dirs: &[Text]) {
+fn put_dirs(row: &mut Row<'_>, dirs: &[Text]) {
     for dir in dirs {
-        told.put(b" ");
-        told.put(dir.as_str().as_bytes());
+        row.put(b" ");
+        row.put(dir.as_str().as_bytes());
     }
 }
 
@@ -119,19 +107,30 @@ fn word_of(usage: Usage) -> &'static [u8] {
     }
 }
 
-/// The fault that a word names.
-fn usage_of(word: &str) -> Usage {
-    match word {
+/// Puts the line of a fault.
+fn put_usage(row: &mut Row<'_>) {
+    let usage = match row.word() {
         "help" => Usage::Help,
         "bad" => Usage::Bad,
         _ => Usage::NoMemory,
-    }
+    };
+    row.put(usage.text());
 }
 
 /// Puts the names of streams.
-fn put_names(told: &mut Told, names: &[String]) {
+fn put_names(row: &mut Row<'_>) {
+    let first = row.word();
+    if let Ok(listed) = words_of(row.alloc, first, row.words, " ") {
+        match stream_names(row.alloc, listed) {
+            Ok(names) => put_each(row, &names),
+            Err(_) => row.put(b"no memory"),
+        }
+    }
+}
+
+fn put_each(row: &mut Row<'_>, names: &[String]) {
     for name in names {
-        told.put(b" ");
-        told.put(name.as_str().as_bytes());
+        row.put(b" ");
+        row.put(name.as_str().as_bytes());
     }
 }

@@ -5,10 +5,9 @@
 
 ghost use Rattle.std.specs.Prelude.{◌≡◌};
 
-use crate::told::Told;
-use crate::words::Words;
+use crate::row::Row;
 use ctf_class::{HasId, Indexed};
-use ctf_list::List;
+use ctf_list::{List, NoMemory};
 use std::alloc::Global;
 
 /// A number, and its place.
@@ -26,38 +25,35 @@ impl HasId for Marked {
     }
 }
 
-/// Puts what comes of a row of items, and answers whether it is one.
-pub fn put_row(alloc: Global, told: &mut Told, kind: &str, words: &mut Words<'_>) -> Option<bool> {
-    if kind != "items" {
-        return Some(false);
+/// Puts what comes of a row of items.
+pub fn put_row(row: &mut Row<'_>) {
+    row.word();
+    if let Ok(items) = items_of(row.alloc, row.word()) {
+        put_found(row, &items);
     }
-    let items = List::from_vec(in_order(alloc, words.word())?);
-    put_found(told, &Indexed::new(alloc, items).ok()?, words.long());
-    Some(true)
 }
 
 /// Items of these numbers.
-fn in_order(alloc: Global, numbers: &str) -> Option<Vec<Marked>> {
-    let mut items = Vec::new(alloc);
-    if numbers != "-" {
-        for word in numbers.split(',') {
-            let number = word.parse::<u64>().ok()?;
+fn items_of(alloc: Global, numbers: &str) -> Result<Indexed<Marked>, NoMemory> {
+    let mut items = List::new(alloc);
+    for word in numbers.split(',') {
+        if let Ok(number) = word.parse::<u64>() {
             let place = items.len();
-            items.push(Marked { number, place }).ok()?;
+            items.push(Marked { number, place })?;
         }
     }
-    Some(items)
+    Indexed::new(alloc, items)
 }
 
 /// Puts what is found.
-fn put_found(told: &mut Told, items: &Indexed<Marked>, number: u64) {
-    told.optional(items.get(number).map(|item| item.place as i128));
-    told.put(b" of ");
-    told.number(items.as_slice().len() as i128);
+fn put_found(row: &mut Row<'_>, items: &Indexed<Marked>) {
+    match items.get(row.long()) {
+        Some(item) => row.put_number(b"", item.place as i128),
+        None => row.put(b"none"),
+    }
+    row.put_number(b" of ", items.as_slice().len() as i128);
     if let Some(item) = items.only() {
-        told.put(b", only ");
-        told.number(i128::from(item.number));
-        told.put(b" at ");
-        told.number(item.place as i128);
+        row.put_number(b", only ", item.number as i128);
+        row.put_number(b" at ", item.place as i128);
     }
 }

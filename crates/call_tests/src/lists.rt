@@ -3,35 +3,37 @@
 //! `pushed TEXT MORE` is the list of the bytes of a text behind which those of another are pushed one by one, how many there
 //! are, and whether its copy is equal; `extended TEXT MORE` gets them at once.
 
-use crate::told::Told;
-use crate::words::Words;
+use crate::row::Row;
 use ctf_list::List;
-use std::alloc::Global;
+use std::alloc::{AllocError, Global};
 
-/// Puts what comes of a row of lists, and answers whether it is one.
-pub fn put_row(alloc: Global, told: &mut Told, kind: &str, words: &mut Words<'_>) -> Option<bool> {
-    if kind != "pushed" && kind != "extended" {
-        return Some(false);
+/// Puts what comes of a row of lists.
+pub fn put_row(row: &mut Row<'_>) {
+    let kind = row.word();
+    let text = row.word().as_bytes();
+    if let Ok(list) = grown(row.alloc, kind, text, row.words.as_bytes()) {
+        put_list(row, &list);
     }
-    let mut list = List::from_slice(alloc, words.word().as_bytes()).ok()?;
-    let more = words.word().as_bytes();
+}
+
+/// The list of some bytes, with more behind them.
+fn grown(alloc: Global, kind: &str, text: &[u8], more: &[u8]) -> Result<List<u8>, AllocError> {
+    let mut list = List::from_slice(alloc, text)?;
     if kind == "extended" {
-        list.extend_from_slice(more).ok()?;
+        list.extend_from_slice(more)?;
     } else {
         for byte in more {
-            list.push(*byte).ok()?;
+            list.push(*byte)?;
         }
     }
-    put_list(told, &list)
+    Ok(list)
 }
 
 /// Puts a list, and whether its copy is equal.
-fn put_list(told: &mut Told, list: &List<u8>) -> Option<bool> {
-    let copy = list.clone().ok()?;
-    told.put(list.as_slice());
-    told.put(b" ");
-    told.number(list.len() as i128);
-    told.put(b" ");
-    told.answer(copy == *list);
-    Some(true)
+fn put_list(row: &mut Row<'_>, list: &List<u8>) {
+    row.put(list.as_slice());
+    row.put_number(b" ", list.len() as i128);
+    if let Ok(copy) = list.clone() {
+        row.put_answer(b" ", copy == *list);
+    }
 }

@@ -9,136 +9,111 @@
 
 ghost use Rattle.std.specs.Prelude.{◌≤◌};
 
-use crate::bytes::bytes_of;
-use crate::told::Told;
-use crate::words::Words;
+use crate::row::{Row, quoted};
 use ctf_class::{FieldName, Heading, LabelName, Ready, escaped};
-use ctf_list::List;
+use ctf_list::{List, NoMemory};
 use std::alloc::Global;
 
-/// Puts what comes of a row of a text, a label or a heading, and answers whether it is one.
-pub fn put_row(alloc: Global, told: &mut Told, kind: &str, words: &mut Words<'_>) -> Option<bool> {
-    match kind {
-        "escaped" => told.put(&escaped(alloc, &bytes_of(alloc, words.rest())?).ok()?),
-        "ready" => put_ready_row(alloc, told, &bytes_of(alloc, words.rest())?)?,
-        "label" => put_label_row(alloc, told, words.rest())?,
-        "heading" => put_heading_row(alloc, told, words)?,
-        _ => return Some(false),
+/// Puts what comes of a row of a text, a label or a heading.
+pub fn put_row(row: &mut Row<'_>) {
+    match row.word() {
+        "escaped" => row.put_made(escaped(row.alloc, &quoted(row.alloc, row.words))),
+        "ready" => put_ready_row(row),
+        "label" => put_label_row(row),
+        _ => put_heading_row(row),
     }
-    Some(true)
 }
 
-/// Puts what comes of a row of the name of a member, and answers whether it is one.
-pub fn put_field_row(
-    alloc: Global,
-    told: &mut Told,
-    kind: &str,
-    words: &mut Words<'_>,
-) -> Option<bool> {
-    match kind {
-        "field" => put_field(told, &field_of(alloc, words.word())?),
-        "copy" => put_copy(told, &field_of(alloc, words.word())?)?,
-        "same" => put_same(alloc, told, words)?,
-        "behind" => put_behind(alloc, told, words)?,
-        _ => return Some(false),
-    }
-    Some(true)
-}
-
-/// The bytes that a word names, as a list.
-fn list_of(alloc: Global, word: &str) -> Option<List<u8>> {
-    Some(List::from_vec(bytes_of(alloc, word)?))
-}
-
-/// The name of a member.
-fn field_of(alloc: Global, word: &str) -> Option<FieldName> {
-    FieldName::new(alloc, list_of(alloc, word)?).ok()
+/// The bytes of a text, as a list.
+fn list_of(alloc: Global, text: &str) -> List<u8> {
+    List::from_vec(quoted(alloc, text))
 }
 
 /// Puts a text behind three bytes of a line, and its length.
-fn put_ready_row(alloc: Global, told: &mut Told, bytes: &[u8]) -> Option<()> {
-    let ready = Ready::new(alloc, bytes).ok()?;
-    put_ready(told, &ready, 3);
-    told.put(b", ");
-    told.number(ready.len() as i128);
-    told.put(b" bytes");
-    Some(())
+fn put_ready_row(row: &mut Row<'_>) {
+    if let Ok(ready) = Ready::new(row.alloc, &quoted(row.alloc, row.words)) {
+        put_ready(row, &ready, 3);
+        row.put_number(b", ", ready.len() as i128);
+        row.put(b" bytes");
+    }
 }
 
 /// Puts the beginning of a line that has a text at an index, if there is room for it.
-fn put_ready(told: &mut Told, ready: &Ready, at: usize)
+fn put_ready(row: &mut Row<'_>, ready: &Ready, at: usize)
     requires { at ≤ 3 }
 {
     let mut line = [b'#'; 67];
     if ready.len() <= 40 {
         let end = ready.put(&mut line, at);
-        told.put(&line[..end]);
+        row.put(&line[..end]);
     }
 }
 
-/// Puts what is printed, in brackets.
-fn put_printed(told: &mut Told, ready: &Ready) {
-    told.put(b" [");
-    put_ready(told, ready, 0);
-    told.put(b"]");
+/// Puts a text, and in brackets what is printed.
+fn put_printed(row: &mut Row<'_>, text: &[u8], ready: &Ready) {
+    row.put(text);
+    row.put(b" [");
+    put_ready(row, ready, 0);
+    row.put(b"]");
 }
 
-/// Puts a name and what is printed for it, in brackets.
-fn put_field(told: &mut Told, name: &FieldName) {
-    told.put(name.as_slice());
-    put_printed(told, name.ready());
+/// Puts what comes of a row of the name of a member.
+pub fn put_field_row(row: &mut Row<'_>) {
+    let kind = row.word();
+    if let Ok(name) = field_of(row) {
+        match kind {
+            "field" => put_printed(row, name.as_slice(), name.ready()),
+            "copy" => put_copy(row, &name),
+            "same" => put_same(row, &name),
+            _ => put_behind(row, &name),
+        }
+    }
+}
+
+/// The name of a member.
+fn field_of(row: &mut Row<'_>) -> Result<FieldName, NoMemory> {
+    FieldName::new(row.alloc, list_of(row.alloc, row.word()))
 }
 
 /// Puts the copy of a name, and whether it is equal.
-fn put_copy(told: &mut Told, name: &FieldName) -> Option<()> {
-    let copy = name.clone().ok()?;
-    put_field(told, &copy);
-    told.put(b" ");
-    told.answer(copy == *name);
-    Some(())
+fn put_copy(row: &mut Row<'_>, name: &FieldName) {
+    if let Ok(copy) = name.clone() {
+        put_printed(row, copy.as_slice(), copy.ready());
+        row.put_answer(b" ", copy == *name);
+    }
+}
+
+/// Puts whether another name is equal.
+fn put_same(row: &mut Row<'_>, name: &FieldName) {
+    if let Ok(other) = field_of(row) {
+        row.put_answer(b"", *name == other);
+    }
 }
 
 /// Puts what is printed for a name behind a text.
-fn put_behind(alloc: Global, told: &mut Told, words: &mut Words<'_>) -> Option<()> {
-    let name = field_of(alloc, words.word())?;
-    let ready = name.behind(alloc, words.word().as_bytes()).ok()?;
-    put_printed(told, &ready);
-    Some(())
-}
-
-/// Puts whether two names are equal.
-fn put_same(alloc: Global, told: &mut Told, words: &mut Words<'_>) -> Option<()> {
-    let name = field_of(alloc, words.word())?;
-    let other = field_of(alloc, words.word())?;
-    told.answer(name == other);
-    Some(())
+fn put_behind(row: &mut Row<'_>, name: &FieldName) {
+    if let Ok(ready) = name.behind(row.alloc, row.words.as_bytes()) {
+        put_printed(row, b"", &ready);
+    }
 }
 
 /// Puts a label and what is printed for it.
-fn put_label_row(alloc: Global, told: &mut Told, word: &str) -> Option<()> {
-    let label = LabelName::new(alloc, list_of(alloc, word)?).ok()?;
-    told.put(label.as_slice());
-    put_printed(told, label.ready());
-    told.put(b" ");
-    told.answer(label == label);
-    Some(())
-}
-
-/// Puts a heading.
-fn put_heading_row(alloc: Global, told: &mut Told, words: &mut Words<'_>) -> Option<()> {
-    let host = match words.word() {
-        "-" => None,
-        host => Some(list_of(alloc, host)?),
-    };
-    let name = list_of(alloc, words.word())?;
-    put_heading(told, &Heading::new(alloc, host, name).ok()?);
-    Some(())
+fn put_label_row(row: &mut Row<'_>) {
+    if let Ok(label) = LabelName::new(row.alloc, list_of(row.alloc, row.words)) {
+        put_printed(row, label.as_slice(), label.ready());
+        row.put_answer(b" ", label == label);
+    }
 }
 
 /// Puts a host, a name, and what is printed for both.
-fn put_heading(told: &mut Told, heading: &Heading) {
-    told.put(heading.host().unwrap_or(b"-"));
-    told.put(b" ");
-    told.put(heading.name());
-    put_printed(told, heading.ready());
+fn put_heading_row(row: &mut Row<'_>) {
+    let host = match row.word() {
+        "-" => None,
+        host => Some(list_of(row.alloc, host)),
+    };
+    if let Ok(heading) = Heading::new(row.alloc, host, list_of(row.alloc, row.words)) {
+        row.put(heading.host().unwrap_or(b"-"));
+        row.put(b" ");
+        put_printed(row, heading.name(), heading.ready());
+    }
 }

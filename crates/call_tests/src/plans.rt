@@ -6,57 +6,53 @@
 //!   behind it.
 
 use crate::classes::members_of;
-use crate::told::Told;
-use crate::words::Words;
-use ctf_class::{Member, RecordPlan, Run};
-use std::alloc::Global;
+use crate::row::Row;
+use ctf_class::{Class, RecordPlan, Run};
 
-/// Puts what comes of a row of a class, and answers whether it is one.
-pub fn put_row(alloc: Global, told: &mut Told, kind: &str, words: &mut Words<'_>) -> Option<bool> {
-    if kind != "size" && kind != "plan" {
-        return Some(false);
+/// Puts what comes of a row of a class.
+pub fn put_row(row: &mut Row<'_>) {
+    let kind = row.word();
+    let members = members_of(row.alloc, row.words);
+    match members.as_slice() {
+        [member] if kind == "size" => put_size(row, &member.class),
+        [fields] => put_plan(row, None, None, &fields.class),
+        [shared, fields] => put_plan(row, Some(&shared.class), None, &fields.class),
+        [shared, own, fields] => {
+            put_plan(row, Some(&shared.class), Some(&own.class), &fields.class);
+        }
+        _ => {}
     }
-    let members = members_of(alloc, words.rest())?;
-    match (kind, members.as_slice()) {
-        ("size", [member]) => told.optional(member.class.fixed_size().map(i128::from)),
-        ("plan", [fields]) => put_plan(alloc, told, None, None, fields),
-        ("plan", [shared, fields]) => put_plan(alloc, told, Some(shared), None, fields),
-        ("plan", [shared, own, fields]) => put_plan(alloc, told, Some(shared), Some(own), fields),
-        _ => return None,
+}
+
+/// Puts the number of bits of a field.
+fn put_size(row: &mut Row<'_>, class: &Class) {
+    match class.fixed_size() {
+        Some(size) => row.put_number(b"", size as i128),
+        None => row.put(b"none"),
     }
-    Some(true)
 }
 
 /// Puts the plan of the scopes.
-fn put_plan(
-    alloc: Global,
-    told: &mut Told,
-    shared: Option<&Member>,
-    own: Option<&Member>,
-    fields: &Member,
-) {
-    let shared = shared.map(|member| &member.class);
-    let own = own.map(|member| &member.class);
-    match RecordPlan::new(alloc, shared, own, &fields.class) {
-        Ok(plan) => put_runs(told, &plan),
-        Err(_) => told.needs(false),
+fn put_plan(row: &mut Row<'_>, shared: Option<&Class>, own: Option<&Class>, fields: &Class) {
+    match RecordPlan::new(row.alloc, shared, own, fields) {
+        Ok(plan) => put_runs(row, &plan),
+        Err(_) => row.put(b"no memory"),
     }
 }
 
 /// Puts how many values a plan has, and its runs.
-pub fn put_runs(told: &mut Told, plan: &RecordPlan) {
-    told.number(i128::from(plan.count));
-    told.put(b" values");
+pub fn put_runs(row: &mut Row<'_>, plan: &RecordPlan) {
+    row.put_number(b"", plan.count as i128);
+    row.put(b" values");
     for run in plan.runs.as_slice() {
-        put_run(told, run);
+        put_run(row, run);
     }
 }
 
-fn put_run(told: &mut Told, run: &Run) {
-    told.put(b", ");
-    told.number(i128::from(run.span));
-    told.put(b" bits");
+fn put_run(row: &mut Row<'_>, run: &Run) {
+    row.put_number(b", ", run.span as i128);
+    row.put(b" bits");
     if run.field.is_some() {
-        told.put(b" and a field");
+        row.put(b" and a field");
     }
 }

@@ -1,68 +1,137 @@
-//! Rows of the tables.
+//! A row of a table, and what comes of it.
 
-use crate::bytes::bytes_of;
-use crate::texts::{put_text, put_tokens};
-use crate::told::Told;
-use crate::value::put_table_row;
-use crate::words::Words;
-use crate::{
-    bounds, command, items, lists, names, plans, sinks, sources, stamps, streams, traces, windows,
-    zones,
-};
+use ctf_list::NoMemory;
 use std::alloc::Global;
-use std::rt::Files;
+use std::fmt::Display;
+use std::io::Write;
 
-/// Puts the lines of what comes of a row.
-pub fn put_row<R: Files + AllocGlobal>(rt: &R, told: &mut Told, table: &str, line: &str) {
-    let is_row = match table {
-        "readers" | "merges" => streams::put_row(rt, told, table, line),
-        "places" => put_table_row(rt, told, "places_metadata", line),
-        "texts" => put_table_row(rt, told, "texts_metadata", line),
-        _ => put_call(rt.alloc(), told, line),
-    };
-    told.needs(is_row.is_some());
+/// The words of a row, and the text of what comes of it. What is refused memory is missing there: so it is not the text
+/// that is wanted.
+#[derive(Drop)]
+pub struct Row<'a> {
+    pub alloc: Global,
+    /// The words that are not taken yet, with one space between them.
+    pub words: &'a str,
+    text: Vec<u8>,
 }
 
-/// Puts what comes of a row of calls.
-fn put_call(alloc: Global, told: &mut Told, line: &str) -> Option<()> {
-    let mut words = Words::new(line);
-    match words.word() {
-        "tokens" => put_tokens(alloc, told, &bytes_of(alloc, words.rest())?),
-        "packets" => put_text(alloc, told, &bytes_of(alloc, words.rest())?),
-        kind => {
-            put_line(alloc, told, kind, &mut words)?;
-            told.put(b"\n");
+impl<'a> Row<'a> {
+    /// A row of which nothing came yet.
+    pub fn new(alloc: Global, words: &'a str) -> Row<'a> {
+        Row {
+            alloc,
+            words,
+            text: Vec::new(alloc),
         }
     }
-    told.needs(words.are_good());
-    Some(())
+
+    /// The next word, which is empty where none is left.
+    pub fn word(&mut self) -> &'a str {
+        let (word, rest) = self.words.split_once(' ').unwrap_or((self.words, ""));
+        self.words = rest;
+        word
+    }
+
+    /// The next word as a number of 64 bits; 0 where it is none.
+    pub fn long(&mut self) -> u64 {
+        self.word().parse::<u64>().unwrap_or(0)
+    }
+
+    /// The next word as a number of 32 bits; 0 where it is none.
+    pub fn number(&mut self) -> u32 {
+        self.word().parse::<u32>().unwrap_or(0)
+    }
+
+    /// The bytes that the next word names in hexadecimal; none where it names none.
+    pub fn bytes(&mut self) -> Vec<u8> {
+        decoded(self.alloc, self.word())
+    }
+
+    /// Puts bytes.
+    pub fn put(&mut self, bytes: &[u8]) {
+        let _ = self.text.extend_from_slice(bytes);
+    }
+
+    /// Puts a number behind a text.
+    pub fn put_number(&mut self, lead: &[u8], number: i128) {
+        self.put(lead);
+        let _ = write!(self.text, "{number}");
+    }
+
+    /// Puts a number, or `none`.
+    pub fn put_optional(&mut self, number: Option<i128>) {
+        match number {
+            Some(number) => self.put_number(b"", number),
+            None => self.put(b"none"),
+        }
+    }
+
+    /// Puts what is printed for something.
+    pub fn put_shown<T: Display>(&mut self, what: &T) {
+        let _ = write!(self.text, "{what}");
+    }
+
+    /// Puts bytes in hexadecimal, each behind a space.
+    pub fn put_hexadecimal(&mut self, bytes: &[u8]) {
+        for byte in bytes {
+            let _ = write!(self.text, " {byte:02X}");
+        }
+    }
+
+    /// Puts a byte as two hexadecimal digits.
+    pub fn put_digits(&mut self, byte: u8) {
+        let _ = write!(self.text, "{byte:02x}");
+    }
+
+    /// Puts whether something is so, behind a text.
+    pub fn put_answer(&mut self, lead: &[u8], is_so: bool) {
+        self.put(lead);
+        self.put(if is_so { b"true" } else { b"false" });
+    }
+
+    /// Puts a text that a call made.
+    pub fn put_made(&mut self, made: Result<Vec<u8>, NoMemory>) {
+        match made {
+            Ok(text) => self.put(&text),
+            Err(_) => self.put(b"no memory"),
+        }
+    }
+
+    /// Puts a text to which a call appended.
+    pub fn put_appended(&mut self, text: &[u8], appended: Result<(), NoMemory>) {
+        match appended {
+            Ok(()) => self.put(text),
+            Err(_) => self.put(b"no memory"),
+        }
+    }
+
+    /// What came of it.
+    pub fn text(&self) -> &[u8] {
+        &self.text
+    }
+
+    /// What came of it, by value.
+    pub fn into_text(self) -> Vec<u8> {
+        self.text
+    }
 }
 
-/// Puts what comes of a row that has one line: the first of these modules that knows its kind takes it.
-fn put_line(alloc: Global, told: &mut Told, kind: &str, words: &mut Words<'_>) -> Option<()> {
-    let is_known = lists::put_row(alloc, told, kind, words)?
-        || windows::put_row(alloc, told, kind, words)?
-        || sources::put_row(told, kind, words)?
-        || sinks::put_row(alloc, told, kind, words)?
-        || stamps::put_row(alloc, told, kind, words)?
-        || zones::put_row(alloc, told, kind, words)?
-        || command::put_row(alloc, told, kind, words)?
-        || put_class_line(alloc, told, kind, words)?;
-    is_known.then_some(())
+/// The bytes that hexadecimal digits name; none where they name none.
+pub fn decoded(alloc: Global, digits: &str) -> Vec<u8> {
+    hex::decode(alloc, digits).unwrap_or(Vec::new(alloc))
 }
 
-/// Puts what comes of a row of classes.
-fn put_class_line(
-    alloc: Global,
-    told: &mut Told,
-    kind: &str,
-    words: &mut Words<'_>,
-) -> Option<bool> {
-    let is_known = bounds::put_row(told, kind, words)
-        || names::put_row(alloc, told, kind, words)?
-        || names::put_field_row(alloc, told, kind, words)?
-        || items::put_row(alloc, told, kind, words)?
-        || plans::put_row(alloc, told, kind, words)?
-        || traces::put_row(alloc, told, kind, words)?;
-    Some(is_known)
+/// The bytes of a text, with those that stand in hexadecimal between backquotes.
+pub fn quoted(alloc: Global, text: &str) -> Vec<u8> {
+    let mut bytes = Row::new(alloc, "");
+    let mut is_text = true;
+    for part in text.split('`') {
+        if is_text {
+            bytes.put(part.as_bytes());
+        } else {
+            bytes.put(&decoded(alloc, part));
+        }
+        is_text = !is_text;
+    }
+    bytes.into_text()
 }

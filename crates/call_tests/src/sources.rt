@@ -6,117 +6,89 @@
 
 ghost use Rattle.std.specs.Prelude.{◌≡◌, ◌<◌, ◌≤◌, length};
 
-use crate::told::Told;
-use crate::words::Words;
+use crate::device::Device;
+use crate::row::Row;
 use ctf_bits::{FailingSource, FromRead, PieceSource, SliceSource, Source, SourceFault};
-use std::io::{Cursor, Error, ErrorKind, Read};
+use std::io::Cursor;
 
-/// How often a source is asked at the most.
+/// How often a source is asked at the most before its end.
 const MOST_CALLS: u32 = 16;
 
-/// A reader that does alike at each call.
-#[derive(Clone, Copy, Drop)]
-enum Device {
-    Silent,
-    Broken,
-}
-
-impl Read for Device {
-    fn read(&mut self, _buf: &mut [u8]) -> std::io::Result<usize> {
-        match self {
-            Device::Silent => Ok(0),
-            Device::Broken => Err(Error::from(ErrorKind::BrokenPipe)),
+/// Puts what comes of a row of sources.
+pub fn put_row(row: &mut Row<'_>) {
+    row.word();
+    let (kind, count) = counted(row.word());
+    let piece = row.long() as usize;
+    if piece == 0 || piece > 8 {
+        return;
+    }
+    let text = row.words.as_bytes();
+    match kind {
+        "silent" => put_drained(row, &mut FromRead::new(Device::Silent), piece),
+        "broken" => put_drained(row, &mut FromRead::new(Device::Broken), piece),
+        "read" => put_drained(row, &mut FromRead::new(Cursor::new(text)), piece),
+        _ => {
+            let given = put_text(row, kind, count, text, piece);
+            row.put_number(b" ", given as i128);
+            row.put(b" given");
         }
     }
-}
-
-/// Puts what comes of a row of sources, and answers whether it is one.
-pub fn put_row(told: &mut Told, kind: &str, words: &mut Words<'_>) -> Option<bool> {
-    if kind != "source" {
-        return Some(false);
-    }
-    let (kind, count) = counted(words.word());
-    let piece = words.count();
-    let text = words.word().as_bytes();
-    if piece == 0 || piece > 8 {
-        return None;
-    }
-    match kind {
-        "pieces" => put_pieces(told, PieceSource::new(text, count), piece),
-        "failing" => put_failing(told, FailingSource::new(text, count), piece),
-        "slice" => put_slice(told, SliceSource::new(text), piece),
-        "read" => put_drained(told, &mut FromRead::new(Cursor::new(text)), piece),
-        "silent" => put_drained(told, &mut FromRead::new(Device::Silent), piece),
-        _ => put_drained(told, &mut FromRead::new(Device::Broken), piece),
-    }
-    Some(true)
 }
 
 /// A kind, and its count where it has one.
 pub fn counted(word: &str) -> (&str, usize) {
-    match word.split_once(':') {
-        Some((kind, count)) => (kind, count.parse::<usize>().unwrap_or(0)),
-        None => (word, 0),
+    let (kind, count) = word.split_once(':').unwrap_or((word, ""));
+    (kind, count.parse::<usize>().unwrap_or(0))
+}
+
+/// Puts what a source of a text gives. How much it says that it gave.
+fn put_text(row: &mut Row<'_>, kind: &str, count: usize, text: &[u8], piece: usize) -> u64
+    requires some { 0 < piece }
+    requires small { piece ≤ 8 }
+{
+    match kind {
+        "pieces" => {
+            let mut source = PieceSource::new(text, count);
+            put_drained(row, &mut source, piece);
+            source.given()
+        }
+        "failing" => {
+            let mut source = FailingSource::new(text, count);
+            put_drained(row, &mut source, piece);
+            source.given()
+        }
+        _ => {
+            let mut source = SliceSource::new(text);
+            put_drained(row, &mut source, piece);
+            source.given()
+        }
     }
 }
 
-fn put_pieces(told: &mut Told, mut source: PieceSource<'_>, piece: usize)
-    requires some { 0 < piece }
-    requires small { piece ≤ 8 }
-{
-    put_drained(told, &mut source, piece);
-    put_given(told, source.given());
-}
-
-fn put_failing(told: &mut Told, mut source: FailingSource<'_>, piece: usize)
-    requires some { 0 < piece }
-    requires small { piece ≤ 8 }
-{
-    put_drained(told, &mut source, piece);
-    put_given(told, source.given());
-}
-
-fn put_slice(told: &mut Told, mut source: SliceSource<'_>, piece: usize)
-    requires some { 0 < piece }
-    requires small { piece ≤ 8 }
-{
-    put_drained(told, &mut source, piece);
-    put_given(told, source.given());
-}
-
-fn put_given(told: &mut Told, given: u64) {
-    told.put(b" ");
-    told.number(i128::from(given));
-    told.put(b" given");
-}
-
-/// Puts the pieces that a source gives, up to its second end.
-fn put_drained<S: Source>(told: &mut Told, source: &mut S, piece: usize)
+/// Puts the pieces that a source gives up to its end, and what it gives behind that.
+fn put_drained<S: Source>(row: &mut Row<'_>, source: &mut S, piece: usize)
     requires some { 0 < piece }
     requires small { piece ≤ 8 }
 {
     let mut buffer = [0; 8];
-    let mut ends = 0u32;
     for _ in 0..MOST_CALLS {
-        if ends == 2 {
+        if put_taken(row, source, &mut buffer[..piece]) {
             break;
         }
-        if put_taken(told, source, &mut buffer[..piece]) {
-            ends = ends.saturating_add(1);
-        }
     }
+    put_taken(row, source, &mut buffer[..piece]);
 }
 
 /// Puts the next piece, or the end. Whether it is the end.
-fn put_taken<S: Source>(told: &mut Told, source: &mut S, buffer: &mut [u8]) -> bool
+fn put_taken<S: Source>(row: &mut Row<'_>, source: &mut S, buffer: &mut [u8]) -> bool
     requires { 0 < length buffer.old }
 {
-    told.put(b" ");
+    row.put(b" ");
     match source.take(buffer) {
-        Ok(0) => told.put(b"end"),
-        Err(SourceFault::ReadFailed) => told.put(b"failed"),
+        Ok(0) => row.put(b"end"),
+        Err(SourceFault::ReadFailed) => row.put(b"failed"),
         Ok(count) => {
-            told.put(&buffer[..count]);
+            row.put(&buffer[..count]);
             return false;
         }
     }

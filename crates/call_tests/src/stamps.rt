@@ -7,96 +7,85 @@
 //!   value of the clock. DELTA is `delta` where they have the time since the line before.
 //! - `appended CLOCK ZONE DELTA TIME LAST` is how a line begins behind one of another time.
 
-use crate::told::Told;
-use crate::words::Words;
+use crate::row::Row;
 use crate::zones::zone_of;
 use ctf_clock::Moment;
 use ctf_stamp::{ClockStyle, MOST_PART, Stamper, Style, append_part, append_stamp};
-use std::alloc::Global;
 
-/// Puts what comes of a row of stamps, and answers whether it is one.
-pub fn put_row(alloc: Global, told: &mut Told, kind: &str, words: &mut Words<'_>) -> Option<bool> {
-    match kind {
-        "stamp" => {
-            let style = style_of(alloc, words, false)?;
-            put_stamp(alloc, told, &style, words.time())?;
+/// Puts what comes of a row of stamps.
+pub fn put_row(row: &mut Row<'_>) {
+    let kind = row.word();
+    let clock = clock_of(row.word());
+    if let Some(zone) = zone_of(row.alloc, row.word()) {
+        let delta = kind != "stamp" && row.word() == "delta";
+        let style = Style { clock, zone, delta };
+        match kind {
+            "stamp" => put_stamp(row, &style),
+            "appended" => put_appended(row, &style),
+            _ => put_lines(row, &mut Stamper::new(style)),
         }
-        "lines" => {
-            let style = style_of(alloc, words, true)?;
-            put_lines(told, &mut Stamper::new(style), words.word())?;
-        }
-        "appended" => {
-            let style = style_of(alloc, words, true)?;
-            put_appended(alloc, told, &style, words)?;
-        }
-        _ => return Some(false),
     }
-    Some(true)
 }
 
-/// The style that words name.
-fn style_of(alloc: Global, words: &mut Words<'_>, has_delta: bool) -> Option<Style> {
-    let clock = match words.word() {
+fn clock_of(word: &str) -> ClockStyle {
+    match word {
         "time" => ClockStyle::Time,
         "date" => ClockStyle::Date,
         "seconds" => ClockStyle::Seconds,
         _ => ClockStyle::Cycles,
-    };
-    Some(Style {
-        clock,
-        zone: zone_of(alloc, words.word())?,
-        delta: has_delta && words.word() == "delta",
-    })
+    }
 }
 
 /// Puts the stamp of a moment.
-fn put_stamp(alloc: Global, told: &mut Told, style: &Style, time: i64) -> Option<()> {
-    let moment = Moment {
-        cycles: 134_217_727,
-        time,
-    };
-    let mut text = Vec::new(alloc);
-    append_stamp(&mut text, style, moment).ok()?;
-    told.put(&text);
-    Some(())
+fn put_stamp(row: &mut Row<'_>, style: &Style) {
+    if let Some(time) = time_of(row.word()) {
+        let mut text = Vec::new(row.alloc);
+        let moment = Moment {
+            cycles: 134_217_727,
+            time,
+        };
+        let made = append_stamp(&mut text, style, moment);
+        row.put_appended(&text, made);
+    }
 }
 
 /// Puts how lines begin.
-fn put_lines(told: &mut Told, stamper: &mut Stamper, times: &str) -> Option<()> {
+fn put_lines(row: &mut Row<'_>, stamper: &mut Stamper) {
     let mut last = None;
-    for time in times.split(',') {
-        let time = time.parse::<i64>().ok()?;
-        put_part(told, stamper, time, last);
-        last = Some(time);
+    for word in row.word().split(',') {
+        let time = time_of(word);
+        put_part(row, stamper, time, last);
+        last = time;
     }
-    Some(())
 }
 
 /// Puts how one line begins, and a bar behind it.
-fn put_part(told: &mut Told, stamper: &mut Stamper, time: i64, last: Option<i64>) {
-    let moment = Moment {
-        cycles: u64::MAX,
-        time,
-    };
+fn put_part(row: &mut Row<'_>, stamper: &mut Stamper, time: Option<i64>, last: Option<i64>) {
     let mut line = [0; MOST_PART];
-    let end = stamper.put_part(Some(moment), last, &mut line, 0);
-    told.put(&line[..end]);
-    told.put(b"|");
+    let end = stamper.put_part(moment_of(u64::MAX, time), last, &mut line, 0);
+    row.put(&line[..end]);
+    row.put(b"|");
 }
 
 /// Puts how a line begins, and a bar behind it.
-fn put_appended(
-    alloc: Global,
-    told: &mut Told,
-    style: &Style,
-    words: &mut Words<'_>,
-) -> Option<()> {
-    let time = words.word().parse::<i64>().ok();
-    let last = words.word().parse::<i64>().ok();
-    let moment = time.map(|time| Moment { cycles: 0, time });
-    let mut text = Vec::new(alloc);
-    append_part(&mut text, style, moment, last).ok()?;
-    told.put(&text);
-    told.put(b"|");
-    Some(())
+fn put_appended(row: &mut Row<'_>, style: &Style) {
+    let moment = moment_of(0, time_of(row.word()));
+    let last = time_of(row.word());
+    let mut text = Vec::new(row.alloc);
+    let made = append_part(&mut text, style, moment, last);
+    row.put_appended(&text, made);
+    row.put(b"|");
+}
+
+/// The time that a word names, in nanoseconds.
+fn time_of(word: &str) -> Option<i64> {
+    word.parse::<i64>().ok()
+}
+
+/// The moment of a time.
+fn moment_of(cycles: u64, time: Option<i64>) -> Option<Moment> {
+    match time {
+        Some(time) => Some(Moment { cycles, time }),
+        None => None,
+    }
 }

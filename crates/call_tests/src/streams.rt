@@ -21,46 +21,22 @@
 //! its stream, or the end. Then stand, for each call, what it gives by value, and what comes first behind it. Lines are those
 //! behind an event record at the epoch.
 
-mod bytes;
 mod items;
 mod merging;
 mod reading;
-mod row;
+mod words;
 
-use crate::told::Told;
-use bytes::{file_of, streams_of};
+use crate::files::streams_of;
+use crate::row::Row;
 use ctf_class::TraceClass;
-use ctf_load::load;
-use row::{Asked, asked_of};
-use std::rt::Files;
-
-/// Puts what the readers or the merge of a row do.
-pub fn put_row<R: Files + AllocGlobal>(
-    rt: &R,
-    told: &mut Told,
-    table: &str,
-    line: &str,
-) -> Option<()> {
-    let (metadata, words) = line.split_once(' ').unwrap_or((line, ""));
-    let metadata = file_of(rt, metadata)?;
-    match load(rt.alloc(), &metadata) {
-        Ok(trace) => put_streams(rt, told, table, &trace, words),
-        Err(_) => None,
-    }
-}
+use words::asked_of;
 
 /// Puts what the readers or the merge of the streams of a trace do.
-fn put_streams<R: Files + AllocGlobal>(
-    rt: &R,
-    told: &mut Told,
-    table: &str,
-    trace: &TraceClass,
-    words: &str,
-) -> Option<()> {
-    let asked = asked_of(words)?;
-    let streams = streams_of(rt, words)?;
+pub fn put_row(rt: &HostRuntime, row: &mut Row<'_>, table: &str, trace: &TraceClass) {
+    let asked = asked_of(row.words);
+    let streams = streams_of(rt, row.words);
     match table {
-        "readers" => reading::put_readers(rt.alloc(), told, trace, &asked, &streams),
-        _ => merging::put_merge(rt.alloc(), told, trace, &asked, streams),
+        "readers" => reading::put_readers(row, trace, &asked, &streams),
+        _ => merging::put_merge(row, trace, &asked, &streams),
     }
 }

@@ -3,92 +3,83 @@
 //! - `tokens TEXT` are the tokens of a text, or its fault.
 //! - `packets BYTES` is the text of metadata, or the fault of its packets.
 
-use crate::told::Told;
-use std::alloc::Global;
+use crate::row::{Row, quoted};
 use tsdl_text::{Kind, MetaFault, Token, metadata_text, tokens};
 
+/// Puts the lines of what comes of a row of texts.
+pub fn put_row(row: &mut Row<'_>) {
+    let kind = row.word();
+    let bytes = quoted(row.alloc, row.words);
+    match kind {
+        "tokens" => put_tokens(row, &bytes),
+        _ => put_text(row, &bytes),
+    }
+}
+
 /// Puts a line for each token of a text, or its fault.
-pub fn put_tokens(alloc: Global, told: &mut Told, text: &[u8]) {
-    match tokens(alloc, text) {
+fn put_tokens(row: &mut Row<'_>, text: &[u8]) {
+    match tokens(row.alloc, text) {
         Ok(tokens) => {
             for token in tokens.as_slice() {
-                put_token(alloc, told, token);
+                put_token(row, token);
             }
         }
-        Err(fault) => put_fault(told, &fault),
+        Err(fault) => put_fault(row, &fault),
     }
 }
 
 /// Puts where a token starts, its line and what it is: `10 2 symbol struct`. The bytes that a string stands for are
 /// put in hexadecimal.
-fn put_token(alloc: Global, told: &mut Told, token: &Token<'_>) {
-    told.number(token.start as i128);
-    told.put(b" ");
-    told.number(token.line.number() as i128);
+fn put_token(row: &mut Row<'_>, token: &Token<'_>) {
+    row.put_number(b"", token.start as i128);
+    row.put_number(b" ", token.line.number() as i128);
     match token.kind {
         Kind::Identifier => {
-            told.put(b" name ");
-            told.put(token.text);
+            row.put(b" name ");
+            row.put(token.text);
         }
-        Kind::Constant(number) => {
-            told.put(b" constant ");
-            told.number(i128::from(number));
-        }
-        Kind::String => put_string(alloc, told, token),
+        Kind::Constant(number) => row.put_number(b" constant ", number as i128),
+        Kind::String => put_string(row, token),
         Kind::Symbol(symbol) => {
-            told.put(b" symbol ");
-            told.put(symbol.spelling());
+            row.put(b" symbol ");
+            row.put(symbol.spelling());
         }
     }
-    told.put(b"\n");
+    row.put(b"\n");
 }
 
 /// Puts the bytes that a string stands for.
-fn put_string(alloc: Global, told: &mut Told, token: &Token<'_>) {
-    told.put(b" string");
-    match token.string(alloc) {
-        Ok(Some(value)) => put_hexadecimal(told, &value),
+fn put_string(row: &mut Row<'_>, token: &Token<'_>) {
+    row.put(b" string");
+    match token.string(row.alloc) {
+        Ok(Some(value)) => row.put_hexadecimal(&value),
         Ok(None) => {}
-        Err(_) => told.needs(false),
+        Err(_) => row.put(b" no memory"),
     }
-}
-
-fn put_hexadecimal(told: &mut Told, bytes: &[u8]) {
-    for byte in bytes {
-        told.put(b" ");
-        told.put(&[digit(*byte / 16), digit(*byte % 16)]);
-    }
-}
-
-/// A hexadecimal digit.
-fn digit(number: u8) -> u8 {
-    let digits = b"0123456789ABCDEF".as_slice();
-    digits.get(usize::from(number)).copied().unwrap_or(b'?')
 }
 
 /// Puts the text of metadata, or the fault of its packets.
-pub fn put_text(alloc: Global, told: &mut Told, metadata: &[u8]) {
-    match metadata_text(alloc, metadata) {
+fn put_text(row: &mut Row<'_>, metadata: &[u8]) {
+    match metadata_text(row.alloc, metadata) {
         Ok(text) => {
-            told.put(&text);
-            told.put(b"\n");
+            row.put(&text);
+            row.put(b"\n");
         }
-        Err(fault) => put_fault(told, &fault),
+        Err(fault) => put_fault(row, &fault),
     }
 }
 
 /// Puts the code of a fault, with its line where it has one.
-fn put_fault(told: &mut Told, fault: &MetaFault) {
-    told.put(code_of(fault));
+fn put_fault(row: &mut Row<'_>, fault: &MetaFault) {
+    row.put(code_of(fault));
     if let Some(line) = fault.line() {
-        told.put(b" at line ");
-        told.number(line.number() as i128);
+        row.put_number(b" at line ", line.number() as i128);
     }
-    told.put(b"\n");
+    row.put(b"\n");
 }
 
 /// The code of a fault.
-fn code_of(fault: &MetaFault) -> &'static [u8] {
+pub fn code_of(fault: &MetaFault) -> &'static [u8] {
     match fault {
         MetaFault::CutShort => b"M1",
         MetaFault::WrongMagic => b"M2",

@@ -10,196 +10,192 @@
 //!
 //! A class stands in a list, whose drop is a call.
 
-use crate::classes::{class, integer, members_of, put_class};
+use crate::classes::{members_of, put_class, scope};
 use crate::plans::put_runs;
-use crate::told::Told;
-use crate::words::Words;
+use crate::row::Row;
 use ctf_class::{
-    Align, Class, EventClass, HasId, Heading, Indexed, Member, PlannedEvent, StreamClass,
-    TraceClass,
+    Class, EventClass, HasId, Heading, Indexed, PlannedEvent, StreamClass, TraceClass,
 };
-use ctf_list::List;
+use ctf_list::{List, NoMemory};
 use std::alloc::Global;
 
 /// The fields of the event classes of streams.
 const FIELDS: &str = "integer:8:8 struct:8:1";
 
-/// Puts what comes of a row of classes, and answers whether it is one.
-pub fn put_row(alloc: Global, told: &mut Told, kind: &str, words: &mut Words<'_>) -> Option<bool> {
-    match kind {
-        "event" => put_event_row(alloc, told, words)?,
-        "stream" => put_stream_row(alloc, told, words)?,
-        "trace" => put_trace_row(alloc, told, words)?,
-        _ => return Some(false),
+/// Puts what comes of a row of classes.
+pub fn put_row(row: &mut Row<'_>) {
+    match row.word() {
+        "event" => put_event_row(row),
+        "stream" => put_stream_row(row),
+        _ => put_trace_row(row),
     }
-    Some(true)
-}
-
-/// The class of an integer of so many bits.
-fn scope(bits: u32) -> Option<Class> {
-    Some(class(Align::new(8)?, integer(bits)?))
 }
 
 /// Puts what a scope is, behind a space.
-fn put_scope(told: &mut Told, scope: Option<&Class>) {
+fn put_scope(row: &mut Row<'_>, scope: Option<&Class>) {
     match scope {
-        Some(class) => put_class(told, class),
-        None => told.put(b" none"),
+        Some(class) => put_class(row, class),
+        None => row.put(b" none"),
     }
 }
 
 /// Puts an event class.
-fn put_event_row(alloc: Global, told: &mut Told, words: &mut Words<'_>) -> Option<()> {
-    let number = words.long();
-    let name = words.word();
-    let context = words.number();
-    let mut events = Vec::new(alloc);
-    add_event(alloc, &mut events, number, name, context, words.rest())?;
-    put_event(told, events.first()?);
-    Some(())
+fn put_event_row(row: &mut Row<'_>) {
+    let mut events = List::new(row.alloc);
+    let (id, name, context) = (row.long(), row.word(), row.number());
+    let added = add_event(row.alloc, &mut events, id, name, context, row.words);
+    if let (Ok(()), Some(event)) = (added, events.as_slice().first()) {
+        put_event(row, event);
+    }
 }
 
-fn put_event(told: &mut Told, event: &EventClass) {
-    told.number(i128::from(event.id));
-    told.put(b" ");
-    told.put(event.name());
-    put_scope(told, event.context());
-    put_scope(told, Some(event.fields()));
+fn put_event(row: &mut Row<'_>, event: &EventClass) {
+    row.put_number(b"", event.id as i128);
+    row.put(b" ");
+    row.put(event.name());
+    put_scope(row, event.context());
+    put_class(row, event.fields());
 }
 
 /// Adds an event class whose fields have the class that words name.
 fn add_event(
     alloc: Global,
-    events: &mut Vec<EventClass>,
+    events: &mut List<EventClass>,
     id: u64,
     name: &str,
     context: u32,
     words: &str,
-) -> Option<()> {
-    let mut members = members_of(alloc, words)?;
-    let name = List::from_slice(alloc, name.as_bytes()).ok()?;
-    let heading = Heading::new(alloc, None, name).ok()?;
-    let Member { name: _, class } = members.pop()?;
-    let event = EventClass {
-        id,
-        heading,
-        context: scope(context),
-        fields: class,
-    };
-    events.push(event).ok()
+) -> Result<(), NoMemory> {
+    let heading = Heading::new(alloc, None, List::from_slice(alloc, name.as_bytes())?)?;
+    if let Some(fields) = members_of(alloc, words).pop() {
+        events.push(EventClass {
+            id,
+            heading,
+            context: scope(context),
+            fields: fields.class,
+        })?;
+    }
+    Ok(())
 }
 
 /// Puts a stream class, and event classes of it.
-fn put_stream_row(alloc: Global, told: &mut Told, words: &mut Words<'_>) -> Option<()> {
-    let id = words.long();
-    let scopes = [words.number(), words.number(), words.number()];
-    let mut streams = Vec::new(alloc);
-    add_stream(alloc, &mut streams, id, scopes, words.word())?;
-    let stream = streams.first()?;
-    let number = words.long();
-    put_stream(told, stream);
-    put_planned(
-        told,
-        b", event ",
-        stream.event(number),
-        stream.planned(number),
-    );
-    put_planned(told, b", only event ", stream.only(), stream.planned_only());
-    Some(())
+fn put_stream_row(row: &mut Row<'_>) {
+    let mut streams = List::new(row.alloc);
+    let id = row.long();
+    let scopes = [row.number(), row.number(), row.number()];
+    let added = add_stream(row.alloc, &mut streams, id, scopes, row.word());
+    if let (Ok(()), Some(stream)) = (added, streams.as_slice().first()) {
+        put_stream(row, stream);
+        put_events(row, stream);
+    }
 }
 
 /// Adds a stream class with event classes of these numbers.
 fn add_stream(
     alloc: Global,
-    streams: &mut Vec<StreamClass>,
+    streams: &mut List<StreamClass>,
     id: u64,
     scopes: [u32; 3],
     numbers: &str,
-) -> Option<()> {
+) -> Result<(), NoMemory> {
     let [packet, header, context] = scopes;
-    let mut events = Vec::new(alloc);
-    if numbers != "-" {
-        for number in numbers.split(',') {
-            add_event(
-                alloc,
-                &mut events,
-                number.parse::<u64>().ok()?,
-                "tick",
-                0,
-                FIELDS,
-            )?;
+    let mut events = List::new(alloc);
+    for number in numbers.split(',') {
+        if let Ok(id) = number.parse::<u64>() {
+            add_event(alloc, &mut events, id, "tick", 0, FIELDS)?;
         }
     }
-    let events = Indexed::new(alloc, List::from_vec(events)).ok()?;
-    let (packet, header) = (scope(packet), scope(header));
-    let stream = StreamClass::new(alloc, id, packet, header, scope(context), None, events);
-    streams.push(stream.ok()?).ok()
+    let events = Indexed::new(alloc, events)?;
+    let (packet, header, context) = (scope(packet), scope(header), scope(context));
+    let stream = StreamClass::new(alloc, id, packet, header, context, None, events)?;
+    Ok(streams.push(stream)?)
 }
 
-fn put_stream(told: &mut Told, stream: &StreamClass) {
-    told.number(i128::from(stream.id()));
-    told.put(b" scopes");
-    put_scope(told, stream.packet_context());
-    put_scope(told, stream.event_header());
-    put_scope(told, stream.event_context());
-    told.put(if stream.clock().is_some() {
-        b", a clock"
-    } else {
-        b", no clock"
-    });
+fn put_stream(row: &mut Row<'_>, stream: &StreamClass) {
+    row.put_number(b"", stream.id() as i128);
+    row.put(b" scopes");
+    put_scope(row, stream.packet_context());
+    put_scope(row, stream.event_header());
+    put_scope(row, stream.event_context());
+    match stream.clock() {
+        Some(_) => row.put(b", a clock"),
+        None => row.put(b", no clock"),
+    }
+}
+
+/// Puts the event class of a number and the only one.
+fn put_events(row: &mut Row<'_>, stream: &StreamClass) {
+    let number = row.long();
+    put_planned(
+        row,
+        b", event ",
+        stream.event(number),
+        stream.planned(number),
+    );
+    put_planned(row, b", only event ", stream.only(), stream.planned_only());
 }
 
 /// Puts an event class, if there is one, and its plan.
 fn put_planned(
-    told: &mut Told,
+    row: &mut Row<'_>,
     lead: &[u8],
     event: Option<&EventClass>,
     planned: Option<PlannedEvent<'_>>,
 ) {
     if let Some(event) = event {
-        told.put(lead);
-        put_event(told, event);
+        row.put(lead);
+        put_event(row, event);
     }
     if let Some(planned) = planned {
-        told.put(b", plan ");
-        put_runs(told, planned.plan);
+        row.put(b", plan ");
+        put_runs(row, planned.plan);
     }
 }
 
 /// Puts a trace class, and stream classes of it.
-fn put_trace_row(alloc: Global, told: &mut Told, words: &mut Words<'_>) -> Option<()> {
-    let host = List::from_slice(alloc, words.word().as_bytes()).ok()?;
-    let header = words.number();
-    let mut streams = Vec::new(alloc);
-    for number in words.word().split(',') {
-        add_stream(
-            alloc,
-            &mut streams,
-            number.parse::<u64>().ok()?,
-            [32, 64, 0],
-            "-",
-        )?;
+fn put_trace_row(row: &mut Row<'_>) {
+    let mut traces = List::new(row.alloc);
+    let (host, header, numbers) = (row.word(), row.number(), row.word());
+    let added = add_trace(row.alloc, &mut traces, host, header, numbers);
+    if let (Ok(()), Some(trace)) = (added, traces.as_slice().first()) {
+        put_trace(row, trace);
     }
-    let streams = Indexed::new(alloc, List::from_vec(streams)).ok()?;
-    let trace = TraceClass {
+}
+
+/// Adds a trace class with stream classes of these numbers.
+fn add_trace(
+    alloc: Global,
+    traces: &mut List<TraceClass>,
+    host: &str,
+    header: u32,
+    numbers: &str,
+) -> Result<(), NoMemory> {
+    let mut streams = List::new(alloc);
+    for number in numbers.split(',') {
+        if let Ok(id) = number.parse::<u64>() {
+            add_stream(alloc, &mut streams, id, [32, 64, 0], "-")?;
+        }
+    }
+    let streams = Indexed::new(alloc, streams)?;
+    let host = List::from_slice(alloc, host.as_bytes())?;
+    traces.push(TraceClass {
         uuid: None,
         host: Some(host),
         packet_header: scope(header),
         streams,
-    };
-    put_trace(told, &trace, words.long());
-    Some(())
+    })?;
+    Ok(())
 }
 
-fn put_trace(told: &mut Told, trace: &TraceClass, stream: u64) {
-    told.put(trace.host().unwrap_or(b"-"));
-    put_scope(told, trace.packet_header());
-    if let Some(stream) = trace.stream(stream) {
-        told.put(b", stream ");
-        put_stream(told, stream);
+fn put_trace(row: &mut Row<'_>, trace: &TraceClass) {
+    row.put(trace.host().unwrap_or(b"-"));
+    put_scope(row, trace.packet_header());
+    if let Some(stream) = trace.stream(row.long()) {
+        row.put(b", stream ");
+        put_stream(row, stream);
     }
     if let Some(stream) = trace.only() {
-        told.put(b", only stream ");
-        put_stream(told, stream);
+        row.put(b", only stream ");
+        put_stream(row, stream);
     }
 }

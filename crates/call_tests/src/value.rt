@@ -34,95 +34,75 @@ mod records;
 mod standing;
 mod words;
 
-use crate::told::Told;
-use crate::words::Words;
+use crate::row::Row;
 use classes::{class_named, stream_of};
 use ctf_class::{Class, TraceClass};
-use ctf_decode::Value;
-use ctf_load::load;
 use ctf_text::{packet_part, value_text};
-use std::alloc::Global;
-use std::fs;
-use std::rt::Files;
+use place::Place;
 pub use words::put_value;
 use words::values_of;
 
-/// Puts what comes of a row of the classes that the metadata in a file declare.
-pub fn put_table_row<R: Files + AllocGlobal>(
-    rt: &R,
-    told: &mut Told,
-    metadata: &str,
-    line: &str,
-) -> Option<()> {
-    let metadata = fs::read(rt, metadata).ok()?;
-    match load(rt.alloc(), &metadata) {
-        Ok(trace) => put_row(rt.alloc(), told, &trace, &mut Words::new(line)),
-        Err(_) => None,
+/// Puts what comes of a row of the classes of a trace.
+pub fn put_row(row: &mut Row<'_>, trace: &TraceClass) {
+    let kind = row.word();
+    let name = row.word();
+    match kind {
+        "planned" | "record" | "behind" => put_stream_row(row, kind, trace, name),
+        "packet" => put_packet(row, class_named(trace, name)),
+        _ => {
+            if let Some(class) = class_named(trace, name) {
+                put_class_row(row, kind, class);
+            }
+        }
     }
 }
 
-/// Puts what comes of a row of the classes of a trace.
-fn put_row(
-    alloc: Global,
-    told: &mut Told,
-    trace: &TraceClass,
-    words: &mut Words<'_>,
-) -> Option<()> {
-    let kind = words.word();
-    let name = words.word();
-    match kind {
-        "planned" => standing::put_planned_row(alloc, told, stream_of(trace, name)?, words)?,
-        "record" | "behind" => records::put_row(alloc, told, kind, stream_of(trace, name)?, words)?,
-        "packet" => put_packet(alloc, told, class_named(trace, name), words.rest())?,
-        _ => put_class_row(alloc, told, kind, class_named(trace, name)?, words)?,
+/// Puts what comes of a row of an event record.
+fn put_stream_row(row: &mut Row<'_>, kind: &str, trace: &TraceClass, name: &str) {
+    if let Some(stream) = stream_of(trace, name) {
+        match kind {
+            "planned" => standing::put_planned_row(row, stream),
+            _ => records::put_row(row, kind, stream),
+        }
     }
-    told.put(b"\n");
-    Some(())
 }
 
 /// Puts what comes of a row of a class.
-fn put_class_row(
-    alloc: Global,
-    told: &mut Told,
-    kind: &str,
-    class: &Class,
-    words: &mut Words<'_>,
-) -> Option<()> {
+fn put_class_row(row: &mut Row<'_>, kind: &str, class: &Class) {
     match kind {
-        "decode" | "into" | "front" => decoding::put_row(alloc, told, kind, class, words),
-        "standing" => standing::put_row(alloc, told, class, words),
-        "headers" => headers::put_row(alloc, told, class, words.rest()),
-        "digits" => counts::put_digits(alloc, told, class, words.rest()),
-        "lengths" => counts::put_lengths(alloc, told, class, words.rest().as_bytes()),
-        _ => put_value_row(alloc, told, kind, class, words.rest()),
+        "moving" | "value" => put_value_row(row, kind, class),
+        "headers" => headers::put_row(row, class),
+        "digits" => counts::put_digits(row, class),
+        "lengths" => counts::put_lengths(row, class),
+        _ => put_place_row(row, kind, class),
+    }
+}
+
+/// Puts what comes of a row of a place.
+fn put_place_row(row: &mut Row<'_>, kind: &str, class: &Class) {
+    let range = row.word();
+    let bytes = row.bytes();
+    if let Some(place) = Place::new(range, &bytes) {
+        match kind {
+            "standing" => standing::put_place(row, class, place),
+            _ => decoding::put_place(row, kind, class, place),
+        }
     }
 }
 
 /// Puts what is shown of a value, or what the value of a header says.
-fn put_value_row(
-    alloc: Global,
-    told: &mut Told,
-    kind: &str,
-    class: &Class,
-    words: &str,
-) -> Option<()> {
-    let values = values_of(alloc, words)?;
-    match (kind, values.as_slice()) {
-        ("moving", [value]) => headers::put_moving(alloc, told, class, value),
-        ("value", [value]) => put_shown(alloc, told, class, value),
-        _ => None,
+fn put_value_row(row: &mut Row<'_>, kind: &str, class: &Class) {
+    let values = values_of(row.alloc, row.words);
+    if let Some(value) = values.first() {
+        match kind {
+            "moving" => headers::put_moving(row, class, value),
+            _ => row.put_made(value_text(row.alloc, class, value)),
+        }
     }
 }
 
-/// Puts what is shown of a value.
-fn put_shown(alloc: Global, told: &mut Told, class: &Class, value: &Value) -> Option<()> {
-    told.put(&value_text(alloc, class, value).ok()?);
-    Some(())
-}
-
 /// Puts what is shown of a packet context.
-fn put_packet(alloc: Global, told: &mut Told, class: Option<&Class>, words: &str) -> Option<()> {
-    let values = values_of(alloc, words)?;
-    told.put(&packet_part(alloc, class, values.first()).ok()?);
-    Some(())
+fn put_packet(row: &mut Row<'_>, class: Option<&Class>) {
+    let values = values_of(row.alloc, row.words);
+    row.put_made(packet_part(row.alloc, class, values.first()));
 }

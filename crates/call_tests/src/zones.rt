@@ -3,24 +3,19 @@
 //! - `zone RULE` is whether a text is a rule.
 //! - `instant ZONE YEAR MONTH DAY HOUR MINUTE` is the instant of a civil time, in nanoseconds since the epoch.
 
-use crate::told::Told;
-use crate::words::Words;
+use crate::row::Row;
 use ctf_stamp::{Zone, ZoneFault};
 use jiff::civil::DateTime;
 use std::alloc::Global;
 
-/// Puts what comes of a row of zones, and answers whether it is one.
-pub fn put_row(alloc: Global, told: &mut Told, kind: &str, words: &mut Words<'_>) -> Option<bool> {
-    match kind {
-        "zone" => told.put(answer_of(alloc, words.word())),
-        "instant" => {
-            let zone = zone_of(alloc, words.word())?;
-            let instant = zone.instant(alloc, civil_of(words)?).ok()?;
-            told.optional(instant.map(i128::from));
-        }
-        _ => return Some(false),
+/// Puts what comes of a row of zones.
+pub fn put_row(row: &mut Row<'_>) {
+    if row.word() == "zone" {
+        let answer = answer_of(row.alloc, row.word());
+        row.put(answer);
+    } else if let Some(zone) = zone_of(row.alloc, row.word()) {
+        put_instant(row, &zone);
     }
-    Some(true)
 }
 
 /// The zone that a word names.
@@ -40,16 +35,22 @@ fn answer_of(alloc: Global, text: &str) -> &'static [u8] {
     }
 }
 
-/// The civil time that words name.
-fn civil_of(words: &mut Words<'_>) -> Option<DateTime> {
-    let year = words.word().parse::<i16>().ok()?;
-    let month = part_of(words)?;
-    let day = part_of(words)?;
-    let hour = part_of(words)?;
-    let minute = part_of(words)?;
-    DateTime::new(year, month, day, hour, minute, 0, 0).ok()
+/// Puts the instant of the civil time that words name.
+fn put_instant(row: &mut Row<'_>, zone: &Zone) {
+    let year = row.word().parse::<i16>().unwrap_or(0);
+    let month = part_of(row);
+    let day = part_of(row);
+    let hour = part_of(row);
+    let minute = part_of(row);
+    if let Ok(civil) = DateTime::new(year, month, day, hour, minute, 0, 0) {
+        match zone.instant(row.alloc, civil) {
+            Ok(Some(instant)) => row.put_number(b"", instant as i128),
+            Ok(None) => row.put(b"none"),
+            Err(_) => row.put(b"no memory"),
+        }
+    }
 }
 
-fn part_of(words: &mut Words<'_>) -> Option<i8> {
-    words.word().parse::<i8>().ok()
+fn part_of(row: &mut Row<'_>) -> i8 {
+    row.word().parse::<i8>().unwrap_or(0)
 }

@@ -1,7 +1,7 @@
 //! Items as text.
 
-use crate::streams::row::Shown;
-use crate::told::Told;
+use crate::row::Row;
+use crate::streams::words::Shown;
 use crate::value::put_value;
 use ctf_class::Scope;
 use ctf_clock::Moment;
@@ -18,65 +18,64 @@ const SCOPES: [(&str, Scope); 6] = [
 ];
 
 /// Puts an item.
-pub fn put_item(told: &mut Told, item: &Item<'_>, shown: Shown) {
+pub fn put_item(row: &mut Row<'_>, item: &Item<'_>, shown: Shown) {
     match item {
-        Item::Event(event) => put_event(told, event, shown),
-        Item::Discarded(gap) => put_gap(told, b"discarded ", gap),
-        Item::Lost(gap) => put_gap(told, b"lost ", gap),
+        Item::Event(event) => put_event(row, event, shown),
+        Item::Discarded(gap) => put_gap(row, b"discarded ", gap),
+        Item::Lost(gap) => put_gap(row, b"lost ", gap),
     }
+    row.put(b"\n");
 }
 
 /// Puts an event record that was read as a text.
-pub fn put_text(told: &mut Told, event: &EventText<'_>) {
-    put_moment(told, b"text at ", event.moment);
-    told.put(b": ");
-    told.put(event.text);
+pub fn put_text(row: &mut Row<'_>, event: &EventText<'_>) {
+    put_moment(row, b"text at ", event.moment);
+    row.put(b": ");
+    row.put(event.text);
+    row.put(b"\n");
 }
 
-fn put_event(told: &mut Told, event: &Event<'_>, shown: Shown) {
-    told.put(b"event ");
-    told.number(i128::from(event.class.id));
-    put_moment(told, b" at ", event.moment);
+fn put_event(row: &mut Row<'_>, event: &Event<'_>, shown: Shown) {
+    row.put_number(b"event ", event.class.id as i128);
+    put_moment(row, b" at ", event.moment);
     match (shown, event.part) {
         (Shown::Nothing, _) => {}
-        (Shown::Values, _) => put_scopes(told, event),
-        (Shown::Part, None) => told.put(b", no part"),
+        (Shown::Values, _) => put_scopes(row, event),
+        (Shown::Part, None) => row.put(b", no part"),
         (Shown::Part, Some(part)) => {
-            told.put(b", part ");
-            told.put(part);
+            row.put(b", part ");
+            row.put(part);
         }
     }
 }
 
 /// Puts the values of the scopes that have one.
-fn put_scopes(told: &mut Told, event: &Event<'_>) {
+fn put_scopes(row: &mut Row<'_>, event: &Event<'_>) {
     for (name, scope) in SCOPES {
         if let Some(value) = event.value(scope) {
-            told.put(name.as_bytes());
-            put_value(told, value);
+            row.put(name.as_bytes());
+            put_value(row, value);
         }
     }
 }
 
-fn put_gap(told: &mut Told, verb: &[u8], gap: &Gap<'_>) {
-    told.put(verb);
-    told.number(i128::from(gap.count));
-    told.put(b" of ");
-    told.put(gap.name.as_bytes());
-    put_moment(told, b" at ", gap.moment);
-    put_moment(told, b", between ", gap.from);
-    put_moment(told, b" and ", gap.to);
+fn put_gap(row: &mut Row<'_>, verb: &[u8], gap: &Gap<'_>) {
+    row.put_number(verb, gap.count as i128);
+    row.put(b" of ");
+    row.put(gap.name.as_bytes());
+    put_moment(row, b" at ", gap.moment);
+    put_moment(row, b", between ", gap.from);
+    put_moment(row, b" and ", gap.to);
 }
 
 /// Puts a moment: the clock's value in cycles and its time in nanoseconds.
-fn put_moment(told: &mut Told, lead: &[u8], moment: Option<Moment>) {
-    told.put(lead);
+fn put_moment(row: &mut Row<'_>, lead: &[u8], moment: Option<Moment>) {
+    row.put(lead);
     match moment {
-        None => told.put(b"-"),
+        None => row.put(b"-"),
         Some(moment) => {
-            told.number(i128::from(moment.cycles));
-            told.put(b"/");
-            told.number(i128::from(moment.time));
+            row.put_number(b"", moment.cycles as i128);
+            row.put_number(b"/", moment.time as i128);
         }
     }
 }

@@ -1,113 +1,113 @@
 //! Merges, and their lines.
 
+use crate::row::Row;
 use crate::source::RowSource;
-use crate::streams::reading::add_reader;
-use crate::streams::row::{Asked, Step};
-use crate::told::Told;
+use crate::streams::reading::{Stream, add_reader};
+use crate::streams::words::{Asked, Step};
 use ctf_class::TraceClass;
+use ctf_list::{List, NoMemory};
 use ctf_log::line;
 use ctf_merge::{Merge, MergeFault};
 use ctf_stamp::{ClockStyle, Style, Zone};
 use ctf_stream::{Item, OwnedItem};
 use std::alloc::Global;
 
-/// Puts what the merge of some streams does.
-pub fn put_merge(
+/// Puts what comes first in the merge of some streams, at the beginning and behind each call.
+pub fn put_merge(row: &mut Row<'_>, trace: &TraceClass, asked: &Asked, streams: &[Vec<u8>]) {
+    if let Ok(merge) = merge_of(row.alloc, trace, asked, streams) {
+        let mut merge = merge;
+        put_calls(row, &mut merge, asked);
+    }
+}
+
+/// The merge of some streams.
+fn merge_of<'a>(
     alloc: Global,
-    told: &mut Told,
-    trace: &TraceClass,
-    asked: &Asked,
-    streams: Vec<Vec<u8>>,
-) -> Option<()> {
-    let mut readers = Vec::new(alloc);
-    for bytes in streams {
-        let number = readers.len();
-        let source = RowSource::new(bytes, asked.input);
-        add_reader(alloc, &mut readers, trace, asked, source, number)?;
+    trace: &'a TraceClass,
+    asked: &'a Asked,
+    streams: &'a [Vec<u8>],
+) -> Result<Merge<'a, RowSource>, NoMemory> {
+    let mut readers = List::new(alloc);
+    for (number, bytes) in streams.iter().enumerate() {
+        let stream = Stream {
+            trace,
+            asked,
+            number,
+            bytes,
+        };
+        add_reader(alloc, &mut readers, stream, asked.input)?;
     }
-    match Merge::new(alloc, readers) {
-        Ok(merge) => {
-            let mut merge = merge;
-            put_calls(alloc, told, &mut merge, asked);
-            Some(())
-        }
-        Err(_) => None,
-    }
+    Merge::new(alloc, readers.into_vec())
 }
 
 /// Puts what comes first at the beginning and behind each call.
-fn put_calls(alloc: Global, told: &mut Told, merge: &mut Merge<'_, RowSource>, asked: &Asked) {
-    put_first(alloc, told, merge);
+fn put_calls(row: &mut Row<'_>, merge: &mut Merge<'_, RowSource>, asked: &Asked) {
+    put_first(row, merge);
     for number in 0..usize::MAX {
-        put_step(alloc, told, merge, asked.step(number));
-        if put_first(alloc, told, merge) {
+        put_step(row, merge, asked.step(number));
+        if put_first(row, merge) {
             break;
         }
     }
-    put_step(alloc, told, merge, asked.last_step());
-    put_first(alloc, told, merge);
+    put_step(row, merge, asked.step(2));
+    put_first(row, merge);
 }
 
 /// Makes a call, and puts what it gives.
-fn put_step(alloc: Global, told: &mut Told, merge: &mut Merge<'_, RowSource>, step: Step) {
+fn put_step(row: &mut Row<'_>, merge: &mut Merge<'_, RowSource>, step: Step) {
     match (step, merge.next_stream()) {
-        (Step::Next, _) => put_given(alloc, told, &merge.next()),
+        (Step::Next, _) => put_given(row, &merge.next()),
         (Step::Leave, Some(number)) => merge.leave(number),
         _ => merge.go_on(),
     }
 }
 
 /// Puts what comes first, and answers whether that is the end.
-fn put_first(alloc: Global, told: &mut Told, merge: &Merge<'_, RowSource>) -> bool {
-    if let Some(number) = merge.next_stream() {
-        told.number(number as i128);
-        told.put(b": ");
-        match merge.reader(number) {
-            Some(reader) => put_item(alloc, told, reader.head()),
-            None => told.put(b"no stream\n"),
-        }
-        return false;
+fn put_first(row: &mut Row<'_>, merge: &Merge<'_, RowSource>) -> bool {
+    let Some(number) = merge.next_stream() else {
+        put_fault(row, merge.fault());
+        return merge.fault().is_none();
+    };
+    row.put_number(b"", number as i128);
+    row.put(b": ");
+    if let Some(reader) = merge.reader(number) {
+        put_item(row, reader.head());
     }
-    put_fault(told, merge.fault());
-    merge.fault().is_none()
+    false
 }
 
 /// Puts what is given by value.
-fn put_given(alloc: Global, told: &mut Told, given: &Result<Option<OwnedItem<'_>>, MergeFault>) {
-    told.put(b"gives ");
+fn put_given(row: &mut Row<'_>, given: &Result<Option<OwnedItem<'_>>, MergeFault>) {
+    row.put(b"gives ");
     match given {
-        Ok(None) => told.put(b"nothing\n"),
-        Ok(Some(item)) => put_item(alloc, told, Some(item.as_item())),
-        Err(fault) => put_fault(told, Some(*fault)),
+        Ok(None) => row.put(b"nothing\n"),
+        Ok(Some(item)) => put_item(row, Some(item.as_item())),
+        Err(fault) => put_fault(row, Some(*fault)),
     }
 }
 
 /// Puts the line of an item, with seconds since the epoch, behind an event record at the epoch.
-fn put_item(alloc: Global, told: &mut Told, item: Option<Item<'_>>) {
+fn put_item(row: &mut Row<'_>, item: Option<Item<'_>>) {
     let style = Style {
         clock: ClockStyle::Seconds,
         delta: true,
         zone: Zone::utc(),
     };
     match item {
-        Some(item) => match line(alloc, &item, style, Some(0)) {
-            Ok(text) => told.put(&text),
-            Err(_) => told.put(b"no memory\n"),
-        },
-        None => told.put(b"no item in front\n"),
+        Some(item) => row.put_made(line(row.alloc, &item, style, Some(0))),
+        None => row.put(b"no item in front\n"),
     }
 }
 
 /// Puts a fault, or the end.
-fn put_fault(told: &mut Told, fault: Option<MergeFault>) {
+fn put_fault(row: &mut Row<'_>, fault: Option<MergeFault>) {
     match fault {
-        None => told.put(b"end"),
-        Some(MergeFault::NoMemory) => told.put(b"no memory"),
+        None => row.put(b"end"),
+        Some(MergeFault::NoMemory) => row.put(b"no memory"),
         Some(MergeFault::Stream { number, fault }) => {
-            told.shown(&fault);
-            told.put(b" in ");
-            told.number(number as i128);
+            row.put_shown(&fault);
+            row.put_number(b" in ", number as i128);
         }
     }
-    told.put(b"\n");
+    row.put(b"\n");
 }

@@ -7,7 +7,7 @@ pub fn class_named<'a>(trace: &'a TraceClass, name: &str) -> Option<&'a Class> {
     match name.split_once('.') {
         Some(("header", id)) => stream_of(trace, id)?.event_header(),
         Some((_, id)) => fields_of(trace, id),
-        None => member_named(fields_of(trace, "0")?, name),
+        None => member_named(fields_of(trace, "0")?, name.as_bytes()),
     }
 }
 
@@ -17,13 +17,12 @@ fn fields_of<'a>(trace: &'a TraceClass, id: &str) -> Option<&'a Class> {
 }
 
 /// The class of a member of a structure.
-fn member_named<'a>(class: &'a Class, name: &str) -> Option<&'a Class> {
-    let Kind::Structure { members } = &class.kind else {
-        return None;
-    };
-    for member in members.as_slice() {
-        if member.name.as_slice() == name.as_bytes() {
-            return Some(&member.class);
+fn member_named<'a>(class: &'a Class, name: &[u8]) -> Option<&'a Class> {
+    if let Kind::Structure { members } = &class.kind {
+        for member in members.as_slice() {
+            if member.name.as_slice() == name {
+                return Some(&member.class);
+            }
         }
     }
     None

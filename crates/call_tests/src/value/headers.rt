@@ -1,14 +1,11 @@
 //! Class numbers and stamps of event records.
 
-use crate::told::Told;
+use crate::row::{Row, decoded};
 use crate::value::decoding::put_fault;
 use crate::value::place::Place;
-use crate::words::Words;
 use ctf_class::Class;
-use ctf_decode::{
-    DecodeFault, Reached, Scopes, Value, decode_header_into, decode_into, last_id, moving,
-    moving_into,
-};
+use ctf_decode::{Scopes, Value, decode_header_into, decode_into, last_id, moving, moving_into};
+use ctf_list::NoMemory;
 use std::alloc::Global;
 
 /// What headers are decoded into, and the values decoded before.
@@ -22,54 +19,34 @@ struct Making {
 
 /// Puts a line for each header, which stands at the start of a packet of its own. Each is decoded into the value of the
 /// one before it.
-pub fn put_row(alloc: Global, told: &mut Told, class: &Class, row: &str) -> Option<()> {
-    let mut all = Vec::new(alloc);
-    all.push(Making {
+pub fn put_row(row: &mut Row<'_>, class: &Class) {
+    let making = Making {
         scopes: Scopes::new(),
         value: Value::Signed(1),
         other: Value::Signed(1),
-    })
-    .ok()?;
-    let making = all.last_mut()?;
-    let mut lead: &[u8] = b"";
-    for header in row.split(", ") {
-        told.put(lead);
-        put_header(alloc, told, class, header, making)?;
-        lead = b"\n";
+    };
+    if let Ok(making) = Box::new(row.alloc, making) {
+        let mut making = making;
+        let mut lead: &[u8] = b"";
+        for header in row.words.split(", ") {
+            row.put(lead);
+            put_header(row, class, header, &mut making);
+            lead = b"\n";
+        }
     }
-    Some(())
 }
 
 /// Puts what a header says, or its fault.
-fn put_header(
-    alloc: Global,
-    told: &mut Told,
-    class: &Class,
-    header: &str,
-    making: &mut Making,
-) -> Option<()> {
-    let mut words = Words::new(header);
-    let range = words.word();
-    let bytes = hex::decode(alloc, words.word()).ok()?;
-    match reached(alloc, class, Place::new(range, &bytes)?, making)? {
-        Err(fault) => put_fault(told, fault),
-        Ok(reached) => {
-            put_read(alloc, told, class, &making.value)?;
-            told.put(b", to ");
-            told.number(i128::from(reached.end));
-        }
+fn put_header(row: &mut Row<'_>, class: &Class, header: &str, making: &mut Making) {
+    let (range, digits) = header.split_once(' ').unwrap_or((header, ""));
+    let bytes = decoded(row.alloc, digits);
+    if let Some(place) = Place::new(range, &bytes) {
+        put_place(row, class, place, making);
     }
-    Some(())
 }
 
-/// How far a header comes, which is decoded into the value, or the fault. `None` where the general way says another
-/// thing of the other value.
-fn reached(
-    alloc: Global,
-    class: &Class,
-    place: Place<'_>,
-    making: &mut Making,
-) -> Option<Result<Reached, DecodeFault>> {
+/// Puts what a header at a place says, or its fault, unless the general way says another thing.
+fn put_place(row: &mut Row<'_>, class: &Class, place: Place<'_>, making: &mut Making) {
     let Place {
         bytes,
         start,
@@ -80,44 +57,52 @@ fn reached(
         value,
         other,
     } = making;
-    let found = decode_header_into(alloc, class, bytes, start, content, scopes, value);
-    let wanted = decode_into(alloc, class, bytes, start, content, scopes, other);
-    if found != wanted || (found.is_ok() && *value != *other) {
-        return None;
+    let found = decode_header_into(row.alloc, class, bytes, start, content, scopes, value);
+    let wanted = decode_into(row.alloc, class, bytes, start, content, scopes, other);
+    match found {
+        _ if found != wanted => row.put(b"another answer"),
+        Err(fault) => put_fault(row, fault),
+        Ok(_) if *value != *other => row.put(b"another value"),
+        Ok(reached) => {
+            put_read(row, class, value);
+            row.put_number(b", to ", reached.end as i128);
+        }
     }
-    Some(found)
 }
 
 /// Puts what the value of a header says, in place of other stamps.
-fn put_read(alloc: Global, told: &mut Told, class: &Class, value: &Value) -> Option<()> {
+fn put_read(row: &mut Row<'_>, class: &Class, value: &Value) {
+    match moved(row.alloc, class, value) {
+        Ok(stamps) => put_said(row, last_id(class, value), &stamps),
+        Err(_) => row.put(b"no memory"),
+    }
+}
+
+/// The stamps of a header, in place of another one.
+fn moved(alloc: Global, class: &Class, value: &Value) -> Result<Vec<(u32, u64)>, NoMemory> {
     let mut stamps = Vec::new(alloc);
-    stamps.push((1, 1)).ok()?;
-    moving_into(class, value, &mut stamps).ok()?;
-    put_said(told, last_id(class, value), &stamps);
-    Some(())
+    stamps.push((1, 1))?;
+    moving_into(class, value, &mut stamps)?;
+    Ok(stamps)
 }
 
 /// Puts what the value of a header says.
-pub fn put_moving(alloc: Global, told: &mut Told, class: &Class, value: &Value) -> Option<()> {
-    let stamps = moving(alloc, class, value).ok()?;
-    put_said(told, last_id(class, value), &stamps);
-    Some(())
+pub fn put_moving(row: &mut Row<'_>, class: &Class, value: &Value) {
+    match moving(row.alloc, class, value) {
+        Ok(stamps) => put_said(row, last_id(class, value), &stamps),
+        Err(_) => row.put(b"no memory"),
+    }
 }
 
 /// Puts a class number, and the sizes and numbers of stamps.
-fn put_said(told: &mut Told, id: Option<i128>, stamps: &[(u32, u64)]) {
+fn put_said(row: &mut Row<'_>, id: Option<i128>, stamps: &[(u32, u64)]) {
     match id {
-        Some(id) => {
-            told.put(b"id ");
-            told.number(id);
-        }
-        None => told.put(b"no id"),
+        Some(id) => row.put_number(b"id ", id),
+        None => row.put(b"no id"),
     }
     for (size, number) in stamps {
-        told.put(b", ");
-        told.number(i128::from(*number));
-        told.put(b" in ");
-        told.number(i128::from(*size));
-        told.put(b" bits");
+        row.put_number(b", ", *number as i128);
+        row.put_number(b" in ", *size as i128);
+        row.put(b" bits");
     }
 }

@@ -1,11 +1,12 @@
 //! Event records.
 
-use crate::told::Told;
+use crate::row::Row;
 use crate::value::classes::event_of;
+use crate::value::standing::LINE;
 use crate::value::words::values_of;
-use crate::words::Words;
 use ctf_class::{EventClass, StreamClass};
 use ctf_decode::Value;
+use ctf_list::NoMemory;
 use ctf_text::{put_record, record_text};
 use std::alloc::Global;
 
@@ -26,25 +27,18 @@ struct Scopes<'a> {
 }
 
 /// Puts what is shown of an event record, alone or in a line.
-pub fn put_row(
-    alloc: Global,
-    told: &mut Told,
-    kind: &str,
-    stream: &StreamClass,
-    words: &mut Words<'_>,
-) -> Option<()> {
-    let event = event_of(stream, words.word())?;
-    let packet = packet_of(alloc, words.word())?;
-    let values = values_of(alloc, words.rest())?;
-    let scopes = scopes_of(values.as_slice())?;
-    let place = Place {
-        stream,
-        event,
-        packet: packet.as_slice(),
-    };
-    match kind {
-        "record" => put_alone(alloc, told, place, scopes),
-        _ => put_in_line(alloc, told, place, scopes),
+pub fn put_row(row: &mut Row<'_>, kind: &str, stream: &StreamClass) {
+    if let Some(event) = event_of(stream, row.word()) {
+        let packet = packet_of(row.alloc, row.word());
+        let values = values_of(row.alloc, row.words);
+        if let Some(scopes) = scopes_of(&values) {
+            let place = Place {
+                stream,
+                event,
+                packet: packet.as_slice(),
+            };
+            put_shown(row, kind, place, scopes);
+        }
     }
 }
 
@@ -66,34 +60,38 @@ fn scopes_of(values: &[Value]) -> Option<Scopes<'_>> {
 }
 
 /// The text of a packet, where `_` stands for a space.
-fn packet_of(alloc: Global, word: &str) -> Option<Vec<u8>> {
-    let mut text = Vec::new(alloc);
-    if word != "-" {
-        for byte in word.as_bytes() {
-            text.push(if *byte == b'_' { b' ' } else { *byte }).ok()?;
+fn packet_of(alloc: Global, word: &str) -> Vec<u8> {
+    let mut text = Row::new(alloc, "");
+    for byte in word.as_bytes() {
+        match *byte {
+            b'-' => {}
+            b'_' => text.put(b" "),
+            byte => text.put(&[byte]),
         }
     }
-    Some(text)
+    text.into_text()
 }
 
 /// Puts what is shown of an event record.
-fn put_alone(alloc: Global, told: &mut Told, place: Place<'_>, scopes: Scopes<'_>) -> Option<()> {
-    let text = record_text(
-        alloc,
-        place.packet,
-        place.stream,
-        place.event,
-        scopes.shared,
-        scopes.own,
-        scopes.fields,
-    );
-    told.put(&text.ok()?);
-    Some(())
+fn put_shown(row: &mut Row<'_>, kind: &str, place: Place<'_>, scopes: Scopes<'_>) {
+    let made = match kind {
+        "behind" => line_of(row.alloc, place, scopes),
+        _ => record_text(
+            row.alloc,
+            place.packet,
+            place.stream,
+            place.event,
+            scopes.shared,
+            scopes.own,
+            scopes.fields,
+        ),
+    };
+    row.put_made(made);
 }
 
-/// Puts the same behind the stamp of a line, over what stood there.
-fn put_in_line(alloc: Global, told: &mut Told, place: Place<'_>, scopes: Scopes<'_>) -> Option<()> {
-    let mut line = Vec::from_slice(alloc, b"[12] and what was there").ok()?;
+/// The text of an event record behind what stands in a line, over what stood there.
+fn line_of(alloc: Global, place: Place<'_>, scopes: Scopes<'_>) -> Result<Vec<u8>, NoMemory> {
+    let mut line = Vec::from_slice(alloc, LINE)?;
     let end = put_record(
         place.packet,
         place.stream,
@@ -103,7 +101,7 @@ fn put_in_line(alloc: Global, told: &mut Told, place: Place<'_>, scopes: Scopes<
         scopes.fields,
         &mut line,
         5,
-    );
-    told.put(line.get(..end.ok()?)?);
-    Some(())
+    )?;
+    line.truncate(end);
+    Ok(line)
 }
