@@ -1,6 +1,5 @@
 //! What classes say of their fields beforehand. How classes are named is said in `classes`.
 //!
-//! - `size CLASS` is the number of bits of a field, or `none`.
 //! - `plan CLASS` is the plan of event records whose fields have this class, and whose stream event context and event context
 //!   have those before it, where there are any: the count of values, and of each run its bits and whether a field stands
 //!   behind it.
@@ -14,21 +13,12 @@ pub fn put_row(row: &mut Row<'_>) {
     let kind = row.word();
     let members = members_of(row.alloc, row.words);
     match members.as_slice() {
-        [member] if kind == "size" => put_size(row, &member.class),
         [fields] => put_plan(row, None, None, &fields.class),
         [shared, fields] => put_plan(row, Some(&shared.class), None, &fields.class),
         [shared, own, fields] => {
             put_plan(row, Some(&shared.class), Some(&own.class), &fields.class);
         }
         _ => {}
-    }
-}
-
-/// Puts the number of bits of a field.
-fn put_size(row: &mut Row<'_>, class: &Class) {
-    match class.fixed_size() {
-        Some(size) => row.put_number(b"", size as i128),
-        None => row.put(b"none"),
     }
 }
 

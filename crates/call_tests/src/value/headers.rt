@@ -4,7 +4,7 @@ use crate::row::{Row, decoded};
 use crate::value::decoding::put_fault;
 use crate::value::place::Place;
 use ctf_class::Class;
-use ctf_decode::{Scopes, Value, decode_header_into, decode_into, last_id, moving, moving_into};
+use ctf_decode::{Scopes, Value, decode_into, last_id, moving, moving_into};
 use ctf_list::NoMemory;
 use std::alloc::Global;
 
@@ -13,8 +13,6 @@ use std::alloc::Global;
 struct Making {
     scopes: Scopes,
     value: Value,
-    /// What they are decoded into in the general way.
-    other: Value,
 }
 
 /// Puts a line for each header, which stands at the start of a packet of its own. Each is decoded into the value of the
@@ -23,7 +21,6 @@ pub fn put_row(row: &mut Row<'_>, class: &Class) {
     let making = Making {
         scopes: Scopes::new(),
         value: Value::Signed(1),
-        other: Value::Signed(1),
     };
     if let Ok(making) = Box::new(row.alloc, making) {
         let mut making = making;
@@ -45,24 +42,16 @@ fn put_header(row: &mut Row<'_>, class: &Class, header: &str, making: &mut Makin
     }
 }
 
-/// Puts what a header at a place says, or its fault, unless the general way says another thing.
+/// Puts what a header at a place says, or its fault.
 fn put_place(row: &mut Row<'_>, class: &Class, place: Place<'_>, making: &mut Making) {
     let Place {
         bytes,
         start,
         content,
     } = place;
-    let Making {
-        scopes,
-        value,
-        other,
-    } = making;
-    let found = decode_header_into(row.alloc, class, bytes, start, content, scopes, value);
-    let wanted = decode_into(row.alloc, class, bytes, start, content, scopes, other);
-    match found {
-        _ if found != wanted => row.put(b"another answer"),
+    let Making { scopes, value } = making;
+    match decode_into(row.alloc, class, bytes, start, content, scopes, value) {
         Err(fault) => put_fault(row, fault),
-        Ok(_) if *value != *other => row.put(b"another value"),
         Ok(reached) => {
             put_read(row, class, value);
             row.put_number(b", to ", reached.end as i128);
