@@ -1,4 +1,5 @@
-use Rattle.std.proofs.Common.{rules, ◌≡◌, ◌≤◌, ◌++◌, Ok, ap, subst, sym, ◌∙◌}
+use Rattle.std.proofs.Common.{rules, arith, ◌≡◌, ◌≤◌, ◌++◌, Ok, ap, subst, sym, ◌∙◌}
+use Rattle.std.proofs.lemmas.Grind.{common_steps}
 use Rattle.ctf_packet.specs.Classes.{trace_form}
 use Rattle.ctf_packet.specs.Packets.{open_at}
 use Rattle.ctf_packet.specs.Items.{from_packet, longest_stream}
@@ -26,3 +27,9 @@ returns-in-Ok-clause-fetches g c = λ tells.
     let at = c.in-Ok.ensures.at in
     let is = fetched trace ending cut.reached cut.at all c.open.new.buffer left opened at.some near kept found at.starts at.ends in
     is ∙ ap (λ v. from_packet (opened_of cut.shift v packet) c.open.new.buffer (behind_packet trace ending (opened_of cut.shift v packet) left)) (sym c.in-Ok.ensures.alone)
+
+pub returns-in-Ended-Failed-clause-fetches : goal.returns-in-Ended-Failed-clause-fetches
+returns-in-Ended-Failed-clause-fetches g c = grind (arith, common_steps)
+
+pub returns-in_err-fill-clause-last : goal.returns-in_err-fill-clause-last
+returns-in_err-fill-clause-last g c = grind (arith, common_steps)
