@@ -188,7 +188,8 @@ class Run:
     def __init__(self, crate, words, place, folder=".", **environment):
         self.crate, self.place, self.log, self.begun = crate, place, BUILD / "logs" / f"{crate}.log", time.monotonic()
         self.log.parent.mkdir(parents=True, exist_ok=True)
-        how = {"cwd": place / folder, "env": {**os.environ, **environment}, "start_new_session": True}
+        # A group of its own, so that only this run ends it; in one session, so that priorities count between runs.
+        how = {"cwd": place / folder, "env": {**os.environ, **environment}, "preexec_fn": os.setpgrp}
         with open(self.log, "w") as out:
             self.process = subprocess.Popen(words, stdin=subprocess.DEVNULL, stdout=out, stderr=out, **how)
 
