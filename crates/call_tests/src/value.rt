@@ -2,14 +2,16 @@
 //!
 //! Beside each table stand the metadata that declare its classes: `places` has rows of what is decoded, and `texts` rows of
 //! what is shown. A class is named as a member of the fields of the first event class, as `fields.N`, the fields of the event
-//! class of this id, or as `header.N`, the event header of the stream class of this id.
+//! class of this id, as `S.N`, those of an event class of another stream class, or as `header.N`, the event header of the
+//! stream class of this id.
 //!
 //! - `decode CLASS START..CONTENT BYTES SPENT` is a place of a packet, the end of its content, both in bits, and how many
 //!   values were begun before, where it is not 0. `into CLASS START..CONTENT BYTES` decodes into another value.
 //! - `front CLASS START..CONTENT BYTES` is a place of a beginning of a packet.
-//! - `standing CLASS START..CONTENT BYTES` is the text of the structure at a place, written out of the bits behind what stands
-//!   in a line and over what stood there, and `planned STREAM EVENT START..CONTENT BYTES` that of the scopes of an event record
-//!   by its plan. Behind it stands where it ends and how many values were begun up to there.
+//! - `standing CLASS START..CONTENT BYTES CONTEXT` is the text of the structure at a place, written out of the bits behind
+//!   what stands in a line and over what stood there, where the packet context has this value, if one is given, and
+//!   `planned STREAM EVENT START..CONTENT BYTES` that of the scopes of an event record by its plan. Behind it stands where it
+//!   ends and how many values were begun up to there.
 //! - `headers CLASS START..CONTENT BYTES, ..` is one header after the other, each decoded in the place of the one before,
 //!   as headers and in the general way.
 //! - `moving CLASS VALUE` is what the value of a header says.

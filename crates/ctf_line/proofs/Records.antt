@@ -13,13 +13,14 @@ use Rattle.ctf_line.specs.declared.header.ToldHead.{ToldHead}
 use Rattle.ctf_packet.specs.Classes.{Classes, stream_form, event_form}
 use Rattle.ctf_packet.specs.Packets.{unless}
 use Rattle.ctf_packet.specs.Records.{Headed, Body, Recorded, headed, bodied, record_at}
-use Rattle.ctf_packet.specs.Scopes.{◌>>=◌, Values, put}
+use Rattle.ctf_packet.specs.Scopes.{◌>>=◌, Values, put, value_in}
 use Rattle.ctf_packet.specs.Views.{values_of, packet_values, opened_of, recorded_of, PutsHead}
 use Rattle.ctf_packet.specs.declared.fault.StreamFault.{StreamFault}
 use Rattle.ctf_packet.specs.declared.fault.StreamFault.TheVariants as faults
 use Rattle.ctf_packet.specs.declared.packet.OpenPacket.{OpenPacket}
 use Rattle.ctf_packet.specs.declared.record.EventRecord.{EventRecord}
 use Rattle.ctf_packet.specs.declared.record.Head.{Head}
+use Rattle.ctf_text.specs.Around.{SharesPacket}
 
 module _ (shift : Shift) (o : OpenPacket) (old : Values) (bytes : List ℕ) (clock : Option Moment) (place : ℕ) where
   abbrev stands : Result (Recorded Classes) StreamFault
@@ -76,10 +77,10 @@ module _ (shift : Shift) (o : OpenPacket) (old : Values) (bytes part : List ℕ)
       in
       to_body g (Ok b) is ∙ ends ∙ shown ∙ ap (λ (x : EventRecord). Ok (recorded_of o.stream.now b.values x)) (sym same)
 
-  pub text_made : (text : List ℕ) (end : ℕ) (r : EventRecord) → Has_head → PutsBody o.stream.now head.event.now part bytes o.content head.end spent end text → place < end → r ≡ record { event = head.event; clock = head.clock; end = end }
+  pub text_made : (near : Known) (text : List ℕ) (end : ℕ) (r : EventRecord) → SharesPacket near (value_in known) → Has_head → PutsBody near o.stream.now head.event.now part bytes o.content head.end spent end text → place < end → r ≡ record { event = head.event; clock = head.clock; end = end }
       → (values : Values) × (there ≡ Ok (recorded_of o.stream.now values r)) × (packet_values values ≡ packet_values known) × (text ≡ values_text part o.stream.now r.event.now values)
-  text_made text end r g body further same =
-      let b = body known in
+  text_made near text end r shares g body further same =
+      let b = body known shares in
       let ending : r ≡ record { event = head.event; clock = head.clock; end = b.0.end } = same ∙ (λ i. record { event = head.event; clock = head.clock; end = b.2 i }) in
       let later : place < b.0.end = omega (arith, further, b.2) in
       (b.0.values, all g b.0 r b.1 later ending, b.3, b.4 ∙ ap (λ (x : EventRecord). values_text part o.stream.now x.event.now b.0.values) (sym same))
@@ -96,10 +97,11 @@ module _ (shift : Shift) (o : OpenPacket) (old : Values) (bytes part : List ℕ)
   fault_made after f g (inr (inr e)) = inr e
 
 -- the same where the header was told without its value
-pub text_told : (shift : Shift) (o : OpenPacket) (old : Values) (bytes part : List ℕ) (clock : Option Moment) (place : ℕ) (told : ToldHead) (text : List ℕ) (end : ℕ) (r : EventRecord)
-    → TellsHead o.stream.now (stream_form shift o.stream.now) bytes o.content clock place told → PutsBody o.stream.now told.head.event.now part bytes o.content told.head.end told.spent end text → place < end → r ≡ record { event = told.head.event; clock = told.head.clock; end = end }
-    → (values : Values) × (stands shift o old bytes clock place ≡ Ok (recorded_of o.stream.now values r)) × (packet_values values ≡ packet_values old) × (text ≡ values_text part o.stream.now r.event.now values)
-text_told shift o old bytes part clock place told text end r tells body further same =
+pub text_told : (shift : Shift) (o : OpenPacket) (near : Known) (bytes part : List ℕ) (clock : Option Moment) (place : ℕ) (told : ToldHead) (text : List ℕ) (end : ℕ) (r : EventRecord)
+    → TellsHead o.stream.now (stream_form shift o.stream.now) bytes o.content clock place told → PutsBody near o.stream.now told.head.event.now part bytes o.content told.head.end told.spent end text → place < end → r ≡ record { event = told.head.event; clock = told.head.clock; end = end }
+    → (values : Values) × (stands shift o (values_of near) bytes clock place ≡ Ok (recorded_of o.stream.now values r)) × (packet_values values ≡ packet_values (values_of near)) × (text ≡ values_text part o.stream.now r.event.now values)
+text_told shift o near bytes part clock place told text end r tells body further same =
+    let old = values_of near in
     let t = tells (packet_values old) in
     let values = put EventHeader t.0.header.value (packet_values old) in
-    text_made shift o old bytes part clock place told.head values told.spent text end r (t.0, t.1, t.2, t.3, t.4, t.5, refl) body further same
+    text_made shift o old bytes part clock place told.head values told.spent near text end r (refl, refl) (t.0, t.1, t.2, t.3, t.4, t.5, refl) body further same

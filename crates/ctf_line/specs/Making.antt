@@ -10,25 +10,27 @@ use Rattle.ctf_line.specs.Texts.{values_text}
 use Rattle.ctf_line.specs.declared.record.LineRecord.{LineRecord}
 use Rattle.ctf_packet.specs.Classes.{Classes}
 use Rattle.ctf_packet.specs.Records.{Body, Recorded, bodied}
-use Rattle.ctf_packet.specs.Scopes.{Values, Stood, scope_at, input_of, fault_in_record}
+use Rattle.ctf_packet.specs.Scopes.{Values, Stood, scope_at, input_of, value_in, fault_in_record}
 use Rattle.ctf_packet.specs.Views.{values_of, packet_values, recorded_of}
 use Rattle.ctf_packet.specs.declared.fault.StreamFault.{StreamFault}
 use Rattle.ctf_packet.specs.declared.fault.StreamFault.TheVariants as faults
 use Rattle.ctf_packet.specs.declared.record.EventRecord.{EventRecord}
 use Rattle.ctf_packet.specs.declared.record.Head.{Head}
+use Rattle.ctf_text.specs.Around.{SharesPacket}
 use Rattle.ctf_text.specs.Lines.{scope_texts}
 use Rattle.ctf_text.specs.declared.standing.Standing.{Standing}
 
--- whatever stands in the other scopes, this one's value stands from a place on, and its text and a comma follow a text
-abbrev pub PutsScope : Option Class → List ℕ → ℕ → Standing → List ℕ → Standing → List ℕ → Type 0
-PutsScope class bytes content from before to after =
-    (values : Values) → (s : Stood) × (scope_at fault_in_record (option_map form class) (input_of bytes content values) from.place from.spent ≡ Ok s)
+-- Whatever is in the scopes of the event record, with these values of the packet: this scope's value stands from a place
+-- on, and its text and a comma follow a text.
+abbrev pub PutsScope : Known → Option Class → List ℕ → ℕ → Standing → List ℕ → Standing → List ℕ → Type 0
+PutsScope known class bytes content from before to after =
+    (values : Values) → SharesPacket known (value_in values) → (s : Stood) × (scope_at fault_in_record (option_map form class) (input_of bytes content values) from.place from.spent ≡ Ok s)
     × (to.place ≡ s.end) × (to.spent ≡ s.spent) × (after ≡ before ++ flat_map (λ text. text ++ codes ", ") (scope_texts class s.value))
 
--- the scopes behind the header stand there, and the text is that of the event record
-abbrev pub PutsBody : StreamClass → EventClass → List ℕ → List ℕ → ℕ → ℕ → ℕ → ℕ → List ℕ → Type 0
-PutsBody stream event part bytes content place spent end text =
-    (values : Values) → (b : Body) × (bodied (option_map form stream.event_context) (option_map form event.context) (form event.fields) bytes content values place spent ≡ Ok b)
+-- the scopes behind the header stand there, with these values of the packet, and the text is that of the event record
+abbrev pub PutsBody : Known → StreamClass → EventClass → List ℕ → List ℕ → ℕ → ℕ → ℕ → ℕ → List ℕ → Type 0
+PutsBody known stream event part bytes content place spent end text =
+    (values : Values) → SharesPacket known (value_in values) → (b : Body) × (bodied (option_map form stream.event_context) (option_map form event.context) (form event.fields) bytes content values place spent ≡ Ok b)
     × (end ≡ b.end) × (packet_values b.values ≡ packet_values values) × (text ≡ values_text part stream event b.values)
 
 -- the event record that stands there has its values in the scopes, or its text in the line

@@ -17,7 +17,7 @@ use ctf_class::{Class, RecordPlan};
 use ctf_clock::Moment;
 use ctf_decode::{MOST_VALUES, Scopes};
 use ctf_packet::{EventRecord, Head, OpenPacket, Spares, StreamFault, next_head, put_body};
-use ctf_text::{Standing, put_comma, put_front, put_planned_record, put_standing};
+use ctf_text::{Content, Standing, put_comma, put_front, put_planned_record, put_standing};
 use std::alloc::Global;
 
 /// The longest buffer, in bytes, that is kept for the next text. So no trace makes a reader hold a long one for each of many
@@ -44,9 +44,9 @@ pub enum Attempt {
 }
 
 /// The event record at a place of a packet, in bits from its first one, where `bytes` are the packet's and its clock
-/// came so far (CTF 1.8.3, section 6), if it can be shown without its values. `part` is the text of the packet in the lines
-/// of its event records, and `short` what `short_header` gave for its stream class, or nothing. The text of the record stands
-/// at the front of `line` then: the host, the name and the scopes.
+/// came so far (CTF 1.8.3, section 6), if it can be shown without its values. The values of the packet's header and context
+/// are in `scopes`, `part` is the text of the packet in the lines of its event records, and `short` what `short_header` gave
+/// for its stream class, or nothing. The text of the record is at the front of `line` then: the host, the name and the scopes.
 ///
 /// By `short` and a plan of the record, which is fast; or `by_class`, for what can't be written so.
 ///
@@ -58,6 +58,7 @@ pub fn written_line<'a>(
     packet: &OpenPacket<'a>,
     part: &[u8],
     bytes: &[u8],
+    scopes: &Scopes,
     clock: Option<Moment>,
     place: u64,
     short: Option<&ShortHeader>,
@@ -69,23 +70,24 @@ pub fn written_line<'a>(
     requires content { packet.now.content ≤ 2 ^ 62 }
     requires held { packet.now.content ≤ 8 * length bytes.now }
     requires short { IsShortOf packet.now.stream.now (option_copied short) }
-    ensures makes { (shift : Shift) (known : Known) →
+    ensures makes { (shift : Shift) →
         packet.now.line ≡ (stream_form shift packet.now.stream.now).line →
         IfSome result (λ r.
         Made packet.now.stream.now
-        (record_at (opened_of shift (packet_values (values_of known)) packet.now) bytes.now clock
-        place) part.now known line.new.items r.record r.text) }
+        (record_at (opened_of shift (packet_values (values_of scopes.now)) packet.now) bytes.now
+        clock place) part.now scopes.now line.new.items r.record r.text) }
     ensures within { IfSome result (λ r. r.record.end ≤ packet.now.content) }
     ensures forward { IfSome result (λ r. place < r.record.end) }
     ensures text { IfSome result (λ r. IfSome r.text (λ end. end ≤ vec_len line.new)) }
 {
     keep_short(alloc, line);
     if by_class {
-        return written_by_class(packet, part, bytes, clock, place, line, attempt);
+        return written_by_class(packet, part, bytes, scopes, clock, place, line, attempt);
     }
     let planned = told_short(packet, short?, bytes, clock, place)?;
     let told = planned.told;
-    let standing = put_planned_body(packet, told, planned.plan, part, bytes, place, line)?;
+    let plan = planned.plan;
+    let standing = put_planned_body(packet, told, plan, part, bytes, scopes, place, line)?;
     Some(with_text(told.head, standing))
 }
 
@@ -95,6 +97,7 @@ fn written_by_class<'a>(
     packet: &OpenPacket<'a>,
     part: &[u8],
     bytes: &[u8],
+    scopes: &Scopes,
     clock: Option<Moment>,
     place: u64,
     line: &mut Vec<u8>,
@@ -103,12 +106,12 @@ fn written_by_class<'a>(
     requires start { place ≤ packet.now.content }
     requires content { packet.now.content ≤ 2 ^ 62 }
     requires held { packet.now.content ≤ 8 * length bytes.now }
-    ensures makes { (shift : Shift) (known : Known) →
+    ensures makes { (shift : Shift) →
         packet.now.line ≡ (stream_form shift packet.now.stream.now).line →
         IfSome result (λ r.
         Made packet.now.stream.now
-        (record_at (opened_of shift (packet_values (values_of known)) packet.now) bytes.now clock
-        place) part.now known line.new.items r.record r.text) }
+        (record_at (opened_of shift (packet_values (values_of scopes.now)) packet.now) bytes.now
+        clock place) part.now scopes.now line.new.items r.record r.text) }
     ensures within { IfSome result (λ r. r.record.end ≤ packet.now.content) }
     ensures forward { IfSome result (λ r. place < r.record.end) }
     ensures text { IfSome result (λ r. IfSome r.text (λ end. end ≤ vec_len line.new)) }
@@ -117,7 +120,8 @@ fn written_by_class<'a>(
     let planned = told_by_class(packet, bytes, clock, place)?;
     *attempt = Attempt::Unwritten;
     let head = planned.told.head;
-    let standing = put_planned_body(packet, planned.told, planned.plan, part, bytes, place, line)?;
+    let plan = planned.plan;
+    let standing = put_planned_body(packet, planned.told, plan, part, bytes, scopes, place, line)?;
     Some(with_text(head, standing))
 }
 
@@ -168,6 +172,7 @@ pub fn next_line<'a>(
                 planned.plan,
                 part,
                 bytes,
+                &*scopes,
                 place,
                 line,
             ) {
@@ -179,7 +184,10 @@ pub fn next_line<'a>(
     keep_short(alloc, line);
     let head = next_head(alloc, packet, bytes, clock, place, spares, scopes)?;
     if let Attempt::Untold = attempt {
-        if let Some(standing) = put_record(packet, head, part, bytes, scopes.spent(), place, line) {
+        let spent = scopes.spent();
+        if let Some(standing) = put_record(
+            packet, head, part, bytes, &*scopes, spent, place, line,
+        ) {
             return Ok(with_text(head, standing));
         }
     }
@@ -262,6 +270,7 @@ fn put_planned_body(
     plan: &RecordPlan,
     part: &[u8],
     bytes: &[u8],
+    scopes: &Scopes,
     place: u64,
     line: &mut Vec<u8>,
 ) -> Option<Standing>
@@ -272,8 +281,8 @@ fn put_planned_body(
     requires plan { IsPlanOf (scopes_of packet.now.stream.now.event_context
         told.head.event.now.context told.head.event.now.fields) plan.now }
     ensures puts { IfSome result
-        (λ s. PutsBody packet.now.stream.now told.entry.head.event.now part.now bytes.now
-        packet.now.content told.entry.head.end told.entry.spent s.place
+        (λ s. PutsBody scopes.now packet.now.stream.now told.entry.head.event.now part.now
+        bytes.now packet.now.content told.entry.head.end told.entry.spent s.place
         (take s.end line.new.items)) }
     ensures within { IfSome result (λ s. s.place ≤ packet.now.content) }
     ensures forward { IfSome result (λ s. place < s.place) }
@@ -282,7 +291,9 @@ fn put_planned_body(
     if let Some(all) = put_by_plan(packet, told, plan, part, bytes, place, line) {
         return Some(all);
     }
-    put_record(packet, told.head, part, bytes, told.spent, place, line)
+    put_record(
+        packet, told.head, part, bytes, scopes, told.spent, place, line,
+    )
 }
 
 /// Writes the text of the event record that begins at `place` at the front of a line, by the plan alone.
@@ -303,22 +314,30 @@ fn put_by_plan(
     requires plan { IsPlanOf (scopes_of packet.now.stream.now.event_context
         told.head.event.now.context told.head.event.now.fields) plan.now }
     ensures puts { IfSome result
-        (λ s. PutsBody packet.now.stream.now told.entry.head.event.now part.now bytes.now
-        packet.now.content told.entry.head.end told.entry.spent s.place
+        (λ s. (known : Known) → PutsBody known packet.now.stream.now told.entry.head.event.now
+        part.now bytes.now packet.now.content told.entry.head.end told.entry.spent s.place
         (take s.end line.new.items)) }
     ensures within { IfSome result (λ s. s.place ≤ packet.now.content) }
     ensures forward { IfSome result (λ s. place < s.place) }
     ensures held { IfSome result (λ s. s.end ≤ vec_len line.new) }
 {
     let head = told.head;
-    let content = packet.content;
+    let content = Content {
+        bytes,
+        end: packet.content,
+    };
     if plan.runs.is_empty() {
         return None;
     }
     let Ok(front) = put_front(&head.event.heading, part, line, 0) else {
         return None;
     };
-    let all = put_planned_record(plan, bytes, content, head.end, told.spent, line, front)?;
+    let from = Standing {
+        place: head.end,
+        spent: told.spent,
+        end: front,
+    };
+    let all = put_planned_record(plan, &content, from, line)?;
     if all.place <= place {
         return None;
     }
@@ -334,6 +353,7 @@ fn put_record(
     head: Head<'_>,
     part: &[u8],
     bytes: &[u8],
+    scopes: &Scopes,
     spent: u64,
     place: u64,
     line: &mut Vec<u8>,
@@ -343,14 +363,17 @@ fn put_record(
     requires held { packet.now.content ≤ 8 * length bytes.now }
     requires few { spent ≤ MOST_VALUES }
     ensures puts { IfSome result
-        (λ s. PutsBody packet.now.stream.now head.entry.event.now part.now bytes.now
+        (λ s. PutsBody scopes.now packet.now.stream.now head.entry.event.now part.now bytes.now
         packet.now.content head.entry.end spent s.place (take s.end line.new.items)) }
     ensures within { IfSome result (λ s. s.place ≤ packet.now.content) }
     ensures forward { IfSome result (λ s. place < s.place) }
     ensures held { IfSome result (λ s. s.end ≤ vec_len line.new) }
 {
     let event = head.event;
-    let content = packet.content;
+    let content = Content {
+        bytes,
+        end: packet.content,
+    };
     let Ok(front) = put_front(&event.heading, part, line, 0) else {
         return None;
     };
@@ -360,43 +383,38 @@ fn put_record(
         end: front,
     };
     let context = packet.stream.event_context();
-    let shared = put_scope(context, bytes, content, from, line)?;
-    let own = put_scope(event.context.as_ref(), bytes, content, shared, line)?;
-    let fields = &event.fields;
-    let all = put_standing(fields, bytes, content, own.place, own.spent, line, own.end)?;
+    let shared = put_scope(context, &content, scopes, from, line)?;
+    let own = put_scope(event.context.as_ref(), &content, scopes, shared, line)?;
+    let all = put_standing(&event.fields, &content, scopes, own, line)?;
     if all.place <= place {
         return None;
     }
     Some(all)
 }
 
-/// Writes the text of a scope, if it has a class, and a comma behind it.
+/// Writes the text of a scope, if it has a class, and a comma after it.
 #[inline(always)]
 fn put_scope(
     class: Option<&Class>,
-    bytes: &[u8],
-    content: u64,
+    content: &Content<'_>,
+    scopes: &Scopes,
     from: Standing,
     line: &mut Vec<u8>,
 ) -> Option<Standing>
-    requires content { content ≤ 2 ^ 62 }
-    requires held { content ≤ 8 * length bytes.now }
-    requires start { from.place ≤ content }
+    requires start { from.place ≤ content.now.end }
     requires few { from.spent ≤ MOST_VALUES }
     requires index { from.end ≤ vec_len line.old }
     ensures puts { IfSome result
-        (λ to. PutsScope (option_copied class.entry) bytes.now content from
-        (take from.end line.old.items) to (take to.end line.new.items)) }
-    ensures within { IfSome result (λ to. to.place ≤ content) }
+        (λ to. PutsScope scopes.now (option_copied class.entry) content.now.bytes.now
+        content.now.end from (take from.end line.old.items) to (take to.end line.new.items)) }
+    ensures within { IfSome result (λ to. to.place ≤ content.now.end) }
     ensures few { IfSome result (λ to. to.spent ≤ MOST_VALUES) }
     ensures held { IfSome result (λ to. to.end ≤ vec_len line.new) }
 {
     let Some(class) = class else {
         return Some(from);
     };
-    let to = put_standing(
-        class, bytes, content, from.place, from.spent, line, from.end,
-    )?;
+    let to = put_standing(class, content, scopes, from, line)?;
     let Ok(end) = put_comma(line, to.end) else {
         return None;
     };

@@ -119,6 +119,7 @@ impl<'a> Course<'a> {
         packet.next_written(
             alloc,
             self.buffer.as_slice(),
+            &self.scopes,
             self.writes,
             self.part.as_slice(),
             by_class,

@@ -1,7 +1,6 @@
 //! The packet at hand.
 
 ghost use Rattle.std.specs.Prelude.{◌≡◌, ◌<◌, ◌≤◌, ◌*◌, ◌^◌, Option, Some, Ok, OnOk, IfOk, IfSome, IfNone, IsTrue, length};
-ghost use Rattle.ctf_decode.specs.Known.{Known};
 ghost use Rattle.ctf_clock.specs.declared.moment.Moment.{Moment};
 ghost use Rattle.ctf_clock.specs.declared.moment.Shift.{Shift};
 ghost use Rattle.ctf_line.specs.Making.{Makes};
@@ -61,8 +60,8 @@ pub(crate) struct WrittenRecord<'a> {
 
 impl<'a> Packet<'a> {
     /// The next item, if `writes` asks for texts, and it is an event record that can be shown without its values: its text
-    /// stands at the front of `line` then. `part` is the text that the lines of the packet share. Mostly that is the next item,
-    /// so it stands apart from `next`.
+    /// is at the front of `line` then. `scopes` has the values of the packet, and `part` is the text that the lines of the packet
+    /// share. Mostly that is the next item, so it is apart from `next`.
     ///
     /// `None` elsewhere: the packet is as it was then, the line is any line, and `attempt` tells `next` what was tried.
     #[inline(always)]
@@ -70,6 +69,7 @@ impl<'a> Packet<'a> {
         &mut self,
         alloc: Global,
         bytes: &[u8],
+        scopes: &Scopes,
         writes: bool,
         part: &[u8],
         by_class: bool,
@@ -78,14 +78,14 @@ impl<'a> Packet<'a> {
     ) -> Option<Front<'a>>
         requires within { Within bytes.now self.old }
         requires looked { IsShortOf self.old.opened.stream.now self.old.short }
-        ensures takes { (shift : Shift) (known : Known) (follows : Option Moment → Run Classes) →
+        ensures takes { (shift : Shift) (follows : Option Moment → Run Classes) →
             self.old.opened.line ≡ (stream_form shift self.old.opened.stream.now).line →
             IfSome result (λ front.
-            TakesItem shift follows (left_in shift known bytes.now follows self.old) self.new known
-            bytes.now (Ok (Some front))) }
-        ensures written { (shift : Shift) (known : Known) →
+            TakesItem shift follows (left_in shift scopes.now bytes.now follows self.old) self.new
+            scopes.now bytes.now (Ok (Some front))) }
+        ensures written { (shift : Shift) →
             self.old.opened.line ≡ (stream_form shift self.old.opened.stream.now).line →
-            IfSome result (HoldsFront writes shift known bytes.now part.now line.new.items
+            IfSome result (HoldsFront writes shift scopes.now bytes.now part.now line.new.items
             self.new) }
         ensures room { IfSome result (λ _. room_in self.new < room_in self.old) }
         ensures opened { self.new.opened ≡ self.old.opened }
@@ -106,6 +106,7 @@ impl<'a> Packet<'a> {
             &self.opened,
             part,
             bytes,
+            scopes,
             before,
             begin,
             self.short.as_ref(),

@@ -1,6 +1,6 @@
 -- Arrays that are shown where they stand, one element more at a time.
 use Rattle.std.proofs.Common.{◌≡◌, ℕ, suc, ◌+◌, ◌-◌, ◌<◌, ◌≤◌, cond, List, [], ◌∷◌, ◌++◌, length, take, Option, Some, None, IfSome, Ok, Err, rules, refl, sym, ap, subst, ◌∙◌, arith, append_assoc, append-nil, length-append}
-use Rattle.std.specs.Prelude.{ℤ, slice_get, option_and_then}
+use Rattle.std.specs.Prelude.{slice_get}
 use Rattle.std.specs.Int.{next_multiple_of}
 use Rattle.std.proofs.lemmas.Bool.{le-ltb}
 use Rattle.ctf_class.specs.declared.class.Class as class
@@ -13,15 +13,14 @@ use Rattle.ctf_class.specs.declared.route.Length.{Length}
 use Rattle.ctf_class.specs.declared.route.Length.TheVariants.{Field}
 use Rattle.ctf_class.specs.declared.route.Route.{Route}
 use Rattle.ctf_class.specs.declared.route.Scope.{Scope}
-use Rattle.ctf_class.specs.declared.span.Choice.{Choice}
 use Rattle.ctf_class.specs.Names.{field_text}
 use Rattle.ctf_decode.specs.Breaks.{past}
 use Rattle.ctf_decode.specs.Fields.{elements_in}
 use Rattle.ctf_decode.specs.Forms as forms
 use Rattle.ctf_decode.specs.Forms.{Form, integer}
 use Rattle.ctf_decode.specs.Input.{Env}
-use Rattle.ctf_decode.specs.Routes.{found, number_of, tag_of, chosen}
-use Rattle.ctf_decode.specs.Values.{Val, vals_of, unsigned, label, list}
+use Rattle.ctf_decode.specs.Routes.{found, number_of}
+use Rattle.ctf_decode.specs.Values.{Val, vals_of, unsigned, list}
 use Rattle.ctf_decode.specs.Views.{form, shape}
 use Rattle.ctf_decode.specs.Walk.{and_then, begin, open_at, as_list, repeat, walk}
 use Rattle.ctf_decode.specs.declared.scopes.TheConstants.{MOST_VALUES}
@@ -29,9 +28,8 @@ use Rattle.ctf_decode.proofs.Steps.{row_ok}
 use Rattle.ctf_decode.proofs.Views.{shape-Array}
 use Rattle.ctf_text.specs.Rows.{row, enclosed}
 use Rattle.ctf_class.specs.Records.{LeadsBefore}
-use Rattle.ctf_text.specs.Standing.{among, LastIs, mark_at, PutsOne, PutsNext, PutsElements, Counts, Chooses, elements_text}
+use Rattle.ctf_text.specs.Standing.{Before, among, LastIs, mark_at, PutsOne, PutsNext, PutsElements, Counts, elements_text}
 use Rattle.ctf_text.specs.Texts.{Shown, Part, value_text, kind_text, part_text, member_part, element_text, element_texts, integer_text}
-use Rattle.ctf_text.specs.declared.standing.Before.{Before}
 use Rattle.ctf_text.specs.declared.standing.Last.TheVariants as lasts
 use Rattle.ctf_text.specs.declared.standing.Next.{Next}
 use Rattle.ctf_text.proofs.StandingLemmas.{begins, form-is, value-is, member-is, form_integer, text_integer, last_of, row_more}
@@ -50,12 +48,6 @@ pub counts_last : (route : Route) (before : Before) (n : ℕ) → LeadsBefore ro
 counts_last route before n leads is earlier env vs counted last =
     let at_end = subst (λ l. LastIs l vs) is last in
     ap number_of (found_last route before.index vs at_end.0 (unsigned n) earlier env leads counted at_end.1)
-
--- a tag that is the member before
-pub chooses_last : (tag : Route) (choices : List Choice) (before : Before) (z : ℤ) (i : ℕ) → LeadsBefore tag before.index → before.last ≡ lasts.Label z → chosen choices z ≡ Some i → Chooses tag choices before i
-chooses_last tag choices before z i leads is chooses earlier env vs counted last =
-    let at_end = subst (λ l. LastIs l vs) is last in
-    ap (λ o. option_and_then (chosen choices) (tag_of o)) (found_last tag before.index vs at_end.0 (label z) earlier env leads counted at_end.1) ∙ chooses
 
 pub elements_snoc : (shown : Shown) (k : ℕ) (vs : List Val) (v : Val) → element_texts shown k (vals_of (vs ++ v ∷ [])) ≡ element_texts shown k (vals_of vs) ++ element_text shown (k + length vs) v ∷ []
 elements_snoc shown k [] v = let n : k ≡ k + 0 = omega arith in ap (λ i. element_text shown i v ∷ []) n

@@ -1,5 +1,5 @@
 -- Values of any class are shown where they stand.
-use Rattle.std.proofs.Common.{◌≡◌, ℕ, ℤ, ◌+◌, ◌-◌, ◌*◌, ◌<◌, ◌≤◌, Bool, true, false, cond, List, [], ◌∷◌, ◌++◌, map, length, take, get_or, Option, Some, None, IfSome, Ok, Err, pos, codes, refl, sym, ap, subst, ◌∙◌, arith, rules, append_assoc, append-nil, length-append}
+use Rattle.std.proofs.Common.{◌≡◌, ℕ, ℤ, ◌+◌, ◌-◌, ◌*◌, ◌<◌, ◌≤◌, Bool, true, false, cond, List, [], ◌∷◌, ◌++◌, map, length, take, get_or, Option, Some, None, Ok, Err, pos, codes, refl, sym, ap, subst, ◌∙◌, arith, rules, append_assoc, append-nil, length-append}
 use Rattle.std.specs.Fmt.{decimal}
 use Rattle.std.specs.Int.{next_multiple_of}
 use Rattle.std.proofs.lemmas.Bool.{le-ltb}
@@ -10,19 +10,18 @@ use Rattle.ctf_class.specs.declared.class.Kind as kind
 use Rattle.ctf_class.specs.declared.class.Member.{Member}
 use Rattle.ctf_class.specs.declared.integer.Integer.{Integer}
 use Rattle.ctf_class.specs.declared.route.Length.{Length}
-use Rattle.ctf_class.specs.declared.route.Length.TheVariants.{Fixed, Field}
+use Rattle.ctf_class.specs.declared.route.Length.TheVariants.{Fixed}
 use Rattle.ctf_class.specs.declared.route.Route.{Route}
 use Rattle.ctf_class.specs.declared.route.Scope.{Scope}
 use Rattle.ctf_class.specs.declared.span.Choice.{Choice}
 use Rattle.ctf_class.specs.declared.span.Label.{Label}
 use Rattle.ctf_class.specs.Names.{field_text}
-use Rattle.ctf_class.specs.Records.{LeadsBefore}
 use Rattle.ctf_decode.specs.Breaks.{past}
 use Rattle.ctf_decode.specs.Fields.{choice_in}
 use Rattle.ctf_decode.specs.Forms as forms
 use Rattle.ctf_decode.specs.Forms.{Form, parts_of}
 use Rattle.ctf_decode.specs.Input.{Input, Env, bits_of}
-use Rattle.ctf_decode.specs.Routes.{option_at, chosen, length_of}
+use Rattle.ctf_decode.specs.Routes.{option_at, length_of}
 use Rattle.ctf_decode.specs.Stands.{text_in}
 use Rattle.ctf_decode.specs.Values.{Val, vals_of, label, list, group, choice}
 use Rattle.ctf_decode.specs.Views as views
@@ -34,16 +33,17 @@ use Rattle.ctf_decode.proofs.Steps.{row_ok, choice_ok}
 use Rattle.ctf_decode.proofs.Views.{shape-Array, shape-Enumeration, shape-Variant}
 use Rattle.ctf_text.specs.Labels.{labelled_text}
 use Rattle.ctf_text.specs.Rows.{row, enclosed}
-use Rattle.ctf_text.specs.Standing.{among, ValueIs, LastIs, known_of, mark_at, PutsOne, PutsNext, PutsMembers, PutsItems, StandsAsNumber, Counts, Chooses, Writes, structure_text, array_text}
+use Rattle.ctf_text.specs.Around.{ChoosesIn, CountsIn, PutsIn, PutsItems, PutsMembers, Sees, WritesIn}
+use Rattle.ctf_text.specs.Standing.{Before, among, ValueIs, known_of, mark_at, PutsOne, PutsNext, StandsAsNumber, Counts, Writes, structure_text, array_text}
+use Rattle.ctf_text.specs.declared.around.Seen.{Seen}
 use Rattle.ctf_text.specs.Texts.{Shown, Part, value_text, kind_text, part_text, member_part, element_text, element_texts, integer_text, enumeration_text, string_text, chosen_text}
-use Rattle.ctf_text.specs.declared.standing.Before.{Before}
 use Rattle.ctf_text.specs.declared.content.Content.{Content}
 use Rattle.ctf_text.specs.declared.standing.Ends.{Ends}
 use Rattle.ctf_text.specs.declared.standing.Last.{Last}
 use Rattle.ctf_text.specs.declared.standing.Last.TheVariants as lasts
 use Rattle.ctf_text.specs.declared.standing.MembersEnd.{MembersEnd}
 use Rattle.ctf_text.specs.declared.standing.Next.{Next}
-use Rattle.ctf_text.proofs.ArrayLemmas.{counts_last, chooses_last, elements_snoc, elements_length}
+use Rattle.ctf_text.proofs.ArrayLemmas.{elements_snoc, elements_length}
 use Rattle.ctf_text.proofs.PartsLemmas.{closed_option}
 use Rattle.ctf_text.proofs.StandingLemmas.{begins, leaf_stands, form-is, value-is, member-is, row_more, puts_next, known_next}
 
@@ -80,11 +80,15 @@ module _ (c : Class) where
 pub writes_as : (r : Option Next) (before : Before) (k l : Form) (shown told : Shown) (packet : Content) (place : ℕ) (line items : List ℕ) → k ≡ l → shown ≡ told → Writes r before k shown packet place line items → Writes r before l told packet place line items
 writes_as r before k l shown told packet place line items forms_are texts_are writes = subst (λ t. Writes r before l t packet place line items) texts_are (subst (λ f. Writes r before f shown packet place line items) forms_are writes)
 
+-- A value that was written among what is seen around it is that of the class that it is of.
+pub writes_in_as : (r : Option Next) (seen : Seen) (k l : Form) (shown told : Shown) (packet : Content) (place : ℕ) (line items : List ℕ) → k ≡ l → shown ≡ told → WritesIn r seen k shown packet place line items → WritesIn r seen l told packet place line items
+writes_in_as r seen k l shown told packet place line items forms_are texts_are writes = subst (λ t. WritesIn r seen l t packet place line items) texts_are (subst (λ f. WritesIn r seen f shown packet place line items) forms_are writes)
+
 -- and it stands behind what is printed before it
-pub writes_behind : (r : Option Next) (before : Before) (k : Form) (shown told : Shown) (packet : Content) (place : ℕ) (from line items lead : List ℕ) → line ≡ from ++ lead → ((v : Val) → told v ≡ lead ++ shown v) → Writes r before k shown packet place line items → Writes r before k told packet place from items
-writes_behind None before k shown told packet place from line items lead wrote is writes = tt
-writes_behind (Some n) before k shown told packet place from line items lead wrote is writes = λ spent room earlier env vs counted last.
-    let p = writes spent room earlier env vs counted last in
+pub writes_behind : (r : Option Next) (seen : Seen) (k : Form) (shown told : Shown) (packet : Content) (place : ℕ) (from line items lead : List ℕ) → line ≡ from ++ lead → ((v : Val) → told v ≡ lead ++ shown v) → WritesIn r seen k shown packet place line items → WritesIn r seen k told packet place from items
+writes_behind None seen k shown told packet place from line items lead wrote is writes = tt
+writes_behind (Some n) seen k shown told packet place from line items lead wrote is writes = λ spent room earlier env sees.
+    let p = writes spent room earlier env sees in
     (p.0, p.1, p.2 ∙ ap (λ xs. xs ++ shown p.0) wrote ∙ append_assoc from lead (shown p.0) ∙ ap (λ xs. from ++ xs) (sym (is p.0)), p.3)
 
 -- a member behind its mark and its name
@@ -100,15 +104,6 @@ pub forget : (before : Before) (k : Form) (shown : Shown) (packet : List ℕ) (c
 forget before k shown packet content place line n after puts spent room earlier env vs counted last =
     let p = puts spent room earlier env vs counted last in
     (p.0, p.1, p.2, tt)
-
--- lengths and tags that are the member before, if they are known
-pub counts_some : (o : Option ℕ) (route : Route) (before : Before) → LeadsBefore route before.index → IfSome o (λ n. before.last ≡ lasts.Unsigned n) → IfSome o (Counts (Field route) before)
-counts_some None route before leads is = tt
-counts_some (Some n) route before leads is = counts_last route before n leads is
-
-pub chooses_some : (r : Option ℕ) (z : ℤ) (tag : Route) (choices : List Choice) (before : Before) → r ≡ chosen choices z → LeadsBefore tag before.index → before.last ≡ lasts.Label z → IfSome r (Chooses tag choices before)
-chooses_some None z tag choices before chooses leads is = tt
-chooses_some (Some i) z tag choices before chooses leads is = chooses_last tag choices before z i leads is (sym chooses)
 
 -- one value alone, of which nothing is known
 pub writes_one : (before : Before) (k : Form) (shown : Shown) (packet : Content) (ends : Ends) (line items : List ℕ) (place : ℕ) → PutsOne k shown packet.bytes.now packet.end place ends.place line (take ends.text items)
@@ -144,6 +139,9 @@ writes_label before a i ls packet place end text z last line items ending within
     (label z, ap (λ n. begin c spent (leaf c e spent (label n))) read ∙ leaf_stands c e spent (label z) (omega (arith, room)) (subst (λ n. n ≤ packet.end) ending within) ∙ (λ j. Ok (label z, sym ending j, none j)), wrote, is)
 
 -- a text whose length is known
+pub counted_text : (a : ℕ) (many : Length) (n : ℕ) (c : Input) (e : Env) (p s : ℕ) → length_of many c.earlier e ≡ n → walk (forms.text a many) c e p s ≡ walk (forms.text a (Fixed n)) c e p s
+counted_text a many n c e p s is = let b = next_multiple_of p 8 in ap (λ m. begin c s (leaf c (b + 8 * m) s (text_in c b m))) is
+
 pub writes_text : (before : Before) (a : ℕ) (many : Length) (n : ℕ) (packet : Content) (place : ℕ) (ends : Ends) (line items : List ℕ) → Counts many before n
     → ((b : ℕ) → PutsOne (forms.text b (Fixed n)) string_text packet.bytes.now packet.end place ends.place line (take ends.text items))
     → Writes (Some (record { place = ends.place; text = ends.text; more = 0; last = lasts.Unknown })) before (forms.text a many) string_text packet place line items
@@ -152,65 +150,60 @@ writes_text before a many n packet place ends line items counts puts spent room 
     let e = vs ∷ env in
     let p = writes_one before (forms.text a (Fixed n)) string_text packet ends line items place (puts a) spent room earlier env vs counted last in
     let b = next_multiple_of place 8 in
-    let same : walk (forms.text a many) c e place spent ≡ walk (forms.text a (Fixed n)) c e place spent = counted_text c e place spent (counts earlier env vs counted last) in
+    let same : walk (forms.text a many) c e place spent ≡ walk (forms.text a (Fixed n)) c e place spent = counted_text a many n c e place spent (counts earlier env vs counted last) in
     (p.0, same ∙ p.1, p.2, p.3)
-  where
-    counted_text : (c : Input) (e : Env) (p s : ℕ) → length_of many c.earlier e ≡ n → walk (forms.text a many) c e p s ≡ walk (forms.text a (Fixed n)) c e p s
-    counted_text c e p s is = (let b = next_multiple_of p 8 in ap (λ m. begin c s (leaf c (b + 8 * m) s (text_in c b m))) is)
 
 -- a structure
-pub writes_structure : (before : Before) (a : ℕ) (ms : List Member) (packet : Content) (place start more : ℕ) (end : MembersEnd) (line items : List ℕ) → start ≡ next_multiple_of place a → start ≤ packet.end → more ≡ length ms + end.more
-    → PutsMembers (enclosed 123 125) ms packet.bytes.now packet.end start line end (take end.text items)
-    → Writes (Some (record { place = end.place; text = end.text; more = more; last = lasts.Unknown })) before (forms.structure a (parts_of (map views.member_part ms))) (structure_text ms) packet place line items
-writes_structure before a ms packet place start more end line items starts within counted puts spent room earlier env vs known last =
+pub writes_structure : (seen : Seen) (Where : (Scope → Option Val) → Env → Type 0) (a : ℕ) (ms : List Member) (packet : Content) (place start more : ℕ) (end : MembersEnd) (line items : List ℕ) → start ≡ next_multiple_of place a → start ≤ packet.end → more ≡ length ms + end.more
+    → ((earlier : Scope → Option Val) (env : Env) → Sees seen earlier env → Where earlier env) → PutsMembers (enclosed 123 125) Where ms packet.bytes.now packet.end start line end (take end.text items)
+    → WritesIn (Some (record { place = end.place; text = end.text; more = more; last = lasts.Unknown })) seen (forms.structure a (parts_of (map views.member_part ms))) (structure_text ms) packet place line items
+writes_structure seen Where a ms packet place start more end line items starts within counted sees_where puts spent room earlier env sees =
     let c = among packet.bytes.now packet.end earlier in
-    let e = vs ∷ env in
-    let p = puts (spent + 1) (omega (arith, counted, room)) earlier e in
+    let p = puts (spent + 1) (omega (arith, counted, room)) earlier env (sees_where earlier env sees) in
     let parts = parts_of (map views.member_part ms) in
-    let rest = λ (b : ℕ). and_then (walk_members parts c e [] b (spent + 1)) as_group in
+    let rest = λ (b : ℕ). and_then (walk_members parts c env [] b (spent + 1)) as_group in
     let opened : open_at c start (rest start) ≡ rest start = ap (λ b. cond b (Err (past start)) (rest start)) (le-ltb packet.end start within) in
     let total : spent + 1 + length ms + end.more ≡ spent + 1 + more = omega (arith, counted) in
     let walked = ap (λ b. begin c spent (open_at c b (rest b))) (sym starts) ∙ begins c spent (open_at c start (rest start)) (omega (arith, room)) ∙ opened ∙ ap (λ r. and_then r as_group) p.1 ∙ ap (λ n. Ok (group (vals_of p.0), end.place, n)) total in
     (group (vals_of p.0), walked, p.3, tt)
 
 -- an option of a variant
-pub writes_option : (before : Before) (a : ℕ) (tag : Route) (choices : List Choice) (ms : List Member) (i : ℕ) (m : Member) (packet : Content) (place more text : ℕ) (next : Next) (line inner items : List ℕ) → i < length ms → m ≡ get_or ms i m → Chooses tag choices before i → more ≡ 1 + next.more
-    → PutsNext before (form m.class) (λ v. 123 ∷ 32 ∷ part_text (member_part m) v) packet.bytes.now packet.end place line next inner → take text items ≡ inner ++ (32 ∷ 125 ∷ [])
-    → Writes (Some (record { place = next.place; text = text; more = more; last = lasts.Unknown })) before (forms.variant a tag choices (parts_of (map views.member_part ms))) (λ v. chosen_text (map member_part ms) (choice_in v)) packet place line items
-writes_option before a tag choices ms i m packet place more text next line inner items within is chooses counted puts closes spent room earlier env vs known last =
+pub writes_option : (seen : Seen) (a : ℕ) (tag : Route) (choices : List Choice) (ms : List Member) (i : ℕ) (m : Member) (packet : Content) (place more text : ℕ) (next : Next) (line inner items : List ℕ) → i < length ms → m ≡ get_or ms i m → ChoosesIn seen tag choices i → more ≡ 1 + next.more
+    → PutsIn seen (form m.class) (λ v. 123 ∷ 32 ∷ part_text (member_part m) v) packet.bytes.now packet.end place line next inner → take text items ≡ inner ++ (32 ∷ 125 ∷ [])
+    → WritesIn (Some (record { place = next.place; text = text; more = more; last = lasts.Unknown })) seen (forms.variant a tag choices (parts_of (map views.member_part ms))) (λ v. chosen_text (map member_part ms) (choice_in v)) packet place line items
+writes_option seen a tag choices ms i m packet place more text next line inner items within is chooses counted puts closes spent room earlier env sees =
     let c = among packet.bytes.now packet.end earlier in
-    let e = vs ∷ env in
-    let p = puts (spent + 1) (omega (arith, counted, room)) earlier env vs known last in
+    let p = puts (spent + 1) (omega (arith, counted, room)) earlier env sees in
     let parts = parts_of (map views.member_part ms) in
-    let rest = λ (k : ℕ). and_then (walk_option parts k c e place (spent + 1)) (as_choice k) in
+    let rest = λ (k : ℕ). and_then (walk_option parts k c env place (spent + 1)) (as_choice k) in
     let total : spent + 1 + 1 + next.more ≡ spent + 1 + more = omega (arith, counted) in
-    let walked = begins c spent (with_option (option_at tag choices earlier e) rest) (omega (arith, room)) ∙ ap (λ o. with_option o rest) (chooses earlier env vs known last) ∙ choice_ok c e ms i m within is place (spent + 1) p.0 next.place (spent + 1 + 1 + next.more) p.1 ∙ ap (λ n. Ok (choice i p.0, next.place, n)) total in
+    let walked = begins c spent (with_option (option_at tag choices earlier env) rest) (omega (arith, room)) ∙ ap (λ o. with_option o rest) (chooses earlier env sees) ∙ choice_ok c env ms i m within is place (spent + 1) p.0 next.place (spent + 1 + 1 + next.more) p.1 ∙ ap (λ n. Ok (choice i p.0, next.place, n)) total in
     (choice i p.0, walked, closes ∙ closed_option ms i m p.0 inner line within is p.2, tt)
 
 -- As many elements as an index tells were written, with so many values in them, and the others stand behind them: so the loop
 -- over elements goes.
-abbrev pub Going : Before → Form → Shown → ℕ → Content → ℕ → ℕ → ℕ → ℕ → List ℕ → List ℕ → Type 0
-Going before k shown count packet place i at more line now =
-    (spent : ℕ) → spent + count + more ≤ MOST_VALUES → (earlier : Scope → Option Val) (env : Env) (vs : List Val) → length vs ≡ before.index → LastIs before.last vs
+abbrev pub Going : Seen → Form → Shown → ℕ → Content → ℕ → ℕ → ℕ → ℕ → List ℕ → List ℕ → Type 0
+Going seen k shown count packet place i at more line now =
+    (spent : ℕ) → spent + count + more ≤ MOST_VALUES → (earlier : Scope → Option Val) (env : Env) → Sees seen earlier env
     → (ws : List Val)
-    × (repeat (walk k (among packet.bytes.now packet.end earlier) (vs ∷ env)) (count - i) ws at (spent + i + more) ≡ repeat (walk k (among packet.bytes.now packet.end earlier) (vs ∷ env)) count [] place spent)
+    × (repeat (walk k (among packet.bytes.now packet.end earlier) env) (count - i) ws at (spent + i + more) ≡ repeat (walk k (among packet.bytes.now packet.end earlier) env) count [] place spent)
     × (length ws ≡ i) × (now ≡ line ++ row 91 (element_texts shown 0 (vals_of ws)))
 
-module _ (before : Before) (k : Form) (shown : Shown) (count : ℕ) (packet : Content) (place : ℕ) (line : List ℕ) where
-  pub going_begins : Going before k shown count packet place 0 place 0 line line
-  going_begins spent room earlier env vs counted last =
+module _ (seen : Seen) (k : Form) (shown : Shown) (count : ℕ) (packet : Content) (place : ℕ) (line : List ℕ) where
+  pub going_begins : Going seen k shown count packet place 0 place 0 line line
+  going_begins spent room earlier env sees =
       let s : spent + 0 + 0 ≡ spent = omega arith in
       let all : count - 0 ≡ count = omega arith in
-      ([], (λ j. repeat (walk k (among packet.bytes.now packet.end earlier) (vs ∷ env)) (all j) [] place (s j)), refl, sym (append-nil line))
+      ([], (λ j. repeat (walk k (among packet.bytes.now packet.end earlier) env) (all j) [] place (s j)), refl, sym (append-nil line))
 
-  pub going_on : (i at more lead : ℕ) (now : List ℕ) (next : Next) (after : List ℕ) → i < count → lead ≡ mark_at 91 i → Going before k shown count packet place i at more line now
-      → PutsNext before k (λ v. lead ∷ 32 ∷ element_text shown i v) packet.bytes.now packet.end at now next after → Going before k shown count packet place (i + 1) next.place (more + next.more) line after
-  going_on i at more lead now next after within marked going puts spent room earlier env vs counted last =
+  pub going_on : (i at more lead : ℕ) (now : List ℕ) (next : Next) (after : List ℕ) → i < count → lead ≡ mark_at 91 i → Going seen k shown count packet place i at more line now
+      → PutsIn seen k (λ v. lead ∷ 32 ∷ element_text shown i v) packet.bytes.now packet.end at now next after → Going seen k shown count packet place (i + 1) next.place (more + next.more) line after
+  going_on i at more lead now next after within marked going puts spent room earlier env sees =
       let c = among packet.bytes.now packet.end earlier in
-      let f = walk k c (vs ∷ env) in
-      let g = going spent (omega (arith, room)) earlier env vs counted last in
+      let f = walk k c env in
+      let g = going spent (omega (arith, room)) earlier env sees in
       let ws = g.0 in
-      let p = puts (spent + i + more) (omega (arith, room, within)) earlier env vs counted last in
+      let p = puts (spent + i + more) (omega (arith, room, within)) earlier env sees in
       let total : spent + (i + 1) + (more + next.more) ≡ spent + i + more + 1 + next.more = omega arith in
       let walked = ap (repeat f (count - (i + 1)) (ws ++ p.0 ∷ []) next.place) total ∙ row_ok f count i within ws at (spent + i + more) p.0 next.place (spent + i + more + 1 + next.more) (ws ++ p.0 ∷ []) refl p.1 ∙ g.1 in
       let longer : length (ws ++ p.0 ∷ []) ≡ i + 1 = length-append ws (p.0 ∷ []) ∙ ap (λ n. n + 1) g.2 in
@@ -225,43 +218,42 @@ module _ (before : Before) (k : Form) (shown : Shown) (count : ℕ) (packet : Co
       in
       (ws ++ p.0 ∷ [], walked, longer, wrote)
 
-  pub going_ends : (at more text : ℕ) (now : List ℕ) → Going before k shown count packet place count at more line now → PutsItems (row 91) before k shown count packet place line (record { place = at; text = text; more = more }) now
-  going_ends at more text now going spent room earlier env vs counted last =
-      let g = going spent room earlier env vs counted last in
+  pub going_ends : (at more text : ℕ) (now : List ℕ) → Going seen k shown count packet place count at more line now → PutsItems (row 91) seen k shown count packet place line (record { place = at; text = text; more = more }) now
+  going_ends at more text now going spent room earlier env sees =
+      let g = going spent room earlier env sees in
       let over : count - count ≡ 0 = omega arith in
-      (g.0, sym g.1 ∙ ap (λ n. repeat (walk k (among packet.bytes.now packet.end earlier) (vs ∷ env)) n g.0 at (spent + count + more)) over, g.2, g.3)
+      (g.0, sym g.1 ∙ ap (λ n. repeat (walk k (among packet.bytes.now packet.end earlier) env) n g.0 at (spent + count + more)) over, g.2, g.3)
 
   closed_row : (ws : List Val) → 0 < length ws → row 91 (element_texts shown 0 (vals_of ws)) ++ (32 ∷ 93 ∷ []) ≡ enclosed 91 93 (element_texts shown 0 (vals_of ws))
   closed_row [] some = absurd (omega (arith, some))
   closed_row (v ∷ ws) some = refl
 
   -- the mark behind the elements
-  pub closed : (end : MembersEnd) (text : ℕ) (now after : List ℕ) → 0 < count → after ≡ now ++ (32 ∷ 93 ∷ []) → PutsItems (row 91) before k shown count packet place line end now → PutsItems (enclosed 91 93) before k shown count packet place line (record { place = end.place; text = text; more = end.more }) after
-  closed end text now after some added puts spent room earlier env vs counted last =
-      let p = puts spent room earlier env vs counted last in
+  pub closed : (end : MembersEnd) (text : ℕ) (now after : List ℕ) → 0 < count → after ≡ now ++ (32 ∷ 93 ∷ []) → PutsItems (row 91) seen k shown count packet place line end now → PutsItems (enclosed 91 93) seen k shown count packet place line (record { place = end.place; text = text; more = end.more }) after
+  closed end text now after some added puts spent room earlier env sees =
+      let p = puts spent room earlier env sees in
       let all = element_texts shown 0 (vals_of p.0) in
       (p.0, p.1, p.2, added ∙ ap (λ xs. xs ++ (32 ∷ 93 ∷ [])) p.3 ∙ append_assoc line (row 91 all) (32 ∷ 93 ∷ []) ∙ ap (λ xs. line ++ xs) (closed_row p.0 (omega (arith, some, p.2))))
 
 -- no elements
-pub no_items : (before : Before) (k : Form) (shown : Shown) (count : ℕ) (packet : Content) (place text : ℕ) (line after : List ℕ) → count ≡ 0 → after ≡ line ++ (91 ∷ 32 ∷ 93 ∷ []) → PutsItems (enclosed 91 93) before k shown count packet place line (record { place = place; text = text; more = 0 }) after
-no_items before k shown count packet place text line after none wrote = subst (λ n. PutsItems (enclosed 91 93) before k shown n packet place line (record { place = place; text = text; more = 0 }) after) (sym none)
-    (λ spent room earlier env vs counted last. (let s : spent ≡ spent + 0 + 0 = omega arith in ([], ap (λ n. Ok ([], place, n)) s, refl, wrote)))
+pub no_items : (seen : Seen) (k : Form) (shown : Shown) (count : ℕ) (packet : Content) (place text : ℕ) (line after : List ℕ) → count ≡ 0 → after ≡ line ++ (91 ∷ 32 ∷ 93 ∷ []) → PutsItems (enclosed 91 93) seen k shown count packet place line (record { place = place; text = text; more = 0 }) after
+no_items seen k shown count packet place text line after none wrote = subst (λ n. PutsItems (enclosed 91 93) seen k shown n packet place line (record { place = place; text = text; more = 0 }) after) (sym none)
+    (λ spent room earlier env sees. (let s : spent ≡ spent + 0 + 0 = omega arith in ([], ap (λ n. Ok ([], place, n)) s, refl, wrote)))
 
 -- the elements are the value of an array
-pub writes_items : (before : Before) (a : ℕ) (many : Length) (k : Class) (packet : Content) (place start count more : ℕ) (end : MembersEnd) (line items : List ℕ) → start ≡ next_multiple_of place k.align → start ≤ packet.end → Counts many before count → more ≡ count + end.more
-    → PutsItems (enclosed 91 93) before (form k) (value_text k) count packet start line end (take end.text items)
-    → Writes (Some (record { place = end.place; text = end.text; more = more; last = lasts.Unknown })) before (forms.array a many (form k)) (array_text (value_text k)) packet place line items
-writes_items before a many k packet place start count more end line items starts within counts counted puts spent room earlier env vs known last =
+pub writes_items : (seen : Seen) (a : ℕ) (many : Length) (k : Class) (packet : Content) (place start count more : ℕ) (end : MembersEnd) (line items : List ℕ) → start ≡ next_multiple_of place k.align → start ≤ packet.end → CountsIn seen many count → more ≡ count + end.more
+    → PutsItems (enclosed 91 93) seen (form k) (value_text k) count packet start line end (take end.text items)
+    → WritesIn (Some (record { place = end.place; text = end.text; more = more; last = lasts.Unknown })) seen (forms.array a many (form k)) (array_text (value_text k)) packet place line items
+writes_items seen a many k packet place start count more end line items starts within counts counted puts spent room earlier env sees =
     let c = among packet.bytes.now packet.end earlier in
-    let e = vs ∷ env in
-    let p = puts (spent + 1) (omega (arith, counted, room)) earlier env vs known last in
+    let p = puts (spent + 1) (omega (arith, counted, room)) earlier env sees in
     let inner = form k in
-    let rest = λ (b n : ℕ). and_then (repeat (walk inner c e) n [] b (spent + 1)) as_list in
+    let rest = λ (b n : ℕ). and_then (repeat (walk inner c env) n [] b (spent + 1)) as_list in
     let opened : open_at c start (rest start count) ≡ rest start count = ap (λ b. cond b (Err (past start)) (rest start count)) (le-ltb packet.end start within) in
     let total : spent + 1 + count + end.more ≡ spent + 1 + more = omega (arith, counted) in
     let begun : next_multiple_of place (forms.align_of inner) ≡ start = ap (next_multiple_of place) (align-is k) ∙ sym starts in
     let walked =
-    (λ j. begin c spent (open_at c (begun j) (rest (begun j) (counts earlier env vs known last j)))) ∙ begins c spent (open_at c start (rest start count)) (omega (arith, room)) ∙ opened ∙ ap (λ r. and_then r as_list) p.1 ∙ ap (λ n. Ok (list (vals_of p.0), end.place, n)) total
+    (λ j. begin c spent (open_at c (begun j) (rest (begun j) (counts earlier env sees j)))) ∙ begins c spent (open_at c start (rest start count)) (omega (arith, room)) ∙ opened ∙ ap (λ r. and_then r as_list) p.1 ∙ ap (λ n. Ok (list (vals_of p.0), end.place, n)) total
     in
     (list (vals_of p.0), walked, p.3, tt)
 

@@ -11,6 +11,7 @@ pub mod PatternLemmas
 pub mod StandingLemmas
 pub mod PlainLemmas
 pub mod RecordsLemmas
+pub mod AroundLemmas
 pub mod ArrayLemmas
 pub mod ByClassLemmas
 pub mod WindowLemmas

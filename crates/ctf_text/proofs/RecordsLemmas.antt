@@ -19,18 +19,18 @@ use Rattle.ctf_class.specs.declared.record_plan.Run.{Run}
 use Rattle.ctf_class.specs.declared.plain_number.PlainNumber.{PlainNumber}
 use Rattle.ctf_class.specs.declared.route.Length.TheVariants as lengths
 use Rattle.ctf_class.specs.declared.route.Route.{Route}
-use Rattle.ctf_decode.specs.Forms.{integer}
+use Rattle.ctf_decode.specs.Forms.{Form, integer}
 use Rattle.ctf_decode.specs.Input.{bits_of}
 use Rattle.ctf_decode.specs.Views.{form}
 use Rattle.ctf_decode.specs.declared.scopes.TheConstants.{MOST_VALUES}
 use Rattle.ctf_text.specs.Plain.{plain_text}
 use Rattle.ctf_text.specs.Records.{Reached, IsLastNumber, PutsField, PutsFields, PutsScopes, TakesRun, IsNear, behind}
-use Rattle.ctf_text.specs.Standing.{Counts, Puts, PutsOne, PutsNext, StandsAsNumber, known}
+use Rattle.ctf_text.specs.Standing.{Before, Counts, LastIs, Puts, PutsOne, PutsNext, StandsAsNumber, known}
 use Rattle.ctf_text.specs.Texts.{Shown, Part, integer_text, value_text, part_text, member_part}
-use Rattle.ctf_text.specs.declared.standing.Before.{Before}
+use Rattle.ctf_text.specs.declared.standing.Last.{Last}
 use Rattle.ctf_text.specs.declared.standing.MembersEnd.{MembersEnd}
 use Rattle.ctf_text.specs.declared.standing.Next.{Next}
-use Rattle.ctf_text.proofs.StandingLemmas.{Going, going_begins, going_on, puts_next, known_next, going_ends, closed, puts_structure, as_one, form_integer, text_integer, member-is, stands_number}
+use Rattle.ctf_text.proofs.StandingLemmas.{Going, PutsBehind, anywhere, last_is, going_begins, going_on, puts_next, known_next, going_ends, closed, puts_structure, as_one, form_integer, text_integer, member-is, stands_number}
 use Rattle.ctf_text.proofs.PlainLemmas.{plain_integer}
 use Rattle.ctf_text.proofs.ArrayLemmas.{next_named, counts_last}
 
@@ -210,12 +210,17 @@ drop_one (y ∷ xs) (suc i) x rest left =
     let more : suc i + 1 ≡ suc (i + 1) = omega arith in
     (omega (arith, d.0), d.1, ap (λ k. drop k (y ∷ xs)) more ∙ d.2)
 
+-- a value behind so many members, of which the last is known
+behind_members : (i : ℕ) (last : Last) (k : Form) (shown : Shown) (packet : List ℕ) (content place : ℕ) (line : List ℕ) (to : Next) (after : List ℕ) → PutsNext (record { index = i; last = last }) k shown packet content place line to after
+    → PutsBehind anywhere (LastIs last) i k shown packet content place line to after
+behind_members i last k shown packet content place line to after puts spent room earlier env vs there counted is = puts spent room earlier env vs counted is
+
 -- members behind the first
-later_going : (all rest : List Member) (packet : List ℕ) (content begin i base some : ℕ) (before : List ℕ) (from to : Reached) → drop (suc i) all ≡ rest → from.more ≡ base + some → Going all packet content begin (suc i) from.place some (known from.last) before from.line → PutsFields (laters (suc i) rest) packet content from to
-    → (more : ℕ) × (to.more ≡ base + more) × Going all packet content begin (suc i + length rest) to.place more (known to.last) before to.line
+later_going : (all rest : List Member) (packet : List ℕ) (content begin i base some : ℕ) (before : List ℕ) (from to : Reached) → drop (suc i) all ≡ rest → from.more ≡ base + some → Going anywhere all packet content begin (suc i) from.place some (LastIs (known from.last)) before from.line → PutsFields (laters (suc i) rest) packet content from to
+    → (more : ℕ) × (to.more ≡ base + more) × Going anywhere all packet content begin (suc i + length rest) to.place more (LastIs (known to.last)) before to.line
 later_going all [] packet content begin i base some before from to left counted going puts =
     let none : suc i ≡ suc i + 0 = omega arith in
-    (some, ap (λ (r : Reached). r.more) puts ∙ counted, subst (λ k. Going all packet content begin k to.place some (known to.last) before to.line) none (subst (λ (r : Reached). Going all packet content begin (suc i) r.place some (known r.last) before r.line) (sym puts) going))
+    (some, ap (λ (r : Reached). r.more) puts ∙ counted, subst (λ k. Going anywhere all packet content begin k to.place some (LastIs (known to.last)) before to.line) none (subst (λ (r : Reached). Going anywhere all packet content begin (suc i) r.place some (LastIs (known r.last)) before r.line) (sym puts) going))
 later_going all (m ∷ rest) packet content begin i base some before from to left counted going puts =
     let d = drop_one all (suc i) m rest left in
     let mid = puts.0 in
@@ -226,12 +231,12 @@ later_going all (m ∷ rest) packet content begin i base some before from to lef
     let end : Next = record { place = mid.place; text = 0; more = more; last = known mid.last } in
     let told : PutsNext so_far (form m.class) shown packet content (next_multiple_of from.place 1) from.line end mid.line = known_next mid.last so_far (form m.class) shown packet content (next_multiple_of from.place 1) mid.place 0 more from.line mid.line field.3 field.4 in
     let next : PutsNext so_far (form m.class) shown packet content from.place from.line end mid.line = subst (λ p. PutsNext so_far (form m.class) shown packet content p from.line end mid.line) (at_one from.place) told in
-    let on = going_on all packet content begin before (suc i) from.place some (known from.last) m 44 from.line end mid.line d.0 d.1 refl going next in
+    let on = going_on anywhere all packet content begin before (suc i) from.place some (LastIs (known from.last)) (LastIs (known mid.last)) m 44 from.line end mid.line d.0 d.1 refl going (λ vs v counted are_known is. last_is (known mid.last) vs v is) (behind_members (suc i) (known from.last) (form m.class) shown packet content from.place from.line end mid.line next) in
     let one : suc i + 1 ≡ suc (suc i) = omega arith in
     let sum : mid.more ≡ base + (some + more) = (let f = field.2 in omega (arith, f, counted)) in
-    let others = later_going all rest packet content begin (suc i) base (some + more) before mid to (sym (ap (λ k. drop k all) one) ∙ d.2) sum (subst (λ k. Going all packet content begin k mid.place (some + more) (known mid.last) before mid.line) one on) puts.2 in
+    let others = later_going all rest packet content begin (suc i) base (some + more) before mid to (sym (ap (λ k. drop k all) one) ∙ d.2) sum (subst (λ k. Going anywhere all packet content begin k mid.place (some + more) (LastIs (known mid.last)) before mid.line) one on) puts.2 in
     let count : suc (suc i) + length rest ≡ suc i + suc (length rest) = omega arith in
-    (others.0, others.1, subst (λ k. Going all packet content begin k to.place others.0 (known to.last) before to.line) count others.2)
+    (others.0, others.1, subst (λ k. Going anywhere all packet content begin k to.place others.0 (LastIs (known to.last)) before to.line) count others.2)
 
 -- the fields of a structure, and the brace behind them, are its value, with so many others in its arrays
 pub scope_puts : (k : Class) (s : Scoped) (opens packet : List ℕ) (content spent : ℕ) (from to : Reached) → k.kind ≡ kind.Structure s.members → k.align ≡ s.align → 0 < length s.members → PutsFields (slots opens s) packet content from to
@@ -257,13 +262,13 @@ scope_puts k s opens packet content spent from to is aligned some puts = by_memb
         (p.0, p.1, p.2 ∙ ap (λ xs. from.line ++ xs) (append_assoc opens (123 ∷ 32 ∷ []) part) ∙ sym (append_assoc from.line opens (123 ∷ 32 ∷ part)), p.3)
         in
         let no_more : 0 + field.1 ≡ field.1 = omega arith in
-        let one : Going all packet content begin 1 mid.place field.1 (known mid.last) opened mid.line = subst (λ n. Going all packet content begin 1 mid.place n (known mid.last) opened mid.line) no_more (going_on all packet content begin opened 0 begin 0 (known None) m 123 opened end mid.line (omega arith) refl refl (going_begins all packet content begin opened) first) in
+        let one : Going anywhere all packet content begin 1 mid.place field.1 (LastIs (known mid.last)) opened mid.line = subst (λ n. Going anywhere all packet content begin 1 mid.place n (LastIs (known mid.last)) opened mid.line) no_more (going_on anywhere all packet content begin opened 0 begin 0 (LastIs (known None)) (LastIs (known mid.last)) m 123 opened end mid.line (omega arith) refl refl (going_begins anywhere all packet content begin opened (LastIs (known None)) tt) (λ vs v counted are_known is. last_is (known mid.last) vs v is) (behind_members 0 (known None) (form m.class) (λ v. 123 ∷ 32 ∷ part_text (member_part m) v) packet content begin opened end mid.line first)) in
         let going = later_going all ms packet content begin 0 from.more field.1 opened mid to refl field.2 one puts.2 in
         let counted : 1 + length ms ≡ length all = omega arith in
         let ends : MembersEnd = record { place = to.place; text = 0; more = going.0 } in
-        let rows = going_ends all packet content begin opened to.place going.0 0 (known to.last) to.line (subst (λ i. Going all packet content begin i to.place going.0 (known to.last) opened to.line) counted going.2) in
-        let whole = closed all packet content begin 0 ends opened to.line (to.line ++ (32 ∷ 125 ∷ [])) (omega arith) refl rows in
-        (going.0, going.1, λ few. puts_structure k all packet content from.place begin spent ends (spent + 1 + length all + going.0) opened (to.line ++ (32 ∷ 125 ∷ [])) is (ap (next_multiple_of from.place) (sym aligned)) field.0 refl few whole)
+        let rows = going_ends anywhere all packet content begin opened to.place going.0 0 (LastIs (known to.last)) to.line (subst (λ i. Going anywhere all packet content begin i to.place going.0 (LastIs (known to.last)) opened to.line) counted going.2) in
+        let whole = closed anywhere all packet content begin 0 ends opened to.line (to.line ++ (32 ∷ 125 ∷ [])) (omega arith) refl rows in
+        (going.0, going.1, λ few earlier env. puts_structure anywhere k all packet content from.place begin spent ends (spent + 1 + length all + going.0) opened (to.line ++ (32 ∷ 125 ∷ [])) is (ap (next_multiple_of from.place) (sym aligned)) field.0 refl few whole earlier env tt)
 
 -- the fields of structures, and the brace behind them, are their values
 pub scopes_puts : (ks : List Class) (ss : List Scoped) (opens packet : List ℕ) (content spent : ℕ) (from to : Reached) → 0 < length ks → AreScoped ks ss → PutsFields (all_slots opens ss) packet content from to

@@ -2,7 +2,7 @@
 use Rattle.std.proofs.Common.{◌≡◌, ℕ, zero, suc, ◌+◌, ◌-◌, ◌*◌, ◌/◌, ◌<◌, ◌≤◌, Bool, true, false, cond, List, [], ◌∷◌, ◌++◌, map, take, drop, length, get_or, position, nat_eq, not, Option, Some, None, IfSome, Ok, Err, pos, rules, refl, sym, ap, subst, ◌∙◌, arith, append_assoc, append-nil, length-append}
 use Rattle.std.specs.Int.{next_multiple_of}
 use Rattle.std.specs.List.{take_while}
-use Rattle.std.specs.Prelude.{slice_get}
+use Rattle.std.specs.Prelude.{⊤, slice_get}
 use Rattle.std.proofs.lemmas.Bool.{lt-ltb, le-ltb}
 use Rattle.std.proofs.Math.Seq.{take-length}
 use Rattle.std.proofs.lemmas.List.{take_more, map-append, length-map, length-take-le, take-append-le, take-take}
@@ -27,11 +27,11 @@ use Rattle.ctf_decode.specs.Views as views
 use Rattle.ctf_decode.specs.Views.{form, shape}
 use Rattle.ctf_decode.specs.Fields.{members_in}
 use Rattle.ctf_decode.specs.declared.scopes.TheConstants.{MOST_VALUES}
+use Rattle.ctf_text.specs.Around.{PutsMembers}
 use Rattle.ctf_text.specs.Numbers.{number_text}
 use Rattle.ctf_text.specs.Rows.{row, enclosed}
-use Rattle.ctf_text.specs.Standing.{among, Puts, PutsOne, ValueIs, LastIs, known, mark_at, PutsNext, PutsMembers, StandsAsNumber}
+use Rattle.ctf_text.specs.Standing.{Before, among, PutsOne, ValueIs, LastIs, known, mark_at, PutsNext, StandsAsNumber}
 use Rattle.ctf_text.specs.Texts.{Shown, Part, value_text, kind_text, part_text, member_part, member_texts, integer_text, string_text}
-use Rattle.ctf_text.specs.declared.standing.Before.{Before}
 use Rattle.ctf_text.specs.declared.standing.Ends.{Ends}
 use Rattle.ctf_text.specs.declared.standing.Last.{Last}
 use Rattle.ctf_text.specs.declared.standing.Last.TheVariants as lasts
@@ -120,14 +120,24 @@ texts_length (p ∷ parts) (w ∷ vs) same = ap suc (texts_length parts vs (omeg
 
 -- As many members as an index tells were written, with so many values in them, and the others stand behind them: so the
 -- loop over members goes.
-abbrev pub Going : List Member → List ℕ → ℕ → ℕ → ℕ → ℕ → ℕ → Last → List ℕ → List ℕ → Type 0
-Going ms packet content place i at more last before line =
-    (spent : ℕ) → spent + length ms + more ≤ MOST_VALUES → (earlier : Scope → Option Val) (env : Env)
+abbrev pub Going : ((Scope → Option Val) → Env → Type 0) → List Member → List ℕ → ℕ → ℕ → ℕ → ℕ → ℕ → (List Val → Type 0) → List ℕ → List ℕ → Type 0
+Going Where ms packet content place i at more Are before line =
+    (spent : ℕ) → spent + length ms + more ≤ MOST_VALUES → (earlier : Scope → Option Val) (env : Env) → Where earlier env
     → (vs : List Val)
     × (walk_members (parts_of (map views.member_part (drop i ms))) (among packet content earlier) env vs at (spent + i + more) ≡ walk_members (parts_of (map views.member_part ms)) (among packet content earlier) env [] place spent)
-    × (length vs ≡ i) × (line ≡ before ++ row 123 (member_texts (map member_part (take i ms)) (vals_of vs))) × LastIs last vs
+    × (length vs ≡ i) × (line ≡ before ++ row 123 (member_texts (map member_part (take i ms)) (vals_of vs))) × Are vs
 
-last_is : (l : Last) (vs : List Val) (v : Val) → ValueIs l v → LastIs l (vs ++ v ∷ [])
+-- whatever was decoded before
+abbrev pub anywhere : (Scope → Option Val) → Env → Type 0
+anywhere earlier env = ⊤
+
+-- a value stands behind so many members, of which this is known
+abbrev pub PutsBehind : ((Scope → Option Val) → Env → Type 0) → (List Val → Type 0) → ℕ → Form → Shown → List ℕ → ℕ → ℕ → List ℕ → Next → List ℕ → Type 0
+PutsBehind Where Are i k shown packet content place line next after =
+    (spent : ℕ) → spent + next.more < MOST_VALUES → (earlier : Scope → Option Val) (env : Env) (vs : List Val) → Where earlier env → length vs ≡ i → Are vs
+    → (v : Val) × (walk k (among packet content earlier) (vs ∷ env) place spent ≡ Ok (v, next.place, spent + 1 + next.more)) × (after ≡ line ++ shown v) × ValueIs next.last v
+
+pub last_is : (l : Last) (vs : List Val) (v : Val) → ValueIs l v → LastIs l (vs ++ v ∷ [])
 last_is lasts.Unknown vs v is = tt
 last_is (lasts.Unsigned n) vs v is = (vs, ap (λ w. vs ++ w ∷ []) is)
 last_is (lasts.Label z) vs v is = (vs, ap (λ w. vs ++ w ∷ []) is)
@@ -183,11 +193,11 @@ text-Text many = search (rules, class.the_lemmas)
 text-Structure : (ms : List Member) → kind_text (kind.Structure ms) ≡ (λ v. enclosed 123 125 (member_texts (map member_part ms) (members_in v)))
 text-Structure ms = search (rules, class.the_lemmas)
 
-module _ (ms : List Member) (packet : List ℕ) (content place : ℕ) (before : List ℕ) where
-  pub going_begins : Going ms packet content place 0 place 0 lasts.Unknown before before
-  going_begins spent room earlier env =
+module _ (Where : (Scope → Option Val) → Env → Type 0) (ms : List Member) (packet : List ℕ) (content place : ℕ) (before : List ℕ) where
+  pub going_begins : (Are : List Val → Type 0) → Are [] → Going Where ms packet content place 0 place 0 Are before before
+  going_begins Are none spent room earlier env is_there =
       let s : spent + 0 + 0 ≡ spent = omega arith in
-      ([], ap (λ n. walk_members (parts_of (map views.member_part ms)) (among packet content earlier) env [] place n) s, refl, sym (append-nil before), tt)
+      ([], ap (λ n. walk_members (parts_of (map views.member_part ms)) (among packet content earlier) env [] place n) s, refl, sym (append-nil before), none)
 
   next : (c : Input) (env : Env) (i : ℕ) (m : Member) (vs : List Val) (at spent : ℕ) → i < length ms → m ≡ get_or ms i m
       → walk_members (parts_of (map views.member_part (drop i ms))) c env vs at spent ≡ and_then (walk (form m.class) c (vs ∷ env) at spent) (λ w q t. walk_members (parts_of (map views.member_part (drop (i + 1) ms))) c env (vs ++ w ∷ []) q t)
@@ -209,23 +219,23 @@ module _ (ms : List Member) (packet : List ℕ) (content place : ℕ) (before : 
       added ∙ ap (λ xs. xs ++ (lead ∷ 32 ∷ text)) wrote ∙ append_assoc before (row 123 all) (lead ∷ 32 ∷ text)
       ∙ ap (λ l. before ++ (row 123 all ++ (l ∷ 32 ∷ text))) (sym lead_is) ∙ ap (λ xs. before ++ xs) (sym (row_more 123 all text)) ∙ ap (λ ts. before ++ row 123 ts) (sym longer)
 
-  pub going_on : (i at more : ℕ) (last : Last) (m : Member) (lead : ℕ) (line : List ℕ) (to : Next) (after : List ℕ) → i < length ms → m ≡ get_or ms i m → lead ≡ mark_at 123 i → Going ms packet content place i at more last before line
-      → PutsNext (record { index = i; last = last }) (form m.class) (λ v. lead ∷ 32 ∷ part_text (member_part m) v) packet content at line to after → Going ms packet content place (i + 1) to.place (more + to.more) to.last before after
-  going_on i at more last m lead line to after within is marked going puts spent room earlier env =
+  pub going_on : (i at more : ℕ) (Are Become : List Val → Type 0) (m : Member) (lead : ℕ) (line : List ℕ) (to : Next) (after : List ℕ) → i < length ms → m ≡ get_or ms i m → lead ≡ mark_at 123 i → Going Where ms packet content place i at more Are before line
+      → ((vs : List Val) (v : Val) → length vs ≡ i → Are vs → ValueIs to.last v → Become (vs ++ v ∷ [])) → PutsBehind Where Are i (form m.class) (λ v. lead ∷ 32 ∷ part_text (member_part m) v) packet content at line to after → Going Where ms packet content place (i + 1) to.place (more + to.more) Become before after
+  going_on i at more Are Become m lead line to after within is marked going become puts spent room earlier env is_there =
       let c = among packet content earlier in
-      let g = going spent (omega (arith, room)) earlier env in
+      let g = going spent (omega (arith, room)) earlier env is_there in
       let vs = g.0 in
-      let p = puts (spent + i + more) (omega (arith, room, within)) earlier env vs g.2 g.4 in
+      let p = puts (spent + i + more) (omega (arith, room, within)) earlier env vs is_there g.2 g.4 in
       let rest = λ (w : Val) (q t : ℕ). walk_members (parts_of (map views.member_part (drop (i + 1) ms))) c env (vs ++ w ∷ []) q t in
       let total : spent + (i + 1) + (more + to.more) ≡ spent + i + more + 1 + to.more = omega arith in
       let walked = ap (rest p.0 to.place) total ∙ sym (next c env i m vs at (spent + i + more) within is ∙ ap (λ r. and_then r rest) p.1) ∙ g.1 in
       let longer : length (vs ++ p.0 ∷ []) ≡ i + 1 = length-append vs (p.0 ∷ []) ∙ ap (λ n. n + 1) g.2 in
-      (vs ++ p.0 ∷ [], walked, longer, texts_on i m vs p.0 lead line after within is g.2 marked g.3 p.2, last_is to.last vs p.0 p.3)
+      (vs ++ p.0 ∷ [], walked, longer, texts_on i m vs p.0 lead line after within is g.2 marked g.3 p.2, become vs p.0 g.2 g.4 p.3)
 
-  pub going_ends : (at more text : ℕ) (last : Last) (line : List ℕ) → Going ms packet content place (length ms) at more last before line → PutsMembers (row 123) ms packet content place before (record { place = at; text = text; more = more }) line
-  going_ends at more text last line going spent room earlier env =
+  pub going_ends : (at more text : ℕ) (Are : List Val → Type 0) (line : List ℕ) → Going Where ms packet content place (length ms) at more Are before line → PutsMembers (row 123) Where ms packet content place before (record { place = at; text = text; more = more }) line
+  going_ends at more text Are line going spent room earlier env is_there =
       let c = among packet content earlier in
-      let g = going spent room earlier env in
+      let g = going spent room earlier env is_there in
       let over = ap (λ ns. walk_members (parts_of (map views.member_part ns)) c env g.0 at (spent + length ms + more)) (drop-all ms (length ms) (omega arith)) in
       (g.0, sym g.1 ∙ over, g.2, g.3 ∙ ap (λ ns. before ++ row 123 (member_texts (map member_part ns) (vals_of g.0))) (take-length ms))
 
@@ -303,20 +313,21 @@ closed_row (p ∷ parts) [] some same = absurd (omega (arith, same))
 closed_row (p ∷ parts) (v ∷ vs) some same = refl
 
 -- the mark behind the members
-pub closed : (ms : List Member) (packet : List ℕ) (content place text : ℕ) (end : MembersEnd) (before line after : List ℕ) → 0 < length ms → after ≡ line ++ (32 ∷ 125 ∷ []) → PutsMembers (row 123) ms packet content place before end line → PutsMembers (enclosed 123 125) ms packet content place before (record { place = end.place; text = text; more = end.more }) after
-closed ms packet content place text end before line after some added puts spent room earlier env =
-    let p = puts spent room earlier env in
+pub closed : (Where : (Scope → Option Val) → Env → Type 0) (ms : List Member) (packet : List ℕ) (content place text : ℕ) (end : MembersEnd) (before line after : List ℕ) → 0 < length ms → after ≡ line ++ (32 ∷ 125 ∷ []) → PutsMembers (row 123) Where ms packet content place before end line → PutsMembers (enclosed 123 125) Where ms packet content place before (record { place = end.place; text = text; more = end.more }) after
+closed Where ms packet content place text end before line after some added puts spent room earlier env is_there =
+    let p = puts spent room earlier env is_there in
     let parts = map member_part ms in
     let counted = length-map ms member_part in
     let texts = member_texts parts (vals_of p.0) in
     (p.0, p.1, p.2, added ∙ ap (λ xs. xs ++ (32 ∷ 125 ∷ [])) p.3 ∙ append_assoc before (row 123 texts) (32 ∷ 125 ∷ []) ∙ ap (λ xs. before ++ xs) (closed_row parts p.0 (omega (arith, some, counted)) (p.2 ∙ sym counted)))
 
 -- the members of a structure are its value
-pub puts_structure : (k : Class) (ms : List Member) (packet : List ℕ) (content place start spent : ℕ) (end : MembersEnd) (total : ℕ) (before after : List ℕ) → k.kind ≡ kind.Structure ms → start ≡ next_multiple_of place k.align → start ≤ content → total ≡ spent + 1 + length ms + end.more → total ≤ MOST_VALUES
-    → PutsMembers (enclosed 123 125) ms packet content start before end after → Puts (form k) (value_text k) packet content place spent end.place total before after
-puts_structure k ms packet content place start spent end total before after is starts within counted room puts earlier env =
+pub puts_structure : (Where : (Scope → Option Val) → Env → Type 0) (k : Class) (ms : List Member) (packet : List ℕ) (content place start spent : ℕ) (end : MembersEnd) (total : ℕ) (before after : List ℕ) → k.kind ≡ kind.Structure ms → start ≡ next_multiple_of place k.align → start ≤ content → total ≡ spent + 1 + length ms + end.more → total ≤ MOST_VALUES
+    → PutsMembers (enclosed 123 125) Where ms packet content start before end after
+    → (earlier : Scope → Option Val) (env : Env) → Where earlier env → (v : Val) × (walk (form k) (among packet content earlier) env place spent ≡ Ok (v, end.place, total)) × (after ≡ before ++ value_text k v)
+puts_structure Where k ms packet content place start spent end total before after is starts within counted room puts earlier env is_there =
     let c = among packet content earlier in
-    let p = puts (spent + 1) (omega (arith, counted, room)) earlier env in
+    let p = puts (spent + 1) (omega (arith, counted, room)) earlier env is_there in
     let parts = parts_of (map views.member_part ms) in
     let inner = λ (b : ℕ). begin c spent (open_at c b (and_then (walk_members parts c env [] b (spent + 1)) as_group)) in
     let opened : open_at c start (and_then (walk_members parts c env [] start (spent + 1)) as_group) ≡ and_then (walk_members parts c env [] start (spent + 1)) as_group = ap (λ b. cond b (Err (past start)) (and_then (walk_members parts c env [] start (spent + 1)) as_group)) (le-ltb content start within) in

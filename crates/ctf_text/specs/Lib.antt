@@ -1,3 +1,4 @@
+pub mod Around
 pub mod Digits
 pub mod Labels
 pub mod Lines

@@ -8,11 +8,10 @@ use Rattle.ctf_class.specs.declared.class.Class.{Class}
 use Rattle.ctf_class.specs.declared.record_plan.Run.{Run}
 use Rattle.ctf_class.specs.declared.plain_number.PlainNumber.{PlainNumber}
 use Rattle.ctf_decode.specs.Views.{form}
-use Rattle.ctf_text.specs.Standing.{Puts, PutsNext, StandsAsNumber, known}
+use Rattle.ctf_text.specs.Standing.{Before, Puts, PutsNext, StandsAsNumber, known}
 use Rattle.ctf_decode.specs.Forms.{Form}
 use Rattle.ctf_text.specs.Texts.{Shown, value_text, part_text, member_part}
 use Rattle.ctf_text.specs.declared.planned_record.Reach.{Reach}
-use Rattle.ctf_text.specs.declared.standing.Before.{Before}
 
 -- How far fields came: where the next one could begin, how many values were begun in arrays, the number that stands last,
 -- if it is known, and what was written.

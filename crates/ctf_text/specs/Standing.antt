@@ -3,24 +3,19 @@ use Rattle.std.specs.Prelude.{◌≡◌, ℕ, zero, suc, ◌+◌, ◌<◌, ◌�
 use Rattle.ctf_class.specs.declared.class.Member.{Member}
 use Rattle.ctf_class.specs.declared.integer.Integer.{Integer}
 use Rattle.ctf_class.specs.declared.route.Length.{Length}
-use Rattle.ctf_class.specs.declared.route.Route.{Route}
 use Rattle.ctf_class.specs.declared.route.Scope.{Scope}
-use Rattle.ctf_class.specs.declared.span.Choice.{Choice}
 use Rattle.ctf_decode.specs.Fields.{members_in, elements_in, choice_in}
 use Rattle.ctf_decode.specs.Values.{Val, vals_of, unsigned, label}
-use Rattle.ctf_decode.specs.Forms.{Form, integer, parts_of}
+use Rattle.ctf_decode.specs.Forms.{Form, integer}
 use Rattle.ctf_decode.specs.Input.{Input, Env}
-use Rattle.ctf_decode.specs.Routes.{length_of, option_at}
-use Rattle.ctf_decode.specs.Views as views
-use Rattle.ctf_decode.specs.Walk.{walk, walk_members, repeat}
+use Rattle.ctf_decode.specs.Routes.{length_of}
+use Rattle.ctf_decode.specs.Walk.{walk, repeat}
 use Rattle.ctf_decode.specs.declared.scopes.TheConstants.{MOST_VALUES}
 use Rattle.ctf_text.specs.Rows.{enclosed}
 use Rattle.ctf_text.specs.Texts.{Shown, member_part, member_texts, element_texts, integer_text, chosen_text}
-use Rattle.ctf_text.specs.declared.standing.Before.{Before}
 use Rattle.ctf_text.specs.declared.content.Content.{Content}
 use Rattle.ctf_text.specs.declared.standing.Last.{Last}
 use Rattle.ctf_text.specs.declared.standing.Last.TheVariants as lasts
-use Rattle.ctf_text.specs.declared.standing.MembersEnd.{MembersEnd}
 use Rattle.ctf_text.specs.declared.standing.Next.{Next}
 
 -- a packet's bytes and the place in bits where its content ends, whatever was decoded before (own)
@@ -64,6 +59,11 @@ abbrev pub mark_at : ℕ → ℕ → ℕ
 mark_at first zero = first
 mark_at first (suc i) = 44
 
+-- so many members before a value in its structure, and the number of the last of them, as far as it is known
+pub record Before : Type 0 where
+  pub index : ℕ
+  pub last : Last
+
 -- the same of a value behind the members of a structure, with so many values in it, of which so much is known
 abbrev pub PutsNext : Before → Form → Shown → List ℕ → ℕ → ℕ → List ℕ → Next → List ℕ → Type 0
 PutsNext before k shown packet content place line next after =
@@ -78,10 +78,6 @@ StandsAsNumber k packet content place n =
 -- an array of this length has so many elements behind the members of a structure
 abbrev pub Counts : Length → Before → ℕ → Type 0
 Counts many before n = (earlier : Scope → Option Val) (env : Env) (vs : List Val) → length vs ≡ before.index → LastIs before.last vs → length_of many earlier (vs ∷ env) ≡ n
-
--- a tag makes this choice behind the members of a structure
-abbrev pub Chooses : Route → List Choice → Before → ℕ → Type 0
-Chooses tag choices before i = (earlier : Scope → Option Val) (env : Env) (vs : List Val) → length vs ≡ before.index → LastIs before.last vs → option_at tag choices earlier (vs ∷ env) ≡ Some i
 
 -- a value, if one was written, stands in a packet, and its text is behind a line now
 abbrev pub Writes : Option Next → Before → Form → Shown → Content → ℕ → List ℕ → List ℕ → Type 0
@@ -110,21 +106,3 @@ PutsElements together align i count packet content place end before after =
     (spent : ℕ) → spent + count ≤ MOST_VALUES → (earlier : Scope → Option Val) (env : Env)
     → (vs : List Val) × (repeat (walk (integer align i) (among packet content earlier) env) count [] place spent ≡ Ok (vs, end, spent + count)) × (length vs ≡ count)
     × (after ≡ before ++ together (element_texts (integer_text i) 0 (vals_of vs)))
-
--- the same of the members of a structure, with so many values in them
-abbrev pub PutsMembers : (List (List ℕ) → List ℕ) → List Member → List ℕ → ℕ → ℕ → List ℕ → MembersEnd → List ℕ → Type 0
-PutsMembers together ms packet content place before end after =
-    (spent : ℕ) → spent + length ms + end.more ≤ MOST_VALUES → (earlier : Scope → Option Val) (env : Env)
-    → (vs : List Val) × (walk_members (parts_of (map views.member_part ms)) (among packet content earlier) env [] place spent ≡ Ok (vs, end.place, spent + length ms + end.more)) × (length vs ≡ length ms) × (after ≡ before ++ together (member_texts (map member_part ms) (vals_of vs)))
-
--- members, if they were written, stand in a packet, and their texts are behind a line now
-abbrev pub WritesMembers : (List (List ℕ) → List ℕ) → Option MembersEnd → List Member → Content → ℕ → List ℕ → List ℕ → Type 0
-WritesMembers together result ms packet place line items =
-    IfSome result (λ end. PutsMembers together ms packet.bytes.now packet.end place line end (take end.text items))
-
--- the same of so many elements of an array of any class, with so many values in all of them
-abbrev pub PutsItems : (List (List ℕ) → List ℕ) → Before → Form → Shown → ℕ → Content → ℕ → List ℕ → MembersEnd → List ℕ → Type 0
-PutsItems together before k shown count packet place line end after =
-    (spent : ℕ) → spent + count + end.more ≤ MOST_VALUES → (earlier : Scope → Option Val) (env : Env) (vs : List Val) → length vs ≡ before.index → LastIs before.last vs
-    → (ws : List Val) × (repeat (walk k (among packet.bytes.now packet.end earlier) (vs ∷ env)) count [] place spent ≡ Ok (ws, end.place, spent + count + end.more)) × (length ws ≡ count)
-    × (after ≡ line ++ together (element_texts shown 0 (vals_of ws)))

@@ -5,8 +5,7 @@ ghost use Rattle.std.specs.Int.{next_multiple_of};
 ghost use Rattle.ctf_class.specs.declared.route.Length.{Length};
 ghost use Rattle.ctf_decode.specs.Forms as forms;
 ghost use Rattle.ctf_text.specs.Rows.{row, enclosed};
-ghost use Rattle.ctf_text.specs.Standing.{PutsOne, PutsElements, Counts, Writes, elements_text};
-ghost use Rattle.ctf_text.specs.declared.standing.Before.{Before};
+ghost use Rattle.ctf_text.specs.Standing.{Before, PutsOne, PutsElements, Counts, Writes, elements_text};
 ghost use Rattle.ctf_text.specs.Texts as texts;
 
 use crate::content::Content;

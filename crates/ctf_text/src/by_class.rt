@@ -1,6 +1,6 @@
 //! Texts of values of any class where they stand.
 
-ghost use Rattle.std.specs.Prelude.{ℕ, List, ◌≡◌, ◌+◌, ◌*◌, ◌^◌, ◌∷◌, ◌≤◌, ◌<◌, length, map, take, vec_len, IfSome};
+ghost use Rattle.std.specs.Prelude.{ℕ, List, ◌≡◌, ◌+◌, ◌∷◌, ◌≤◌, map, take, vec_len, IfSome};
 ghost use Rattle.ctf_class.specs.declared.route.Length.{Length};
 ghost use Rattle.ctf_class.specs.declared.route.Route.{Route};
 ghost use Rattle.ctf_class.specs.declared.span.Choice.{Choice};
@@ -9,61 +9,56 @@ ghost use Rattle.ctf_decode.specs.Forms as forms;
 ghost use Rattle.ctf_decode.specs.Forms.{parts_of};
 ghost use Rattle.ctf_decode.specs.Values.{Val};
 ghost use Rattle.ctf_decode.specs.Views.{form, member_part};
+ghost use Rattle.ctf_text.specs.Around.{ChoosesIn, CountsIn, PutsItems, PutsWith, WritesIn, WritesMembers, sight};
 ghost use Rattle.ctf_text.specs.Rows.{row, enclosed};
-ghost use Rattle.ctf_text.specs.Standing.{Puts, PutsItems, Counts, Chooses, Writes, WritesMembers, array_text, structure_text, variant_text};
+ghost use Rattle.ctf_text.specs.Standing.{array_text, structure_text, variant_text};
 ghost use Rattle.ctf_text.specs.Texts as texts;
-ghost use Rattle.ctf_text.specs.declared.standing.Before.{Before};
 
+use crate::around::{Around, Members, Seen, count_of, option_of};
 use crate::array::{begin_at, put_integers};
-use crate::before::{count_of, option_of};
 use crate::content::Content;
 use crate::element::put_index;
 use crate::leaf::{put_enumeration, put_one, put_string_value, put_text_value};
 use crate::mark::{put_end, put_nothing, put_ready};
 use crate::number::LONGEST_NUMBER;
-use crate::standing::{Before, Last, MembersEnd, Next, Standing};
+use crate::standing::{Last, MembersEnd, Next, Standing};
 use ctf_class::{Align, Class, Kind, Member};
-use ctf_decode::MOST_VALUES;
+use ctf_decode::{MOST_VALUES, Scopes};
 
-/// Writes the text of the structure that stands at a place of a packet (CTF 1.8.3, section 4) at an index of a
-/// buffer, in bytes, without making its value. The place and the content's end are in bits from the packet's
-/// first one, and so many values were begun before. What stands before the index is kept, and the buffer grows
-/// where it has no room.
+/// Writes the text of the structure that begins at a place of a packet (CTF 1.8.3, section 4) at an index of a buffer,
+/// without making its value: `from` has the place, in bits from the packet's first one, how many values were begun before,
+/// and the index, in bytes. The packet's header and context have their values in `scopes`. What is before the index is kept,
+/// and the buffer grows where it has no room.
 ///
-/// `None` where the class is another one, where no value stands there, where a length or a tag is not the member before or is
-/// above 2^63 - 1, and where memory is refused; the buffer is then any buffer.
+/// `None` where the class is another one, where no value is there, where an allocation fails, and where a length or a tag is
+/// neither in the packet's header or context nor one of the last eight members before in a structure around it, or is such a
+/// tag above 2^63 - 1. The buffer is then an unspecified buffer.
 #[inline(always)]
 pub fn put_standing(
     class: &Class,
-    packet: &[u8],
-    content: u64,
-    place: u64,
-    spent: u64,
+    packet: &Content<'_>,
+    scopes: &Scopes,
+    from: Standing,
     buffer: &mut Vec<u8>,
-    at: usize,
 ) -> Option<Standing>
-    requires content { content ≤ 2 ^ 62 }
-    requires held { content ≤ 8 * length packet.now }
-    requires start { place ≤ content }
-    requires few { spent ≤ MOST_VALUES }
-    requires index { at ≤ vec_len buffer.old }
-    ensures puts { let line = take at buffer.old.items in let k = class.now in
-        IfSome result (λ s. Puts (form k) (texts.value_text k) packet.now content place spent
-        s.place s.spent line (take s.end buffer.new.items)) }
-    ensures within { IfSome result (λ s. s.place ≤ content) }
+    requires start { from.place ≤ packet.now.end }
+    requires few { from.spent ≤ MOST_VALUES }
+    requires index { from.end ≤ vec_len buffer.old }
+    ensures puts { let line = take from.end buffer.old.items in let k = class.now in
+        IfSome result (λ s. PutsWith scopes.now (form k) (texts.value_text k) packet.now.bytes.now
+        packet.now.end from.place from.spent s.place s.spent line (take s.end buffer.new.items)) }
+    ensures within { IfSome result (λ s. s.place ≤ packet.now.end) }
     ensures few { IfSome result (λ s. s.spent ≤ MOST_VALUES) }
     ensures held { IfSome result (λ s. s.end ≤ vec_len buffer.new) }
 {
     let Kind::Structure { members } = &class.kind else {
         return None;
     };
-    let packet = Content {
-        bytes: packet,
-        end: content,
-    };
-    let begin = begin_at(class.align, &packet, place)?;
-    let ends = put_enclosed(members.as_slice(), &packet, begin, buffer, at)?;
-    let spent = spent + 1 + members.len() as u64 + ends.more;
+    let around = Around::Scopes(scopes);
+    let begin = begin_at(class.align, packet, from.place)?;
+    let members = members.as_slice();
+    let ends = put_enclosed(members, &around, packet, begin, buffer, from.end)?;
+    let spent = from.spent + 1 + members.len() as u64 + ends.more;
     if spent > MOST_VALUES {
         return None;
     }
@@ -79,6 +74,7 @@ pub fn put_standing(
 #[inline(never)]
 fn put_enclosed(
     members: &[Member],
+    around: &Around<'_>,
     packet: &Content<'_>,
     begin: u64,
     buffer: &mut Vec<u8>,
@@ -87,7 +83,8 @@ fn put_enclosed(
     requires start { begin ≤ packet.now.end }
     requires index { at ≤ vec_len buffer.old }
     ensures puts { let line = take at buffer.old.items in
-        WritesMembers (enclosed 123 125) result members.now packet.now begin line buffer.new.items }
+        WritesMembers (enclosed 123 125) result (sight around.now)
+        members.now packet.now begin line buffer.new.items }
     ensures within { IfSome result (λ e. e.place ≤ packet.now.end) }
     ensures held { IfSome result (λ e. e.text ≤ vec_len buffer.new) }
     ensures few { IfSome result (λ e. e.more ≤ MOST_VALUES) }
@@ -102,7 +99,7 @@ fn put_enclosed(
             more: 0,
         });
     }
-    let ends = put_members(members, packet, begin, buffer, at)?;
+    let ends = put_members(members, around, packet, begin, buffer, at)?;
     let Ok(text) = put_end(b'}', buffer, ends.text) else {
         return None;
     };
@@ -117,6 +114,7 @@ fn put_enclosed(
 #[cycle(standing)]
 fn put_members(
     members: &[Member],
+    around: &Around<'_>,
     packet: &Content<'_>,
     begin: u64,
     buffer: &mut Vec<u8>,
@@ -125,7 +123,8 @@ fn put_members(
     requires start { begin ≤ packet.now.end }
     requires index { at ≤ vec_len buffer.old }
     ensures puts { let line = take at buffer.old.items in
-        WritesMembers (row 123) result members.now packet.now begin line buffer.new.items }
+        WritesMembers (row 123) result (sight around.now)
+        members.now packet.now begin line buffer.new.items }
     ensures within { IfSome result (λ e. e.place ≤ packet.now.end) }
     ensures held { IfSome result (λ e. e.text ≤ vec_len buffer.new) }
     ensures few { IfSome result (λ e. e.more ≤ MOST_VALUES) }
@@ -133,15 +132,18 @@ fn put_members(
     let mut place = begin;
     let mut text = at;
     let mut more = 0;
-    let mut last = Last::Unknown;
+    let mut before = Members::none();
     let mut lead = b'{';
     for (i, member) in members.iter().enumerate() {
-        let before = Before { index: i, last };
-        let next = put_member(lead, member, before, packet, place, buffer, text)?;
+        let seen = Seen {
+            members: &before,
+            around: &*around,
+        };
+        let next = put_member(lead, member, &seen, packet, place, buffer, text)?;
         place = next.place;
         text = next.text;
         more += next.more;
-        last = next.last;
+        before.push(i, next.last);
         lead = b',';
         if more > MOST_VALUES {
             return None;
@@ -156,7 +158,7 @@ fn put_members(
 fn put_member(
     lead: u8,
     member: &Member,
-    before: Before,
+    seen: &Seen<'_>,
     packet: &Content<'_>,
     place: u64,
     buffer: &mut Vec<u8>,
@@ -166,7 +168,7 @@ fn put_member(
     requires index { at ≤ vec_len buffer.old }
     ensures puts { let line = take at buffer.old.items in let m = member.now in
         let shown = λ (v : Val). lead ∷ 32 ∷ texts.part_text (texts.member_part m) v in
-        Writes result before (form m.class) shown packet.now place line buffer.new.items }
+        WritesIn result seen.now (form m.class) shown packet.now place line buffer.new.items }
     ensures within { IfSome result (λ n. n.place ≤ packet.now.end) }
     ensures held { IfSome result (λ n. n.text ≤ vec_len buffer.new) }
     ensures few { IfSome result (λ n. n.more ≤ MOST_VALUES) }
@@ -174,7 +176,7 @@ fn put_member(
     let Ok(begin) = put_ready(lead, member.name.ready(), LONGEST_NUMBER, buffer, at) else {
         return None;
     };
-    put_part(&member.class, before, packet, place, buffer, begin)
+    put_part(&member.class, seen, packet, place, buffer, begin)
 }
 
 /// Writes a part of a value where there is room for a number. Mostly it is an integer.
@@ -182,7 +184,7 @@ fn put_member(
 #[inline(always)]
 fn put_part(
     class: &Class,
-    before: Before,
+    seen: &Seen<'_>,
     packet: &Content<'_>,
     place: u64,
     buffer: &mut Vec<u8>,
@@ -191,7 +193,8 @@ fn put_part(
     requires start { place ≤ packet.now.end }
     requires room { at + LONGEST_NUMBER ≤ vec_len buffer.old }
     ensures puts { let line = take at buffer.old.items in let k = class.now in
-        Writes result before (form k) (texts.value_text k) packet.now place line buffer.new.items }
+        WritesIn result seen.now (form k) (texts.value_text k) packet.now place line
+        buffer.new.items }
     ensures within { IfSome result (λ n. n.place ≤ packet.now.end) }
     ensures held { IfSome result (λ n. n.text ≤ vec_len buffer.new) }
     ensures few { IfSome result (λ n. n.more ≤ MOST_VALUES) }
@@ -199,7 +202,7 @@ fn put_part(
     if let Kind::Integer(integer) = &class.kind {
         return put_one(integer, class.align, packet, place, buffer, at);
     }
-    put_any(class, before, packet, place, buffer, at)
+    put_any(class, seen, packet, place, buffer, at)
 }
 
 /// Writes a part of any class.
@@ -207,7 +210,7 @@ fn put_part(
 #[inline(never)]
 fn put_any(
     class: &Class,
-    before: Before,
+    seen: &Seen<'_>,
     packet: &Content<'_>,
     place: u64,
     buffer: &mut Vec<u8>,
@@ -216,7 +219,8 @@ fn put_any(
     requires start { place ≤ packet.now.end }
     requires room { at + LONGEST_NUMBER ≤ vec_len buffer.old }
     ensures puts { let line = take at buffer.old.items in let k = class.now in
-        Writes result before (form k) (texts.value_text k) packet.now place line buffer.new.items }
+        WritesIn result seen.now (form k) (texts.value_text k) packet.now place line
+        buffer.new.items }
     ensures within { IfSome result (λ n. n.place ≤ packet.now.end) }
     ensures held { IfSome result (λ n. n.text ≤ vec_len buffer.new) }
     ensures few { IfSome result (λ n. n.more ≤ MOST_VALUES) }
@@ -234,30 +238,23 @@ fn put_any(
         ),
         Kind::String => put_string_value(packet, place, buffer, at),
         Kind::Structure { members } => {
-            put_structure(members.as_slice(), class.align, packet, place, buffer, at)
+            let members = members.as_slice();
+            put_structure(members, class.align, seen, packet, place, buffer, at)
         }
         Kind::Variant {
             tag,
             choices,
             options,
         } => {
-            let option = option_of(tag, choices, before)?;
-            put_option(
-                options.as_slice(),
-                option,
-                before,
-                packet,
-                place,
-                buffer,
-                at,
-            )
+            let option = option_of(tag, choices, seen)?;
+            put_option(options.as_slice(), option, seen, packet, place, buffer, at)
         }
         Kind::Array { length, element } => {
-            let count = count_of(length, before)?;
-            put_array(element.get(), count, before, packet, place, buffer, at)
+            let count = count_of(length, seen)?;
+            put_array(element.get(), count, seen, packet, place, buffer, at)
         }
         Kind::Text { length } => {
-            let count = count_of(length, before)?;
+            let count = count_of(length, seen)?;
             put_text_value(count, packet, place, buffer, at)
         }
     }
@@ -268,6 +265,7 @@ fn put_any(
 fn put_structure(
     members: &[Member],
     align: Align,
+    seen: &Seen<'_>,
     packet: &Content<'_>,
     place: u64,
     buffer: &mut Vec<u8>,
@@ -276,14 +274,15 @@ fn put_structure(
     requires start { place ≤ packet.now.end }
     requires index { at ≤ vec_len buffer.old }
     ensures puts { let line = take at buffer.old.items in let ms = members.now in
-        let k = forms.structure align (parts_of (map member_part ms)) in (before : Before) →
-        Writes result before k (structure_text ms) packet.now place line buffer.new.items }
+        let k = forms.structure align (parts_of (map member_part ms)) in
+        WritesIn result seen.now k (structure_text ms) packet.now place line buffer.new.items }
     ensures within { IfSome result (λ n. n.place ≤ packet.now.end) }
     ensures held { IfSome result (λ n. n.text ≤ vec_len buffer.new) }
     ensures few { IfSome result (λ n. n.more ≤ MOST_VALUES) }
 {
+    let around = Around::Within(&*seen.members, &*seen.around);
     let begin = begin_at(align, packet, place)?;
-    let ends = put_enclosed(members, packet, begin, buffer, at)?;
+    let ends = put_enclosed(members, &around, packet, begin, buffer, at)?;
     let more = members.len() as u64 + ends.more;
     if more > MOST_VALUES {
         return None;
@@ -301,7 +300,7 @@ fn put_structure(
 fn put_option(
     options: &[Member],
     option: usize,
-    before: Before,
+    seen: &Seen<'_>,
     packet: &Content<'_>,
     place: u64,
     buffer: &mut Vec<u8>,
@@ -310,9 +309,9 @@ fn put_option(
     requires start { place ≤ packet.now.end }
     requires index { at ≤ vec_len buffer.old }
     ensures puts { let line = take at buffer.old.items in let ms = options.now in
-        (a : ℕ) (tag : Route) (choices : List Choice) → Chooses tag choices before option →
+        (a : ℕ) (tag : Route) (choices : List Choice) → ChoosesIn seen.now tag choices option →
         let k = forms.variant a tag choices (parts_of (map member_part ms)) in
-        Writes result before k (variant_text ms) packet.now place line buffer.new.items }
+        WritesIn result seen.now k (variant_text ms) packet.now place line buffer.new.items }
     ensures within { IfSome result (λ n. n.place ≤ packet.now.end) }
     ensures held { IfSome result (λ n. n.text ≤ vec_len buffer.new) }
     ensures few { IfSome result (λ n. n.more ≤ MOST_VALUES) }
@@ -320,7 +319,7 @@ fn put_option(
     if option >= options.len() {
         return None;
     }
-    let next = put_member(b'{', &options[option], before, packet, place, buffer, at)?;
+    let next = put_member(b'{', &options[option], seen, packet, place, buffer, at)?;
     if next.more >= MOST_VALUES {
         return None;
     }
@@ -341,7 +340,7 @@ fn put_option(
 fn put_array(
     element: &Class,
     count: u64,
-    before: Before,
+    seen: &Seen<'_>,
     packet: &Content<'_>,
     place: u64,
     buffer: &mut Vec<u8>,
@@ -351,9 +350,9 @@ fn put_array(
     requires index { at ≤ vec_len buffer.old }
     ensures puts { let line = take at buffer.old.items in
         let shown = texts.value_text element.now in
-        (a : ℕ) (many : Length) → Counts many before count →
+        (a : ℕ) (many : Length) → CountsIn seen.now many count →
         let k = forms.array a many (form element.now) in
-        Writes result before k (array_text shown) packet.now place line buffer.new.items }
+        WritesIn result seen.now k (array_text shown) packet.now place line buffer.new.items }
     ensures within { IfSome result (λ n. n.place ≤ packet.now.end) }
     ensures held { IfSome result (λ n. n.text ≤ vec_len buffer.new) }
     ensures few { IfSome result (λ n. n.more ≤ MOST_VALUES) }
@@ -361,7 +360,7 @@ fn put_array(
     if let Kind::Integer(integer) = &element.kind {
         return put_integers(integer, element.align, count, packet, place, buffer, at);
     }
-    put_items(element, count, before, packet, place, buffer, at)
+    put_items(element, count, seen, packet, place, buffer, at)
 }
 
 /// Writes an array of so many elements of any class.
@@ -370,7 +369,7 @@ fn put_array(
 fn put_items(
     element: &Class,
     count: u64,
-    before: Before,
+    seen: &Seen<'_>,
     packet: &Content<'_>,
     place: u64,
     buffer: &mut Vec<u8>,
@@ -380,9 +379,9 @@ fn put_items(
     requires index { at ≤ vec_len buffer.old }
     ensures puts { let line = take at buffer.old.items in
         let shown = texts.value_text element.now in
-        (a : ℕ) (many : Length) → Counts many before count →
+        (a : ℕ) (many : Length) → CountsIn seen.now many count →
         let k = forms.array a many (form element.now) in
-        Writes result before k (array_text shown) packet.now place line buffer.new.items }
+        WritesIn result seen.now k (array_text shown) packet.now place line buffer.new.items }
     ensures within { IfSome result (λ n. n.place ≤ packet.now.end) }
     ensures held { IfSome result (λ n. n.text ≤ vec_len buffer.new) }
     ensures few { IfSome result (λ n. n.more ≤ MOST_VALUES) }
@@ -391,7 +390,7 @@ fn put_items(
         return None;
     }
     let begin = begin_at(element.align, packet, place)?;
-    let ends = put_bracketed(element, count, before, packet, begin, buffer, at)?;
+    let ends = put_bracketed(element, count, seen, packet, begin, buffer, at)?;
     let more = count + ends.more;
     if more > MOST_VALUES {
         return None;
@@ -409,7 +408,7 @@ fn put_items(
 fn put_bracketed(
     element: &Class,
     count: u64,
-    before: Before,
+    seen: &Seen<'_>,
     packet: &Content<'_>,
     begin: u64,
     buffer: &mut Vec<u8>,
@@ -418,7 +417,7 @@ fn put_bracketed(
     requires start { begin ≤ packet.now.end }
     requires index { at ≤ vec_len buffer.old }
     ensures puts { let line = take at buffer.old.items in let k = element.now in
-        let shown = texts.value_text k in IfSome result (λ e. PutsItems (enclosed 91 93) before
+        let shown = texts.value_text k in IfSome result (λ e. PutsItems (enclosed 91 93) seen.now
         (form k) shown count packet.now begin line e (take e.text buffer.new.items)) }
     ensures within { IfSome result (λ e. e.place ≤ packet.now.end) }
     ensures held { IfSome result (λ e. e.text ≤ vec_len buffer.new) }
@@ -434,7 +433,7 @@ fn put_bracketed(
             more: 0,
         });
     }
-    let ends = put_row(element, count, before, packet, begin, buffer, at)?;
+    let ends = put_row(element, count, seen, packet, begin, buffer, at)?;
     let Ok(text) = put_end(b']', buffer, ends.text) else {
         return None;
     };
@@ -450,7 +449,7 @@ fn put_bracketed(
 fn put_row(
     element: &Class,
     count: u64,
-    before: Before,
+    seen: &Seen<'_>,
     packet: &Content<'_>,
     begin: u64,
     buffer: &mut Vec<u8>,
@@ -459,7 +458,7 @@ fn put_row(
     requires start { begin ≤ packet.now.end }
     requires index { at ≤ vec_len buffer.old }
     ensures puts { let line = take at buffer.old.items in let k = element.now in
-        let shown = texts.value_text k in IfSome result (λ e. PutsItems (row 91) before
+        let shown = texts.value_text k in IfSome result (λ e. PutsItems (row 91) seen.now
         (form k) shown count packet.now begin line e (take e.text buffer.new.items)) }
     ensures within { IfSome result (λ e. e.place ≤ packet.now.end) }
     ensures held { IfSome result (λ e. e.text ≤ vec_len buffer.new) }
@@ -470,7 +469,7 @@ fn put_row(
     let mut more = 0;
     let mut lead = b'[';
     for i in 0..count {
-        let next = put_item(lead, i, element, before, packet, place, buffer, text)?;
+        let next = put_item(lead, i, element, seen, packet, place, buffer, text)?;
         place = next.place;
         text = next.text;
         more += next.more;
@@ -489,7 +488,7 @@ fn put_item(
     lead: u8,
     i: u64,
     element: &Class,
-    before: Before,
+    seen: &Seen<'_>,
     packet: &Content<'_>,
     place: u64,
     buffer: &mut Vec<u8>,
@@ -499,7 +498,7 @@ fn put_item(
     requires index { at ≤ vec_len buffer.old }
     ensures puts { let line = take at buffer.old.items in let k = element.now in
         let shown = λ (v : Val). lead ∷ 32 ∷ texts.element_text (texts.value_text k) i v in
-        Writes result before (form k) shown packet.now place line buffer.new.items }
+        WritesIn result seen.now (form k) shown packet.now place line buffer.new.items }
     ensures within { IfSome result (λ n. n.place ≤ packet.now.end) }
     ensures held { IfSome result (λ n. n.text ≤ vec_len buffer.new) }
     ensures few { IfSome result (λ n. n.more ≤ MOST_VALUES) }
@@ -507,5 +506,5 @@ fn put_item(
     let Ok(begin) = put_index(lead, i as usize, buffer, at) else {
         return None;
     };
-    put_part(element, before, packet, place, buffer, begin)
+    put_part(element, seen, packet, place, buffer, begin)
 }

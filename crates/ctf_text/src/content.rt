@@ -4,9 +4,9 @@ ghost use Rattle.std.specs.Prelude.{◌*◌, ◌^◌, ◌≤◌, length};
 
 /// A packet's bytes, and the place in bits where its content ends.
 #[derive(Clone, Copy)]
-pub(crate) struct Content<'a> {
-    pub(crate) bytes: &'a [u8],
-    pub(crate) end: u64,
+pub struct Content<'a> {
+    pub bytes: &'a [u8],
+    pub end: u64,
     ghost bounded: { end ≤ 2 ^ 62 },
     ghost held: { end ≤ 8 * length bytes.now },
 }

@@ -5,10 +5,9 @@ ghost use Rattle.ctf_bits.specs.Number.{number, signed_number};
 ghost use Rattle.ctf_decode.specs.Input.{bits_of};
 ghost use Rattle.ctf_class.specs.declared.route.Length.{Length};
 ghost use Rattle.ctf_decode.specs.Forms as forms;
-ghost use Rattle.ctf_text.specs.Standing.{Counts, Writes, ValueIs, known_of};
+ghost use Rattle.ctf_text.specs.Standing.{Before, Counts, Writes, ValueIs, known_of};
 ghost use Rattle.ctf_decode.specs.Values.{label};
 ghost use Rattle.ctf_text.specs.Texts as texts;
-ghost use Rattle.ctf_text.specs.declared.standing.Before.{Before};
 
 use crate::content::Content;
 use crate::label::put_labelled;

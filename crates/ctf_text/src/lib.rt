@@ -1,8 +1,8 @@
 //! The text of values, and of the part of an event record's line behind its stamp.
 #![tactic(auto)]
 
+mod around;
 mod array;
-mod before;
 mod binary;
 mod by_class;
 mod content;
@@ -27,6 +27,7 @@ mod whole;
 mod window;
 
 pub use by_class::put_standing;
+pub use content::Content;
 pub use ctf_class::escaped;
 pub use packet::put_packet_part;
 pub use planned_record::put_planned_record;

@@ -30,57 +30,47 @@ pub(crate) struct Reach {
     more: u64,
 }
 
-/// Writes the scopes of the event record that stands at a place of a packet behind its header (CTF 1.8.3, section 6) at an
-/// index of a buffer, in bytes, by the plan of such records. The place and the content's end are in bits from the packet's
-/// first one, and so many values were begun before. What stands before the index is kept, and the buffer grows where it has
-/// no room.
+/// Writes the scopes of the event record after its header (CTF 1.8.3, section 6) at an index of a buffer, by the plan of
+/// such records: `from` has the place after the header, in bits from the packet's first one, how many values were begun
+/// before, and the index, in bytes. What is before the index is kept, and the buffer grows where it has no room.
 ///
 /// `None` where there is no plan, where the record has a fault or ends in the last eight bytes of the content, and where
 /// memory is refused; the buffer is then any buffer.
 #[inline(always)]
 pub fn put_planned_record(
     plan: &RecordPlan,
-    packet: &[u8],
-    content: u64,
-    place: u64,
-    spent: u64,
+    packet: &Content<'_>,
+    from: Standing,
     buffer: &mut Vec<u8>,
-    at: usize,
 ) -> Option<Standing>
     requires plan { (classes : List Class) × IsPlanOf classes plan.now }
-    requires content { content ≤ 2 ^ 62 }
-    requires held { content ≤ 8 * length packet.now }
-    requires start { place ≤ content }
-    requires few { spent ≤ MOST_VALUES }
-    requires index { at ≤ vec_len buffer.old }
+    requires start { from.place ≤ packet.now.end }
+    requires few { from.spent ≤ MOST_VALUES }
+    requires index { from.end ≤ vec_len buffer.old }
     ensures puts { (classes : List Class) → 0 < length classes → IsPlanOf classes plan.now →
-        IfSome result (λ s.
-        PutsScopes classes packet.now content place spent s.place s.spent (take at buffer.old.items)
+        IfSome result (λ s. PutsScopes classes packet.now.bytes.now packet.now.end from.place
+        from.spent s.place s.spent (take from.end buffer.old.items)
         (take s.end buffer.new.items)) }
-    ensures within { IfSome result (λ s. s.place ≤ content) }
+    ensures within { IfSome result (λ s. s.place ≤ packet.now.end) }
     ensures held { IfSome result (λ s. s.end ≤ vec_len buffer.new) }
 {
     let runs = plan.runs.as_slice();
-    let begin = up(place, 8);
-    if runs.is_empty() || begin > content {
+    let begin = up(from.place, 8);
+    if runs.is_empty() || begin > packet.end {
         return None;
     }
-    let packet = Content {
-        bytes: packet,
-        end: content,
-    };
     let mut reach = Reach {
         place: begin,
         more: 0,
     };
-    let text = put_runs(runs, &packet, &mut reach, buffer, at)?;
+    let text = put_runs(runs, packet, &mut reach, buffer, from.end)?;
     let count = plan.count.checked_add(reach.more)?;
-    if count > MOST_VALUES - spent {
+    if count > MOST_VALUES - from.spent {
         return None;
     }
     Some(Standing {
         place: reach.place,
-        spent: spent + count,
+        spent: from.spent + count,
         end: text,
     })
 }

@@ -43,13 +43,6 @@ pub(crate) enum Last {
     Label(i64),
 }
 
-/// What stands before a member: so many others, of which the last has this value.
-#[derive(Clone, Copy)]
-pub(crate) struct Before {
-    pub(crate) index: usize,
-    pub(crate) last: Last,
-}
-
 /// Where a value ends, in bits from the packet's first one, the index behind its text, how many values were begun in it, and
 /// what is known of it.
 #[derive(Clone, Copy)]

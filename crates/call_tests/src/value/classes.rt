@@ -6,14 +6,15 @@ use ctf_class::{Class, EventClass, Kind, StreamClass, TraceClass};
 pub fn class_named<'a>(trace: &'a TraceClass, name: &str) -> Option<&'a Class> {
     match name.split_once('.') {
         Some(("header", id)) => stream_of(trace, id)?.event_header(),
-        Some((_, id)) => fields_of(trace, id),
-        None => member_named(fields_of(trace, "0")?, name.as_bytes()),
+        Some(("fields", id)) => fields_of(trace, "0", id),
+        Some((stream, id)) => fields_of(trace, stream, id),
+        None => member_named(fields_of(trace, "0", "0")?, name.as_bytes()),
     }
 }
 
-/// The fields of an event class of the first stream.
-fn fields_of<'a>(trace: &'a TraceClass, id: &str) -> Option<&'a Class> {
-    Some(event_of(stream_of(trace, "0")?, id)?.fields())
+/// The fields of an event class, by the ids of its stream class and of its own.
+fn fields_of<'a>(trace: &'a TraceClass, stream: &str, id: &str) -> Option<&'a Class> {
+    Some(event_of(stream_of(trace, stream)?, id)?.fields())
 }
 
 /// The class of a member of a structure.

@@ -1,30 +1,64 @@
 //! Texts that are written out of the bits, behind what stands in a line and over what stood there.
 
-ghost use Rattle.std.specs.Prelude.{List};
+ghost use Rattle.std.specs.Prelude.{◌≡◌, List};
 ghost use Rattle.ctf_class.specs.Records.{IsPlanOf};
 ghost use Rattle.ctf_class.specs.declared.class.Class.{Class as PlainClass};
 
 use crate::row::Row;
 use crate::value::decoding::put_reached;
 use crate::value::place::Place;
-use ctf_class::{Class, RecordPlan, StreamClass};
-use ctf_text::{Standing, put_planned_record, put_standing};
+use crate::value::words::values_of;
+use ctf_class::{Class, RecordPlan, Scope, StreamClass};
+use ctf_decode::Scopes;
+use ctf_text::{Content, Standing, put_planned_record, put_standing};
 
 /// What stands in a line, and behind its fifth byte what stood there.
 pub const LINE: &[u8] = b"[12] and what was there";
 
-/// Puts the text of the structure at a place.
+/// Puts the text of the structure at a place, where the words after it are the value of the packet context.
 pub fn put_place(row: &mut Row<'_>, class: &Class, place: Place<'_>) {
     if let Ok(line) = Vec::from_slice(row.alloc, LINE) {
         let mut line = line;
-        let Place {
-            bytes,
-            start,
-            content,
-        } = place;
-        let standing = put_standing(class, bytes, content, start, 0, &mut line, 5);
+        let scopes = scopes_of(row);
+        let packet = content_of(place);
+        let from = begin_of(place);
+        let standing = put_standing(class, &packet, &scopes, from, &mut line);
         put_text(row, &line, standing);
     }
+}
+
+/// The content in which a place is.
+fn content_of(place: Place<'_>) -> Content<'_>
+    ensures end { result.end ≡ place.content }
+    ensures bytes { result.bytes ≡ place.bytes }
+{
+    Content {
+        bytes: place.bytes,
+        end: place.content,
+    }
+}
+
+/// A text begins at the place, after what is in a line.
+fn begin_of(place: Place<'_>) -> Standing
+    ensures place { result.place ≡ place.start }
+    ensures spent { result.spent ≡ 0 }
+    ensures end { result.end ≡ 5 }
+{
+    Standing {
+        place: place.start,
+        spent: 0,
+        end: 5,
+    }
+}
+
+/// The scopes of which the words are the value of the packet context, if they are one.
+fn scopes_of(row: &Row<'_>) -> Scopes {
+    let mut scopes = Scopes::new();
+    let mut values = values_of(row.alloc, row.words);
+    if let Some(value) = values.pop() {
+        scopes.put(Scope::PacketContext, value);
+    }
+    scopes
 }
 
 /// Puts the text of the scopes of an event record at a place.
@@ -44,12 +78,7 @@ fn put_planned(row: &mut Row<'_>, plan: &RecordPlan, place: Place<'_>)
 {
     if let Ok(line) = Vec::from_slice(row.alloc, LINE) {
         let mut line = line;
-        let Place {
-            bytes,
-            start,
-            content,
-        } = place;
-        let standing = put_planned_record(plan, bytes, content, start, 0, &mut line, 5);
+        let standing = put_planned_record(plan, &content_of(place), begin_of(place), &mut line);
         put_text(row, &line, standing);
     }
 }

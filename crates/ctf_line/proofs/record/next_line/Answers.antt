@@ -1,4 +1,4 @@
-use Rattle.std.proofs.Common.{◌≡◌, Err, take, subst, sym, rules}
+use Rattle.std.proofs.Common.{◌≡◌, Err, take, refl, subst, sym, rules}
 use Rattle.ctf_line.specs.Making.{Made, Makes, PutsBody}
 use Rattle.ctf_packet.specs.Records.{record_at}
 use Rattle.ctf_packet.specs.Views.{values_of, packet_values, opened_of}
@@ -23,10 +23,10 @@ returns-in-Some-put_record-clause-makes c = λ shift line.
     let standing = c.in-Some-put_record.standing in
     let items = c.put_record.new.line.items in
     let text = take standing.end items in
-    let body = subst (λ n. PutsBody o.stream.now head.event.now c.args.part.now c.args.bytes.now o.content head.end n standing.place text) c.spent.ensures.value c.in-Some-put_record.ensures.puts in
+    let body = subst (λ n. PutsBody known o.stream.now head.event.now c.args.part.now c.args.bytes.now o.content head.end n standing.place text) c.spent-spent.ensures.value c.in-Some-put_record.ensures.puts in
     let made = c.with_text-in-Some-put_record.result.record in
     subst (λ t. Made o.stream.now (record_at (opened_of shift (packet_values old) o) c.args.bytes.now c.args.clock c.args.place) c.args.part.now known items made t) (sym c.with_text-in-Some-put_record.ensures.text)
-    (text_made shift o old c.args.bytes.now c.args.part.now c.args.clock c.args.place head (values_of known) known.spent text standing.place made (c.in_ok-head.ensures.puts shift line) body c.in-Some-put_record.ensures.forward c.with_text-in-Some-put_record.ensures.record)
+    (text_made shift o old c.args.bytes.now c.args.part.now c.args.clock c.args.place head (values_of known) known.spent known text standing.place made (refl, refl) (c.in_ok-head.ensures.puts shift line) body c.in-Some-put_record.ensures.forward c.with_text-in-Some-put_record.ensures.record)
 
 pub returns-in_err-record-clause-makes : goal.returns-in_err-record-clause-makes
 returns-in_err-record-clause-makes c = λ shift line.
@@ -53,4 +53,4 @@ returns-in-Some-put_planned_body-clause-makes c = λ shift line.
     let standing = c.in-Some-put_planned_body.standing in
     let items = c.put_planned_body.new.line.items in
     subst (λ t. Made o.stream.now (record_at (opened_of shift (packet_values old) o) c.args.bytes.now c.args.clock c.args.place) c.args.part.now c.args.scopes.now items c.with_text.result.record t) (sym c.with_text.ensures.text)
-    (text_told shift o old c.args.bytes.now c.args.part.now c.args.clock c.args.place told (take standing.end items) standing.place c.with_text.result.record (c.in-Some.ensures.tells shift line) c.in-Some-put_planned_body.ensures.puts c.in-Some-put_planned_body.ensures.forward c.with_text.ensures.record)
+    (text_told shift o c.args.scopes.now c.args.bytes.now c.args.part.now c.args.clock c.args.place told (take standing.end items) standing.place c.with_text.result.record (c.in-Some.ensures.tells shift line) c.in-Some-put_planned_body.ensures.puts c.in-Some-put_planned_body.ensures.forward c.with_text.ensures.record)

@@ -12,4 +12,4 @@ returns-clause-puts c =
     let own = rw context_of_event at c.in_ok-own.ensures.puts in
     let fields = c.in_ok-all.ensures.puts in
     let text = take c.in_ok-all.all.end c.put_standing.new.buffer.items in
-    puts_body c.args.packet.now.stream.now c.args.head.event.now c.args.part.now c.args.bytes.now c.args.packet.now.content from c.in_ok-shared.shared c.in_ok-own.own c.in_ok-all.all.place c.in_ok-all.all.spent (take c.in-Ok.front c.put_front.new.buffer.items) _ _ text c.in-Ok.ensures.text shared own fields
+    puts_body c.args.scopes.now c.args.packet.now.stream.now c.args.head.event.now c.args.part.now c.args.bytes.now c.args.packet.now.content from c.in_ok-shared.shared c.in_ok-own.own c.in_ok-all.all.place c.in_ok-all.all.spent (take c.in-Ok.front c.put_front.new.buffer.items) _ _ text c.in-Ok.ensures.text shared own fields

@@ -1,6 +1,7 @@
 use Rattle.std.proofs.Common.{◌≡◌, ◌≤◌, take, vec_len}
 use Rattle.ctf_decode.specs.Views.{form}
 use Rattle.ctf_decode.specs.declared.scopes.TheConstants.{MOST_VALUES}
+use Rattle.ctf_text.specs.Around.{Agrees, MembersAre, sight}
 use Rattle.ctf_text.specs.Standing.{mark_at}
 use Rattle.ctf_text.specs.Texts.{value_text}
 use Rattle.ctf_text.proofs.ByClassLemmas as items
@@ -13,7 +14,7 @@ invariant-put_members-loop-i l = record {
   held : l.text ≤ vec_len l.buffer;
   few : l.more ≤ MOST_VALUES;
   marked : l.lead ≡ mark_at 123 l.i;
-  going : members.Going l.members l.packet.bytes.now l.packet.end l.begin l.i l.place l.more l.last (take l.at l.fn.buffer.items) (take l.text l.buffer.items);
+  going : members.Going (Agrees (sight l.around)) l.members l.packet.bytes.now l.packet.end l.begin l.i l.place l.more (MembersAre l.before) (take l.at l.fn.buffer.items) (take l.text l.buffer.items);
 }
 
 abbrev pub invariant-put_row-loop-i : goal.invariant-put_row-loop-i
@@ -22,5 +23,5 @@ invariant-put_row-loop-i l = record {
   held : l.text ≤ vec_len l.buffer;
   few : l.more ≤ MOST_VALUES;
   marked : l.lead ≡ mark_at 91 l.i;
-  going : items.Going l.before (form l.element) (value_text l.element) l.count l.packet l.begin l.i l.place l.more (take l.at l.fn.buffer.items) (take l.text l.buffer.items);
+  going : items.Going l.seen (form l.element) (value_text l.element) l.count l.packet l.begin l.i l.place l.more (take l.at l.fn.buffer.items) (take l.text l.buffer.items);
 }

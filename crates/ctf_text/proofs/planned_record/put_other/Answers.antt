@@ -4,9 +4,8 @@ use Rattle.ctf_class.specs.declared.route.Length.TheVariants as lengths
 use Rattle.ctf_decode.specs.Forms as forms
 use Rattle.ctf_decode.specs.Views.{form}
 use Rattle.ctf_text.specs.Records.{IsLastNumber, behind}
-use Rattle.ctf_text.specs.Standing.{PutsOne, elements_text}
+use Rattle.ctf_text.specs.Standing.{Before, PutsOne, elements_text}
 use Rattle.ctf_text.specs.Texts.{integer_text, value_text}
-use Rattle.ctf_text.specs.declared.standing.Before.{Before}
 use Rattle.ctf_text.specs.declared.standing.Next.{Next}
 use Rattle.ctf_text.proofs.ByClassLemmas.{forget}
 use Rattle.ctf_text.proofs.ArrayLemmas.{next_class, form_array, text_array}

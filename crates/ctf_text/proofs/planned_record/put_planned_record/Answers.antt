@@ -17,12 +17,12 @@ put_runs-requires-clause-near c =
 pub returns-clause-puts : goal.returns-clause-puts
 returns-clause-puts c = λ classes several planned.
     let plan = c.args.plan.now in
-    let bytes = c.args.packet.now in
-    let content = c.args.content in
-    let place = c.args.place in
-    let spent = c.args.spent in
+    let bytes = c.args.packet.now.bytes.now in
+    let content = c.args.packet.now.end in
+    let place = c.args.from.place in
+    let spent = c.args.from.spent in
     let to = c.put_runs.new.reach in
-    let before = take c.args.at c.args.buffer.now.items in
+    let before = take c.args.from.end c.args.buffer.now.items in
     let after = take c.in_ok-text.text c.put_runs.new.buffer.items in
     let some : 0 < length plan.runs = search (rules, arith) in
     let is = planned some in

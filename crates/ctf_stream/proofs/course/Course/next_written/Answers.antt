@@ -13,4 +13,4 @@ returns-clause-holds c =
     let front = c.next_written.result in
     let stands = inside old.cut Clean [] old.buffer old.taken old.packet c.in-Some.packet c.in-Some.is c.requires.stands in
     subst (λ bytes. IfSome front (HoldsFront old.writes shift old.scopes bytes old.part line new)) c.as_slice.ensures
-    (subst (λ part. IfSome front (HoldsFront old.writes shift old.scopes c.as_slice.result.now part line new)) c.as_slice-2.ensures (c.next_written.ensures.written shift old.scopes stands.fetched.line))
+    (subst (λ part. IfSome front (HoldsFront old.writes shift old.scopes c.as_slice.result.now part line new)) c.as_slice-2.ensures (c.next_written.ensures.written shift stands.fetched.line))
