@@ -6,3 +6,4 @@ pub mod Added
 pub mod Refusals
 pub mod Folders
 pub mod Outcomes
+pub mod Parts

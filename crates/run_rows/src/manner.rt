@@ -1,5 +1,7 @@
 //! How bytes are given and taken.
 
+use crate::words::{Word, word_of};
+
 /// How bytes are given or taken.
 #[derive(Clone, Copy)]
 pub enum Manner {
@@ -22,45 +24,45 @@ pub struct Manners {
     pub messages: Manner,
 }
 
-/// The manners that words name: `in`, `out`, `err` or `both`, and behind `=` `drip:N`, `fail:N`, `once:N` or `refuse:N`.
-pub fn manners_of(words: &str) -> Option<Manners> {
+impl Manners {
+    /// Sets how bytes are given or taken on a side.
+    fn set(&mut self, side: &str, manner: Manner) {
+        match side {
+            "in" => self.input = manner,
+            "out" => self.output = manner,
+            "err" => self.messages = manner,
+            _ => {
+                self.output = manner;
+                self.messages = manner;
+            }
+        }
+    }
+}
+
+/// The manners that the words of a line name.
+pub fn manners_of(line: &str) -> Manners {
     let mut manners = Manners {
         input: Manner::Whole,
         output: Manner::Whole,
         messages: Manner::Whole,
     };
-    for word in words.split(' ') {
-        if !word.starts_with("--") && word.contains('=') {
-            set(&mut manners, word)?;
+    for word in line.split(' ') {
+        if let Word::Manner(side, manner) = word_of(word) {
+            manners.set(side, manner);
         }
     }
-    Some(manners)
+    manners
 }
 
-/// Sets how bytes are given or taken on a side.
-fn set(manners: &mut Manners, word: &str) -> Option<()> {
-    let (side, manner) = word.split_once('=')?;
-    let manner = manner_of(manner)?;
-    match side {
-        "in" => manners.input = manner,
-        "out" => manners.output = manner,
-        "err" => manners.messages = manner,
-        _ => {
-            manners.output = manner;
-            manners.messages = manner;
-        }
-    }
-    Some(())
-}
-
-fn manner_of(word: &str) -> Option<Manner> {
-    let (name, count) = word.split_once(':')?;
-    let count = count.parse::<usize>().ok()?;
+/// The manner of a word `NAME:COUNT`.
+pub fn manner_of(word: &str) -> Manner {
+    let (name, count) = word.split_once(':').unwrap_or((word, ""));
+    let count = count.parse::<usize>().unwrap_or(0);
     match name {
-        "drip" => Some(Manner::Drip(count)),
-        "fail" => Some(Manner::Fail(count)),
-        "once" => Some(Manner::Once(count)),
-        "refuse" => Some(Manner::Refuse(count)),
-        _ => None,
+        "drip" => Manner::Drip(count),
+        "fail" => Manner::Fail(count),
+        "once" => Manner::Once(count),
+        "refuse" => Manner::Refuse(count),
+        _ => Manner::Whole,
     }
 }

@@ -19,40 +19,19 @@
 //! the output and the messages have, `other` where they are no beginning of those of the row without the last word, and the
 //! last message, `done` where the run did not fail.
 
-mod row;
+mod made;
 
-use crate::sink::RowSink;
-use crate::told::Told;
-use row::run_of;
-use std::rt::Files;
-
-/// What came of a run.
-#[derive(Drop)]
-pub struct Run {
-    pub output: RowSink,
-    pub messages: RowSink,
-    pub status: u8,
-    /// The line that a program prints behind the run; empty where there is none.
-    pub line: &'static [u8],
-}
+use crate::row::Row;
+use made::{Run, run_of};
 
 /// Puts what comes of a row, or of a row for each of its numbers.
-pub fn put_row<R: Files + AllocGlobal>(rt: &R, told: &mut Told, line: &str) -> Option<()> {
-    let Some((front, last)) = line.split_once("..") else {
-        put_run(told, &run_of(rt, line)?);
-        return Some(());
-    };
-    let (front, first) = front.rsplit_once(':')?;
-    let (plain, word) = front.rsplit_once(' ')?;
-    let tries = Tries {
-        plain,
-        word,
-        first: first.parse::<u32>().ok()?,
-        last: last.parse::<u32>().ok()?,
-    };
-    match run_of(rt, plain) {
-        Some(whole) => put_tries(rt, told, tries, &whole),
-        None => None,
+pub fn put_row(rt: &HostRuntime, row: &mut Row<'_>) {
+    match row.words.split_once("..") {
+        None => put_run(row, &run_of(rt, row.words)),
+        Some((front, last)) => {
+            let tries = tries_of(front, last);
+            put_tries(rt, row, tries, &run_of(rt, tries.plain));
+        }
     }
 }
 
@@ -61,43 +40,49 @@ pub fn put_row<R: Files + AllocGlobal>(rt: &R, told: &mut Told, line: &str) -> O
 struct Tries<'a> {
     /// The row without its last word.
     plain: &'a str,
-    /// The last word before its number.
-    word: &'a str,
+    /// The row up to the number.
+    front: &'a str,
     first: u32,
     last: u32,
 }
 
-/// Puts a line for each number.
-fn put_tries<R: Files + AllocGlobal>(
-    rt: &R,
-    told: &mut Told,
-    tries: Tries<'_>,
-    whole: &Run,
-) -> Option<()> {
-    for number in tries.first..=tries.last {
-        let row = format!(in rt.alloc(); "{} {}:{number}", tries.plain, tries.word).ok()?;
-        told.number(i128::from(number));
-        put_try(told, &run_of(rt, &row)?, whole);
+/// The row with the numbers from that at the end of a front to the last one.
+fn tries_of<'a>(front: &'a str, last: &str) -> Tries<'a> {
+    let (front, first) = front.rsplit_once(':').unwrap_or((front, ""));
+    let (plain, _) = front.rsplit_once(' ').unwrap_or((front, ""));
+    Tries {
+        plain,
+        front,
+        first: first.parse::<u32>().unwrap_or(0),
+        last: last.parse::<u32>().unwrap_or(0),
     }
-    Some(())
+}
+
+/// Puts a line for each number.
+fn put_tries(rt: &HostRuntime, row: &mut Row<'_>, tries: Tries<'_>, whole: &Run) {
+    for number in tries.first..=tries.last {
+        row.put_number(b"", number as i128);
+        if let Ok(line) = format!(in rt.alloc(); "{}:{number}", tries.front) {
+            put_try(row, &run_of(rt, &line), whole);
+        }
+    }
 }
 
 /// Puts how far a run came beside the whole one.
-fn put_try(told: &mut Told, run: &Run, whole: &Run) {
-    told.put(b": output ");
-    put_beginning(told, run.output.bytes(), whole.output.bytes());
-    told.put(b", messages ");
-    put_beginning(told, run.messages.bytes(), whole.messages.bytes());
-    told.put(b", ");
-    told.put_line(last_message(run), b"");
+fn put_try(row: &mut Row<'_>, run: &Run, whole: &Run) {
+    row.put(b": output ");
+    put_beginning(row, run.output.bytes(), whole.output.bytes());
+    row.put(b", messages ");
+    put_beginning(row, run.messages.bytes(), whole.messages.bytes());
+    row.put_line(b", ", last_message(run));
 }
 
 /// Puts how long a text is, and whether it is another than a beginning of the whole one.
-fn put_beginning(told: &mut Told, text: &[u8], whole: &[u8]) {
+fn put_beginning(row: &mut Row<'_>, text: &[u8], whole: &[u8]) {
     if !whole.starts_with(text) {
-        told.put(b"other ");
+        row.put(b"other ");
     }
-    told.number(text.len() as i128);
+    row.put_number(b"", text.len() as i128);
 }
 
 /// The last message of a run and of the program behind it.
@@ -118,10 +103,9 @@ fn last_message(run: &Run) -> &[u8] {
 }
 
 /// Puts the output, the messages and the status of a run.
-fn put_run(told: &mut Told, run: &Run) {
-    told.put_lines(b"", run.output.bytes());
-    told.put_lines(b"! ", run.messages.bytes());
-    told.put(b"= ");
-    told.number(i128::from(run.status));
-    told.put(b"\n");
+fn put_run(row: &mut Row<'_>, run: &Run) {
+    row.put_lines(b"", run.output.bytes());
+    row.put_lines(b"! ", run.messages.bytes());
+    row.put_number(b"= ", run.status as i128);
+    row.put(b"\n");
 }

@@ -15,100 +15,72 @@
 mod crossing;
 mod step;
 
-use crate::bytes::{add_stream, add_word, file_of};
-use crate::manner::{Manners, manners_of};
+use crate::files::{add_stream, file_of};
+use crate::manner::{Manner, Manners, manners_of};
+use crate::row::Row;
 use crate::source::RowSource;
-use crate::told::Told;
+use crate::words::{Word, add_word, command_of, word_of};
 use crossing::{crossing, put_crossing};
 use ctf_class::TraceClass;
+use ctf_list::NoMemory;
 use ctf_options::{Options, options_of};
 use ctf_run::load;
 use ctf_session::{Session, Streams};
 use std::alloc::Global;
-use std::rt::Files;
 use step::put_steps;
 
 /// Puts what the session of a row does.
-pub fn put_row<R: Files + AllocGlobal>(rt: &R, told: &mut Told, line: &str) -> Option<()> {
-    let (metadata, words) = line.split_once(' ').unwrap_or((line, ""));
-    let metadata = file_of(rt, metadata)?;
-    match load(rt.alloc(), &metadata) {
-        Ok(class) => put_session(rt, told, &class, words),
-        Err(_) => None,
+pub fn put_row(rt: &HostRuntime, row: &mut Row<'_>) {
+    let metadata = file_of(rt, row.word());
+    if let Ok(class) = load(row.alloc, &metadata) {
+        put_session(rt, row, &class);
     }
 }
 
 /// Puts what a session over the streams of a trace does.
-fn put_session<R: Files + AllocGlobal>(
-    rt: &R,
-    told: &mut Told,
-    class: &TraceClass,
-    words: &str,
-) -> Option<()> {
-    let alloc = rt.alloc();
-    let manners = manners_of(words)?;
-    let line = line_of(alloc, words)?;
-    let mut streams = Vec::new(alloc);
-    if words.ends_with("crossing") {
-        crossing(alloc, &mut streams)?;
-    } else {
-        add_streams(rt, &mut streams, words, manners)?;
-    }
-    match options_of(alloc, &line) {
-        Ok(options) => put_opened(alloc, told, class, streams, &options, manners),
-        Err(_) => None,
-    }
-}
-
-/// The command line, with one folder.
-fn line_of(alloc: Global, words: &str) -> Option<Vec<String>> {
-    let mut line = Vec::new(alloc);
-    add_word(alloc, &mut line, "bt-ctf")?;
-    add_word(alloc, &mut line, "d")?;
-    for word in words.split(' ') {
-        if word.starts_with("--") {
-            add_word(alloc, &mut line, word)?;
+fn put_session(rt: &HostRuntime, row: &mut Row<'_>, class: &TraceClass) {
+    let mut command = command_of(row.alloc, row.words);
+    add_word(row.alloc, &mut command, "d");
+    if let Ok(options) = options_of(row.alloc, &command) {
+        let manners = manners_of(row.words);
+        let streams = streams_of(rt, row.words, manners.input);
+        let count = streams.len();
+        if let Ok(sessions) = sessions_of(row.alloc, class, streams, &options) {
+            let mut sessions = sessions;
+            if let Some(session) = sessions.last_mut() {
+                match count > 1000 {
+                    true => put_crossing(row, session, manners),
+                    false => put_steps(row, session, manners, count),
+                }
+            }
         }
     }
-    Some(line)
 }
 
-/// Adds the streams that words name.
-fn add_streams<R: Files + AllocGlobal>(
-    rt: &R,
-    streams: &mut Vec<(String, RowSource)>,
-    words: &str,
-    manners: Manners,
-) -> Option<()> {
+/// The streams that words name.
+fn streams_of(rt: &HostRuntime, words: &str, manner: Manner) -> Vec<(String, RowSource)> {
+    let mut streams = Vec::new(rt.alloc());
     for word in words.split(' ') {
-        if !word.is_empty() && !word.contains('=') && !word.starts_with("--") {
-            add_stream(rt, streams, word, manners.input)?;
+        match word_of(word) {
+            Word::Stream("") => {}
+            Word::Stream("crossing") => crossing(rt.alloc(), &mut streams),
+            Word::Stream(word) => add_stream(rt, &mut streams, word, manner),
+            _ => {}
         }
     }
-    Some(())
+    streams
 }
 
-/// Puts what a session over these streams does.
-fn put_opened(
+/// The session over some streams, in a list, whose drop is a call.
+fn sessions_of<'a>(
     alloc: Global,
-    told: &mut Told,
-    class: &TraceClass,
+    class: &'a TraceClass,
     streams: Vec<(String, RowSource)>,
     options: &Options,
-    manners: Manners,
-) -> Option<()> {
-    let count = streams.len();
+) -> Result<Vec<Session<'a, RowSource>>, NoMemory> {
     let mut traces = Vec::new(alloc);
-    traces.push(Streams { class, streams }).ok()?;
-    match Session::new(alloc, traces, options) {
-        Ok(session) => {
-            let mut session = session;
-            if count > 1000 {
-                return put_crossing(alloc, told, &mut session, manners);
-            }
-            put_steps(alloc, told, &mut session, manners, count);
-            Some(())
-        }
-        Err(_) => None,
-    }
+    traces.push(Streams { class, streams })?;
+    let mut sessions = Vec::new(alloc);
+    sessions.push(Session::new(alloc, traces, options)?)?;
+    Ok(sessions)
 }

@@ -6,6 +6,7 @@ use crate::manner::Manner;
 use ctf_bits::{Sink, SinkFault};
 use ctf_run::Log;
 use std::alloc::Global;
+use std::io::{self, Error, ErrorKind, Write};
 
 /// Takes bytes as a row says it.
 #[derive(Drop)]
@@ -86,6 +87,22 @@ impl Log for RowSink {
     ghost settled = { λ _. true };
 
     fn settle(&mut self) -> Result<(), SinkFault> {
+        Ok(())
+    }
+}
+
+impl Write for RowSink {
+    fn write(&mut self, buf: &[u8]) -> io::Result<usize> {
+        if buf.is_empty() {
+            return Ok(0);
+        }
+        match self.put(buf) {
+            Ok(count) => Ok(count),
+            Err(_) => Err(Error::from(ErrorKind::BrokenPipe)),
+        }
+    }
+
+    fn flush(&mut self) -> io::Result<()> {
         Ok(())
     }
 }

@@ -4,11 +4,11 @@
 //! and the second one of each is at 8191. So the first ones come from the last stream to the first, and the second ones
 //! from the first stream to the last.
 
-use crate::bytes::add_bytes;
+use crate::files::add_bytes;
 use crate::manner::{Manner, Manners};
+use crate::row::Row;
 use crate::session::step::put_step;
 use crate::source::RowSource;
-use crate::told::Told;
 use ctf_session::Session;
 use std::alloc::Global;
 
@@ -25,13 +25,13 @@ const LAST: u32 = 8191;
 const CONTENT: usize = 8;
 
 /// Adds the streams: stamps of 27 bits behind the class number 0.
-pub fn crossing(alloc: Global, streams: &mut Vec<(String, RowSource)>) -> Option<()> {
+pub fn crossing(alloc: Global, streams: &mut Vec<(String, RowSource)>) {
     for time in (0..COUNT).rev() {
-        let mut bytes = Vec::from_slice(alloc, &u32::to_le_bytes(time << 5)).ok()?;
-        bytes.extend_from_slice(&u32::to_le_bytes(LAST << 5)).ok()?;
-        add_bytes(alloc, streams, bytes, Manner::Whole)?;
+        let mut bytes = Row::new(alloc, "");
+        bytes.put(&u32::to_le_bytes(time << 5));
+        bytes.put(&u32::to_le_bytes(LAST << 5));
+        add_bytes(alloc, streams, bytes.into_text(), Manner::Whole);
     }
-    Some(())
 }
 
 /// Which stream's event record a step takes, its time, and what the stream holds then.
@@ -60,56 +60,54 @@ fn turn_at(step: u32) -> Turn {
 
 /// Puts the steps that take event records of the last stream, which has the first and the last one of all, how many steps
 /// take the one whose turn it is, and the answers of two steps more.
-pub fn put_crossing(
-    alloc: Global,
-    told: &mut Told,
-    session: &mut Session<'_, RowSource>,
-    manners: Manners,
-) -> Option<()> {
+pub fn put_crossing(row: &mut Row<'_>, session: &mut Session<'_, RowSource>, manners: Manners) {
     let mut count = 0u32;
     for number in 0..STEPS {
-        let turn = turn_at(number);
-        let text = step_text(alloc, session, manners)?;
-        if is_turn(alloc, session, &text, turn)? {
+        if put_turn(row, session, manners, turn_at(number)) {
             count = count.saturating_add(1);
         }
-        if turn.number == COUNT - 1 {
-            told.put_line(&text, b"");
-        }
     }
-    told.number(i128::from(count));
-    told.put(b" steps in order\n");
+    row.put_number(b"", count as i128);
+    row.put(b" steps in order\n");
     for _ in 0..2 {
-        told.put_line(&step_text(alloc, session, manners)?, b"");
+        put_step(row, session, manners);
+        row.put(b"\n");
     }
-    Some(())
 }
 
-/// What one step does.
-fn step_text(
-    alloc: Global,
+/// Puts the step of a turn of the last stream, and answers whether a step took the one whose turn it is.
+fn put_turn(
+    row: &mut Row<'_>,
     session: &mut Session<'_, RowSource>,
     manners: Manners,
-) -> Option<Vec<u8>> {
-    let mut told = Told::new(alloc);
-    put_step(alloc, &mut told, session, manners);
-    told.into_text()
+    turn: Turn,
+) -> bool {
+    let mut step = Row::new(row.alloc, "");
+    put_step(&mut step, session, manners);
+    if turn.number == COUNT - 1 {
+        row.put_line(b"", step.text());
+    }
+    is_turn(row.alloc, session, step.text(), turn)
 }
 
 /// Whether a step wrote one line, that of its turn, and left its stream as it should.
-fn is_turn(
-    alloc: Global,
-    session: &Session<'_, RowSource>,
-    text: &[u8],
-    turn: Turn,
-) -> Option<bool> {
-    let stamp = format!(in alloc; "[0.{:09}] ", turn.time).ok()?;
+fn is_turn(alloc: Global, session: &Session<'_, RowSource>, text: &[u8], turn: Turn) -> bool {
     let lines = text.iter().filter(|byte| **byte == b'\n').count();
-    let held = session.reader(turn.number as usize)?.held();
-    Some(
-        held == turn.held
-            && lines == 1
-            && text.starts_with(stamp.as_bytes())
-            && text.ends_with(b"\nwent"),
-    )
+    match session.reader(turn.number as usize) {
+        Some(reader) => {
+            lines == 1
+                && reader.held() == turn.held
+                && text.ends_with(b"\nwent")
+                && has_stamp(alloc, text, turn.time)
+        }
+        None => false,
+    }
+}
+
+/// Whether a text begins with the stamp of a time.
+fn has_stamp(alloc: Global, text: &[u8], time: u32) -> bool {
+    match format!(in alloc; "[0.{time:09}] ") {
+        Ok(stamp) => text.starts_with(stamp.as_bytes()),
+        Err(_) => false,
+    }
 }
