@@ -168,6 +168,24 @@ def strings_as_fields(folder: pathlib.Path, size: int) -> None:
     shapes.write_trace(folder, SHORT + f"event {{ name = e; fields := struct {{ string {fields}; }}; }};\n")
 
 
+def short_strings_of_events(folder: pathlib.Path, size: int) -> None:
+    """Each event has each name of one letter, so that no text has more fields for its length."""
+    fields = ",".join(string.ascii_letters + "_")
+    events, length = [], 0
+    while length < size:
+        events.append(f"event{{id={len(events)};name=a;fields:=struct{{string {fields};}};}};")
+        length += len(events[-1])
+    header = "stream { event.header := struct { integer { size = 32; } id; }; };\n"
+    shapes.write_trace(folder, SHORT + header + "".join(events) + "\n")
+
+
+def events_of_a_long_context(folder: pathlib.Path, count: int) -> None:
+    members = ",".join(f"s{number}" for number in range(count))
+    header = f"event.header := struct {{ integer {{ size = 32; }} id; }}; event.context := struct {{ string {members}; }};"
+    events = "".join(f"event{{id={number};name=a;fields:=struct{{u a;}};}};" for number in range(count))
+    shapes.write_trace(folder, f"{SHORT}stream {{ {header} }};\n{events}\n")
+
+
 def events_of_metadata(folder: pathlib.Path, size: int) -> None:
     shapes.write_trace(folder, "")
     metadata.main(size, str(folder / "metadata"))
@@ -193,6 +211,8 @@ CASES = scope_cases() + [
     Case("metadata: `a=1;` in `env`", "bytes", repeated(SHORT + "env { ", "a=1;", " };\n"), TEXT_SIZES),
     Case("metadata: `;`", "bytes", repeated(SHORT, ";", "\n"), TEXT_SIZES),
     Case("metadata: `ABCD,` behind `string`, as fields", "bytes", strings_as_fields, TEXT_SIZES),
+    Case("metadata: `a,` behind `string`, 53 fields an event", "bytes", short_strings_of_events, TEXT_SIZES),
+    Case("metadata: events of a long context", "members and events", events_of_a_long_context, (1000, 2000, 4000)),
     Case("metadata: events as LTTng's", "bytes", events_of_metadata, TEXT_SIZES),
 ]
 

@@ -14,7 +14,7 @@ use crate::classes::{members_of, put_class, scope};
 use crate::plans::put_runs;
 use crate::row::Row;
 use ctf_class::{
-    Class, EventClass, HasId, Heading, Indexed, PlannedEvent, StreamClass, TraceClass,
+    Class, EventClass, HasId, Heading, Indexed, PlanRoom, PlannedEvent, StreamClass, TraceClass,
 };
 use ctf_list::{List, NoMemory};
 use std::alloc::Global;
@@ -107,7 +107,16 @@ fn add_stream(
     }
     let events = Indexed::new(alloc, events)?;
     let (packet, header, context) = (scope(packet), scope(header), scope(context));
-    let stream = StreamClass::new(alloc, id, packet, header, context, None, events)?;
+    let stream = StreamClass::new(
+        alloc,
+        id,
+        packet,
+        header,
+        context,
+        None,
+        events,
+        &mut PlanRoom::new(),
+    )?;
     Ok(streams.push(stream)?)
 }
 

@@ -5,6 +5,7 @@ pub mod KeysLemmas
 pub mod LabelsLemmas
 pub mod NamesLemmas
 pub mod PlacesLemmas
+pub mod RanksLemmas
 pub mod RecordsLemmas
 pub mod StreamsLemmas
 pub mod WordsLemmas

@@ -9,6 +9,7 @@ pub mod Labels
 pub mod Making
 pub mod NameFirsts
 pub mod NamePlaces
+pub mod NameRanks
 pub mod Names
 pub mod Places
 pub mod Records

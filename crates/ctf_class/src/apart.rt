@@ -23,7 +23,7 @@ pub fn sorted_places(alloc: Global, labels: &[Label]) -> Result<List<usize>, NoM
 }
 
 /// So many places, as they stand.
-fn places_of(alloc: Global, count: usize) -> Result<Vec<usize>, NoMemory>
+pub fn places_of(alloc: Global, count: usize) -> Result<Vec<usize>, NoMemory>
     ensures { IfOk result (λ places. places.items ≡ range_with_len 0 count) }
 {
     let mut places = Vec::with_capacity(alloc, count)?;

@@ -6,7 +6,7 @@ ghost use Rattle.ctf_class.specs.Choices as choosing;
 use crate::labels::Labels;
 use crate::names::Names;
 use crate::span::{Choice, Label};
-use ctf_list::{List, NoMemory, Shared};
+use ctf_list::{Boxed, List, NoMemory, Shared};
 use std::alloc::Global;
 use std::marker::Model;
 
@@ -29,10 +29,11 @@ enum Kept {
 /// The choices of a variant in their order (CTF 1.8.3, section 4.2.2). Contracts see the list of the choices.
 ///
 /// A tag may have far more labels than the variant has options, and may be that of many variants. Then no list is
-/// kept, so that classes take no more memory than the text that declares them asks for.
+/// kept, so that classes take no more memory than the text that declares them asks for. What is kept stands apart,
+/// since each class of a field has room for the largest.
 #[derive(Drop)]
 pub struct Choices {
-    kept: Kept,
+    kept: Boxed<Kept>,
 }
 
 impl Model for Choices {
@@ -60,7 +61,7 @@ impl Choices {
             names,
             count,
         };
-        let kept = Kept::of(alloc, named)?;
+        let kept = Boxed::new(alloc, Kept::of(alloc, named)?)?;
         Ok(Choices { kept })
     }
 
@@ -70,7 +71,7 @@ impl Choices {
     pub fn option(&self, number: i128) -> Option<usize>
         ensures { result ≡ choosing.chosen self.now number }
     {
-        match &self.kept {
+        match self.kept.get() {
             Kept::Listed(choices) => chosen(choices.as_slice(), number),
             Kept::Named(named) => named.look_up(number),
         }
@@ -80,7 +81,7 @@ impl Choices {
     pub fn first(&self) -> Option<Choice>
         ensures { result ≡ slice_get self.now 0 }
     {
-        match &self.kept {
+        match self.kept.get() {
             Kept::Listed(choices) => choices.as_slice().first().copied(),
             Kept::Named(named) => named.first(),
         }
@@ -90,7 +91,7 @@ impl Choices {
     pub fn to_list(&self, alloc: Global) -> Result<List<Choice>, NoMemory>
         ensures { IfOk result (λ choices. choices ≡ self.now) }
     {
-        match &self.kept {
+        match self.kept.get() {
             Kept::Listed(choices) => Ok(List::from_slice(alloc, choices.as_slice())?),
             Kept::Named(named) => named.to_list(alloc),
         }

@@ -10,13 +10,20 @@ use ctf_list::{List, NoMemory, Shared};
 use std::alloc::{AllocError, Global};
 use std::marker::Model;
 
-/// The name of a member or an option. Contracts see its bytes, as they are written. Its copies share
-/// them, and the long part of what is printed for it.
+/// A name with the text that is printed for it.
 #[derive(Drop)]
-pub struct FieldName {
+struct PrintedName {
     /// What is printed before the value.
     ready: Ready,
-    name: Shared<List<u8>>,
+    name: List<u8>,
+}
+
+/// The name of a member or an option. Contracts see its bytes, as they are written. Its copies share
+/// them, and what is printed for it: a structure may have very many members, each with its name in its
+/// declaration and in each class that is made of that.
+#[derive(Drop)]
+pub struct FieldName {
+    printed: Shared<PrintedName>,
 }
 
 impl Model for FieldName {
@@ -28,9 +35,9 @@ impl Model for FieldName {
 
     ghost coded = { coded_list coded_ℕ };
 
-    ghost view = { λ field. field.name };
+    ghost view = { λ field. field.printed.name };
 
-    ghost invariant = { λ field. field.ready ≡ field_text field.name };
+    ghost invariant = { λ field. field.printed.ready ≡ field_text field.printed.name };
 }
 
 impl FieldName {
@@ -39,8 +46,8 @@ impl FieldName {
         ensures { IfOk result (λ field. field ≡ name) }
     {
         let ready = ready_behind(alloc, b"", name.as_slice())?;
-        let name = Shared::new(alloc, name)?;
-        Ok(FieldName { ready, name })
+        let printed = Shared::new(alloc, PrintedName { ready, name })?;
+        Ok(FieldName { printed })
     }
 
     /// What is printed before the value, behind a text.
@@ -54,14 +61,14 @@ impl FieldName {
     pub fn as_slice(&self) -> &[u8]
         ensures { result.now ≡ self.now }
     {
-        self.name.get().as_slice()
+        self.printed.get().name.as_slice()
     }
 
     /// What is printed before the value: the name without its leading `_`, and ` = `.
     pub fn ready(&self) -> &Ready
         ensures { result.now ≡ field_text self.now }
     {
-        &self.ready
+        &self.printed.get().ready
     }
 }
 
@@ -70,9 +77,8 @@ impl Clone for FieldName {
     ghost is_clone = { λ name other. other ≡ name };
 
     fn clone(&self) -> Result<FieldName, AllocError> {
-        let ready = self.ready.clone()?;
-        let name = self.name.clone()?;
-        Ok(FieldName { ready, name })
+        let printed = self.printed.clone()?;
+        Ok(FieldName { printed })
     }
 }
 

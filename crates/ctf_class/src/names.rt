@@ -7,6 +7,7 @@ ghost use Rattle.ctf_class.specs.SameNames.{has_twins};
 
 use crate::field_name::FieldName;
 use crate::firsts::Firsts;
+use crate::ranks::{are_ascending, place_by_rank, ranked_places};
 use ctf_list::{List, NoMemory};
 use std::alloc::Global;
 use std::marker::Model;
@@ -19,7 +20,10 @@ const FEW: usize = 12;
 enum Places {
     /// By a walk.
     Few,
-    /// By the bytes of the names.
+    /// By halving: no two are the same. The names' places in the order of their bytes; none where that is the order in
+    /// which they stand.
+    Ranked(List<usize>),
+    /// By a map of their bytes, which takes ten times as much memory.
     Sorted(Firsts),
 }
 
@@ -33,7 +37,7 @@ pub struct Names {
 impl Model for Names {
     ghost use Rattle.std.specs.Prelude.{List, ℕ};
     ghost use Rattle.std.specs.Coded.{coded_list, coded_ℕ};
-    ghost use Rattle.ctf_class.specs.NamePlaces.{FindsFirst};
+    ghost use Rattle.ctf_class.specs.NamePlaces.{FindsNames};
 
     ghost Value = { List (List ℕ) };
 
@@ -41,7 +45,7 @@ impl Model for Names {
 
     ghost view = { λ names. names.names };
 
-    ghost invariant = { λ names. FindsFirst names.names names.places };
+    ghost invariant = { λ names. FindsNames names.names names.places };
 }
 
 impl Names {
@@ -67,6 +71,7 @@ impl Names {
     {
         match &self.places {
             Places::Few => place_among(self.names.as_slice(), name),
+            Places::Ranked(order) => place_by_rank(self.names.as_slice(), order.as_slice(), name),
             Places::Sorted(firsts) => firsts.place(name),
         }
     }
@@ -77,20 +82,28 @@ impl Names {
     {
         match &self.places {
             Places::Few => has_twins_among(self.names.as_slice()),
+            Places::Ranked(_) => false,
             Places::Sorted(firsts) => firsts.has_twins,
         }
     }
 }
 
 impl Places {
-    ghost use Rattle.ctf_class.specs.NamePlaces.{FindsFirst};
+    ghost use Rattle.ctf_class.specs.NamePlaces.{FindsNames};
 
     /// How some names are found.
     fn of(alloc: Global, names: &[FieldName]) -> Result<Places, NoMemory>
-        ensures { IfOk result (FindsFirst names.now) }
+        ensures { IfOk result (FindsNames names.now) }
     {
         if names.len() <= FEW {
             return Ok(Places::Few);
+        }
+        if are_ascending(names, &[]) {
+            return Ok(Places::Ranked(List::new(alloc)));
+        }
+        let order = ranked_places(alloc, names)?;
+        if are_ascending(names, order.as_slice()) {
+            return Ok(Places::Ranked(order));
         }
         Ok(Places::Sorted(Firsts::of(alloc, names)?))
     }

@@ -132,10 +132,17 @@ impl RecordPlan {
         {
             return making.finish();
         }
-        Ok(RecordPlan {
+        Ok(RecordPlan::none(alloc))
+    }
+
+    /// No plan.
+    pub fn none(alloc: Global) -> RecordPlan
+        ensures { result.runs ≡ [] }
+    {
+        RecordPlan {
             runs: List::new(alloc),
             count: 0,
-        })
+        }
     }
 }
 

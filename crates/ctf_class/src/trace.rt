@@ -9,6 +9,7 @@ use crate::class::Class;
 use crate::frequency::Frequency;
 use crate::heading::Heading;
 use crate::indexed::{HasId, Indexed};
+use crate::plan_room::PlanRoom;
 use crate::record_plan::RecordPlan;
 use ctf_list::{List, NoMemory};
 use std::alloc::Global;
@@ -128,7 +129,8 @@ impl EventClass {
 }
 
 impl StreamClass {
-    /// A stream class of these parts. It fails where memory is refused.
+    /// A stream class of these parts, with plans of its event records as far as there is room for them. It fails where
+    /// memory is refused.
     pub fn new(
         alloc: Global,
         id: u64,
@@ -137,6 +139,7 @@ impl StreamClass {
         event_context: Option<Class>,
         clock: Option<Clock>,
         events: Indexed<EventClass>,
+        room: &mut PlanRoom,
     ) -> Result<StreamClass, NoMemory>
         ensures { IfOk result (λ stream. stream ≡
             record {
@@ -148,7 +151,7 @@ impl StreamClass {
               events = events;
             }) }
     {
-        let plans = plans_of(alloc, event_context.as_ref(), events.as_slice())?;
+        let plans = plans_of(alloc, event_context.as_ref(), events.as_slice(), room)?;
         Ok(StreamClass {
             id,
             packet_context,
@@ -276,13 +279,43 @@ fn plans_of(
     alloc: Global,
     context: Option<&Class>,
     events: &[EventClass],
+    room: &mut PlanRoom,
 ) -> Result<List<RecordPlan>, NoMemory>
     ensures { IfOk result (ArePlans (option_copied context.entry) events.now) }
 {
     let mut plans = List::new(alloc);
     for event in events {
-        let plan = RecordPlan::new(alloc, context, event.context(), event.fields())?;
+        let plan = plan_of(alloc, context, event, room)?;
         plans.push(plan)?;
     }
     Ok(plans)
+}
+
+/// The plan of records of an event class; none where there is no room for it.
+fn plan_of(
+    alloc: Global,
+    context: Option<&Class>,
+    event: &EventClass,
+    room: &mut PlanRoom,
+) -> Result<RecordPlan, NoMemory>
+    ensures { IfOk result (IsPlanOf
+        (scopes_of (option_copied context.entry) event.now.context event.now.fields)) }
+{
+    let own = event.context();
+    let fields = event.fields();
+    let contexts = nodes_of(context).saturating_add(nodes_of(own));
+    if !room.take(contexts.saturating_add(fields.nodes)) {
+        return Ok(RecordPlan::none(alloc));
+    }
+    RecordPlan::new(alloc, context, own, fields)
+}
+
+/// How many classes a class has in it, if there is one.
+fn nodes_of(class: Option<&Class>) -> u32
+    ensures { (k : Class) → option_copied class.entry ≡ Some k → result ≡ k.nodes }
+{
+    match class {
+        Some(class) => class.nodes,
+        None => 0,
+    }
 }

@@ -10,7 +10,7 @@ ghost use Rattle.ctf_linked.specs.Telling.{each_told, member_told, option_told};
 
 use crate::clocks::Clocks;
 use crate::leaf::{enumeration_class, integer_class, string_class};
-use crate::parts::{array_of, structure_of, variant_of};
+use crate::parts::{array_of, room_for, structure_of, variant_of};
 use crate::reach::{length_at, tag_at};
 use crate::spot::Spot;
 use ctf_bits::Order;
@@ -84,7 +84,7 @@ fn members_in(
     ensures { Follows (each_told (member_told order clocks.now.clocks.now (spot_by spot.now)) []
         (fields_in (views.members members.now))) (λ ms. ms) result }
 {
-    let mut made = List::new(alloc);
+    let mut made = room_for(alloc, members.len())?;
     for place in 0..members.len() {
         let member = member_at(alloc, order, clocks, spot, members, place)?;
         made.push(member)?;
@@ -146,7 +146,7 @@ fn options_in(
     ensures { Follows (each_told (option_told order clocks.now.clocks.now (spot_by spot.now)) []
         (fields_in (views.members options.now))) (λ ms. ms) result }
 {
-    let mut made = List::new(alloc);
+    let mut made = room_for(alloc, options.len())?;
     for place in 0..options.len() {
         let option = option_at(alloc, order, clocks, spot, options, place)?;
         made.push(option)?;

@@ -1,6 +1,6 @@
 //! Classes around others.
 
-ghost use Rattle.std.specs.Prelude.{◌≡◌, ◌+◌, IfOk};
+ghost use Rattle.std.specs.Prelude.{◌≡◌, ◌+◌, [], IfOk};
 ghost use Rattle.ctf_class.specs.declared.class.Kind.TheVariants as kind;
 ghost use Rattle.ctf_meaning.specs.Shapes.{fields_in};
 ghost use Rattle.ctf_meaning.specs.Links as links;
@@ -34,6 +34,14 @@ fn sums_of(members: &[Member]) -> Result<Sums, NoMemory>
         nodes = nodes.checked_add(member.class.nodes).ok_or(NoMemory)?;
     }
     Ok(Sums { depth, nodes })
+}
+
+/// No members yet, with room for so many.
+pub fn room_for(alloc: Global, count: usize) -> Result<List<Member>, NoMemory>
+    ensures { IfOk result (λ made. made ≡ []) }
+{
+    let made = Vec::with_capacity(alloc, count)?;
+    Ok(List::from_vec(made))
 }
 
 impl Sums {

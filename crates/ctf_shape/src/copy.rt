@@ -30,7 +30,7 @@ pub fn copied(alloc: Global, integer: &DeclaredInteger) -> Result<DeclaredIntege
 pub fn copied_path(alloc: Global, path: &Path) -> Result<Path, NoMemory>
     ensures { IfOk result (λ copy. copy ≡ path.now) }
 {
-    let mut words = Vec::new(alloc);
+    let mut words = Vec::with_capacity(alloc, path.len())?;
     for word in path.as_slice() {
         words.push(List::from_slice(alloc, word.as_slice())?)?;
     }

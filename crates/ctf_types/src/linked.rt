@@ -3,7 +3,7 @@
 ghost use Rattle.std.specs.Prelude.{◌≡◌, IfOk};
 ghost use Rattle.ctf_types.specs.Gathered.{joined};
 
-use ctf_class::{Class, Clock, EventClass, Indexed, StreamClass};
+use ctf_class::{Class, Clock, EventClass, Indexed, PlanRoom, StreamClass};
 use ctf_list::NoMemory;
 use std::alloc::Global;
 
@@ -35,11 +35,12 @@ pub enum Linked {
 }
 
 impl Head {
-    /// The stream class with its events.
+    /// The stream class with its events, and with plans of their records as far as there is room.
     pub fn with_events(
         self,
         alloc: Global,
         events: Indexed<EventClass>,
+        room: &mut PlanRoom,
     ) -> Result<StreamClass, NoMemory>
         ensures { IfOk result (λ stream. stream ≡ joined self events) }
     {
@@ -51,6 +52,7 @@ impl Head {
             self.event_context,
             self.clock,
             events,
+            room,
         )
     }
 }

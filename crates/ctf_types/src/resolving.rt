@@ -21,7 +21,7 @@ use crate::text::Text;
 use crate::trace::{TraceAt, trace};
 use ctf_attributes::host;
 use ctf_bits::Order;
-use ctf_class::{Class, EventClass, Indexed, StreamClass, TraceClass};
+use ctf_class::{Class, EventClass, Indexed, PlanRoom, StreamClass, TraceClass};
 use ctf_declared::{ScopeShape, declared};
 use ctf_linked::Clocks;
 use ctf_list::{List, NoMemory};
@@ -153,9 +153,10 @@ fn joined(
     ensures { IfOk result (λ streams. streams ≡ joined_all heads events) }
 {
     let mut streams = List::new(alloc);
+    let mut room = PlanRoom::new();
     for (head, events) in heads.into_vec().into_iter().zip(events.into_vec()) {
         let events = Indexed::new(alloc, events)?;
-        streams.push(head.with_events(alloc, events)?)?;
+        streams.push(head.with_events(alloc, events, &mut room)?)?;
     }
     Ok(streams)
 }

@@ -13,7 +13,5 @@ loop-event-preserved c =
     let e = c.event-item.result in
     let p = c.in_ok-plan.plan in
     let longer : take (i + 1) es ≡ take i es ++ e ∷ [] = take_more es i e c.loop-event-test.true ∙ ap (λ x. take i es ++ x ∷ []) (sym c.event-item.is) in
-    let is : IsPlanOf (scopes_of shared e.context e.fields) p =
-    subst (λ k. IsPlanOf (scopes_of shared e.context k) p) c.fields.ensures (subst (λ o. IsPlanOf (scopes_of shared o c.fields.result.now) p) c.context.ensures c.in_ok-plan.ensures)
-    in
+    let is : IsPlanOf (scopes_of shared e.context e.fields) p = c.in_ok-plan.ensures in
     subst (ArePlans shared (take (i + 1) es)) (sym c.in_ok-push.ensures.ok) (subst (λ xs. ArePlans shared xs (c.loop-event.plans ++ p ∷ [])) (sym longer) (plans_more shared (take i es) c.loop-event.plans e p c.loop-event.invariant is))

@@ -42,7 +42,7 @@ members_in-returns-in_err-member t c =
     let fields = fields_in (views.members c.args.members.now) in
     let at = member_told c.args.order c.args.clocks.now.clocks.now (spot_by c.args.spot.now) in
     let f = there fields c.loop-place.place (omega (arith, c.len-place-end.ensures)) in
-    let r = err_from_is_err_and c.from_residual.result c.from_residual.ensures.1 in
+    let r = err_from_is_err_and c.from_residual-in_err-member.result c.from_residual-in_err-member.ensures.1 in
     let row = row_fails at fields c.loop-place.place f.0 c.loop-place.made c.in_err-member.field-0.0 f.1 (c.in_err-member.ensures f.0 f.1) in
     rw (r.1, r.2) (same_fails _ _ c.in_err-member.field-0.0 c.loop-place.invariant row)
 
@@ -61,7 +61,7 @@ options_in-returns-in_err-option t c =
     let fields = fields_in (views.members c.args.options.now) in
     let at = option_told c.args.order c.args.clocks.now.clocks.now (spot_by c.args.spot.now) in
     let f = there fields c.loop-place.place (omega (arith, c.len-place-end.ensures)) in
-    let r = err_from_is_err_and c.from_residual.result c.from_residual.ensures.1 in
+    let r = err_from_is_err_and c.from_residual-in_err-option.result c.from_residual-in_err-option.ensures.1 in
     let row = row_fails at fields c.loop-place.place f.0 c.loop-place.made c.in_err-option.field-0.0 f.1 (c.in_err-option.ensures f.0 f.1) in
     rw (r.1, r.2) (same_fails _ _ c.in_err-option.field-0.0 c.loop-place.invariant row)
 
