@@ -94,10 +94,23 @@ fn bits_of_structure(members: &[Member], align: Align) -> Option<u64>
     }
     let mut bits = 0;
     for member in members {
-        let more = least_bits(&member.class)?;
+        let more = bits_of_member(&member.class)?;
         bits = in_packet(u128::from(bits) + u128::from(more))?;
     }
     Some(bits)
+}
+
+/// How many bits a member takes at least. Mostly it is an integer, which takes no call.
+#[cycle(least)]
+#[inline(always)]
+fn bits_of_member(class: &Class) -> Option<u64>
+    ensures least { IfSome result (TakesAtLeast class.now) }
+    ensures bounded { IfSome result (λ bits. bits ≤ longest) }
+{
+    if let Kind::Integer(integer) = &class.kind {
+        return bits_of_integer(integer.size, class.align);
+    }
+    least_bits(class)
 }
 
 /// How many bits so many elements take at least. Where there are none, their class is not looked at.
