@@ -11,7 +11,7 @@ ghost use Rattle.ctf_packet.specs.Gives.{Exactly, Placed};
 use crate::clock::{clock_before, clock_behind, clock_until, discarded_since, lost_since};
 use crate::fault::StreamFault;
 use crate::reached::Reached;
-use crate::roles::{number_in, role};
+use crate::roles::{number_of, role};
 use crate::sizes::{LONGEST_PACKET, Sizes};
 use ctf_class::StreamClass;
 use ctf_clock::{Moment, Shift, Timeline};
@@ -110,9 +110,11 @@ pub fn placed<'a>(
     let number = role(class, context, b"packet_seq_num");
     let count = role(class, context, b"events_discarded");
     let until = clock_until(line.as_ref(), clock, end);
+    let sequence = number_of(&number);
+    let discarded = number_of(&count);
     Ok(OpenPacket {
         stream,
-        line: timeline_of(stream, shift),
+        line,
         start,
         end: start + sizes.packet / 8,
         first,
@@ -122,7 +124,7 @@ pub fn placed<'a>(
         until,
         lost: lost_since(number_before(reached), number),
         dropped: discarded_since(discarded_before(reached), count),
-        discarded: number_in(role(class, context, b"events_discarded")),
-        number: number_in(role(class, context, b"packet_seq_num")),
+        discarded,
+        number: sequence,
     })
 }

@@ -34,6 +34,16 @@ pub fn number_in(field: Option<Field>) -> Option<u64>
     }
 }
 
+/// The number of a field that is looked at again.
+pub(crate) fn number_of(field: &Option<Field>) -> Option<u64>
+    ensures { result ≡ roles.number_in field.now }
+{
+    match field {
+        None => None,
+        Some(field) => Some(field.number),
+    }
+}
+
 /// The field of a name at the top of a scope.
 pub fn field_at_top<'a>(
     class: Option<&'a Class>,

@@ -1,6 +1,6 @@
 //! The values of scopes.
 
-ghost use Rattle.std.specs.Prelude.{◌≡◌, ◌+◌, ◌*◌, ◌^◌, ◌≤◌, min, [], None, length, option_map, option_copied, IfOk, IfErr};
+ghost use Rattle.std.specs.Prelude.{◌≡◌, ◌+◌, ◌*◌, ◌^◌, ◌≤◌, min, [], None, length, option_map, option_copied, IfOk, IfErr, OnErr};
 ghost use Rattle.ctf_decode.specs.Views.{form, input_in, val};
 ghost use Rattle.ctf_decode.specs.Walk.{walk};
 ghost use Rattle.ctf_packet.specs.Scopes as values;
@@ -36,6 +36,7 @@ pub fn scope_into(
         place scopes.old.spent) result scopes.new }
     ensures within { IfOk result (λ end. end ≤ content) }
     ensures forward { IfOk result (λ end. place ≤ end) }
+    ensures kept { OnErr result (scopes.new ≡ scopes.old) }
 {
     match decode_into(alloc, class, bytes, place, content, scopes, spare) {
         Ok(reached) => {

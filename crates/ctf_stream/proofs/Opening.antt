@@ -1,5 +1,5 @@
 -- A packet that is opened while its bytes come.
-use Rattle.std.proofs.Common.{◌≡◌, ℕ, ◌+◌, ◌*◌, ◌≤◌, List, [], ◌++◌, length, Option, Some, None, Result, Ok, Err, ◌⊎◌, inl, inr, refl, sym, ap, ◌∙◌, arith}
+use Rattle.std.proofs.Common.{◌≡◌, ℕ, ◌+◌, ◌*◌, ◌≤◌, List, [], ◌++◌, length, Option, Some, None, Result, Ok, Err, IfOk, ◌⊎◌, inl, inr, refl, sym, ap, ◌∙◌, arith}
 use Rattle.std.specs.Prelude.{min, max}
 use Rattle.ctf_bits.specs.declared.source.Ending.{Ending}
 use Rattle.ctf_class.specs.declared.route.Scope.{Scope}
@@ -16,7 +16,7 @@ use Rattle.ctf_decode.specs.declared.value.Value.{Value}
 use Rattle.ctf_packet.specs.Classes.{Classes, StreamForm, TraceForm}
 use Rattle.ctf_packet.specs.Scopes.{no_values, value_in, Stood, stood, scope_at, longest, fault_in_front}
 use Rattle.ctf_packet.specs.Packets.{front, stream_checked, open_at}
-use Rattle.ctf_packet.specs.Views.{values_of}
+use Rattle.ctf_packet.specs.Views.{values_of, PutsValue}
 use Rattle.ctf_packet.specs.declared.fault.StreamFault.{StreamFault}
 use Rattle.ctf_packet.specs.declared.fault.StreamFault.TheVariants as faults
 use Rattle.ctf_packet.specs.declared.reached.Reached.{Reached}
@@ -34,6 +34,7 @@ use Rattle.ctf_stream.specs.Fetching.{OrNoMemory}
 use Rattle.ctf_stream.specs.Demand.{there, Failed}
 use Rattle.ctf_stream.specs.Asking.{scope_asked, scope_found, FailsAs}
 use Rattle.ctf_stream.specs.declared.scope.NextScope.{NextScope}
+use Rattle.ctf_stream.proofs.Parts.{found_more}
 
 laws : WantsTell Classes
 laws = wants_tell
@@ -51,6 +52,16 @@ there_is : (bytes : List ℕ) (known : Known) → there bytes known ≡ front by
 there_is bytes known =
     λ i. record { packet = bytes; content = min (8 * length bytes) longest; earlier = λ scope. same_value known scope i; limit = MOST_VALUES }
 
+-- what was asked for and is there is what stands
+abbrev stood_or : Stood → Result Stood (Want Classes) → Stood
+stood_or d (Ok x) = x
+stood_or d (Err want) = d
+
+-- and it was found
+asked_found : (step : Step Val) (s : Stood) (q : ℕ) → asked {C = Classes} step ≡ Ok s → q ≡ s.end → (x : Val × ℕ × ℕ) × (step ≡ Ok x) × (x.1 ≡ q)
+asked_found (Ok x) s q e same = (x, refl, ap (λ r. (stood_or s r).end) e ∙ sym same)
+asked_found (Err f) s q e same = absurd (cc)
+
 module _ (next : NextScope) (k : Form) (is : form_of next.class ≡ Some k) (known : Known) (bytes : List ℕ) where
   pub scope_short : (ending : Ending) (fault : StreamFault) → OrNoMemory (Failed ending (walk k (there bytes known) [] next.end known.spent)) fault → OrNoMemory (FailsAs (scope_found ending next bytes known)) fault
   scope_short ending fault (inl refused) = inl refused
@@ -65,10 +76,37 @@ module _ (next : NextScope) (k : Form) (is : form_of next.class ≡ Some k) (kno
       let at_place = ap (λ c. walk k c [] next.end known.spent) (sym (there_is bytes known)) ∙ found ∙ ap (λ n. Ok (val value, q, n)) (sym spent) in
       at_ok (form_of next.class) k (front bytes (values_of known)) next.scope (values_of known) next.end known.spent q (val value) after is at_place (ap values_of put_is ∙ with_is known next.scope value)
 
--- what was asked for and is there is what stands
-abbrev stood_or : Stood → Result Stood (Want Classes) → Stood
-stood_or d (Ok x) = x
-stood_or d (Err want) = d
+  -- the value that was put there is the one that is found
+  pub found_there : (q : ℕ) (after : Known) (h : PutsValue next.scope (values_of known) (walk k (front bytes (values_of known)) [] next.end known.spent) (Ok q) after)
+      → walk k (there bytes known) [] next.end known.spent ≡ Ok (h.0, q, after.spent)
+  found_there q after h = ap (λ c. walk k c [] next.end known.spent) (there_is bytes known) ∙ h.1
+
+  -- it is there in all bytes that begin with these
+  pub scope_put : (more : List ℕ) (q : ℕ) (after : Known) → PutsValue next.scope (values_of known) (walk k (front bytes (values_of known)) [] next.end known.spent) (Ok q) after
+      → PutsAsked next.scope (values_of known) (scope_asked next (bytes ++ more) known) q after
+  scope_put more q after h =
+      let also = found_more k [] known next.end known.spent bytes more (h.0, q, after.spent) (found_there q after h) in
+      let at_place = ap (λ c. walk k c [] next.end known.spent) (sym (there_is (bytes ++ more) known)) ∙ also in
+      at_ok (form_of next.class) k (front (bytes ++ more) (values_of known)) next.scope (values_of known) next.end known.spent q h.0 after is at_place h.2
+
+  -- a value that was asked for is the one that is found
+  put_found : (q : ℕ) (after : Known) → PutsAsked next.scope (values_of known) (scope_asked next bytes known) q after
+      → (x : Val × ℕ × ℕ) × (walk k (there bytes known) [] next.end known.spent ≡ Ok x) × (x.1 ≡ q)
+  put_found q after h =
+      let asks = ap (λ (o : Option Form). asked_at {C = Classes} o (front bytes (values_of known)) next.end known.spent) (sym is) ∙ h.1 in
+      let found = asked_found (walk k (front bytes (values_of known)) [] next.end known.spent) h.0 q asks h.2 in
+      (found.0, ap (λ c. walk k c [] next.end known.spent) (there_is bytes known) ∙ found.1, found.2)
+
+  -- so many bytes are no more than it needs, if there were so many before that it ends behind
+  pub near_put : (least before between now : ℕ) → ((x : Val × ℕ × ℕ) → walk k (there bytes known) [] next.end known.spent ≡ Ok x → least ≤ x.1) → between ≤ max before (least + 7)
+      → (result : Result ℕ StreamFault) (after : Known) → IfOk result (λ end. PutsAsked next.scope (values_of known) (scope_asked next bytes known) end after)
+      → IfOk result (λ end. now ≤ max between (end + 7)) → IfOk result (λ end. now ≤ max before (end + 7))
+  near_put least before between now ends few (Ok q) after put near =
+      let found = put_found q after put in
+      let behind = ends found.0 found.1 in
+      let same = found.2 in
+      omega (arith, behind, same, few, near)
+  near_put least before between now ends few (Err fault) after put near = tt
 
 stands_asked : (told : Fault → StreamFault) (step : Step Val) (x : Stood) → asked {C = Classes} step ≡ Ok x → stood told step ≡ Ok x
 stands_asked told (Ok y) x e = ap (λ r. Ok (stood_or x r)) e

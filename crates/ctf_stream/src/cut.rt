@@ -15,7 +15,7 @@ use crate::scope::{NextScope, scope_on_demand};
 use ctf_bits::{Ending, Source};
 use ctf_class::{Scope, TraceClass};
 use ctf_clock::Shift;
-use ctf_decode::Scopes;
+use ctf_decode::{Scopes, Value};
 use ctf_front::{Begun, Want, sized};
 use ctf_packet::{
     OpenPacket, Reached, Sizes, StreamFault, cut_short, placed, sizes_checked, stream_checked,
@@ -200,21 +200,23 @@ impl<'a> CutPoint<'a> {
         ensures some { 0 < length buffer.new }
         ensures few { length buffer.new ≤ longest_bytes }
     {
-        forget(scopes);
+        let mut spares = forget(scopes);
         let header = NextScope {
             class: self.trace.packet_header(),
             scope: Scope::PacketHeader,
             end: 0,
+            alloc,
         };
-        let end = scope_on_demand(&header, alloc, source, buffer, scopes)?;
+        let end = scope_on_demand(&header, source, buffer, &mut spares.header, scopes)?;
         let reached = self.reached.as_ref();
         let stream = stream_checked(self.trace, reached, scopes.get(Scope::PacketHeader))?;
         let context = NextScope {
             class: stream.packet_context(),
             scope: Scope::PacketContext,
             end,
+            alloc,
         };
-        let first = scope_on_demand(&context, alloc, source, buffer, scopes)?;
+        let first = scope_on_demand(&context, source, buffer, &mut spares.context, scopes)?;
         match sized(Begun { stream, first }, scopes.get(Scope::PacketContext))? {
             Want::Rest(begun) => Ok(Opening { begun, sizes: None }),
             Want::Whole(begun, sizes) => {
@@ -225,11 +227,25 @@ impl<'a> CutPoint<'a> {
     }
 }
 
-/// Leaves no values.
-fn forget(scopes: &mut Scopes)
+/// Memory of the values of the packet before. What these are means nothing.
+#[derive(Drop)]
+struct PacketSpares {
+    header: Value,
+    context: Value,
+}
+
+/// Leaves no values. The memory of those of the packet's header and context.
+fn forget(scopes: &mut Scopes) -> PacketSpares
     ensures { scopes.new ≡ nothing_known }
 {
-    *scopes = Scopes::new();
+    let mut header = Value::Unsigned(0);
+    let mut context = Value::Unsigned(0);
+    scopes.leave(Scope::PacketHeader, &mut header);
+    scopes.leave(Scope::PacketContext, &mut context);
+    scopes.take(Scope::EventContext);
+    scopes.take(Scope::EventFields);
+    scopes.leave_record();
+    PacketSpares { header, context }
 }
 
 /// Takes the bytes of a packet with this opening. Its sizes.

@@ -1,6 +1,6 @@
 //! How many bits a value takes at least, where that is known before its bytes come.
 
-ghost use Rattle.std.specs.Prelude.{◌≡◌, ◌↔◌, ◌%◌, ◌≤◌, max, IfSome, IsTrue};
+ghost use Rattle.std.specs.Prelude.{◌≡◌, ◌↔◌, ◌≤◌, max, IfSome, IsTrue};
 ghost use Rattle.ctf_packet.specs.Scopes.{longest};
 ghost use Rattle.ctf_stream.specs.Demand.{TakesAtLeast, MembersTake, ElementsTake, TakesAt, EndsAtLeast};
 
@@ -94,10 +94,23 @@ fn bits_of_structure(members: &[Member], align: Align) -> Option<u64>
     }
     let mut bits = 0;
     for member in members {
-        let more = least_bits(&member.class)?;
+        let more = bits_of_member(&member.class)?;
         bits = in_packet(u128::from(bits) + u128::from(more))?;
     }
     Some(bits)
+}
+
+/// How many bits a member takes at least. Mostly it is an integer, which takes no call.
+#[cycle(least)]
+#[inline(always)]
+fn bits_of_member(class: &Class) -> Option<u64>
+    ensures least { IfSome result (TakesAtLeast class.now) }
+    ensures bounded { IfSome result (λ bits. bits ≤ longest) }
+{
+    if let Kind::Integer(integer) = &class.kind {
+        return bits_of_integer(integer.size, class.align);
+    }
+    least_bits(class)
 }
 
 /// How many bits so many elements take at least. Where there are none, their class is not looked at.
@@ -116,11 +129,12 @@ fn bits_of_elements(element: &Class, count: u64) -> Option<u64>
     in_packet(u128::from(bits) * u128::from(count))
 }
 
-/// Whether each byte begins at a multiple of an alignment.
+/// Whether each byte begins at a multiple of an alignment. It is asked of each member, so it takes no division: alignments are
+/// powers of two.
 fn is_of_bytes(align: Align) -> bool
-    ensures { IsTrue result ↔ 8 % align ≡ 0 }
+    ensures { IsTrue result ↔ align ≤ 8 }
 {
-    8 % align.bits() == 0
+    align.bits() <= 8
 }
 
 /// A number of bits, if a packet may have so many.

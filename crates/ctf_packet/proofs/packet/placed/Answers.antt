@@ -21,6 +21,6 @@ returns-clause-exactly c = λ values e.
     let to = c.clock_until-until.ensures ∙ (λ i. packets.clock_until (line-3 i) c.in_ok-clock.clock ((c.role-end.ensures ∙ role (codes "timestamp_end")) i)) in
     let gone = c.lost_since.ensures ∙ (λ i. packets.since counting.lost_between (c.number_before.ensures i) ((c.role-number.ensures ∙ role (codes "packet_seq_num")) i)) in
     let left_out = c.discarded_since.ensures ∙ (λ i. packets.since counting.discarded_between (c.discarded_before.ensures i) ((c.role-count.ensures ∙ role (codes "events_discarded")) i)) in
-    let count = c.number_in.ensures ∙ ap roles.number_in (c.role.ensures ∙ role (codes "events_discarded")) in
-    let sequence = c.number_in-2.ensures ∙ ap roles.number_in (c.role-2.ensures ∙ role (codes "packet_seq_num")) in
-    placed_ok s (option_copied c.args.reached) c.args.start values c.args.first c.args.sizes context c.in_ok-before.before c.in_ok-clock.clock c.clock_until-until.result c.lost_since.result c.discarded_since.result c.number_in.result c.number_in-2.result e before clock (record { to = to; gone = gone; left_out = left_out; count = count; sequence = sequence })
+    let count = c.number_of-discarded.ensures ∙ ap roles.number_in (c.role-count.ensures ∙ role (codes "events_discarded")) in
+    let sequence = c.number_of-sequence.ensures ∙ ap roles.number_in (c.role-number.ensures ∙ role (codes "packet_seq_num")) in
+    placed_ok s (option_copied c.args.reached) c.args.start values c.args.first c.args.sizes context c.in_ok-before.before c.in_ok-clock.clock c.clock_until-until.result c.lost_since.result c.discarded_since.result c.number_of-discarded.result c.number_of-sequence.result e before clock (record { to = to; gone = gone; left_out = left_out; count = count; sequence = sequence })

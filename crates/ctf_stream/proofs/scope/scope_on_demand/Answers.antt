@@ -1,51 +1,11 @@
-use Rattle.std.proofs.Common.{rules, ◌≡◌, ◌++◌, ◌∙◌, [], IfErr, Err, Ok, ap, subst, sym}
-use Rattle.ctf_decode.specs.Known.{Known, with_spent}
-use Rattle.ctf_decode.specs.Views.{form, val, env}
-use Rattle.ctf_decode.specs.Walk.{walk}
-use Rattle.ctf_decode.specs.declared.place.Frame.TheVariants.{Top}
-use Rattle.ctf_decode.proofs.Views.{env-Top}
+use Rattle.std.proofs.Common.{◌++◌, ap}
 use Rattle.ctf_packet.specs.Packets.{front}
 use Rattle.ctf_packet.specs.Views.{values_of}
 use Rattle.ctf_packet.proofs.Standing.{form_of}
 use Rattle.ctf_front.proofs.Asking.{at_none}
-use Rattle.ctf_stream.specs.Asking.{scope_found, FailsAs}
-use Rattle.ctf_stream.specs.Demand.{there, Failed}
-use Rattle.ctf_stream.specs.Fetching.{OrNoMemory}
-use Rattle.ctf_stream.proofs.Parts.{found_more, few_values}
-use Rattle.ctf_stream.proofs.Opening.{scope_short, scope_puts}
 use Rattle.ctf_stream.proofs.scope.scope_on_demand.Goals as goal
 
 pub returns-in-None-clause-puts : goal.returns-in-None-clause-puts
 returns-in-None-clause-puts g c = λ more.
     let next = c.args.next.now in
     at_none (form_of next.class) (front (c.args.buffer.now ++ more) (values_of c.args.scopes.now)) next.scope c.args.scopes.now c.take.new.self next.end (ap form_of c.in-None.is) c.take.ensures.rest
-
-pub set_spent-requires : goal.set_spent-requires
-set_spent-requires g c =
-    let decoded = c.in_ok-decoded-in-Some.decoded in
-    few_values (form c.in-Some.class.now) (env Top) c.args.scopes.now c.args.next.now.end c.spent.result c.value_on_demand.new.buffer (val decoded.value, decoded.end, decoded.spent) c.in_ok-decoded-in-Some.ensures.value
-
-pub returns-in_ok-decoded-in-Some-clause-puts : goal.returns-in_ok-decoded-in-Some-clause-puts
-returns-in_ok-decoded-in-Some-clause-puts g c = λ more.
-    let next = c.args.next.now in
-    let known = c.args.scopes.now in
-    let decoded = c.in_ok-decoded-in-Some.decoded in
-    let class = form c.in-Some.class.now in
-    let bytes = c.value_on_demand.new.buffer in
-    let found : walk class (there bytes known) [] next.end known.spent ≡ Ok (val decoded.value, decoded.end, decoded.spent) = rw (env-Top, c.spent.ensures.value) at c.in_ok-decoded-in-Some.ensures.value in
-    let also = found_more class [] known next.end known.spent bytes more (val decoded.value, decoded.end, decoded.spent) found in
-    scope_puts next class (ap form_of c.in-Some.is) known (bytes ++ more) decoded.value decoded.end decoded.spent c.set_spent.new.self also
-    (c.set_spent.ensures ∙ ap (λ (x : Known). with_spent x decoded.spent) c.put.ensures)
-
-pub returns-in_err-decoded-in-Some-clause-faulty : goal.returns-in_err-decoded-in-Some-clause-faulty
-returns-in_err-decoded-in-Some-clause-faulty g c = λ tells.
-    let next = c.args.next.now in
-    let known = c.args.scopes.now in
-    let fault = c.in_err-decoded-in-Some.field-0.0 in
-    let class = form c.in-Some.class.now in
-    let all = c.value_on_demand.new.buffer ++ g.S.Source.left c.value_on_demand.new.source in
-    let ending = g.S.Source.ending c.args.source.now in
-    let told : OrNoMemory (Failed ending (walk class (there all known) [] next.end known.spent)) fault = rw (env-Top, c.spent.ensures.value) at (c.in_err-decoded-in-Some.ensures.faulty tells) in
-    let short = scope_short next class (ap form_of c.in-Some.is) known all ending fault told in
-    let e : c.from_residual.result ≡ Err fault = search rules in
-    subst (λ r. IfErr r (OrNoMemory (FailsAs (scope_found ending next all known)))) (sym e) short
