@@ -29,8 +29,8 @@ pub fn put_place(row: &mut Row<'_>, class: &Class, place: Place<'_>) {
 
 /// The content in which a place is.
 fn content_of(place: Place<'_>) -> Content<'_>
-    ensures end { result.end ≡ place.content }
-    ensures bytes { result.bytes ≡ place.bytes }
+    ensures end { result.end ≡ place.entry.content }
+    ensures bytes { result.bytes ≡ place.entry.bytes }
 {
     Content {
         bytes: place.bytes,
@@ -40,7 +40,7 @@ fn content_of(place: Place<'_>) -> Content<'_>
 
 /// A text begins at the place, after what is in a line.
 fn begin_of(place: Place<'_>) -> Standing
-    ensures place { result.place ≡ place.start }
+    ensures place { result.place ≡ place.entry.start }
     ensures spent { result.spent ≡ 0 }
     ensures end { result.end ≡ 5 }
 {
