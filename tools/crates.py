@@ -16,6 +16,8 @@ BUILD = TOP / "build"
 PROGRAM = "bt_ctf"
 GIBIBYTE = 2**30
 LANE_MEMORY = 4 * GIBIBYTE
+# What the libraries below cost each proof.
+WORK_OF_ANY = 200
 
 
 @functools.lru_cache(maxsize=None)
@@ -49,8 +51,10 @@ def files_of(crate):
 
 
 @functools.lru_cache(maxsize=None)
-def lines_of(crate):
-    return sum(it.read_bytes().count(b"\n") for it in files_of(crate))
+def work_of(crate):
+    """Returns about how long a proof of the crate takes, in lines of code: ten lines of what is cited count as one."""
+    lines = {it: it.read_bytes().count(b"\n") for it in files_of(crate)}
+    return WORK_OF_ANY + sum(lines[it] if it.suffix == ".rt" else lines[it] / 10 for it in lines)
 
 
 def sum_of_files(crate):
@@ -70,7 +74,7 @@ def sum_of(file):
 
 def forget_files():
     """Has the files read anew, since they may have changed meanwhile."""
-    for it in (files_of, lines_of, sum_of, rows):
+    for it in (files_of, work_of, sum_of, rows):
         it.cache_clear()
 
 
@@ -113,11 +117,12 @@ def is_proved(crate):
     return stands(crate) and read_record(crate)[2:] == [kit()]
 
 
-def number_of_lanes():
-    """Returns how many crates are worked on at once: LANES, or as many as processors and free memory allow."""
+def number_of_lanes(more=0):
+    """Returns how many crates are worked on at once: LANES, or as many as processors, and so many more, where free memory
+    allows it."""
     if os.environ.get("LANES", "").isdigit():
         return max(1, int(os.environ["LANES"]))
-    return max(1, min(processors(), free_memory() // LANE_MEMORY))
+    return max(1, min(processors() + more, free_memory() // LANE_MEMORY))
 
 
 def processors():

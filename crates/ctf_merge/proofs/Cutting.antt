@@ -6,7 +6,8 @@ use Rattle.std.proofs.lemmas.Bool.Decides.{eqb_tells}
 use Rattle.ctf_packet.specs.Classes.{Classes}
 use Rattle.ctf_packet.specs.Items.{Run, Item}
 use Rattle.ctf_packet.specs.declared.fault.StreamFault.{StreamFault}
-use Rattle.ctf_stream.specs.Ahead.{time_of, told}
+use Rattle.ctf_packet.specs.ItemTimes.{time_of}
+use Rattle.ctf_stream.specs.Ahead.{told}
 use Rattle.ctf_stream.specs.Reader as reader
 use Rattle.stream_laws.specs.Times.{is_before, Rises}
 use Rattle.ctf_merge.specs.Merged.{Merged, Placed, First, item, broken, nothing, later, least, with_first, first_of, head_of, head_by, run_at, of_stream, advance, behind_first, count, ends, then, merged, InOrder, IsPlacedBefore, IsMerged, IsCut, whole, at_once, after}

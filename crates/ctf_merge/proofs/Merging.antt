@@ -5,7 +5,7 @@ use Rattle.ctf_packet.specs.Classes.{Classes}
 use Rattle.ctf_packet.specs.Items.{Run, Item}
 use Rattle.ctf_packet.specs.declared.fault.StreamFault.{StreamFault}
 use Rattle.ctf_packet.specs.declared.fault.StreamFault.TheVariants as faults
-use Rattle.ctf_stream.specs.Ahead.{time_of}
+use Rattle.ctf_packet.specs.ItemTimes.{time_of}
 use Rattle.ctf_stream.specs.Reader as reader
 use Rattle.ctf_stream.specs.Reader.{OrRefused}
 use Rattle.stream_laws.specs.Times.{is_before}

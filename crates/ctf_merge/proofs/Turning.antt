@@ -9,7 +9,8 @@ use Rattle.std.specs.declared.cmp.Ordering.TheVariants.{Less, Equal, Greater}
 use Rattle.std.proofs.lemmas.Cmp.{int_cmp_total, upto, tied_itself, ranked, int_ranked}
 use Rattle.ctf_packet.specs.Classes.{Classes}
 use Rattle.ctf_packet.specs.Items.{Item}
-use Rattle.ctf_stream.specs.Ahead.{time_of, told}
+use Rattle.ctf_packet.specs.ItemTimes.{time_of}
+use Rattle.ctf_stream.specs.Ahead.{told}
 use Rattle.ctf_stream.specs.Reader as reader
 use Rattle.stream_laws.specs.Times.{is_before}
 use Rattle.ctf_merge.specs.Merged.{First, item, broken, nothing, later, least, with_first, first_of}

@@ -6,6 +6,7 @@ pub mod Roles
 pub mod Packets
 pub mod Records
 pub mod Items
+pub mod ItemTimes
 pub mod Gives
 pub mod Views
 pub mod Telling

@@ -17,7 +17,7 @@ use Rattle.ctf_stamp.specs.Trims.{is_past, is_early, verdict_of}
 use Rattle.ctf_stamp.specs.declared.trim.Trim.{Trim}
 use Rattle.ctf_stamp.specs.declared.trim.Verdict.{Verdict}
 use Rattle.ctf_stamp.specs.declared.trim.Verdict.TheVariants.{Before, Within, After}
-use Rattle.ctf_stream.specs.Ahead.{time_of}
+use Rattle.ctf_packet.specs.ItemTimes.{time_of}
 use Rattle.ctf_stream.specs.Reader as reader
 use Rattle.ctf_stream.specs.Reader.{Reader}
 use Rattle.stream_laws.proofs.Later.{not_less, at_most}

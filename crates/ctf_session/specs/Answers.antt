@@ -18,7 +18,7 @@ use Rattle.ctf_stamp.specs.declared.style.Style.{Style}
 use Rattle.ctf_stamp.specs.declared.trim.Trim.{Trim}
 use Rattle.ctf_stamp.specs.declared.trim.Verdict.{Verdict}
 use Rattle.ctf_stamp.specs.declared.trim.Verdict.TheVariants.{Before, Within, After}
-use Rattle.ctf_stream.specs.Ahead.{time_of}
+use Rattle.ctf_packet.specs.ItemTimes.{time_of}
 use Rattle.ctf_session.specs.Writing.{Texts, no_texts, joined}
 
 -- what a whole run goes by

@@ -6,7 +6,7 @@ use Rattle.ctf_merge.specs.Merges.{LeavesOne}
 use Rattle.ctf_packet.specs.Classes.{Classes}
 use Rattle.ctf_packet.specs.Items.{Run, Item}
 use Rattle.ctf_packet.specs.declared.fault.StreamFault.{StreamFault}
-use Rattle.ctf_stream.specs.Fetching.{longest_bytes}
+use Rattle.ctf_fetch.specs.Fetching.{longest_bytes}
 use Rattle.ctf_stream.specs.Reader.{Reader, coming, rest_of, OrRefused, packet_end, packet_length}
 use Rattle.ctf_session.specs.Answers.{Setting, verdict, is_after}
 

@@ -6,11 +6,11 @@ ghost use Rattle.ctf_merge.specs.Merged.{item};
 ghost use Rattle.ctf_merge.specs.Merges.{IsNext, first_now, names_of};
 ghost use Rattle.ctf_packet.specs.Classes.{Classes};
 ghost use Rattle.ctf_packet.specs.Items.{Item};
+ghost use Rattle.ctf_packet.specs.ItemTimes.{time_of};
 ghost use Rattle.ctf_session.specs.Answers as answers;
 ghost use Rattle.ctf_session.specs.Printing.{Prints, CountsAfterPrint, stop_in};
 ghost use Rattle.ctf_session.specs.Steps.{counts_by};
 ghost use Rattle.ctf_session.specs.Writing.{written_by};
-ghost use Rattle.ctf_stream.specs.Ahead as aheads;
 
 use crate::log::Log;
 use crate::printing::{last_after, last_behind, print, print_text};
@@ -24,7 +24,7 @@ use ctf_stream::{Ahead, Told};
 pub(crate) fn front_time<'a, S: Source + Drop>(merge: &Merge<'a, S>, number: usize) -> Option<i64>
     requires { IsNext merge.now number }
     ensures { (next : Item Classes) → first_now merge.now ≡ item number next
-        → result ≡ aheads.time_of next }
+        → result ≡ time_of next }
 {
     let Some(reader) = merge.reader(number) else {
         unreachable!()

@@ -12,12 +12,12 @@ use Rattle.ctf_packet.specs.Views.{values_of, packet_values, opened_of}
 use Rattle.ctf_packet.specs.declared.fault.StreamFault.{StreamFault}
 use Rattle.ctf_packet.specs.declared.reached.Reached.{Reached}
 use Rattle.ctf_stream.specs.Coming.{opened_in, left_in, item_in, TakesItem}
-use Rattle.ctf_stream.specs.Fetching.{OrNoMemory, behind_packet}
+use Rattle.ctf_fetch.specs.Fetching.{OrNoMemory, behind_packet}
 use Rattle.ctf_stream.specs.Reader.{behind_ahead, with_ahead}
 use Rattle.ctf_stream.specs.Standing.{item_at}
 use Rattle.ctf_stream.specs.Course.{trace_of, coming_at, Inside, StandsAt, coming_of, StepsWithin, Enters, Advances}
 use Rattle.ctf_stream.specs.declared.course.Course.{Course}
-use Rattle.ctf_stream.specs.declared.cut.CutPoint.{CutPoint}
+use Rattle.ctf_fetch.specs.declared.cut.CutPoint.{CutPoint}
 use Rattle.ctf_stream.specs.declared.packet.Packet.{Packet}
 use Rattle.ctf_stream.specs.declared.packet.Front.{Front}
 

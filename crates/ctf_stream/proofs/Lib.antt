@@ -1,10 +1,3 @@
-mod Bytes
 mod Steps
-mod Parts
-mod Taking
-mod Composites
-mod Opening
-mod Sizing
-mod Fetched
 mod Courses
 mod Written

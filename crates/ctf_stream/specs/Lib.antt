@@ -1,8 +1,4 @@
-pub mod Filling
 pub mod Coming
-pub mod Fetching
-pub mod Demand
-pub mod Asking
 pub mod Course
 pub mod Reader
 pub mod Standing

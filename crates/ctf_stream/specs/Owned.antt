@@ -11,7 +11,7 @@ use Rattle.ctf_packet.specs.Items as items
 use Rattle.ctf_packet.specs.Items.{Run, stops, before}
 use Rattle.ctf_packet.specs.declared.fault.StreamFault.{StreamFault}
 use Rattle.ctf_packet.specs.declared.fault.StreamFault.TheVariants as faults
-use Rattle.ctf_stream.specs.Fetching.{OrNoMemory}
+use Rattle.ctf_fetch.specs.Fetching.{OrNoMemory}
 use Rattle.ctf_stream.specs.Reader.{Ahead, start, item, ended, fault, Reader, coming}
 use Rattle.ctf_stream.specs.declared.owned.OwnedEvent.{OwnedEvent}
 use Rattle.ctf_stream.specs.declared.owned.OwnedGap.{OwnedGap}

@@ -5,7 +5,7 @@ use Rattle.ctf_packet.specs.Classes.{Classes}
 use Rattle.ctf_packet.specs.Items.{Run, Item, event, discarded, lost, stops, before}
 use Rattle.ctf_packet.specs.declared.fault.StreamFault.{StreamFault}
 use Rattle.ctf_packet.specs.declared.fault.StreamFault.TheVariants as faults
-use Rattle.ctf_stream.specs.Fetching.{longest_bytes, most_taken}
+use Rattle.ctf_fetch.specs.Fetching.{longest_bytes, most_taken}
 
 -- what stands in front
 pub data Ahead : Type 0 where

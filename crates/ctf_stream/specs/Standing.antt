@@ -1,7 +1,7 @@
 -- A reader's parts, as contracts see the whole.
 use Rattle.std.specs.Prelude.{◌≡◌, ℕ, ◌+◌, ◌≤◌, [], Option, Some, None, IsSome}
 use Rattle.ctf_stream.specs.Coming.{item_in}
-use Rattle.ctf_stream.specs.Fetching.{longest_bytes, most_taken}
+use Rattle.ctf_fetch.specs.Fetching.{longest_bytes, most_taken}
 use Rattle.ctf_stream.specs.Course.{Stands, HasPart, HoldsIn}
 use Rattle.ctf_stream.specs.Reader.{Ahead, start, item, ended, fault}
 use Rattle.ctf_stream.specs.declared.packet.Packet.{Packet}

@@ -7,9 +7,7 @@ ghost use Rattle.ctf_stream.specs.Shown.{ShowsValues, Tells, IsMade, IsMadeTold,
 ghost use Rattle.ctf_stream.specs.Reader.{start, fault_ahead, coming, rest_of, OrRefused, IsFetched, IsLast, IsOnLine, IsAllTaken, RoomTaken};
 ghost use Rattle.ctf_stream.specs.Owned.{Gives, GivesAhead, GivesOf, GivesRoom, KeepsBehind, ahead_behind};
 
-use crate::buffer::Buffer;
 use crate::course::Course;
-use crate::cut::CutPoint;
 use crate::item::{Item, Told};
 use crate::owned::OwnedItem;
 use crate::packet::Front;
@@ -17,6 +15,7 @@ use ctf_bits::Source;
 use ctf_class::TraceClass;
 use ctf_clock::Shift;
 use ctf_decode::Scopes;
+use ctf_fetch::CutPoint;
 use ctf_line::Attempt;
 use ctf_list::Text;
 use ctf_packet::StreamFault;

@@ -4,7 +4,7 @@ use Rattle.std.specs.Int.Signed.{lt_z}
 use Rattle.std.proofs.lemmas.Int.{ints}
 use Rattle.std.proofs.lemmas.Bool.Decides.{nat_tests}
 use Rattle.ctf_packet.specs.Items.{Item}
-use Rattle.ctf_stream.specs.Ahead.{time_of}
+use Rattle.ctf_packet.specs.ItemTimes.{time_of}
 use Rattle.stream_laws.specs.Times.{NotBefore, Rises}
 
 -- the test and the order

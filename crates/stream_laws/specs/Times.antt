@@ -4,7 +4,7 @@ use Rattle.std.specs.Int.Signed.{lt_z}
 use Rattle.std.specs.Option.{is_some}
 use Rattle.ctf_clock.specs.declared.moment.Moment.{Moment}
 use Rattle.ctf_packet.specs.Items.{Item}
-use Rattle.ctf_stream.specs.Ahead.{time_of}
+use Rattle.ctf_packet.specs.ItemTimes.{time_of}
 
 -- the time that a clock tells, in nanoseconds since the epoch
 abbrev pub time_at : Option Moment → Option ℤ

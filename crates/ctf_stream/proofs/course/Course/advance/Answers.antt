@@ -1,6 +1,6 @@
 use Rattle.std.proofs.Common.{rules, ◌≡◌, ◌+◌, length, Some, ap, subst, ◌∙◌}
 use Rattle.ctf_packet.specs.Items.{stops}
-use Rattle.ctf_stream.specs.Fetching.{OrNoMemory}
+use Rattle.ctf_fetch.specs.Fetching.{OrNoMemory}
 use Rattle.ctf_stream.specs.Course.{coming_of}
 use Rattle.ctf_stream.proofs.Courses.{advanced, stepped, at_fault, entered, ended}
 use Rattle.ctf_stream.proofs.course.Course.advance.Goals as goal

@@ -1,0 +1,7 @@
+mod Bytes
+mod Parts
+mod Taking
+mod Composites
+mod Opening
+mod Sizing
+mod Fetched

@@ -1,0 +1,11 @@
+use Rattle.std.proofs.Common.{◌++◌, ap}
+use Rattle.ctf_packet.specs.Packets.{front}
+use Rattle.ctf_packet.specs.Views.{values_of}
+use Rattle.ctf_packet.proofs.Standing.{form_of}
+use Rattle.ctf_front.proofs.Asking.{at_none}
+use Rattle.ctf_fetch.proofs.scope.scope_on_demand.Goals as goal
+
+pub returns-in-None-clause-puts : goal.returns-in-None-clause-puts
+returns-in-None-clause-puts g c = λ more.
+    let next = c.args.next.now in
+    at_none (form_of next.class) (front (c.args.buffer.now ++ more) (values_of c.args.scopes.now)) next.scope c.args.scopes.now c.take.new.self next.end (ap form_of c.in-None.is) c.take.ensures.rest

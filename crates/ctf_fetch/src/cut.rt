@@ -1,0 +1,289 @@
+//! Packets out of a source.
+
+ghost use Rattle.std.specs.Prelude.{◌≡◌, ◌+◌, ◌*◌, ◌/◌, ◌^◌, ◌≤◌, ◌<◌, [], ◌++◌, min, length, take, None, true, IsTrue, ◌⊎◌, Err, IfOk, IfErr, IfSome, OnOk};
+ghost use Rattle.ctf_decode.specs.Known.{nothing_known};
+ghost use Rattle.ctf_packet.specs.Classes.{trace_form};
+ghost use Rattle.ctf_packet.specs.Packets.{open_at, are_possible};
+ghost use Rattle.ctf_packet.specs.Items.{from_bytes};
+ghost use Rattle.ctf_packet.specs.Gives.{Fitting};
+ghost use Rattle.ctf_packet.specs.Views.{values_of, packet_values};
+ghost use Rattle.ctf_front.specs.Wants as wants;
+ghost use Rattle.ctf_fetch.specs.Fetching.{longest_bytes, OrNoMemory, Fetches, FetchedAt, FetchesAt};
+ghost use Rattle.ctf_fetch.specs.Openings.{want_of, FitsOpening, TakesWhole, TakesRest, TakesSized, Opens};
+
+use crate::buffer::{Buffer, Filled};
+use crate::scope::{NextScope, scope_on_demand};
+use ctf_bits::{Ending, Source};
+use ctf_class::{Scope, TraceClass};
+use ctf_clock::Shift;
+use ctf_decode::{Scopes, Value};
+use ctf_front::{Begun, Want, sized};
+use ctf_packet::{
+    OpenPacket, Reached, Sizes, StreamFault, cut_short, placed, sizes_checked, stream_checked,
+};
+use std::alloc::Global;
+
+/// The longest packet, in bytes.
+const LONGEST_BYTES: usize = 268_435_456;
+
+/// The longest stream, in bytes.
+const LONGEST_STREAM: u64 = 1 << 60;
+
+/// A place between two packets of a stream, or before its first one (CTF 1.8.3, section 5).
+#[derive(Clone, Copy)]
+pub struct CutPoint<'a> {
+    pub trace: &'a TraceClass,
+    /// What is added to each time.
+    pub shift: Shift,
+    /// What the stream came to by the packet before, if there is one.
+    pub reached: Option<Reached>,
+    /// In bytes of the stream.
+    pub at: u64,
+}
+
+/// A packet whose header and context were decoded.
+#[derive(Clone, Copy)]
+pub(crate) struct Opening<'a> {
+    begun: Begun<'a>,
+    /// In bits. `None` where it tells none, and is the rest of its stream.
+    sizes: Option<Sizes>,
+}
+
+/// Takes the bytes of a packet of a size, in bytes.
+fn fill_whole<S: Source>(
+    source: &mut S,
+    buffer: &mut Buffer,
+    count: usize,
+) -> Result<(), StreamFault>
+    requires { length buffer.old ≤ count }
+    ensures tells { IsTrue (S.tells source.old) → IsTrue (S.tells source.new) }
+    ensures same_end { IsTrue (S.tells source.old) → S.ending source.new ≡ S.ending source.old }
+    ensures kept { IsTrue (S.tells source.old) →
+        buffer.new ++ S.left source.new ≡ buffer.old ++ S.left source.old }
+    ensures takes { IsTrue (S.tells source.old) →
+        TakesWhole (S.ending source.old) count buffer.new (S.left source.new) result }
+    ensures whole { OnOk result (length buffer.new ≡ count) }
+    ensures few { length buffer.new ≤ count }
+{
+    match buffer.fill(source, count)? {
+        Filled::Whole => Ok(()),
+        Filled::Ended(ending) => Err(cut_short(ending)),
+    }
+}
+
+/// Takes all bytes that are left, if a packet can have as many. How the stream ends.
+fn fill_rest<S: Source>(source: &mut S, buffer: &mut Buffer) -> Result<Ending, StreamFault>
+    requires { length buffer.old ≤ longest_bytes }
+    ensures tells { IsTrue (S.tells source.old) → IsTrue (S.tells source.new) }
+    ensures same_end { IsTrue (S.tells source.old) → S.ending source.new ≡ S.ending source.old }
+    ensures kept { IsTrue (S.tells source.old) →
+        buffer.new ++ S.left source.new ≡ buffer.old ++ S.left source.old }
+    ensures takes { IsTrue (S.tells source.old) →
+        TakesRest (S.ending source.old) buffer.new (S.left source.new) result }
+    ensures whole { OnOk result (length buffer.new ≤ longest_bytes) }
+    ensures few { length buffer.new ≤ longest_bytes + 1 }
+    ensures grown { length buffer.old ≤ length buffer.new }
+{
+    match buffer.fill(source, LONGEST_BYTES + 1)? {
+        Filled::Whole => Err(StreamFault::ImpossibleSizes),
+        Filled::Ended(ending) => {
+            buffer.fit();
+            Ok(ending)
+        }
+    }
+}
+
+impl<'a> CutPoint<'a> {
+    /// The packet that begins here, out of a source (CTF 1.8.3, section 5); its bytes are in `buffer` then, and the values of its
+    /// header and context in `scopes`. `None` where the stream ends here.
+    ///
+    /// It takes one byte, then those that the header and the context ask for, then the rest of the packet: 2^28 bytes at
+    /// the most, and one more of a stream whose rest is longer. An error is the first fault of the packet before its event
+    /// records: F1 to F5, F8, F9, F11, F13 or F14; or `NoMemory`. The bytes that were taken are in `buffer` then too.
+    pub fn fetch<S: Source>(
+        &self,
+        alloc: Global,
+        source: &mut S,
+        buffer: &mut Buffer,
+        scopes: &mut Scopes,
+    ) -> Result<Option<OpenPacket<'a>>, StreamFault>
+        requires at { self.now.at ≤ 2 ^ 61 }
+        requires empty { buffer.old ≡ [] }
+        ensures tells { IsTrue (S.tells source.old) → IsTrue (S.tells source.new) }
+        ensures same_end { IsTrue (S.tells source.old) → S.ending source.new ≡ S.ending source.old }
+        ensures kept { IsTrue (S.tells source.old) →
+            buffer.new ++ S.left source.new ≡ S.left source.old }
+        ensures fetches { let cut = self.now in
+            let trace = trace_form cut.shift cut.trace.now in
+            let ending = S.ending source.old in
+            IsTrue (S.tells source.old) →
+            Fetches cut.shift scopes.new trace ending cut.at
+            (from_bytes trace ending cut.reached cut.at (S.left source.old)) buffer.new
+            (S.left source.new) result }
+        ensures at { FetchesAt self.now.at buffer.new self.now.shift result }
+        ensures begins { IfOk result (λ packet. self.now.at ≤ 2 ^ 60 ⊎ (packet ≡ None)) }
+        ensures few { length buffer.new ≤ longest_bytes + 1 }
+        ensures last { 2 ^ 60 < self.now.at → length buffer.new ≤ 1 }
+    {
+        match buffer.fill(source, 1)? {
+            Filled::Ended(Ending::Clean) => return Ok(None),
+            Filled::Ended(Ending::Failed) => return Err(StreamFault::ReadFailed),
+            Filled::Whole => {}
+        }
+        if self.at > LONGEST_STREAM {
+            return Err(StreamFault::StreamTooLong);
+        }
+        match self.open(alloc, source, buffer, scopes) {
+            Ok(packet) => Ok(Some(packet)),
+            Err(fault) => Err(fault),
+        }
+    }
+
+    /// The packet whose first byte is there.
+    fn open<S: Source>(
+        &self,
+        alloc: Global,
+        source: &mut S,
+        buffer: &mut Buffer,
+        scopes: &mut Scopes,
+    ) -> Result<OpenPacket<'a>, StreamFault>
+        requires at { self.now.at ≤ 2 ^ 60 }
+        requires one { length buffer.old ≡ 1 }
+        ensures tells { IsTrue (S.tells source.old) → IsTrue (S.tells source.new) }
+        ensures same_end { IsTrue (S.tells source.old) → S.ending source.new ≡ S.ending source.old }
+        ensures kept { IsTrue (S.tells source.old) →
+            buffer.new ++ S.left source.new ≡ buffer.old ++ S.left source.old }
+        ensures opens { let cut = self.now in
+            IsTrue (S.tells source.old) →
+            Opens cut.shift scopes.new
+            (open_at (trace_form cut.shift cut.trace.now) (S.ending source.old) cut.reached
+            cut.at (buffer.old ++ S.left source.old)) result }
+        ensures at { IfOk result (FetchedAt self.now.at buffer.new self.now.shift) }
+        ensures alone { OnOk result (packet_values (values_of scopes.new) ≡ values_of scopes.new) }
+        ensures few { length buffer.new ≤ longest_bytes + 1 }
+    {
+        let opening = self.begin(alloc, source, buffer, scopes)?;
+        match fill_sizes(source, buffer, opening) {
+            Err(fault) => Err(fault),
+            Ok(sizes) => {
+                let Begun { stream, first } = opening.begun;
+                let reached = self.reached.as_ref();
+                let context = scopes.get(Scope::PacketContext);
+                placed(stream, self.shift, reached, self.at, context, first, sizes)
+            }
+        }
+    }
+
+    /// Takes bytes until the header and context of a packet are there.
+    fn begin<S: Source>(
+        &self,
+        alloc: Global,
+        source: &mut S,
+        buffer: &mut Buffer,
+        scopes: &mut Scopes,
+    ) -> Result<Opening<'a>, StreamFault>
+        requires one { length buffer.old ≡ 1 }
+        ensures tells { IsTrue (S.tells source.old) → IsTrue (S.tells source.new) }
+        ensures same_end { IsTrue (S.tells source.old) → S.ending source.new ≡ S.ending source.old }
+        ensures kept { IsTrue (S.tells source.old) →
+            buffer.new ++ S.left source.new ≡ buffer.old ++ S.left source.old }
+        ensures asks { let cut = self.now in
+            IfOk result (λ opening.
+            wants.wanted (trace_form cut.shift cut.trace.now) cut.reached buffer.new ≡
+            want_of cut.shift scopes.new opening opening.sizes) }
+        ensures faulty { let cut = self.now in
+            IsTrue (S.tells source.old) →
+            IfErr result (OrNoMemory
+            (λ fault. open_at (trace_form cut.shift cut.trace.now)
+            (S.ending source.old) cut.reached cut.at (buffer.new ++ S.left source.new) ≡
+            Err fault)) }
+        ensures fits { IfOk result (λ opening. FitsOpening (length buffer.new) opening.sizes) }
+        ensures first { IfOk result (λ opening. opening.begun.first ≤ 8 * length buffer.new) }
+        ensures some { 0 < length buffer.new }
+        ensures few { length buffer.new ≤ longest_bytes }
+    {
+        let mut spares = forget(scopes);
+        let header = NextScope {
+            class: self.trace.packet_header(),
+            scope: Scope::PacketHeader,
+            end: 0,
+            alloc,
+        };
+        let end = scope_on_demand(&header, source, buffer, &mut spares.header, scopes)?;
+        let reached = self.reached.as_ref();
+        let stream = stream_checked(self.trace, reached, scopes.get(Scope::PacketHeader))?;
+        let context = NextScope {
+            class: stream.packet_context(),
+            scope: Scope::PacketContext,
+            end,
+            alloc,
+        };
+        let first = scope_on_demand(&context, source, buffer, &mut spares.context, scopes)?;
+        match sized(Begun { stream, first }, scopes.get(Scope::PacketContext))? {
+            Want::Rest(begun) => Ok(Opening { begun, sizes: None }),
+            Want::Whole(begun, sizes) => {
+                let sizes = Some(sizes);
+                Ok(Opening { begun, sizes })
+            }
+        }
+    }
+}
+
+/// Memory of the values of the packet before. What these are means nothing.
+#[derive(Drop)]
+struct PacketSpares {
+    header: Value,
+    context: Value,
+}
+
+/// Leaves no values. The memory of those of the packet's header and context.
+fn forget(scopes: &mut Scopes) -> PacketSpares
+    ensures { scopes.new ≡ nothing_known }
+{
+    let mut header = Value::Unsigned(0);
+    let mut context = Value::Unsigned(0);
+    scopes.leave(Scope::PacketHeader, &mut header);
+    scopes.leave(Scope::PacketContext, &mut context);
+    scopes.take(Scope::EventContext);
+    scopes.take(Scope::EventFields);
+    scopes.leave_record();
+    PacketSpares { header, context }
+}
+
+/// Takes the bytes of a packet with this opening. Its sizes.
+fn fill_sizes<S: Source>(
+    source: &mut S,
+    buffer: &mut Buffer,
+    opening: Opening<'_>,
+) -> Result<Sizes, StreamFault>
+    requires fits { FitsOpening (length buffer.old) opening.sizes }
+    requires few { length buffer.old ≤ longest_bytes }
+    requires possible { IfSome opening.sizes (λ sizes. are_possible sizes opening.begun.first ≡
+        true) }
+    ensures tells { IsTrue (S.tells source.old) → IsTrue (S.tells source.new) }
+    ensures same_end { IsTrue (S.tells source.old) → S.ending source.new ≡ S.ending source.old }
+    ensures kept { IsTrue (S.tells source.old) →
+        buffer.new ++ S.left source.new ≡ buffer.old ++ S.left source.old }
+    ensures few { length buffer.new ≤ longest_bytes + 1 }
+    ensures takes { IsTrue (S.tells source.old) →
+        TakesSized (S.ending source.old) opening.entry.begun.first buffer.new
+        (S.left source.new) opening.entry.sizes result }
+    ensures fitting { IfOk result (Fitting opening.entry.begun.first (length buffer.new)) }
+    ensures packet { IfOk result (λ sizes. sizes.packet ≡ 8 * length buffer.new) }
+{
+    match opening.sizes {
+        Some(sizes) => {
+            match fill_whole(source, buffer, (sizes.packet / 8) as usize) {
+                Err(fault) => Err(fault),
+                Ok(()) => Ok(sizes),
+            }
+        }
+        None => {
+            let first = opening.begun.first;
+            match fill_rest(source, buffer) {
+                Err(fault) => Err(fault),
+                Ok(ending) => sizes_checked(None, None, ending, buffer.as_slice(), first),
+            }
+        }
+    }
+}

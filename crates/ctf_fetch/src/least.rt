@@ -1,0 +1,149 @@
+//! How many bits a value takes at least, where that is known before its bytes come.
+
+ghost use Rattle.std.specs.Prelude.{◌≡◌, ◌↔◌, ◌≤◌, max, IfSome, IsTrue};
+ghost use Rattle.ctf_packet.specs.Scopes.{longest};
+ghost use Rattle.ctf_fetch.specs.Demand.{TakesAtLeast, MembersTake, ElementsTake, TakesAt, EndsAtLeast};
+
+use crate::demand::Place;
+use ctf_class::{Align, Class, Kind, Length, Member, Width};
+use ctf_decode::length_at;
+use ctf_packet::LONGEST_PACKET;
+
+/// How deep the parts of a class may lie in one another. Where its size is not known, its parts are asked about by themselves:
+/// so each is looked at a few times, however deep it lies.
+const DEEPEST: u32 = 4;
+
+/// The bit at which a value at a place ends at least: it may end up to seven bits later.
+///
+/// `None` where more of its size is in the packet, as that of a string, a variant, or an array in a structure whose length is
+/// in a field; where a part of it is not of whole bytes, or may not begin at each of them; where its parts lie deeper than
+/// `DEEPEST`; and where no packet is so long.
+pub(crate) fn least_end(class: &Class, place: &Place<'_>) -> Option<u64>
+    requires { place.now.end ≤ longest }
+    ensures least { IfSome result (EndsAtLeast class.now place.now) }
+    ensures bounded { IfSome result (λ end. end ≤ longest) }
+{
+    if class.depth > DEEPEST {
+        return None;
+    }
+    let bits = least_bits_at(class, place)?;
+    in_packet(u128::from(place.end) + u128::from(bits))
+}
+
+/// How many bits a value at a place takes at least. An array's length may be in a field.
+fn least_bits_at(class: &Class, place: &Place<'_>) -> Option<u64>
+    ensures least { IfSome result (TakesAt class.now place.now) }
+    ensures bounded { IfSome result (λ bits. bits ≤ longest) }
+{
+    match &class.kind {
+        Kind::Array { length, element } => {
+            let count = length_at(length, place.scopes, place.frame);
+            bits_of_elements(element.get(), count)
+        }
+        _ => least_bits(class),
+    }
+}
+
+/// How many bits a value of a class takes at least, wherever it is.
+#[cycle(least)]
+fn least_bits(class: &Class) -> Option<u64>
+    ensures least { IfSome result (TakesAtLeast class.now) }
+    ensures bounded { IfSome result (λ bits. bits ≤ longest) }
+{
+    match &class.kind {
+        Kind::Integer(integer) => bits_of_integer(integer.size, class.align),
+        Kind::Enumeration { container, labels } => bits_of_integer(container.size, class.align),
+        Kind::String => None,
+        Kind::Structure { members } => bits_of_structure(members.as_slice(), class.align),
+        Kind::Variant {
+            tag,
+            choices,
+            options,
+        } => None,
+        Kind::Array { length, element } => match length {
+            Length::Fixed(count) => bits_of_elements(element.get(), *count),
+            Length::Field(_) => None,
+        },
+        Kind::Text { length } => match length {
+            Length::Fixed(count) => in_packet(8 * u128::from(*count)),
+            Length::Field(_) => None,
+        },
+    }
+}
+
+/// How many bits an integer takes at least.
+fn bits_of_integer(size: Width, align: Align) -> Option<u64>
+    ensures least { IfSome result (λ bits. bits ≤ max 1 size) }
+    ensures bounded { IfSome result (λ bits. bits ≤ longest) }
+{
+    let bits = u64::from(size.bits());
+    if bits % 8 != 0 || !is_of_bytes(align) {
+        return None;
+    }
+    Some(bits)
+}
+
+/// How many bits a structure of these members takes at least.
+#[cycle(least)]
+fn bits_of_structure(members: &[Member], align: Align) -> Option<u64>
+    ensures least { IfSome result (MembersTake members.now) }
+    ensures bounded { IfSome result (λ bits. bits ≤ longest) }
+{
+    if !is_of_bytes(align) {
+        return None;
+    }
+    let mut bits = 0;
+    for member in members {
+        let more = bits_of_member(&member.class)?;
+        bits = in_packet(u128::from(bits) + u128::from(more))?;
+    }
+    Some(bits)
+}
+
+/// How many bits a member takes at least. Mostly it is an integer, which takes no call.
+#[cycle(least)]
+#[inline(always)]
+fn bits_of_member(class: &Class) -> Option<u64>
+    ensures least { IfSome result (TakesAtLeast class.now) }
+    ensures bounded { IfSome result (λ bits. bits ≤ longest) }
+{
+    if let Kind::Integer(integer) = &class.kind {
+        return bits_of_integer(integer.size, class.align);
+    }
+    least_bits(class)
+}
+
+/// How many bits so many elements take at least. Where there are none, their class is not looked at.
+#[cycle(least)]
+fn bits_of_elements(element: &Class, count: u64) -> Option<u64>
+    ensures least { IfSome result (ElementsTake element.now count) }
+    ensures bounded { IfSome result (λ bits. bits ≤ longest) }
+{
+    if !is_of_bytes(element.align) {
+        return None;
+    }
+    if count == 0 {
+        return Some(0);
+    }
+    let bits = least_bits(element)?;
+    in_packet(u128::from(bits) * u128::from(count))
+}
+
+/// Whether each byte begins at a multiple of an alignment. It is asked of each member, so it takes no division: alignments are
+/// powers of two.
+fn is_of_bytes(align: Align) -> bool
+    ensures { IsTrue result ↔ align ≤ 8 }
+{
+    align.bits() <= 8
+}
+
+/// A number of bits, if a packet may have so many.
+fn in_packet(bits: u128) -> Option<u64>
+    ensures value { IfSome result (λ n. n ≡ bits) }
+    ensures bounded { IfSome result (λ n. n ≤ longest) }
+{
+    if bits > u128::from(LONGEST_PACKET) {
+        return None;
+    }
+    Some(bits as u64)
+}

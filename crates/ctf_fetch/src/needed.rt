@@ -1,0 +1,246 @@
+//! Values that have no parts, and openings of those that have, once their bytes came.
+
+ghost use Rattle.std.specs.Prelude.{◌≡◌, ◌+◌, ◌*◌, ◌/◌, ◌≤◌, ◌<◌, ◌++◌, min, max, length, take, get_or, Err, IsTrue, IfOk, IfErr, OnOk, ℕ};
+ghost use Rattle.std.specs.Int.{next_multiple_of};
+ghost use Rattle.ctf_decode.specs.Breaks.{past};
+ghost use Rattle.ctf_decode.specs.Decoding.{Decodes};
+ghost use Rattle.ctf_packet.specs.Scopes.{longest};
+ghost use Rattle.ctf_class.specs.declared.class.Kind.TheVariants.{String};
+ghost use Rattle.ctf_fetch.specs.Demand.{found_at, text_at, IsFound, Failed, IsOpened, FailsToOpen, EndsNear, EndsAtLeast};
+ghost use Rattle.ctf_fetch.specs.Fetching.{longest_bytes, OrNoMemory};
+
+use crate::buffer::Buffer;
+use crate::demand::Place;
+use crate::fill::{fill_ahead, fill_front};
+use ctf_bits::{Source, up};
+use ctf_class::{Align, Class};
+use ctf_decode::{DecodeFault, Decoded, MOST_VALUES, Packet, Reached, decode_within};
+use ctf_packet::{StreamFault, front_content};
+
+/// The place behind the opening of a structure or an array, which begins at a multiple of `align`.
+///
+/// An error is F1, F5, F11 or F13; or `NoMemory`.
+pub(crate) fn opened<'a, S: Source>(
+    align: Align,
+    place: &Place<'a>,
+    source: &mut S,
+    buffer: &mut Buffer,
+) -> Result<Place<'a>, StreamFault>
+    requires start { place.now.end ≤ min (8 * length buffer.old) longest }
+    requires few { length buffer.old ≤ longest_bytes }
+    ensures tells { IsTrue (S.tells source.old) → IsTrue (S.tells source.new) }
+    ensures same_end { IsTrue (S.tells source.old) → S.ending source.new ≡ S.ending source.old }
+    ensures kept { IsTrue (S.tells source.old) →
+        buffer.new ++ S.left source.new ≡ buffer.old ++ S.left source.old }
+    ensures first { take (length buffer.old) buffer.new ≡ buffer.old }
+    ensures grown { length buffer.old ≤ length buffer.new }
+    ensures few { length buffer.new ≤ longest_bytes }
+    ensures opens { IfOk result (IsOpened place.now (next_multiple_of place.now.end align)) }
+    ensures within { IfOk result (λ inner. inner.end ≤ min (8 * length buffer.new) longest) }
+    ensures forward { IfOk result (λ inner. place.now.end ≤ inner.end) }
+    ensures near { IfOk result
+        (λ inner. 8 * length buffer.new ≤ max (8 * length buffer.old) (inner.end + 7)) }
+    ensures faulty { let all = buffer.new ++ S.left source.new in
+        IsTrue (S.tells source.old) →
+        IfErr result (OrNoMemory
+        (FailsToOpen (S.ending source.old) place.now (next_multiple_of place.now.end align)
+        all)) }
+{
+    if place.spent >= MOST_VALUES {
+        return Err(StreamFault::TooManyValues);
+    }
+    let end = align.up(place.end);
+    if end > front_content(buffer.as_slice()) {
+        fill_front(source, buffer, u128::from(end))?;
+    }
+    Ok(Place {
+        alloc: place.alloc,
+        scopes: place.scopes,
+        frame: place.frame,
+        end,
+        spent: place.spent + 1,
+    })
+}
+
+/// The value of a class that has no parts: what it needs is known once it is looked for, but of a string.
+pub(crate) fn leaf_on_demand<S: Source>(
+    class: &Class,
+    place: &Place<'_>,
+    source: &mut S,
+    buffer: &mut Buffer,
+) -> Result<Decoded, StreamFault>
+    requires start { place.now.end ≤ min (8 * length buffer.old) longest }
+    requires few { length buffer.old ≤ longest_bytes }
+    ensures tells { IsTrue (S.tells source.old) → IsTrue (S.tells source.new) }
+    ensures same_end { IsTrue (S.tells source.old) → S.ending source.new ≡ S.ending source.old }
+    ensures kept { IsTrue (S.tells source.old) →
+        buffer.new ++ S.left source.new ≡ buffer.old ++ S.left source.old }
+    ensures first { take (length buffer.old) buffer.new ≡ buffer.old }
+    ensures grown { length buffer.old ≤ length buffer.new }
+    ensures few { length buffer.new ≤ longest_bytes }
+    ensures value { IfOk result (IsFound (found_at class.now place.now buffer.new)) }
+    ensures within { IfOk result (λ d. d.end ≤ min (8 * length buffer.new) longest) }
+    ensures forward { IfOk result (λ d. place.now.end ≤ d.end) }
+    ensures near { IfOk result
+        (λ d. 8 * length buffer.new ≤ max (8 * length buffer.old) (d.end + 7)) }
+    ensures faulty { let all = buffer.new ++ S.left source.new in
+        IsTrue (S.tells source.old) →
+        IfErr result (OrNoMemory
+        (Failed (S.ending source.old) (found_at class.now place.now all))) }
+{
+    loop {
+        match decoded(class, place, buffer.as_slice()) {
+            Ok(decoded) => return Ok(decoded),
+            Err(DecodeFault::ContentEnds(bits)) => fill_front(source, buffer, bits)?,
+            Err(DecodeFault::NoOption) => return Err(StreamFault::NoOption),
+            Err(DecodeFault::TooManyValues) => return Err(StreamFault::TooManyValues),
+            Err(DecodeFault::NoMemory) => return Err(StreamFault::NoMemory),
+        }
+    }
+}
+
+/// The value of a class that ends at a bit at least: the bytes up to it are asked for at once.
+pub(crate) fn whole_on_demand<S: Source>(
+    class: &Class,
+    end: u64,
+    place: &Place<'_>,
+    source: &mut S,
+    buffer: &mut Buffer,
+) -> Result<Decoded, StreamFault>
+    requires start { place.now.end ≤ min (8 * length buffer.old) longest }
+    requires few { length buffer.old ≤ longest_bytes }
+    requires least { EndsAtLeast class.now place.now end }
+    requires end { end ≤ longest }
+    ensures tells { IsTrue (S.tells source.old) → IsTrue (S.tells source.new) }
+    ensures same_end { IsTrue (S.tells source.old) → S.ending source.new ≡ S.ending source.old }
+    ensures kept { IsTrue (S.tells source.old) →
+        buffer.new ++ S.left source.new ≡ buffer.old ++ S.left source.old }
+    ensures first { take (length buffer.old) buffer.new ≡ buffer.old }
+    ensures grown { length buffer.old ≤ length buffer.new }
+    ensures few { length buffer.new ≤ longest_bytes }
+    ensures value { IfOk result (IsFound (found_at class.now place.now buffer.new)) }
+    ensures within { IfOk result (λ d. d.end ≤ min (8 * length buffer.new) longest) }
+    ensures forward { IfOk result (λ d. place.now.end ≤ d.end) }
+    ensures near { IfOk result (λ d.
+        8 * length buffer.new ≤ max (8 * length buffer.old) (d.end + 7)) }
+    ensures faulty { let all = buffer.new ++ S.left source.new in
+        let found = found_at class.now place.now all in
+        IsTrue (S.tells source.old) →
+        IfErr result (OrNoMemory (Failed (S.ending source.old) found)) }
+{
+    fill_ahead(source, buffer, end)?;
+    leaf_on_demand(class, place, source, buffer)
+}
+
+/// The value of a class at a place in these bytes.
+fn decoded(class: &Class, place: &Place<'_>, bytes: &[u8]) -> Result<Decoded, DecodeFault>
+    requires { place.now.end ≤ min (8 * length bytes.now) longest }
+    ensures decodes { Decodes result (found_at class.now place.now bytes.now) }
+    ensures within { IfOk result (λ d. d.end ≤ min (8 * length bytes.now) longest) }
+{
+    let packet = Packet {
+        bytes,
+        content: front_content(bytes),
+        scopes: place.scopes,
+    };
+    let at = Reached {
+        end: place.end,
+        spent: place.spent,
+    };
+    decode_within(place.alloc, class, &packet, place.frame, at)
+}
+
+/// The value of a string: its bytes are taken up to the first zero byte, and looked at once.
+pub(crate) fn string_on_demand<S: Source>(
+    class: &Class,
+    place: &Place<'_>,
+    source: &mut S,
+    buffer: &mut Buffer,
+) -> Result<Decoded, StreamFault>
+    requires start { place.now.end ≤ min (8 * length buffer.old) longest }
+    requires few { length buffer.old ≤ longest_bytes }
+    requires string { class.now.kind ≡ String }
+    ensures tells { IsTrue (S.tells source.old) → IsTrue (S.tells source.new) }
+    ensures same_end { IsTrue (S.tells source.old) → S.ending source.new ≡ S.ending source.old }
+    ensures kept { IsTrue (S.tells source.old) →
+        buffer.new ++ S.left source.new ≡ buffer.old ++ S.left source.old }
+    ensures first { take (length buffer.old) buffer.new ≡ buffer.old }
+    ensures grown { length buffer.old ≤ length buffer.new }
+    ensures few { length buffer.new ≤ longest_bytes }
+    ensures value { IfOk result (IsFound (found_at class.now place.now buffer.new)) }
+    ensures within { IfOk result (λ d. d.end ≤ min (8 * length buffer.new) longest) }
+    ensures forward { IfOk result (λ d. place.now.end ≤ d.end) }
+    ensures near { IfOk result
+        (λ d. 8 * length buffer.new ≤ max (8 * length buffer.old) (d.end + 7)) }
+    ensures faulty { let all = buffer.new ++ S.left source.new in
+        IsTrue (S.tells source.old) →
+        IfErr result (OrNoMemory
+        (Failed (S.ending source.old) (found_at class.now place.now all))) }
+{
+    if place.spent >= MOST_VALUES {
+        return Err(StreamFault::TooManyValues);
+    }
+    take_text(place, source, buffer)?;
+    leaf_on_demand(class, place, source, buffer)
+}
+
+/// Takes bytes until one of a string at a place is zero.
+fn take_text<S: Source>(
+    place: &Place<'_>,
+    source: &mut S,
+    buffer: &mut Buffer,
+) -> Result<(), StreamFault>
+    requires begun { place.now.spent < MOST_VALUES }
+    requires start { place.now.end ≤ min (8 * length buffer.old) longest }
+    requires few { length buffer.old ≤ longest_bytes }
+    ensures tells { IsTrue (S.tells source.old) → IsTrue (S.tells source.new) }
+    ensures same_end { IsTrue (S.tells source.old) → S.ending source.new ≡ S.ending source.old }
+    ensures kept { IsTrue (S.tells source.old) →
+        buffer.new ++ S.left source.new ≡ buffer.old ++ S.left source.old }
+    ensures first { take (length buffer.old) buffer.new ≡ buffer.old }
+    ensures grown { length buffer.old ≤ length buffer.new }
+    ensures few { length buffer.new ≤ longest_bytes }
+    ensures near { OnOk result (EndsNear place.now (length buffer.old) buffer.new) }
+    ensures faulty { let all = buffer.new ++ S.left source.new in
+        IsTrue (S.tells source.old) →
+        IfErr result (OrNoMemory (Failed (S.ending source.old) (text_at place.now all))) }
+{
+    let mut next = (up(place.end, 8) / 8) as usize;
+    while text_byte(place, next, source, buffer)? != 0 {
+        next += 1;
+    }
+    Ok(())
+}
+
+/// The byte at an index of the packet, up to which no byte of a string at a place is zero. It is taken where it is not there.
+fn text_byte<S: Source>(
+    place: &Place<'_>,
+    next: usize,
+    source: &mut S,
+    buffer: &mut Buffer,
+) -> Result<u8, StreamFault>
+    requires begun { place.now.spent < MOST_VALUES }
+    requires few { length buffer.old ≤ longest_bytes }
+    requires asks { length buffer.old ≤ next →
+        text_at place.now buffer.old ≡ Err (past (8 * (next + 1))) }
+    ensures tells { IsTrue (S.tells source.old) → IsTrue (S.tells source.new) }
+    ensures same_end { IsTrue (S.tells source.old) → S.ending source.new ≡ S.ending source.old }
+    ensures kept { IsTrue (S.tells source.old) →
+        buffer.new ++ S.left source.new ≡ buffer.old ++ S.left source.old }
+    ensures first { take (length buffer.old) buffer.new ≡ buffer.old }
+    ensures grown { length buffer.old ≤ length buffer.new }
+    ensures few { length buffer.new ≤ longest_bytes }
+    ensures byte { IfOk result (λ byte. byte ≡ get_or buffer.new next 0) }
+    ensures there { OnOk result (next < length buffer.new) }
+    ensures near { (before : ℕ) → EndsNear place.now before buffer.old →
+        OnOk result (EndsNear place.now before buffer.new) }
+    ensures faulty { let all = buffer.new ++ S.left source.new in
+        IsTrue (S.tells source.old) →
+        IfErr result (OrNoMemory (Failed (S.ending source.old) (text_at place.now all))) }
+{
+    if next < buffer.len() {
+        return Ok(buffer.as_slice()[next]);
+    }
+    fill_front(source, buffer, 8 * (next as u128 + 1))?;
+    Ok(buffer.as_slice()[next])
+}

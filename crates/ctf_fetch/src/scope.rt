@@ -1,0 +1,161 @@
+//! The header and the context of a packet, decoded while their bytes come.
+
+ghost use Rattle.std.specs.Prelude.{◌≡◌, ◌+◌, ◌*◌, ◌≤◌, ◌++◌, min, max, length, take, option_map, option_copied, IsTrue, IfOk, IfErr, Some, ℕ, List};
+ghost use Rattle.ctf_packet.specs.Scopes.{longest};
+ghost use Rattle.ctf_packet.specs.Views.{values_of};
+ghost use Rattle.ctf_front.specs.Gives.{PutsAsked};
+ghost use Rattle.ctf_fetch.specs.Asking.{scope_asked, scope_found, FailsAs};
+ghost use Rattle.ctf_fetch.specs.Fetching.{longest_bytes, OrNoMemory};
+
+use crate::buffer::Buffer;
+use crate::demand::{Place, value_on_demand};
+use crate::fill::fill_ahead;
+use crate::least::least_end;
+use ctf_bits::Source;
+use ctf_class::{Class, Scope};
+use ctf_decode::{Frame, Scopes, Value};
+use ctf_packet::{StreamFault, front_content, scope_into};
+use std::alloc::Global;
+
+/// The scope of a packet that comes next: its class, if it has one, and the bit at which the scope before ends.
+#[derive(Clone, Copy)]
+pub(crate) struct NextScope<'a> {
+    pub(crate) class: Option<&'a Class>,
+    pub(crate) scope: Scope,
+    pub(crate) end: u64,
+    pub(crate) alloc: Global,
+}
+
+/// Puts the value of a header or a context in its scope, for which bytes are taken as they are needed. The bit at which
+/// it ends. The memory of `spare` may be used for it, and any value may be in it then.
+///
+/// An error is its fault: F1, F5, F8, F11 or F13; or `NoMemory`.
+pub(crate) fn scope_on_demand<S: Source>(
+    next: &NextScope<'_>,
+    source: &mut S,
+    buffer: &mut Buffer,
+    spare: &mut Value,
+    scopes: &mut Scopes,
+) -> Result<u64, StreamFault>
+    requires start { next.now.end ≤ min (8 * length buffer.old) longest }
+    requires few { length buffer.old ≤ longest_bytes }
+    ensures tells { IsTrue (S.tells source.old) → IsTrue (S.tells source.new) }
+    ensures same_end { IsTrue (S.tells source.old) → S.ending source.new ≡ S.ending source.old }
+    ensures kept { IsTrue (S.tells source.old) →
+        buffer.new ++ S.left source.new ≡ buffer.old ++ S.left source.old }
+    ensures first { take (length buffer.old) buffer.new ≡ buffer.old }
+    ensures grown { length buffer.old ≤ length buffer.new }
+    ensures few { length buffer.new ≤ longest_bytes }
+    ensures puts { (more : List ℕ) →
+        let asked = scope_asked next.now (buffer.new ++ more) scopes.old in
+        IfOk result (λ end. PutsAsked next.now.scope (values_of scopes.old) asked end scopes.new) }
+    ensures within { IfOk result (λ end. end ≤ min (8 * length buffer.new) longest) }
+    ensures forward { IfOk result (λ end. next.now.end ≤ end) }
+    ensures near { IfOk result
+        (λ end. 8 * length buffer.new ≤ max (8 * length buffer.old) (end + 7)) }
+    ensures faulty { let found = scope_found (S.ending source.old) next.now
+        (buffer.new ++ S.left source.new) scopes.old in
+        IsTrue (S.tells source.old) → IfErr result (OrNoMemory (FailsAs found)) }
+{
+    match next.class {
+        None => {
+            scopes.take(next.scope);
+            Ok(next.end)
+        }
+        Some(class) => class_on_demand(class, next, source, buffer, spare, scopes),
+    }
+}
+
+/// Puts the value of this class in its scope. Where it is known how many bits that takes at least, and it takes no more, as
+/// integers do, its bytes are asked for at once and it is made in the memory of `spare`.
+fn class_on_demand<S: Source>(
+    class: &Class,
+    next: &NextScope<'_>,
+    source: &mut S,
+    buffer: &mut Buffer,
+    spare: &mut Value,
+    scopes: &mut Scopes,
+) -> Result<u64, StreamFault>
+    requires class { next.now.class ≡ Some class }
+    requires start { next.now.end ≤ min (8 * length buffer.old) longest }
+    requires few { length buffer.old ≤ longest_bytes }
+    ensures tells { IsTrue (S.tells source.old) → IsTrue (S.tells source.new) }
+    ensures same_end { IsTrue (S.tells source.old) → S.ending source.new ≡ S.ending source.old }
+    ensures kept { IsTrue (S.tells source.old) →
+        buffer.new ++ S.left source.new ≡ buffer.old ++ S.left source.old }
+    ensures first { take (length buffer.old) buffer.new ≡ buffer.old }
+    ensures grown { length buffer.old ≤ length buffer.new }
+    ensures few { length buffer.new ≤ longest_bytes }
+    ensures puts { (more : List ℕ) →
+        let asked = scope_asked next.now (buffer.new ++ more) scopes.old in
+        IfOk result (λ end. PutsAsked next.now.scope (values_of scopes.old) asked end scopes.new) }
+    ensures within { IfOk result (λ end. end ≤ min (8 * length buffer.new) longest) }
+    ensures forward { IfOk result (λ end. next.now.end ≤ end) }
+    ensures near { IfOk result
+        (λ end. 8 * length buffer.new ≤ max (8 * length buffer.old) (end + 7)) }
+    ensures faulty { let found = scope_found (S.ending source.old) next.now
+        (buffer.new ++ S.left source.new) scopes.old in
+        IsTrue (S.tells source.old) → IfErr result (OrNoMemory (FailsAs found)) }
+{
+    let place = Place {
+        alloc: next.alloc,
+        scopes: &*scopes,
+        frame: &Frame::Top,
+        end: next.end,
+        spent: scopes.spent(),
+    };
+    let Some(least) = least_end(class, &place) else {
+        return parts_on_demand(class, next, source, buffer, scopes);
+    };
+    fill_ahead(source, buffer, least)?;
+    let bytes = buffer.as_slice();
+    let content = front_content(bytes);
+    match scope_into(
+        next.alloc, class, bytes, next.end, content, next.scope, spare, scopes,
+    ) {
+        Ok(end) => Ok(end),
+        Err(_) => parts_on_demand(class, next, source, buffer, scopes),
+    }
+}
+
+/// Puts the value of this class in its scope, part by part.
+fn parts_on_demand<S: Source>(
+    class: &Class,
+    next: &NextScope<'_>,
+    source: &mut S,
+    buffer: &mut Buffer,
+    scopes: &mut Scopes,
+) -> Result<u64, StreamFault>
+    requires class { next.now.class ≡ Some class }
+    requires start { next.now.end ≤ min (8 * length buffer.old) longest }
+    requires few { length buffer.old ≤ longest_bytes }
+    ensures tells { IsTrue (S.tells source.old) → IsTrue (S.tells source.new) }
+    ensures same_end { IsTrue (S.tells source.old) → S.ending source.new ≡ S.ending source.old }
+    ensures kept { IsTrue (S.tells source.old) →
+        buffer.new ++ S.left source.new ≡ buffer.old ++ S.left source.old }
+    ensures first { take (length buffer.old) buffer.new ≡ buffer.old }
+    ensures grown { length buffer.old ≤ length buffer.new }
+    ensures few { length buffer.new ≤ longest_bytes }
+    ensures puts { (more : List ℕ) →
+        let asked = scope_asked next.now (buffer.new ++ more) scopes.old in
+        IfOk result (λ end. PutsAsked next.now.scope (values_of scopes.old) asked end scopes.new) }
+    ensures within { IfOk result (λ end. end ≤ min (8 * length buffer.new) longest) }
+    ensures forward { IfOk result (λ end. next.now.end ≤ end) }
+    ensures near { IfOk result
+        (λ end. 8 * length buffer.new ≤ max (8 * length buffer.old) (end + 7)) }
+    ensures faulty { let found = scope_found (S.ending source.old) next.now
+        (buffer.new ++ S.left source.new) scopes.old in
+        IsTrue (S.tells source.old) → IfErr result (OrNoMemory (FailsAs found)) }
+{
+    let place = Place {
+        alloc: next.alloc,
+        scopes: &*scopes,
+        frame: &Frame::Top,
+        end: next.end,
+        spent: scopes.spent(),
+    };
+    let decoded = value_on_demand(class, &place, source, buffer)?;
+    scopes.put(next.scope, decoded.value);
+    scopes.set_spent(decoded.spent);
+    Ok(decoded.end)
+}
