@@ -28,7 +28,7 @@ further-edits:
 
 # One crate: its proof, its tests and its edits of the gate.
 check:
-	@[ -n "$(CRATE)" ] || { echo 'which crate? make check CRATE=ctf_text' >&2; exit 1; }
+	@[ -n "$(CRATE)" ] || { echo 'which crate? make check CRATE=ctf_format' >&2; exit 1; }
 	@tools/prove $(CRATE)
 	cd crates/$(CRATE) && rt check && rt test
 	rt must-fail $(CRATE)

@@ -9,7 +9,7 @@
 use crate::row::Row;
 use ctf_list::Text;
 use ctf_options::{Options, Usage, options_of, stream_names};
-use ctf_stamp::ClockStyle;
+use ctf_timestamp::ClockStyle;
 use std::alloc::{AllocError, Global};
 
 /// Puts what comes of a row of a command line.

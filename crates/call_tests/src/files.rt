@@ -1,6 +1,6 @@
 //! The bytes of streams, and traces that metadata declare.
 
-use crate::row::decoded;
+use crate::row::bytes_of_digits;
 use ctf_class::TraceClass;
 use ctf_load::load;
 use std::alloc::Global;
@@ -38,7 +38,7 @@ pub fn is_stream(word: &str) -> bool {
 fn stream_of(rt: &HostRuntime, word: &str) -> Vec<u8> {
     match word.strip_prefix('@') {
         Some(file) => file_of(rt, file),
-        None => decoded(rt.alloc(), word),
+        None => bytes_of_digits(rt.alloc(), word),
     }
 }
 
@@ -60,7 +60,7 @@ fn change_bytes(alloc: Global, bytes: &mut Vec<u8>, change: &str) {
                 .saturating_sub(count.parse::<usize>().unwrap_or(0)),
         );
     } else if let Some(more) = change.strip_prefix('+') {
-        let _ = bytes.extend_from_slice(&decoded(alloc, more));
+        let _ = bytes.extend_from_slice(&bytes_of_digits(alloc, more));
     } else {
         let (place, other) = change
             .trim_start_matches('@')
@@ -69,7 +69,7 @@ fn change_bytes(alloc: Global, bytes: &mut Vec<u8>, change: &str) {
         set(
             bytes,
             place.parse::<usize>().unwrap_or(0),
-            &decoded(alloc, other),
+            &bytes_of_digits(alloc, other),
         );
     }
 }

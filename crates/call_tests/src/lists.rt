@@ -11,13 +11,18 @@ use std::alloc::{AllocError, Global};
 pub fn put_row(row: &mut Row<'_>) {
     let kind = row.word();
     let text = row.word().as_bytes();
-    if let Ok(list) = grown(row.alloc, kind, text, row.words.as_bytes()) {
+    if let Ok(list) = longer_list(row.alloc, kind, text, row.words.as_bytes()) {
         put_list(row, &list);
     }
 }
 
 /// The list of some bytes, with more behind them.
-fn grown(alloc: Global, kind: &str, text: &[u8], more: &[u8]) -> Result<List<u8>, AllocError> {
+fn longer_list(
+    alloc: Global,
+    kind: &str,
+    text: &[u8],
+    more: &[u8],
+) -> Result<List<u8>, AllocError> {
     let mut list = List::from_slice(alloc, text)?;
     if kind == "extended" {
         list.extend_from_slice(more)?;

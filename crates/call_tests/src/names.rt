@@ -9,15 +9,15 @@
 
 ghost use Rattle.std.specs.Prelude.{◌≤◌};
 
-use crate::row::{Row, quoted};
-use ctf_class::{FieldName, Heading, LabelName, Ready, escaped};
+use crate::row::{Row, unquote};
+use ctf_class::{FieldName, Heading, LabelName, PreparedText, escaped};
 use ctf_list::{List, NoMemory};
 use std::alloc::Global;
 
 /// Puts what comes of a row of a text, a label or a heading.
 pub fn put_row(row: &mut Row<'_>) {
     match row.word() {
-        "escaped" => row.put_made(escaped(row.alloc, &quoted(row.alloc, row.words))),
+        "escaped" => row.put_made(escaped(row.alloc, &unquote(row.alloc, row.words))),
         "ready" => put_ready_row(row),
         "label" => put_label_row(row),
         _ => put_heading_row(row),
@@ -26,12 +26,12 @@ pub fn put_row(row: &mut Row<'_>) {
 
 /// The bytes of a text, as a list.
 fn list_of(alloc: Global, text: &str) -> List<u8> {
-    List::from_vec(quoted(alloc, text))
+    List::from_vec(unquote(alloc, text))
 }
 
 /// Puts a text behind three bytes of a line, and its length.
 fn put_ready_row(row: &mut Row<'_>) {
-    if let Ok(ready) = Ready::new(row.alloc, &quoted(row.alloc, row.words)) {
+    if let Ok(ready) = PreparedText::new(row.alloc, &unquote(row.alloc, row.words)) {
         put_ready(row, &ready, 3);
         row.put_number(b", ", ready.len() as i128);
         row.put(b" bytes");
@@ -39,7 +39,7 @@ fn put_ready_row(row: &mut Row<'_>) {
 }
 
 /// Puts the beginning of a line that has a text at an index, if there is room for it.
-fn put_ready(row: &mut Row<'_>, ready: &Ready, at: usize)
+fn put_ready(row: &mut Row<'_>, ready: &PreparedText, at: usize)
     requires { at ≤ 3 }
 {
     let mut line = [b'#'; 67];
@@ -50,7 +50,7 @@ fn put_ready(row: &mut Row<'_>, ready: &Ready, at: usize)
 }
 
 /// Puts a text, and in brackets what is printed.
-fn put_printed(row: &mut Row<'_>, text: &[u8], ready: &Ready) {
+fn put_printed(row: &mut Row<'_>, text: &[u8], ready: &PreparedText) {
     row.put(text);
     row.put(b" [");
     put_ready(row, ready, 0);

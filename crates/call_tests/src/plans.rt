@@ -14,17 +14,27 @@ pub fn put_row(row: &mut Row<'_>) {
     let members = members_of(row.alloc, row.words);
     match members.as_slice() {
         [fields] => put_plan(row, None, None, &fields.class),
-        [shared, fields] => put_plan(row, Some(&shared.class), None, &fields.class),
-        [shared, own, fields] => {
-            put_plan(row, Some(&shared.class), Some(&own.class), &fields.class);
+        [stream_context, fields] => put_plan(row, Some(&stream_context.class), None, &fields.class),
+        [stream_context, event_context, fields] => {
+            put_plan(
+                row,
+                Some(&stream_context.class),
+                Some(&event_context.class),
+                &fields.class,
+            );
         }
         _ => {}
     }
 }
 
 /// Puts the plan of the scopes.
-fn put_plan(row: &mut Row<'_>, shared: Option<&Class>, own: Option<&Class>, fields: &Class) {
-    match RecordPlan::new(row.alloc, shared, own, fields) {
+fn put_plan(
+    row: &mut Row<'_>,
+    stream_context: Option<&Class>,
+    event_context: Option<&Class>,
+    fields: &Class,
+) {
+    match RecordPlan::new(row.alloc, stream_context, event_context, fields) {
         Ok(plan) => put_runs(row, &plan),
         Err(_) => row.put(b"no memory"),
     }

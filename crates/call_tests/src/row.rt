@@ -44,7 +44,7 @@ impl<'a> Row<'a> {
 
     /// The bytes that the next word names in hexadecimal; none where it names none.
     pub fn bytes(&mut self) -> Vec<u8> {
-        decoded(self.alloc, self.word())
+        bytes_of_digits(self.alloc, self.word())
     }
 
     /// Puts bytes.
@@ -117,19 +117,19 @@ impl<'a> Row<'a> {
 }
 
 /// The bytes that hexadecimal digits name; none where they name none.
-pub fn decoded(alloc: Global, digits: &str) -> Vec<u8> {
+pub fn bytes_of_digits(alloc: Global, digits: &str) -> Vec<u8> {
     hex::decode(alloc, digits).unwrap_or(Vec::new(alloc))
 }
 
 /// The bytes of a text, with those that stand in hexadecimal between backquotes.
-pub fn quoted(alloc: Global, text: &str) -> Vec<u8> {
+pub fn unquote(alloc: Global, text: &str) -> Vec<u8> {
     let mut bytes = Row::new(alloc, "");
     let mut is_text = true;
     for part in text.split('`') {
         if is_text {
             bytes.put(part.as_bytes());
         } else {
-            bytes.put(&decoded(alloc, part));
+            bytes.put(&bytes_of_digits(alloc, part));
         }
         is_text = !is_text;
     }

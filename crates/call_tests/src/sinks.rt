@@ -6,13 +6,13 @@
 
 use crate::device::Device;
 use crate::row::Row;
-use crate::sources::counted;
+use crate::sources::kind_and_count;
 use ctf_bits::{DripSink, FailingSink, Sink, SinkFault, ToWrite, VecSink};
 
 /// Puts what comes of a row of sinks.
 pub fn put_row(row: &mut Row<'_>) {
     row.word();
-    let (kind, count) = counted(row.word());
+    let (kind, count) = kind_and_count(row.word());
     match kind {
         "drip" => put_drip(row, DripSink::new(row.alloc, count)),
         "failing" => put_failing(row, FailingSink::new(row.alloc, count)),

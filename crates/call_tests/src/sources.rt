@@ -17,7 +17,7 @@ const MOST_CALLS: u32 = 16;
 /// Puts what comes of a row of sources.
 pub fn put_row(row: &mut Row<'_>) {
     row.word();
-    let (kind, count) = counted(row.word());
+    let (kind, count) = kind_and_count(row.word());
     let piece = row.long() as usize;
     if piece == 0 || piece > 8 {
         return;
@@ -36,7 +36,7 @@ pub fn put_row(row: &mut Row<'_>) {
 }
 
 /// A kind, and its count where it has one.
-pub fn counted(word: &str) -> (&str, usize) {
+pub fn kind_and_count(word: &str) -> (&str, usize) {
     let (kind, count) = word.split_once(':').unwrap_or((word, ""));
     (kind, count.parse::<usize>().unwrap_or(0))
 }

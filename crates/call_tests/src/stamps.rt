@@ -10,7 +10,7 @@
 use crate::row::Row;
 use crate::zones::zone_of;
 use ctf_clock::Moment;
-use ctf_stamp::{ClockStyle, MOST_PART, Stamper, Style, append_part, append_stamp};
+use ctf_timestamp::{ClockStyle, MOST_PART, Stamper, Style, append_part, append_stamp};
 
 /// Puts what comes of a row of stamps.
 pub fn put_row(row: &mut Row<'_>) {

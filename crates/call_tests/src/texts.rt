@@ -3,13 +3,13 @@
 //! - `tokens TEXT` are the tokens of a text, or its fault.
 //! - `packets BYTES` is the text of metadata, or the fault of its packets.
 
-use crate::row::{Row, quoted};
+use crate::row::{Row, unquote};
 use tsdl_text::{Kind, MetaFault, Token, metadata_text, tokens};
 
 /// Puts the lines of what comes of a row of texts.
 pub fn put_row(row: &mut Row<'_>) {
     let kind = row.word();
-    let bytes = quoted(row.alloc, row.words);
+    let bytes = unquote(row.alloc, row.words);
     match kind {
         "tokens" => put_tokens(row, &bytes),
         _ => put_text(row, &bytes),

@@ -139,7 +139,7 @@ fn put_events(row: &mut Row<'_>, stream: &StreamClass) {
         row,
         b", event ",
         stream.event(number),
-        stream.planned(number),
+        stream.planned_event(number),
     );
     put_planned(row, b", only event ", stream.only(), stream.planned_only());
 }

@@ -39,7 +39,7 @@ mod words;
 use crate::row::Row;
 use classes::{class_named, stream_of};
 use ctf_class::{Class, TraceClass};
-use ctf_text::{packet_part, value_text};
+use ctf_format::{packet_part, value_text};
 use place::Place;
 pub use words::put_value;
 use words::values_of;

@@ -4,7 +4,7 @@
 //! - `instant ZONE YEAR MONTH DAY HOUR MINUTE` is the instant of a civil time, in nanoseconds since the epoch.
 
 use crate::row::Row;
-use ctf_stamp::{Zone, ZoneFault};
+use ctf_timestamp::{Zone, ZoneFault};
 use jiff::civil::DateTime;
 use std::alloc::Global;
 

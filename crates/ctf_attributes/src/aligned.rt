@@ -15,11 +15,11 @@ pub fn alignment(align: Option<u64>) -> Result<Align, ResolveFault>
     ensures told { Tells (structure_faults align) (λ bits. bits ≡ unwrap_or align 1) result }
     ensures fault { IfErr result (λ fault. fault ≡ faults.SizeOrAlignment) }
 {
-    aligned(align.unwrap_or(1))
+    alignment_of(align.unwrap_or(1))
 }
 
 /// The alignment of so many bits.
-pub fn aligned(bits: u64) -> Result<Align, ResolveFault>
+pub fn alignment_of(bits: u64) -> Result<Align, ResolveFault>
     ensures told { TellsFirst (when (not (is_alignment bits)) faults.SizeOrAlignment)
         (λ align. align ≡ bits) result }
 {

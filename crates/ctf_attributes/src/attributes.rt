@@ -8,7 +8,7 @@ ghost use Rattle.ctf_meaning.specs.Integers.{is_size, size_of, sign_of, base_of,
 ghost use Rattle.ctf_attributes.specs.Tells.{Tells, TellsFirst};
 ghost use Rattle.ctf_attributes.specs.Attributes.{value_of, size_faults, align_faults, align_by_size};
 
-use crate::aligned::aligned;
+use crate::aligned::alignment_of;
 use crate::lookup::attribute;
 use crate::reading;
 use crate::value::{count, number, text};
@@ -23,7 +23,7 @@ use tsdl_tree::{Setting, Value};
 const LARGEST_SIZE: u64 = 64;
 
 /// The size of so many bits.
-fn sized(bits: u64) -> Result<Width, ResolveFault>
+fn width_of_bits(bits: u64) -> Result<Width, ResolveFault>
     ensures told { TellsFirst (when (not (is_size (pos bits))) faults.SizeOrAlignment)
         (λ size. size ≡ bits) result }
 {
@@ -40,8 +40,8 @@ pub fn size(settings: &[Setting]) -> Result<Width, ResolveFault>
 {
     let value = attribute(settings, b"size").ok_or(ResolveFault::Attribute)?;
     match count(value) {
-        Some(bits) => sized(bits),
-        None => Err(uncounted(value)),
+        Some(bits) => width_of_bits(bits),
+        None => Err(fault_of_count(value)),
     }
 }
 
@@ -53,15 +53,15 @@ pub fn align(settings: &[Setting], size: Width) -> Result<Align, ResolveFault>
 {
     match attribute(settings, b"align") {
         Some(value) => match count(value) {
-            Some(bits) => aligned(bits),
-            None => Err(uncounted(value)),
+            Some(bits) => alignment_of(bits),
+            None => Err(fault_of_count(value)),
         },
-        None => aligned(if size.bits() % 8 == 0 { 8 } else { 1 }),
+        None => alignment_of(if size.bits() % 8 == 0 { 8 } else { 1 }),
     }
 }
 
 /// What is wrong with a value that is no number from 0 on.
-fn uncounted(value: &Value) -> ResolveFault
+fn fault_of_count(value: &Value) -> ResolveFault
     ensures { result ≡ (if is_none (number_of value.now) then faults.Attribute else
         faults.SizeOrAlignment) }
 {

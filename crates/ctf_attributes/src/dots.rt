@@ -49,7 +49,7 @@ fn behind_dot<'a>(word: &[u8], text: &'a [u8]) -> Option<&'a [u8]>
 }
 
 /// Words with dots between them. It fails where memory is refused.
-pub fn joined(alloc: Global, words: &[Word]) -> Result<List<u8>, NoMemory>
+pub fn join_words(alloc: Global, words: &[Word]) -> Result<List<u8>, NoMemory>
     ensures { IfOk result (λ text. text ≡ join_with_byte 46 words.now) }
 {
     let [first, more @ ..] = words else {

@@ -14,7 +14,7 @@ ghost use Rattle.ctf_attributes.specs.Settled.{IsTrace};
 ghost use Rattle.ctf_attributes.specs.Tells.{Tells, TellsFirst, Nothing};
 
 use crate::block::value_at;
-use crate::dots::joined;
+use crate::dots::join_words;
 use crate::entry_names::check_trace;
 use crate::reading::trace_order;
 use crate::value::is_count;
@@ -99,7 +99,7 @@ fn read_uuid(alloc: Global, value: &Value) -> Result<Option<[u8; 16]>, NoMemory>
         Value::Number(_) => Ok(None),
         Value::Text(text) => Ok(parse(text.as_slice())),
         Value::Name(words) => {
-            let text = joined(alloc, words.as_slice())?;
+            let text = join_words(alloc, words.as_slice())?;
             Ok(parse(text.as_slice()))
         }
     }

@@ -6,7 +6,7 @@ ghost use Rattle.ctf_meaning.specs.Settings as settings;
 ghost use Rattle.ctf_meaning.specs.Settings.{when};
 ghost use Rattle.ctf_attributes.specs.Tells.{Tells};
 
-use crate::dots::{is_joined, joined};
+use crate::dots::{is_joined, join_words};
 use ctf_list::{List, NoMemory};
 use ctf_meaning::ResolveFault;
 use std::alloc::Global;
@@ -101,7 +101,7 @@ pub fn text(alloc: Global, value: &Value) -> Result<Option<List<u8>>, NoMemory>
     match value {
         Value::Number(_) => Ok(None),
         Value::Text(bytes) => Ok(Some(List::from_slice(alloc, bytes.as_slice())?)),
-        Value::Name(words) => Ok(Some(joined(alloc, words.as_slice())?)),
+        Value::Name(words) => Ok(Some(join_words(alloc, words.as_slice())?)),
     }
 }
 

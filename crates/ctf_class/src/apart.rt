@@ -60,14 +60,14 @@ pub fn next_apart(labels: &[Label], order: &[usize], begin: usize, number: i128)
     if begin > 0 && covers(span_at(labels, begin - 1), number) {
         return None;
     }
-    match covering(labels, order, number) {
+    match place_of_label(labels, order, number) {
         None => None,
         Some(place) => { if place < begin { None } else { Some(place) } }
     }
 }
 
 /// The place of the label that covers a number.
-fn covering(labels: &[Label], order: &[usize], number: i128) -> Option<usize>
+fn place_of_label(labels: &[Label], order: &[usize], number: i128) -> Option<usize>
     requires apart { AreApart labels.now order.now }
     requires ranks { HasRanks labels.now order.now }
     ensures { FindsCovering labels.now number result }

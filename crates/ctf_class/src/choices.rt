@@ -72,7 +72,7 @@ impl Choices {
         ensures { result ≡ choosing.chosen self.now number }
     {
         match self.kept.get() {
-            Kept::Listed(choices) => chosen(choices.as_slice(), number),
+            Kept::Listed(choices) => first_option(choices.as_slice(), number),
             Kept::Named(named) => named.look_up(number),
         }
     }
@@ -179,7 +179,7 @@ impl Named {
 
 /// The option of the first of some choices that covers a number.
 #[inline(always)]
-fn chosen(choices: &[Choice], number: i128) -> Option<usize>
+fn first_option(choices: &[Choice], number: i128) -> Option<usize>
     ensures { result ≡ choosing.chosen choices.now number }
 {
     for choice in choices {

@@ -5,7 +5,7 @@ ghost use Rattle.std.specs.Cmp.{partial_equiv_from_equiv};
 ghost use Rattle.std.specs.Cmp.Lexicographic.{pointwise, nat_list_eq_equiv};
 ghost use Rattle.ctf_class.specs.Names.{shown_name, field_text};
 
-use crate::ready::Ready;
+use crate::ready::PreparedText;
 use ctf_list::{List, NoMemory, Shared};
 use std::alloc::{AllocError, Global};
 use std::marker::Model;
@@ -14,7 +14,7 @@ use std::marker::Model;
 #[derive(Drop)]
 struct PrintedName {
     /// What is printed before the value.
-    ready: Ready,
+    ready: PreparedText,
     name: List<u8>,
 }
 
@@ -51,7 +51,7 @@ impl FieldName {
     }
 
     /// What is printed before the value, behind a text.
-    pub fn behind(&self, alloc: Global, lead: &[u8]) -> Result<Ready, NoMemory>
+    pub fn behind(&self, alloc: Global, lead: &[u8]) -> Result<PreparedText, NoMemory>
         ensures { IfOk result (λ ready. ready ≡ lead.now ++ field_text self.now) }
     {
         ready_behind(alloc, lead, self.as_slice())
@@ -65,7 +65,7 @@ impl FieldName {
     }
 
     /// What is printed before the value: the name without its leading `_`, and ` = `.
-    pub fn ready(&self) -> &Ready
+    pub fn ready(&self) -> &PreparedText
         ensures { result.now ≡ field_text self.now }
     {
         &self.printed.get().ready
@@ -97,18 +97,18 @@ impl Eq for FieldName {
 }
 
 /// What is printed before a value, behind a text.
-fn ready_behind(alloc: Global, lead: &[u8], name: &[u8]) -> Result<Ready, NoMemory>
+fn ready_behind(alloc: Global, lead: &[u8], name: &[u8]) -> Result<PreparedText, NoMemory>
     ensures { IfOk result (λ ready. ready ≡ lead.now ++ field_text name.now) }
 {
     let mut text = Vec::new(alloc);
     text.extend_from_slice(lead)?;
-    text.extend_from_slice(shown(name))?;
+    text.extend_from_slice(visible_part(name))?;
     text.extend_from_slice(b" = ")?;
-    Ready::new(alloc, text.as_slice())
+    PreparedText::new(alloc, text.as_slice())
 }
 
 /// The part of a name that is shown.
-fn shown(name: &[u8]) -> &[u8]
+fn visible_part(name: &[u8]) -> &[u8]
     ensures { result.now ≡ shown_name name.now }
 {
     if name.len() > 1 && name[0] == b'_' {

@@ -4,7 +4,7 @@ ghost use Rattle.std.specs.Prelude.{◌≡◌, IfOk, option_copied};
 ghost use Rattle.ctf_class.specs.HostAndName.{heading_text};
 
 use crate::escape::put_escaped;
-use crate::ready::Ready;
+use crate::ready::PreparedText;
 use ctf_list::{List, NoMemory};
 use std::alloc::Global;
 use std::marker::Model;
@@ -15,7 +15,7 @@ pub struct Heading {
     host: Option<List<u8>>,
     name: List<u8>,
     /// What is printed for them.
-    ready: Ready,
+    ready: PreparedText,
 }
 
 impl Model for Heading {
@@ -41,7 +41,7 @@ impl Heading {
         }
         put_escaped(&mut text, name.as_slice())?;
         text.extend_from_slice(b": ")?;
-        let ready = Ready::new(alloc, text.as_slice())?;
+        let ready = PreparedText::new(alloc, text.as_slice())?;
         Ok(Heading { host, name, ready })
     }
 
@@ -63,7 +63,7 @@ impl Heading {
     }
 
     /// What is printed for the host and the name.
-    pub fn ready(&self) -> &Ready
+    pub fn ready(&self) -> &PreparedText
         ensures { result.now ≡ heading_text self.now }
     {
         &self.ready

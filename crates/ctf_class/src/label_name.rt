@@ -6,7 +6,7 @@ ghost use Rattle.std.specs.Cmp.Lexicographic.{pointwise, nat_list_eq_equiv};
 ghost use Rattle.ctf_class.specs.Names.{label_text};
 
 use crate::escape::put_escaped;
-use crate::ready::Ready;
+use crate::ready::PreparedText;
 use ctf_list::{List, NoMemory};
 use std::alloc::Global;
 use std::marker::Model;
@@ -16,7 +16,7 @@ use std::marker::Model;
 pub struct LabelName {
     name: List<u8>,
     /// What is printed for the label.
-    ready: Ready,
+    ready: PreparedText,
 }
 
 impl Model for LabelName {
@@ -42,7 +42,7 @@ impl LabelName {
         text.push(b'"')?;
         put_escaped(&mut text, name.as_slice())?;
         text.push(b'"')?;
-        let ready = Ready::new(alloc, text.as_slice())?;
+        let ready = PreparedText::new(alloc, text.as_slice())?;
         Ok(LabelName { name, ready })
     }
 
@@ -54,7 +54,7 @@ impl LabelName {
     }
 
     /// What is printed for the label: itself, escaped, in quotes.
-    pub fn ready(&self) -> &Ready
+    pub fn ready(&self) -> &PreparedText
         ensures { result.now ≡ label_text self.now }
     {
         &self.ready

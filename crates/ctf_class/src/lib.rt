@@ -45,7 +45,7 @@ pub use labels::Labels;
 pub use names::Names;
 pub use plain_number::PlainNumber;
 pub use plan_room::PlanRoom;
-pub use ready::Ready;
+pub use ready::PreparedText;
 pub use record_plan::{Field, Integers, Labelled, Many, RecordPlan, Run, Shown};
 pub use route::{Length, Origin, Route, Scope};
 pub use span::{Choice, Label, Span};

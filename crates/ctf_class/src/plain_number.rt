@@ -1,7 +1,7 @@
 //! Integers that are printed as they stand.
 
 use crate::integer::Integer;
-use crate::ready::Ready;
+use crate::ready::PreparedText;
 use ctf_bits::Window;
 
 /// An integer in decimal, little endian, whose distance from the begin of its run is known (CTF 1.8.3, section 4.1.5).
@@ -11,5 +11,5 @@ pub struct PlainNumber {
     /// Where it stands behind that begin.
     pub window: Window,
     /// What is printed before it.
-    pub ready: Ready,
+    pub ready: PreparedText,
 }

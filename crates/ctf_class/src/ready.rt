@@ -16,7 +16,7 @@ const HEAD: usize = 24;
 /// A text in words of eight bytes, so that it is written by whole words. The first three stand in it, so that a
 /// short text is written at once: no jump depends on its length. Contracts see its bytes.
 #[derive(Drop)]
-pub struct Ready {
+pub struct PreparedText {
     /// Eight bytes each, the first of them in the lowest bits, filled up with zeros.
     first: u64,
     second: u64,
@@ -26,7 +26,7 @@ pub struct Ready {
     length: usize,
 }
 
-impl Model for Ready {
+impl Model for PreparedText {
     ghost use Rattle.std.specs.Prelude.{List, ℕ, ◌+◌, ◌*◌, ◌^◌, ◌≤◌, ◌∷◌, length as length_of};
     ghost use Rattle.std.specs.Coded.{coded_list, coded_ℕ};
     ghost use Rattle.ctf_class.specs.Words.{first_bytes};
@@ -40,14 +40,14 @@ impl Model for Ready {
     ghost invariant = { λ ready. (ready.length ≤ 8 * (3 + length_of ready.rest)) × (8 * length_of ready.rest ≤ ready.length) × (ready.length ≤ 2 ^ 63) };
 }
 
-impl Ready {
+impl PreparedText {
     /// A text, ready to be written.
-    pub fn new(alloc: Global, text: &[u8]) -> Result<Ready, NoMemory>
+    pub fn new(alloc: Global, text: &[u8]) -> Result<PreparedText, NoMemory>
         ensures { IfOk result (λ ready. ready ≡ text.now) }
     {
         let words = words_of(alloc, text)?;
         let rest = SharedWords::from_slice(alloc, behind_head(&words))?;
-        Ok(Ready {
+        Ok(PreparedText {
             first: word_at(&words, 0),
             second: word_at(&words, 1),
             third: word_at(&words, 2),
@@ -107,12 +107,12 @@ impl Ready {
     }
 }
 
-impl Clone for Ready {
+impl Clone for PreparedText {
     ghost is_clone = { λ ready other. other ≡ ready };
 
-    fn clone(&self) -> Result<Ready, AllocError> {
+    fn clone(&self) -> Result<PreparedText, AllocError> {
         let rest = self.rest.clone()?;
-        Ok(Ready {
+        Ok(PreparedText {
             first: self.first,
             second: self.second,
             third: self.third,

@@ -13,7 +13,7 @@ use crate::class::{Class, Kind, Member};
 use crate::integer::{Base, Integer};
 use crate::labels::Labels;
 use crate::plain_number::PlainNumber;
-use crate::ready::Ready;
+use crate::ready::PreparedText;
 use crate::route::Length;
 use ctf_bits::{Order, Window};
 use ctf_list::{List, NoMemory, Shared};
@@ -73,7 +73,7 @@ pub enum Many {
 #[derive(Drop)]
 pub struct Field {
     /// What is printed before its value.
-    pub ready: Ready,
+    pub ready: PreparedText,
     /// The alignment of the structure that it begins, or 1.
     pub align: Align,
     pub shown: Shown,
@@ -118,16 +118,17 @@ impl RecordPlan {
     /// The plan of records whose scopes have these classes: the stream event context, the event context, and the fields.
     pub fn new(
         alloc: Global,
-        shared: Option<&Class>,
-        own: Option<&Class>,
+        stream_context: Option<&Class>,
+        event_context: Option<&Class>,
         fields: &Class,
     ) -> Result<RecordPlan, NoMemory>
         ensures { IfOk result (IsPlanOf
-            (scopes_of (option_copied shared.entry) (option_copied own.entry) fields.now)) }
+            (scopes_of (option_copied stream_context.entry)
+            (option_copied event_context.entry) fields.now)) }
     {
         let mut making = Making::new(alloc);
-        if making.add_optional(alloc, shared)?
-            && making.add_optional(alloc, own)?
+        if making.add_optional(alloc, stream_context)?
+            && making.add_optional(alloc, event_context)?
             && making.add_scope(alloc, fields)?
         {
             return making.finish();
@@ -218,7 +219,7 @@ impl Making {
         if class.align.bits() != 8 {
             return Ok(false);
         }
-        if !self.add_member(alloc, self.opening(), class.align, 0, first)?
+        if !self.add_member(alloc, self.opening_text(), class.align, 0, first)?
             || !self.add_later(alloc, others)?
         {
             return Ok(false);
@@ -228,7 +229,7 @@ impl Making {
     }
 
     /// What is printed before the first field of the next scope.
-    fn opening(&self) -> &'static [u8]
+    fn opening_text(&self) -> &'static [u8]
         ensures { result.now ≡ before_scope self.now.count ++ (123 ∷ 32 ∷ []) }
     {
         if self.count == 0 { b"{ " } else { b" }, { " }

@@ -172,7 +172,7 @@ impl StreamClass {
 
     /// The first event class of an id, with the plan of its records.
     #[inline(always)]
-    pub fn planned(&self, id: u64) -> Option<PlannedEvent<'_>>
+    pub fn planned_event(&self, id: u64) -> Option<PlannedEvent<'_>>
         ensures event { IfSome result (λ p. first_of_id (λ event. event.id) id self.now.events ≡
             Some p.event.now) }
         ensures plan { IfSome result
@@ -301,13 +301,13 @@ fn plan_of(
     ensures { IfOk result (IsPlanOf
         (scopes_of (option_copied context.entry) event.now.context event.now.fields)) }
 {
-    let own = event.context();
+    let event_context = event.context();
     let fields = event.fields();
-    let contexts = nodes_of(context).saturating_add(nodes_of(own));
+    let contexts = nodes_of(context).saturating_add(nodes_of(event_context));
     if !room.take(contexts.saturating_add(fields.nodes)) {
         return Ok(RecordPlan::none(alloc));
     }
-    RecordPlan::new(alloc, context, own, fields)
+    RecordPlan::new(alloc, context, event_context, fields)
 }
 
 /// How many classes a class has in it, if there is one.

@@ -11,8 +11,8 @@ use Rattle.ctf_run.specs.declared.trace.Trace as declared
 use Rattle.ctf_session.specs.Inputs.{Given}
 use Rattle.ctf_cli.specs.Files.{Files, closed, found_of}
 use Rattle.ctf_cli.specs.Traces.{IsStop, stream_if, stream_then, streams_in, IsTrace, IsBlocked, AreTraces, AreBlocked}
-use Rattle.ctf_cli.specs.declared.opening.Stop.{Stop}
-use Rattle.ctf_cli.specs.declared.opening.Stop.TheVariants.{Unreadable, NoMemory}
+use Rattle.ctf_cli.specs.declared.opening.OpeningFault.{OpeningFault}
+use Rattle.ctf_cli.specs.declared.opening.OpeningFault.TheVariants.{Unreadable, NoMemory}
 
 -- ---- streams
 
@@ -65,7 +65,7 @@ opened_all files dir names k first past = rw (drop_all k names past) (ap (λ xs.
 -- ---- stops
 
 -- what blocks in one way blocks in another
-pub stop_as : {P Q : List ℕ → Type 0} → ((path : List ℕ) → P path → Q path) → (stop : Stop) → IsStop P stop → IsStop Q stop
+pub stop_as : {P Q : List ℕ → Type 0} → ((path : List ℕ) → P path → Q path) → (stop : OpeningFault) → IsStop P stop → IsStop Q stop
 stop_as f (Unreadable line) is = (is.0, f is.0 is.1, is.2)
 stop_as f NoMemory is = tt
 

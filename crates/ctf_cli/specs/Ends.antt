@@ -5,10 +5,10 @@ use Rattle.ctf_options.specs.Command.{GivesOptions, IsRefusal}
 use Rattle.ctf_options.specs.Texts.{usage_text}
 use Rattle.ctf_options.specs.declared.options.Options.{Options}
 use Rattle.ctf_options.specs.declared.usage.Usage.TheVariants as usages
-use Rattle.ctf_outcome.specs.Lines.{path_line}
-use Rattle.ctf_outcome.specs.Outcomes.{outcome_text, status_of}
-use Rattle.ctf_outcome.specs.declared.outcome.Outcome.{Outcome}
-use Rattle.ctf_outcome.specs.declared.outcome.Outcome.TheVariants.{Done, Fault, WriteFailed, NoMemory}
+use Rattle.ctf_faults.specs.Lines.{path_line}
+use Rattle.ctf_faults.specs.Outcomes.{outcome_text, status_of}
+use Rattle.ctf_faults.specs.declared.outcome.Outcome.{Outcome}
+use Rattle.ctf_faults.specs.declared.outcome.Outcome.TheVariants.{Done, Fault, WriteFailed, NoMemory}
 use Rattle.ctf_run.specs.Traces.{Trace, EachTells, Runs}
 use Rattle.ctf_session.specs.Steps.{Counts, CountsAfter, SameForMessages, SettledBy}
 use Rattle.ctf_session.specs.Writing.{Written, WritesPart}

@@ -6,16 +6,16 @@ use Rattle.std.specs.List.Sorted.{IsPermutation, IsSorted}
 use Rattle.std.specs.Ordering.{nat_cmp}
 use Rattle.std.specs.Path.{path_join}
 use Rattle.ctf_options.specs.Names.{is_stream}
-use Rattle.ctf_outcome.specs.Lines.{path_line}
-use Rattle.ctf_outcome.specs.Outcomes.{outcome_text}
-use Rattle.ctf_outcome.specs.declared.outcome.Outcome.TheVariants as outcomes
+use Rattle.ctf_faults.specs.Lines.{path_line}
+use Rattle.ctf_faults.specs.Outcomes.{outcome_text}
+use Rattle.ctf_faults.specs.declared.outcome.Outcome.TheVariants as outcomes
 use Rattle.ctf_run.specs.Traces.{Stream, Trace}
 use Rattle.ctf_session.specs.Inputs.{Given}
 use Rattle.ctf_cli.specs.Files.{Files, Found, nothing, closed, stream}
 use Rattle.ctf_cli.specs.declared.folders.FolderFault.{FolderFault}
 use Rattle.ctf_cli.specs.declared.folders.FolderFault.TheVariants as faults
-use Rattle.ctf_cli.specs.declared.opening.Stop.{Stop}
-use Rattle.ctf_cli.specs.declared.opening.Stop.TheVariants.{Unreadable, NoMemory}
+use Rattle.ctf_cli.specs.declared.opening.OpeningFault.{OpeningFault}
+use Rattle.ctf_cli.specs.declared.opening.OpeningFault.TheVariants.{Unreadable, NoMemory}
 
 -- ---- what a folder holds
 
@@ -92,16 +92,16 @@ pub record AreBlocked (files : Files) (dirs : List (List ℕ)) (path : List ℕ)
 -- ---- why traces were not opened
 
 -- the line of a path that is blocked so, or want of memory
-abbrev pub IsStop : (List ℕ → Type 0) → Stop → Type 0
+abbrev pub IsStop : (List ℕ → Type 0) → OpeningFault → Type 0
 IsStop blocked (Unreadable line) = (path : List ℕ) × blocked path × (line.items ≡ path_line path)
 IsStop blocked NoMemory = Unit {0}
 
 -- the stop at a path after this fault
-abbrev pub IsStopAt : List ℕ → FolderFault → Stop → Type 0
+abbrev pub IsStopAt : List ℕ → FolderFault → OpeningFault → Type 0
 IsStopAt path faults.Unreadable stop = IsStop (λ other. other ≡ path) stop
 IsStopAt path faults.NoMemory stop = stop ≡ NoMemory
 
 -- the line that is printed
-abbrev pub stop_line : Stop → List ℕ
+abbrev pub stop_line : OpeningFault → List ℕ
 stop_line (Unreadable line) = line.items
 stop_line NoMemory = outcome_text outcomes.NoMemory

@@ -5,7 +5,7 @@ ghost use Rattle.std.specs.Io.{ReadsAtMost};
 ghost use Rattle.std.specs.Io.KnownBytes.{ReadConsumes, prepend_known};
 
 use crate::folders::{FolderFault, Folders};
-use crate::interrupts::uninterrupted;
+use crate::interrupts::retry_interrupted;
 use crate::read_ahead::ReadAhead;
 use ctf_bits::{Source, SourceFault};
 use std::alloc::Global;
@@ -61,7 +61,7 @@ impl<'d, 'a, R: Files + AllocGlobal + Clone + Drop> Folders for &'d Disk<'a, R> 
     ghost holds = { λ _. untold };
 
     fn list(&self, alloc: Global, dir: &str) -> Result<Vec<String>, FolderFault> {
-        uninterrupted(|| names_in(alloc, self.rt, dir)).map_err(fault_of)
+        retry_interrupted(|| names_in(alloc, self.rt, dir)).map_err(fault_of)
     }
 
     fn read(&self, alloc: Global, path: &str, most: u64) -> Result<Vec<u8>, FolderFault> {
@@ -126,7 +126,7 @@ impl<'a, R: Files> Disk<'a, R> {
     fn opened_at(&self, number: usize, path: &str, at: u64) -> io::Result<LastFile<R>> {
         let ahead = match self.last.replace(None) {
             Some(last) if last.number == number => return Ok(last),
-            Some(last) => emptied(last.file.ahead),
+            Some(last) => room_of(last.file.ahead),
             None => ReadAhead::new(self.alloc),
         };
         let Some(mut file) = open_file(self.rt, path, 0)? else {
@@ -139,7 +139,7 @@ impl<'a, R: Files> Disk<'a, R> {
 }
 
 /// The room of what was read ahead of a file that is no longer open.
-fn emptied(mut ahead: ReadAhead) -> ReadAhead {
+fn room_of(mut ahead: ReadAhead) -> ReadAhead {
     ahead.forget();
     ahead
 }
@@ -172,12 +172,12 @@ fn open_stream<R: Files>(rt: &R, path: &str) -> io::Result<Option<R::File>> {
 /// The system waits where a pipe is opened to which nobody writes, so what stands there is looked at first. What was opened
 /// is looked at too, since the path can lead elsewhere by then.
 fn open_file<R: Files>(rt: &R, path: &str, least: u64) -> io::Result<Option<R::File>> {
-    let found = uninterrupted(|| fs::metadata(rt, path))?;
+    let found = retry_interrupted(|| fs::metadata(rt, path))?;
     if !found.is_file() || found.len() < least {
         return Ok(None);
     }
     let file = fs::open(rt, path)?;
-    let found = uninterrupted(|| file.metadata())?;
+    let found = retry_interrupted(|| file.metadata())?;
     if !found.is_file() || found.len() < least {
         return Ok(None);
     }
@@ -186,7 +186,7 @@ fn open_file<R: Files>(rt: &R, path: &str, least: u64) -> io::Result<Option<R::F
 
 /// Whether a path is a link itself.
 fn is_link<R: Files>(rt: &R, path: &str) -> bool {
-    match uninterrupted(|| fs::symlink_metadata(rt, path)) {
+    match retry_interrupted(|| fs::symlink_metadata(rt, path)) {
         Ok(found) => found.is_symlink(),
         Err(_) => false,
     }

@@ -9,7 +9,7 @@ use std::io::{self, Error, ErrorKind, Read, Write};
 use std::marker::Model;
 
 /// What a call gives that no signal interrupts.
-pub(crate) fn uninterrupted<T, F: FnMut() -> io::Result<T>>(mut call: F) -> io::Result<T>
+pub(crate) fn retry_interrupted<T, F: FnMut() -> io::Result<T>>(mut call: F) -> io::Result<T>
     requires { F.IsAlwaysCallable call }
     ensures { IfErr result (λ error. error_kind error ≢ ErrorKind.Interrupted) }
 {

@@ -24,13 +24,13 @@ pub use ctf_run::{
     LoadFault, Log, MergeFault, Outcome, RunFault, Session, Step, Streams, Trace, io_line, load,
     run,
 };
-pub use ctf_stamp::{ClockStyle, Style, Trim, Verdict, Zone};
 pub use ctf_stream::{
-    Event, EventText, Gap, Item, OwnedEvent, OwnedGap, OwnedItem, StreamReader, Told,
+    CurrentItem, Event, EventText, Gap, Item, OwnedEvent, OwnedGap, OwnedItem, StreamReader,
 };
+pub use ctf_timestamp::{ClockStyle, Style, Trim, Verdict, Zone};
 pub use disk::{Disk, DiskStream};
 pub use folders::{FolderFault, Folders};
 pub use log_writer::LogWriter;
-pub use opening::{Stop, open_traces};
+pub use opening::{OpeningFault, open_traces};
 pub use printing::program;
 pub use runtime::start;

@@ -16,51 +16,51 @@ use std::path::{Path, PathBuf};
 
 /// Why traces were not opened.
 #[derive(Drop)]
-pub enum Stop {
+pub enum OpeningFault {
     /// A path cannot be read: its line.
     Unreadable(Vec<u8>),
     NoMemory,
 }
 
-impl Stop {
+impl OpeningFault {
     /// The line to print, with its newline.
     pub fn line(&self) -> &[u8]
         ensures { result.now ≡ held.stop_line self.now }
     {
         match self {
-            Stop::Unreadable(line) => line,
-            Stop::NoMemory => Outcome::NoMemory.text(),
+            OpeningFault::Unreadable(line) => line,
+            OpeningFault::NoMemory => Outcome::NoMemory.text(),
         }
     }
 }
 
-impl From<AllocError> for Stop {
-    ghost use Rattle.ctf_cli.specs.declared.opening.Stop.TheVariants as stops;
+impl From<AllocError> for OpeningFault {
+    ghost use Rattle.ctf_cli.specs.declared.opening.OpeningFault.TheVariants as stops;
 
     ghost from_gives = { λ _ stop. stop ≡ stops.NoMemory };
 
-    fn from(_refused: AllocError) -> Stop {
-        Stop::NoMemory
+    fn from(_refused: AllocError) -> OpeningFault {
+        OpeningFault::NoMemory
     }
 }
 
-impl<T: Drop> From<AllocFailed<T>> for Stop {
-    ghost use Rattle.ctf_cli.specs.declared.opening.Stop.TheVariants as stops;
+impl<T: Drop> From<AllocFailed<T>> for OpeningFault {
+    ghost use Rattle.ctf_cli.specs.declared.opening.OpeningFault.TheVariants as stops;
 
     ghost from_gives = { λ _ stop. stop ≡ stops.NoMemory };
 
-    fn from(_refused: AllocFailed<T>) -> Stop {
-        Stop::NoMemory
+    fn from(_refused: AllocFailed<T>) -> OpeningFault {
+        OpeningFault::NoMemory
     }
 }
 
-impl From<NoMemory> for Stop {
-    ghost use Rattle.ctf_cli.specs.declared.opening.Stop.TheVariants as stops;
+impl From<NoMemory> for OpeningFault {
+    ghost use Rattle.ctf_cli.specs.declared.opening.OpeningFault.TheVariants as stops;
 
     ghost from_gives = { λ _ stop. stop ≡ stops.NoMemory };
 
-    fn from(_refused: NoMemory) -> Stop {
-        Stop::NoMemory
+    fn from(_refused: NoMemory) -> OpeningFault {
+        OpeningFault::NoMemory
     }
 }
 
@@ -73,7 +73,7 @@ pub fn open_traces<F: Folders>(
     alloc: Global,
     folders: &F,
     dirs: &[Text],
-) -> Result<Vec<Trace<F::Stream>>, Stop>
+) -> Result<Vec<Trace<F::Stream>>, OpeningFault>
     ensures { IsTrue (F.tells folders.now) → MatchResult result
         (λ traces. held.AreTraces (F.holds folders.now) dirs.now
         (traces_of (files.given_by F.Stream.tells F.Stream.left F.Stream.ending) traces.items))
@@ -95,7 +95,7 @@ fn open_trace<F: Folders>(
     folders: &F,
     dir: &str,
     opened: usize,
-) -> Result<Trace<F::Stream>, Stop>
+) -> Result<Trace<F::Stream>, OpeningFault>
     ensures { IsTrue (F.tells folders.now) → MatchResult result
         (λ trace. held.IsTrace (F.holds folders.now) dir.now
         (trace_of (files.given_by F.Stream.tells F.Stream.left F.Stream.ending) trace))
@@ -113,7 +113,7 @@ fn open_trace<F: Folders>(
 }
 
 /// The names of the files that may be streams, in their order. No folder has an empty path.
-fn list<F: Folders>(alloc: Global, folders: &F, dir: &str) -> Result<Vec<String>, Stop>
+fn list<F: Folders>(alloc: Global, folders: &F, dir: &str) -> Result<Vec<String>, OpeningFault>
     ensures { IsTrue (F.tells folders.now) → MatchResult result
         (λ names. (listed : List (List ℕ)) ×
         (held.names_in (F.holds folders.now) dir.now ≡ Some listed) ×
@@ -122,7 +122,7 @@ fn list<F: Folders>(alloc: Global, folders: &F, dir: &str) -> Result<Vec<String>
         (held.names_in (F.holds folders.now) dir.now ≡ None))) }
 {
     if dir.is_empty() {
-        return Err(unreadable(alloc, dir));
+        return Err(unreadable_path(alloc, dir));
     }
     match folders.list(alloc, dir) {
         Ok(names) => Ok(stream_names(alloc, names)?),
@@ -131,7 +131,7 @@ fn list<F: Folders>(alloc: Global, folders: &F, dir: &str) -> Result<Vec<String>
 }
 
 /// The bytes of the file `metadata`, or the beginning of one that is too long.
-fn read_metadata<F: Folders>(alloc: Global, folders: &F, dir: &str) -> Result<Vec<u8>, Stop>
+fn read_metadata<F: Folders>(alloc: Global, folders: &F, dir: &str) -> Result<Vec<u8>, OpeningFault>
     ensures { IsTrue (F.tells folders.now) → MatchResult result
         (λ metadata. (bytes : List ℕ) ×
         ((F.holds folders.now).bytes (held.metadata_path dir.now) ≡ Some bytes) ×
@@ -153,7 +153,7 @@ fn open_streams<F: Folders>(
     dir: &str,
     names: &[String],
     opened: usize,
-) -> Result<Vec<(String, F::Stream)>, Stop>
+) -> Result<Vec<(String, F::Stream)>, OpeningFault>
     ensures { IsTrue (F.tells folders.now) → MatchResult result
         (λ streams. held.streams_in (F.holds folders.now) dir.now (map string_bytes names.now) ≡
         Ok (map (stream_of (files.given_by F.Stream.tells F.Stream.left F.Stream.ending))
@@ -200,7 +200,7 @@ fn open_stream<F: Folders>(
     dir: &str,
     name: &str,
     before: usize,
-) -> Result<Option<F::Stream>, Stop>
+) -> Result<Option<F::Stream>, OpeningFault>
     ensures { IsTrue (F.tells folders.now) → MatchResult result
         (λ opened. (F.holds folders.now).found (path_join dir.now name.now) ≡
         files.found_of (files.given_by F.Stream.tells F.Stream.left F.Stream.ending) opened)
@@ -222,21 +222,21 @@ fn path_in(alloc: Global, dir: &str, name: &str) -> Result<PathBuf, NoMemory>
 }
 
 /// Why a path was not read.
-fn stop_of(alloc: Global, fault: FolderFault, path: &str) -> Stop
+fn stop_of(alloc: Global, fault: FolderFault, path: &str) -> OpeningFault
     ensures { held.IsStopAt path.now fault result }
 {
     match fault {
-        FolderFault::Unreadable => unreadable(alloc, path),
-        FolderFault::NoMemory => Stop::NoMemory,
+        FolderFault::Unreadable => unreadable_path(alloc, path),
+        FolderFault::NoMemory => OpeningFault::NoMemory,
     }
 }
 
 /// A path cannot be read.
-fn unreadable(alloc: Global, path: &str) -> Stop
+fn unreadable_path(alloc: Global, path: &str) -> OpeningFault
     ensures { held.IsStop (λ other. other ≡ path.now) result }
 {
     match io_line(alloc, path) {
-        Ok(line) => Stop::Unreadable(line),
-        Err(NoMemory) => Stop::NoMemory,
+        Ok(line) => OpeningFault::Unreadable(line),
+        Err(NoMemory) => OpeningFault::NoMemory,
     }
 }

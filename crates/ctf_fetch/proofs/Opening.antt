@@ -24,12 +24,12 @@ use Rattle.ctf_packet.specs.declared.sizes.Sizes.{Sizes}
 use Rattle.ctf_packet.proofs.Measures.{possible}
 use Rattle.ctf_packet.proofs.Opening as opening
 use Rattle.ctf_packet.proofs.Standing.{form_of, with_is}
-use Rattle.ctf_front.specs.Wants.{Begun, Want, whole, faulty, asked, asked_at, wanted}
-use Rattle.ctf_front.specs.Gives.{PutsAsked}
-use Rattle.ctf_front.specs.Laws.{WantsTell}
-use Rattle.ctf_front.proofs.Asking.{at_ok}
-use Rattle.ctf_front.proofs.Beginning as beginning
-use Rattle.ctf_front.proofs.Telling.{wants_tell}
+use Rattle.ctf_packet_demand.specs.Wants.{Begun, Want, whole, faulty, asked, asked_at, wanted}
+use Rattle.ctf_packet_demand.specs.Gives.{PutsAsked}
+use Rattle.ctf_packet_demand.specs.Laws.{WantsTell}
+use Rattle.ctf_packet_demand.proofs.Asking.{at_ok}
+use Rattle.ctf_packet_demand.proofs.Beginning as beginning
+use Rattle.ctf_packet_demand.proofs.Telling.{wants_tell}
 use Rattle.ctf_fetch.specs.Fetching.{OrNoMemory}
 use Rattle.ctf_fetch.specs.Demand.{there, Failed}
 use Rattle.ctf_fetch.specs.Asking.{scope_asked, scope_found, FailsAs}

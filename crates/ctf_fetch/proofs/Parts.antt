@@ -26,8 +26,8 @@ use Rattle.ctf_packet.specs.declared.fault.StreamFault.TheVariants as faults
 use Rattle.ctf_decode.specs.Laws.{Is}
 use Rattle.ctf_decode.proofs.Sound.{test, walk_is}
 use Rattle.ctf_packet.proofs.Forward.{forward}
-use Rattle.ctf_front.proofs.Lasting.{Answers, Lasts, walk_more, walk_beyond}
-use Rattle.ctf_front.proofs.Needing.{walk_needs}
+use Rattle.ctf_packet_demand.proofs.Lasting.{Answers, Lasts, walk_more, walk_beyond}
+use Rattle.ctf_packet_demand.proofs.Needing.{walk_needs}
 use Rattle.ctf_fetch.specs.Fetching.{longest_bytes, OrNoMemory}
 use Rattle.ctf_fetch.specs.Openings.{TakesMore}
 use Rattle.ctf_fetch.specs.Demand.{there, input_at, found_at, text_at, IsFound, EndsNear, Failed, FailsToOpen}

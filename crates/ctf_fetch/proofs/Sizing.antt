@@ -15,10 +15,10 @@ use Rattle.ctf_packet.specs.declared.sizes.Sizes.{Sizes}
 use Rattle.ctf_packet.specs.declared.fault.StreamFault.{StreamFault}
 use Rattle.ctf_packet.specs.declared.fault.StreamFault.TheVariants as faults
 use Rattle.ctf_packet.proofs.Measures.{possible, impossible, not_seen, all_seen}
-use Rattle.ctf_front.specs.Wants.{Begun, wanted}
-use Rattle.ctf_front.specs.Laws.{WantsTell}
-use Rattle.ctf_front.specs.Gives.{begun_of}
-use Rattle.ctf_front.proofs.Telling.{wants_tell}
+use Rattle.ctf_packet_demand.specs.Wants.{Begun, wanted}
+use Rattle.ctf_packet_demand.specs.Laws.{WantsTell}
+use Rattle.ctf_packet_demand.specs.Gives.{begun_of}
+use Rattle.ctf_packet_demand.proofs.Telling.{wants_tell}
 use Rattle.ctf_fetch.specs.Fetching.{longest_bytes, OrNoMemory, FetchedAt}
 use Rattle.ctf_fetch.specs.Openings.{want_of, TakesRest, TakesSized, Opens}
 use Rattle.ctf_fetch.specs.declared.cut.Opening.{Opening}
@@ -118,7 +118,7 @@ opens_placed shift known opened p (Ok packet) same is = same ∙ is
 opens_placed shift known opened p (Err fault) same is = inr (same ∙ is)
 
 pub fetched_at : (at first : ℕ) (bytes : List ℕ) (shift : Shift) (sizes : Sizes) (result : Result OpenPacket StreamFault) → Fitting first (length bytes) sizes → sizes.packet ≡ 8 * length bytes
-    → IfOk result (λ packet. packet.line ≡ (stream_form shift packet.stream.now).line) → IfOk result (Placed at first sizes) → IfOk result (FetchedAt at bytes shift)
+    → IfOk result (λ packet. packet.timeline ≡ (stream_form shift packet.stream.now).line) → IfOk result (Placed at first sizes) → IfOk result (FetchedAt at bytes shift)
 fetched_at at first bytes shift sizes (Ok packet) fits whole line places =
     let some = fits.some in
     let bounded = fits.bounded in

@@ -8,7 +8,7 @@ use Rattle.ctf_packet.specs.Packets.{front}
 use Rattle.ctf_packet.specs.Scopes.{Stood, scope_at, fault_in_front}
 use Rattle.ctf_packet.specs.Views.{values_of}
 use Rattle.ctf_packet.specs.declared.fault.StreamFault.{StreamFault}
-use Rattle.ctf_front.specs.Wants.{Want, asked_at}
+use Rattle.ctf_packet_demand.specs.Wants.{Want, asked_at}
 use Rattle.ctf_fetch.specs.declared.scope.NextScope.{NextScope}
 
 -- what stands there in these bytes, or what it asks for

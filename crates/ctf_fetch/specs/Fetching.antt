@@ -44,7 +44,7 @@ pub record FetchedAt (at : ℕ) (bytes : List ℕ) (shift : Shift) (packet : Ope
   pub bounded : length bytes ≤ longest_bytes
   pub begun : packet.first ≤ packet.content
   pub inside : packet.content ≤ 8 * length bytes
-  pub line : packet.line ≡ (stream_form shift packet.stream.now).line
+  pub line : packet.timeline ≡ (stream_form shift packet.stream.now).line
 
 -- of any source: a packet was fetched at a cut point, or no byte came
 abbrev pub FetchesAt : ℕ → List ℕ → Shift → Result (Option OpenPacket) StreamFault → Type 0

@@ -12,8 +12,8 @@ use Rattle.ctf_packet.specs.declared.packet.OpenPacket.{OpenPacket}
 use Rattle.ctf_packet.specs.declared.sizes.Sizes.{Sizes}
 use Rattle.ctf_packet.specs.declared.fault.StreamFault.{StreamFault}
 use Rattle.ctf_packet.specs.declared.fault.StreamFault.TheVariants as faults
-use Rattle.ctf_front.specs.Wants as wants
-use Rattle.ctf_front.specs.Gives.{begun_of}
+use Rattle.ctf_packet_demand.specs.Wants as wants
+use Rattle.ctf_packet_demand.specs.Gives.{begun_of}
 use Rattle.ctf_fetch.specs.Fetching.{longest_bytes, OrNoMemory}
 use Rattle.ctf_fetch.specs.declared.cut.Opening.{Opening}
 

@@ -7,7 +7,7 @@ ghost use Rattle.ctf_packet.specs.Packets.{open_at, are_possible};
 ghost use Rattle.ctf_packet.specs.Items.{from_bytes};
 ghost use Rattle.ctf_packet.specs.Gives.{Fitting};
 ghost use Rattle.ctf_packet.specs.Views.{values_of, packet_values};
-ghost use Rattle.ctf_front.specs.Wants as wants;
+ghost use Rattle.ctf_packet_demand.specs.Wants as wants;
 ghost use Rattle.ctf_fetch.specs.Fetching.{longest_bytes, OrNoMemory, Fetches, FetchedAt, FetchesAt};
 ghost use Rattle.ctf_fetch.specs.Openings.{want_of, FitsOpening, TakesWhole, TakesRest, TakesSized, Opens};
 
@@ -17,10 +17,11 @@ use ctf_bits::{Ending, Source};
 use ctf_class::{Scope, TraceClass};
 use ctf_clock::Shift;
 use ctf_decode::{Scopes, Value};
-use ctf_front::{Begun, Want, sized};
 use ctf_packet::{
-    OpenPacket, Reached, Sizes, StreamFault, cut_short, placed, sizes_checked, stream_checked,
+    OpenPacket, Reached, Sizes, StreamFault, cut_short, packet_of_sizes, sizes_checked,
+    stream_checked,
 };
+use ctf_packet_demand::{Begun, Want, judge_sizes};
 use std::alloc::Global;
 
 /// The longest packet, in bytes.
@@ -31,7 +32,7 @@ const LONGEST_STREAM: u64 = 1 << 60;
 
 /// A place between two packets of a stream, or before its first one (CTF 1.8.3, section 5).
 #[derive(Clone, Copy)]
-pub struct CutPoint<'a> {
+pub struct PacketStart<'a> {
     pub trace: &'a TraceClass,
     /// What is added to each time.
     pub shift: Shift,
@@ -93,9 +94,9 @@ fn fill_rest<S: Source>(source: &mut S, buffer: &mut Buffer) -> Result<Ending, S
     }
 }
 
-impl<'a> CutPoint<'a> {
-    /// The packet that begins here, out of a source (CTF 1.8.3, section 5); its bytes are in `buffer` then, and the values of its
-    /// header and context in `scopes`. `None` where the stream ends here.
+impl<'a> PacketStart<'a> {
+    /// The packet that begins here, out of a source (CTF 1.8.3, section 5); its bytes are in `buffer` then, and the values
+    /// of its header and context in `scopes`. `None` where the stream ends here.
     ///
     /// It takes one byte, then those that the header and the context ask for, then the rest of the packet: 2^28 bytes at
     /// the most, and one more of a stream whose rest is longer. An error is the first fault of the packet before its event
@@ -169,7 +170,7 @@ impl<'a> CutPoint<'a> {
                 let Begun { stream, first } = opening.begun;
                 let reached = self.reached.as_ref();
                 let context = scopes.get(Scope::PacketContext);
-                placed(stream, self.shift, reached, self.at, context, first, sizes)
+                packet_of_sizes(stream, self.shift, reached, self.at, context, first, sizes)
             }
         }
     }
@@ -202,14 +203,14 @@ impl<'a> CutPoint<'a> {
         ensures some { 0 < length buffer.new }
         ensures few { length buffer.new ≤ longest_bytes }
     {
-        let mut spares = forget(scopes);
+        let mut scratch = forget(scopes);
         let header = NextScope {
             class: self.trace.packet_header(),
             scope: Scope::PacketHeader,
             end: 0,
             alloc,
         };
-        let end = scope_on_demand(&header, source, buffer, &mut spares.header, scopes)?;
+        let end = scope_on_demand(&header, source, buffer, &mut scratch.header, scopes)?;
         let reached = self.reached.as_ref();
         let stream = stream_checked(self.trace, reached, scopes.get(Scope::PacketHeader))?;
         let context = NextScope {
@@ -218,8 +219,8 @@ impl<'a> CutPoint<'a> {
             end,
             alloc,
         };
-        let first = scope_on_demand(&context, source, buffer, &mut spares.context, scopes)?;
-        match sized(Begun { stream, first }, scopes.get(Scope::PacketContext))? {
+        let first = scope_on_demand(&context, source, buffer, &mut scratch.context, scopes)?;
+        match judge_sizes(Begun { stream, first }, scopes.get(Scope::PacketContext))? {
             Want::Rest(begun) => Ok(Opening { begun, sizes: None }),
             Want::Whole(begun, sizes) => {
                 let sizes = Some(sizes);
@@ -231,13 +232,13 @@ impl<'a> CutPoint<'a> {
 
 /// Memory of the values of the packet before. What these are means nothing.
 #[derive(Drop)]
-struct PacketSpares {
+struct PacketScratch {
     header: Value,
     context: Value,
 }
 
 /// Leaves no values. The memory of those of the packet's header and context.
-fn forget(scopes: &mut Scopes) -> PacketSpares
+fn forget(scopes: &mut Scopes) -> PacketScratch
     ensures { scopes.new ≡ nothing_known }
 {
     let mut header = Value::Unsigned(0);
@@ -247,7 +248,7 @@ fn forget(scopes: &mut Scopes) -> PacketSpares
     scopes.take(Scope::EventContext);
     scopes.take(Scope::EventFields);
     scopes.leave_record();
-    PacketSpares { header, context }
+    PacketScratch { header, context }
 }
 
 /// Takes the bytes of a packet with this opening. Its sizes.

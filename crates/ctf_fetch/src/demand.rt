@@ -9,7 +9,7 @@ ghost use Rattle.ctf_fetch.specs.Fetching.{longest_bytes, OrNoMemory};
 
 use crate::buffer::Buffer;
 use crate::least::least_end;
-use crate::needed::{leaf_on_demand, opened, string_on_demand, whole_on_demand};
+use crate::needed::{leaf_on_demand, opening_end, string_on_demand, whole_on_demand};
 use ctf_bits::Source;
 use ctf_class::{Class, Kind, Member};
 use ctf_decode::{Decoded, Frame, MOST_VALUES, Scopes, Value, length_at, option_at};
@@ -62,13 +62,13 @@ pub(crate) fn value_on_demand<S: Source>(
     }
     match &class.kind {
         Kind::Structure { members } => {
-            let inner = opened(class.align, place, source, buffer)?;
+            let inner = opening_end(class.align, place, source, buffer)?;
             members_on_demand(members.as_slice(), &inner, source, buffer)
         }
         Kind::Array { length, element } => {
             let element = element.get();
             let count = length_at(length, place.scopes, place.frame);
-            let inner = opened(element.align, place, source, buffer)?;
+            let inner = opening_end(element.align, place, source, buffer)?;
             elements_on_demand(element, count, &inner, source, buffer)
         }
         Kind::Variant {

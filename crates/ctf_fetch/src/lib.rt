@@ -10,4 +10,4 @@ mod needed;
 mod scope;
 
 pub use buffer::Buffer;
-pub use cut::CutPoint;
+pub use cut::PacketStart;

@@ -20,7 +20,7 @@ use ctf_packet::{StreamFault, front_content};
 /// The place behind the opening of a structure or an array, which begins at a multiple of `align`.
 ///
 /// An error is F1, F5, F11 or F13; or `NoMemory`.
-pub(crate) fn opened<'a, S: Source>(
+pub(crate) fn opening_end<'a, S: Source>(
     align: Align,
     place: &Place<'a>,
     source: &mut S,
@@ -89,7 +89,7 @@ pub(crate) fn leaf_on_demand<S: Source>(
         (Failed (S.ending source.old) (found_at class.now place.now all))) }
 {
     loop {
-        match decoded(class, place, buffer.as_slice()) {
+        match decode_at(class, place, buffer.as_slice()) {
             Ok(decoded) => return Ok(decoded),
             Err(DecodeFault::ContentEnds(bits)) => fill_front(source, buffer, bits)?,
             Err(DecodeFault::NoOption) => return Err(StreamFault::NoOption),
@@ -133,7 +133,7 @@ pub(crate) fn whole_on_demand<S: Source>(
 }
 
 /// The value of a class at a place in these bytes.
-fn decoded(class: &Class, place: &Place<'_>, bytes: &[u8]) -> Result<Decoded, DecodeFault>
+fn decode_at(class: &Class, place: &Place<'_>, bytes: &[u8]) -> Result<Decoded, DecodeFault>
     requires { place.now.end ≤ min (8 * length bytes.now) longest }
     ensures decodes { Decodes result (found_at class.now place.now bytes.now) }
     ensures within { IfOk result (λ d. d.end ≤ min (8 * length bytes.now) longest) }

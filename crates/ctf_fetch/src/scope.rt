@@ -3,7 +3,7 @@
 ghost use Rattle.std.specs.Prelude.{◌≡◌, ◌+◌, ◌*◌, ◌≤◌, ◌++◌, min, max, length, take, option_map, option_copied, IsTrue, IfOk, IfErr, Some, ℕ, List};
 ghost use Rattle.ctf_packet.specs.Scopes.{longest};
 ghost use Rattle.ctf_packet.specs.Views.{values_of};
-ghost use Rattle.ctf_front.specs.Gives.{PutsAsked};
+ghost use Rattle.ctf_packet_demand.specs.Gives.{PutsAsked};
 ghost use Rattle.ctf_fetch.specs.Asking.{scope_asked, scope_found, FailsAs};
 ghost use Rattle.ctf_fetch.specs.Fetching.{longest_bytes, OrNoMemory};
 

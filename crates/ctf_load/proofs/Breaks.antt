@@ -1,7 +1,7 @@
 -- The fault of metadata that is no text is neither want of memory nor one of tokens.
 use Rattle.std.proofs.Common.{◌≡◌, ℕ, Bool, true, false, List, Option, Some, None, inl, inr, refl, sym, subst}
 use Rattle.std.specs.Prelude.{if◌then◌else◌}
-use Rattle.ctf_outcome.specs.Table.{is_meta_refusal}
+use Rattle.ctf_faults.specs.Table.{is_meta_refusal}
 use Rattle.tsdl_text.specs.Packets.{MetaBroken, MetaRefused, first_fault, header_fault, or_else}
 use Rattle.tsdl_text.specs.declared.fault.MetaFault.{MetaFault}
 use Rattle.tsdl_text.specs.declared.fault.MetaFault.TheVariants as faults

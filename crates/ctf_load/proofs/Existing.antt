@@ -8,9 +8,9 @@ use Rattle.ctf_meaning.proofs.Named.{faults_are_named}
 use Rattle.ctf_meaning.specs.Denotes.{Faulty}
 use Rattle.ctf_meaning.specs.declared.fault.ResolveFault.{ResolveFault}
 use Rattle.ctf_meaning.specs.declared.fault.ResolveFault.TheVariants as resolve
-use Rattle.ctf_outcome.specs.Table.{is_refusal, is_resolve_refusal}
-use Rattle.ctf_outcome.specs.declared.load.LoadFault.{LoadFault}
-use Rattle.ctf_outcome.specs.declared.load.LoadFault.TheVariants as load
+use Rattle.ctf_faults.specs.Table.{is_refusal, is_resolve_refusal}
+use Rattle.ctf_faults.specs.declared.load.LoadFault.{LoadFault}
+use Rattle.ctf_faults.specs.declared.load.LoadFault.TheVariants as load
 use Rattle.tsdl_grammar.proofs.LawsComplete.{tree_or_not}
 use Rattle.tsdl_grammar.specs.Nesting.{NestsDeeper}
 use Rattle.tsdl_grammar.specs.Spelling.{Spells, last_line}

@@ -11,8 +11,8 @@ use Rattle.tsdl_text.specs.Packets.{MetaText, MetaRefused}
 use Rattle.tsdl_text.specs.Tokens.{lexeme, Lexes, TokensRefused}
 use Rattle.tsdl_text.specs.declared.token.Token.{Token}
 use Rattle.tsdl_tree.specs.declared.tree.Tree.{Tree}
-use Rattle.ctf_outcome.specs.declared.load.LoadFault.{LoadFault}
-use Rattle.ctf_outcome.specs.declared.load.LoadFault.TheVariants as faults
+use Rattle.ctf_faults.specs.declared.load.LoadFault.{LoadFault}
+use Rattle.ctf_faults.specs.declared.load.LoadFault.TheVariants as faults
 
 -- the bytes are this text, plain or in packets (CTF 1.8.3, section 7.1), which has these tokens
 pub record HasTokens (bytes text : List ℕ) (tokens : List Token) : Type 0 where

@@ -4,5 +4,5 @@
 pub mod laws;
 mod loading;
 
-pub use ctf_outcome::LoadFault;
+pub use ctf_faults::LoadFault;
 pub use loading::load;

@@ -4,7 +4,7 @@ ghost use Rattle.std.specs.Prelude.{MatchResult};
 ghost use Rattle.ctf_load.specs.Loading.{Describes, IsBroken, Spelled, HasTree, HasTokens};
 
 use ctf_class::TraceClass;
-use ctf_outcome::LoadFault;
+use ctf_faults::LoadFault;
 use ctf_types::resolve;
 use std::alloc::Global;
 use tsdl_parse::parse;

@@ -3,11 +3,11 @@ use Rattle.std.specs.Prelude.{ℕ, ℤ, List, [], ◌++◌, codes, Option, Some,
 use Rattle.std.specs.Fmt.{decimal}
 use Rattle.ctf_class.specs.Escapes.{escaped}
 use Rattle.ctf_clock.specs.declared.moment.Moment.{Moment}
-use Rattle.ctf_line.specs.Texts.{event_text}
+use Rattle.ctf_record_text.specs.Texts.{event_text}
 use Rattle.ctf_packet.specs.Classes.{Classes}
 use Rattle.ctf_packet.specs.Items.{Event, Gap, Item, event, discarded, lost}
-use Rattle.ctf_stamp.specs.declared.style.Style.{Style}
-use Rattle.ctf_stamp.specs.Stamps.{stamp, stamp_part}
+use Rattle.ctf_timestamp.specs.declared.style.Style.{Style}
+use Rattle.ctf_timestamp.specs.Stamps.{stamp, stamp_part}
 
 abbrev pub newline : List ℕ
 newline = codes "\n"

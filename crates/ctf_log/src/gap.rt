@@ -3,14 +3,14 @@
 ghost use Rattle.std.specs.Prelude.{◌≡◌, ◌++◌, OnOk};
 ghost use Rattle.std.specs.Fmt.{decimal};
 ghost use Rattle.ctf_log.specs.Lines as lines;
-ghost use Rattle.ctf_stamp.specs.Stamps.{stamp};
+ghost use Rattle.ctf_timestamp.specs.Stamps.{stamp};
 ghost use Rattle.ctf_stream.specs.Shown.{gap_of};
 
 use ctf_class::escaped;
 use ctf_clock::Moment;
 use ctf_list::NoMemory;
-use ctf_stamp::{MOST_STAMP, Stamper};
 use ctf_stream::Gap;
+use ctf_timestamp::{MOST_STAMP, Stamper};
 use std::alloc::Global;
 
 /// Appends the message about a gap: `discarded ` and ` events`, or `lost ` and ` packets`.

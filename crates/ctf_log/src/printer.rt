@@ -2,20 +2,20 @@
 
 ghost use Rattle.std.specs.Prelude.{◌≡◌, ◌+◌, ◌++◌, ◌≤◌, ℕ, List, [], length, take, vec_len, IfOk, OnOk, OnErr};
 ghost use Rattle.ctf_class.specs.declared.trace.TraceClass.{TraceClass};
-ghost use Rattle.ctf_line.specs.Texts.{body_text, event_text};
+ghost use Rattle.ctf_record_text.specs.Texts.{body_text, event_text};
 ghost use Rattle.ctf_log.specs.Lines as lines;
 ghost use Rattle.ctf_packet.specs.Classes.{Classes};
 ghost use Rattle.ctf_packet.specs.Items as items;
-ghost use Rattle.ctf_stamp.specs.Stamps.{stamp_part};
+ghost use Rattle.ctf_timestamp.specs.Stamps.{stamp_part};
 ghost use Rattle.ctf_stream.specs.Shown.{event_of, gap_of, item_of, PartIsRight, IsOf};
 
 use crate::gap::append_gap;
 use ctf_class::Scope;
 use ctf_decode::Value;
+use ctf_format::{put_packet_part, put_record, with_room};
 use ctf_list::NoMemory;
-use ctf_stamp::{MOST_PART, Stamper, Style};
 use ctf_stream::{Event, EventText, Gap, Item};
-use ctf_text::{put_packet_part, put_record, with_room};
+use ctf_timestamp::{MOST_PART, Stamper, Style};
 use std::alloc::Global;
 use std::marker::Model;
 
@@ -242,8 +242,8 @@ fn put_body(
         take at line.old.items ++ body_text packet.now (event_of event.now 0 0)) }
     ensures held { IfOk result (λ end. end ≤ vec_len line.new) }
 {
-    let shared = event.value(Scope::StreamEventContext);
-    let own = event.value(Scope::EventContext);
+    let stream_context = event.value(Scope::StreamEventContext);
+    let event_context = event.value(Scope::EventContext);
     let nothing = Value::Unsigned(0);
     let fields = match event.value(Scope::EventFields) {
         Some(fields) => fields,
@@ -253,8 +253,8 @@ fn put_body(
         packet,
         event.stream,
         event.class,
-        shared,
-        own,
+        stream_context,
+        event_context,
         fields,
         line,
         at,

@@ -7,7 +7,7 @@ use Rattle.ctf_packet.specs.Classes.{Classes}
 use Rattle.ctf_packet.specs.Items.{Run, Item}
 use Rattle.ctf_packet.specs.declared.fault.StreamFault.{StreamFault}
 use Rattle.ctf_packet.specs.ItemTimes.{time_of}
-use Rattle.ctf_stream.specs.Ahead.{told}
+use Rattle.ctf_stream.specs.Peeked.{told}
 use Rattle.ctf_stream.specs.Reader as reader
 use Rattle.stream_laws.specs.Times.{is_before, Rises}
 use Rattle.ctf_merge.specs.Merged.{Merged, Placed, First, item, broken, nothing, later, least, with_first, first_of, head_of, head_by, run_at, of_stream, advance, behind_first, count, ends, then, merged, InOrder, IsPlacedBefore, IsMerged, IsCut, whole, at_once, after}
@@ -145,11 +145,11 @@ no_fault_by [] None f n x e = (refl, λ g is none. absurd cc)
 no_fault_by [] (Some g) f n x e = absurd cc
 no_fault_by (y ∷ ys) fault f n x e = (refl, λ g is none. absurd cc)
 
-behind_sound : (h : reader.Ahead) (f : First) (n : ℕ) (x : Item Classes) → with_first h (later f) ≡ item n x → (f ≡ nothing) ⊎ ((k : ℕ) × (z : Item Classes) × (f ≡ item k z))
+behind_sound : (h : reader.Peeked) (f : First) (n : ℕ) (x : Item Classes) → with_first h (later f) ≡ item n x → (f ≡ nothing) ⊎ ((k : ℕ) × (z : Item Classes) × (f ≡ item k z))
 behind_sound h (item k z) n x e = inr (k, z, refl)
 behind_sound h (broken k g) n x e = absurd (by_head h e)
   where
-    by_head : (h : reader.Ahead) → with_first h (broken (suc k) g) ≡ item n x → ⊥
+    by_head : (h : reader.Peeked) → with_first h (broken (suc k) g) ≡ item n x → ⊥
     by_head reader.start l = absurd cc
     by_head (reader.item y) l = absurd cc
     by_head reader.ended l = absurd cc
@@ -306,21 +306,21 @@ advance_rising [] n each = tt
 advance_rising (r ∷ rs) zero each = (behind_rising r.items each.0, each.1)
 advance_rising (r ∷ rs) (suc m) each = (each.0, advance_rising rs m each.1)
 
-low_first : (from k : ℕ) (hs : List reader.Ahead) (t : Turn) (n : ℕ) (x : Item Classes) → k ≡ from + n → first_of hs ≡ item n x → IsLow t (turns_from from hs) → is_lt (turn_cmp (turn_of k x) t) ≡ false
+low_first : (from k : ℕ) (hs : List reader.Peeked) (t : Turn) (n : ℕ) (x : Item Classes) → k ≡ from + n → first_of hs ≡ item n x → IsLow t (turns_from from hs) → is_lt (turn_cmp (turn_of k x) t) ≡ false
 low_first from k [] t n x is e low = absurd cc
 low_first from k (h ∷ hs) t zero x is e low =
-    let here = subst (λ (g : reader.Ahead). IsLow t (turns_from from (g ∷ hs))) (front_by h (first_of hs) x e) low in
+    let here = subst (λ (g : reader.Peeked). IsLow t (turns_from from (g ∷ hs))) (front_by h (first_of hs) x e) low in
     subst (λ (j : ℕ). is_lt (turn_cmp (turn_of j x) t) ≡ false) (let same : from ≡ k = omega (arith, is) in same) here.0
 low_first from k (h ∷ hs) t (suc m) x is e low =
     low_first (suc from) k hs t m x (omega (arith, is)) (next_by h (first_of hs) m x e) (low_heads from h hs t low).1
 
-low_more : (from : ℕ) (h : reader.Ahead) (hs gs : List reader.Ahead) (t : Turn) → IsLow t (turns_from from (h ∷ hs)) → IsLow t (turns_from (suc from) gs) → IsLow t (turns_from from (h ∷ gs))
+low_more : (from : ℕ) (h : reader.Peeked) (hs gs : List reader.Peeked) (t : Turn) → IsLow t (turns_from from (h ∷ hs)) → IsLow t (turns_from (suc from) gs) → IsLow t (turns_from from (h ∷ gs))
 low_more from reader.start hs gs t low rest = (tt, rest)
 low_more from (reader.item x) hs gs t low rest = (low.0, rest)
 low_more from reader.ended hs gs t low rest = (tt, rest)
 low_more from (reader.fault f) hs gs t low rest = (tt, rest)
 
-low_behind : (from : ℕ) (items : List (Item Classes)) (fault : Option StreamFault) (hs : List reader.Ahead) (t : Turn) (x : Item Classes) → head_by items fault ≡ reader.item x → Rises None items
+low_behind : (from : ℕ) (items : List (Item Classes)) (fault : Option StreamFault) (hs : List reader.Peeked) (t : Turn) (x : Item Classes) → head_by items fault ≡ reader.item x → Rises None items
     → IsLow t (turns_from from (head_by items fault ∷ hs)) → IsLow t (turns_from from (head_by (behind_first items) fault ∷ hs))
 low_behind from [] None hs t x e rises low = absurd cc
 low_behind from [] (Some f) hs t x e rises low = absurd cc

@@ -21,7 +21,7 @@ use Rattle.ctf_merge.proofs.Rising.{refused_rises, rest_rises}
 pub has_item : (m : Merge) (n : ℕ) (x : Item Classes) (old : Reader) → InFront m n x → old ≡ get_or m.readers n old → HasItem old.ahead
 has_item m n x old at is = subst HasItem (sym (front m.readers n x old at.heads is).1) cc
 
-item_same : (h : reader.Ahead) (x y : Item Classes) → h ≡ reader.item x → h ≡ reader.item y → x ≡ y
+item_same : (h : reader.Peeked) (x y : Item Classes) → h ≡ reader.item x → h ≡ reader.item y → x ≡ y
 item_same h x y e f = let both : reader.item x ≡ reader.item y = sym e ∙ f in cc
 
 pub first_given : (m : Merge) (n : ℕ) (x : Item Classes) (old : Reader) (o : Option OwnedItem) → EachFetched m.readers → InFront m n x → old ≡ get_or m.readers n old
@@ -39,7 +39,7 @@ first_given m n x old (Some y) each at is told of =
     }
 first_given m n x old None each at is told of = absurd told
 
-pub gives_item : (m : Merge) (new : Merged) (h : reader.Ahead) (o : Option OwnedItem) → EachTells m.readers → GivesFront h (Ok o) → GivesFirst m (Ok o) → GoesOn (coming_of m) new → Gives (coming_of m) new (Ok o)
+pub gives_item : (m : Merge) (new : Merged) (h : reader.Peeked) (o : Option OwnedItem) → EachTells m.readers → GivesFront h (Ok o) → GivesFirst m (Ok o) → GoesOn (coming_of m) new → Gives (coming_of m) new (Ok o)
 gives_item m new h (Some y) tells told first goes =
     let here = first.it.coming tells in (
       first.number,

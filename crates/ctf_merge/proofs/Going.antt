@@ -20,7 +20,7 @@ use Rattle.ctf_merge.proofs.Merging.{later_item, least_item, merged-item, merged
 
 -- ---- what stands in front is what is to come first
 
-head-coming : (h : reader.Ahead) (cut : ℕ) (behind : Run Classes) → IsFetched h → head_of (with_ahead h (behind_ahead h cut behind)) ≡ h
+head-coming : (h : reader.Peeked) (cut : ℕ) (behind : Run Classes) → IsFetched h → head_of (with_ahead h (behind_ahead h cut behind)) ≡ h
 head-coming reader.start cut behind f = absurd f
 head-coming (reader.item x) cut behind f = refl
 head-coming reader.ended cut behind f = refl
@@ -83,13 +83,13 @@ least_front y (item k z) x e = either (is_before (time_of z) (time_of y)) e
 least_front y (broken k g) x e = absurd cc
 least_front y nothing x e = cc
 
-pub front_by : (h : reader.Ahead) (f : First) (x : Item Classes) → with_first h (later f) ≡ item 0 x → h ≡ reader.item x
+pub front_by : (h : reader.Peeked) (f : First) (x : Item Classes) → with_first h (later f) ≡ item 0 x → h ≡ reader.item x
 front_by reader.start f x e = absurd (not_first f x e)
 front_by (reader.item y) f x e = ap (λ (z : Item Classes). reader.item z) (least_front y f x e)
 front_by reader.ended f x e = absurd (not_first f x e)
 front_by (reader.fault g) f x e = absurd cc
 
-pub next_by : (h : reader.Ahead) (f : First) (m : ℕ) (x : Item Classes) → with_first h (later f) ≡ item (suc m) x → f ≡ item m x
+pub next_by : (h : reader.Peeked) (f : First) (m : ℕ) (x : Item Classes) → with_first h (later f) ≡ item (suc m) x → f ≡ item m x
 next_by h f m x e = by_head h e
   where
     number_is : (k : ℕ) → suc m ≡ suc k → k ≡ m
@@ -98,7 +98,7 @@ next_by h f m x e = by_head h e
     behind : later f ≡ item (suc m) x → f ≡ item m x
     behind k = let before_it = later_item f (suc m) x k in before_it.1.1 ∙ ap (λ (j : ℕ). item j x) (number_is before_it.0 before_it.1.0)
 
-    by_head : (h : reader.Ahead) → with_first h (later f) ≡ item (suc m) x → f ≡ item m x
+    by_head : (h : reader.Peeked) → with_first h (later f) ≡ item (suc m) x → f ≡ item m x
     by_head reader.start k = behind k
     by_head (reader.item y) k = elim (least_item y (later f) (suc m) x k) [ inl z ↦ absurd cc | inr j ↦ behind j ]
     by_head reader.ended k = behind k
@@ -120,7 +120,7 @@ in_range [] n x e = absurd cc
 in_range (s ∷ rs) zero x e = omega arith
 in_range (s ∷ rs) (suc m) x e = let lt = in_range rs m x (next_by s.ahead (first_of (map (λ t. t.ahead) rs)) m x e) in omega (arith, lt)
 
-rest_by : (h : reader.Ahead) (cut : ℕ) (behind : Run Classes) (y : Item Classes) → h ≡ reader.item y
+rest_by : (h : reader.Peeked) (cut : ℕ) (behind : Run Classes) (y : Item Classes) → h ≡ reader.item y
     → without_first (with_ahead h (behind_ahead h cut behind)) ≡ behind_ahead h cut behind
 rest_by reader.start cut behind y e = absurd cc
 rest_by (reader.item x) cut behind y e = refl
@@ -306,7 +306,7 @@ pub room-front : (m : Merge) (n : ℕ) (x : Item Classes) (old new : Reader) →
     → RoomLeft (first_now m) (room_of m.readers) (room_of (set m.readers n new))
 room-front m n x old new at is taken =
     let here = front m.readers n x old at.heads is in
-    let less : new.room < old.room = subst (λ (h : reader.Ahead). RoomTaken h old.room new.room) here.1 taken in
+    let less : new.room < old.room = subst (λ (h : reader.Peeked). RoomTaken h old.room new.room) here.1 taken in
     subst (λ (f : First). RoomLeft f (room_of m.readers) (room_of (set m.readers n new))) (sym at.first) (room-set m.readers n old new here.0 is less)
 
 -- what is written to a part of a list as long as it is there then

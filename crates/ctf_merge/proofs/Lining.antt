@@ -8,7 +8,7 @@ use Rattle.ctf_packet.specs.Classes.{Classes}
 use Rattle.ctf_packet.specs.Items.{Item}
 use Rattle.ctf_packet.specs.declared.fault.StreamFault.{StreamFault}
 use Rattle.ctf_packet.specs.ItemTimes.{time_of}
-use Rattle.ctf_stream.specs.Ahead.{told}
+use Rattle.ctf_stream.specs.Peeked.{told}
 use Rattle.ctf_stream.specs.Reader as reader
 use Rattle.ctf_stream.specs.Reader.{Reader, coming}
 use Rattle.stream_laws.specs.Times.{is_before}
@@ -24,10 +24,10 @@ use Rattle.ctf_merge.proofs.Turning.{same_turn, not_before, turn_of, turns_lengt
 
 -- ---- what comes first of streams that are lined up
 
-abbrev AllSound : List reader.Ahead → Type 0
+abbrev AllSound : List reader.Peeked → Type 0
 AllSound hs = AllByRecursion (λ h. fault_at (told h) ≡ None) hs
 
-not_broken_by : (h : reader.Ahead) (hs : List reader.Ahead) (i : ℕ) (f : StreamFault) → ((j : ℕ) (k : StreamFault) → first_of hs ≡ broken j k → ⊥) → fault_at (told h) ≡ None
+not_broken_by : (h : reader.Peeked) (hs : List reader.Peeked) (i : ℕ) (f : StreamFault) → ((j : ℕ) (k : StreamFault) → first_of hs ≡ broken j k → ⊥) → fault_at (told h) ≡ None
     → first_of (h ∷ hs) ≡ broken i f → ⊥
 not_broken_by h hs i f others sound e = by_head h sound e
   where
@@ -45,13 +45,13 @@ not_broken_by h hs i f others sound e = by_head h sound e
     by_item y (broken j k) is l = others j k is
     by_item y nothing is l = absurd cc
 
-    by_head : (h : reader.Ahead) → fault_at (told h) ≡ None → with_first h (later (first_of hs)) ≡ broken i f → ⊥
+    by_head : (h : reader.Peeked) → fault_at (told h) ≡ None → with_first h (later (first_of hs)) ≡ broken i f → ⊥
     by_head reader.start s l = behind (first_of hs) refl l
     by_head (reader.item y) s l = by_item y (first_of hs) refl l
     by_head reader.ended s l = behind (first_of hs) refl l
     by_head (reader.fault g) s l = absurd cc
 
-pub not_broken : (hs : List reader.Ahead) (i : ℕ) (f : StreamFault) → AllSound hs → first_of hs ≡ broken i f → ⊥
+pub not_broken : (hs : List reader.Peeked) (i : ℕ) (f : StreamFault) → AllSound hs → first_of hs ≡ broken i f → ⊥
 not_broken [] i f sound e = absurd cc
 not_broken (h ∷ hs) i f sound e = not_broken_by h hs i f (λ j k is. not_broken hs j k sound.1 is) sound.0 e
 
@@ -64,7 +64,7 @@ no_turn_at : (turns : List (Option Turn)) (n : ℕ) (t : Turn) → NoTurns turns
 no_turn_at turns n t none e = let is = all_at (λ (u : Option Turn). u ≡ None) turns n (Some t) none e in cc
 
 -- the least turn is that of the first item
-pub first_turn : (hs : List reader.Ahead) (turns : List (Option Turn)) (n : ℕ) → LinedUp hs turns → IsFirst turns n → (x : Item Classes) × (first_of hs ≡ item n x)
+pub first_turn : (hs : List reader.Peeked) (turns : List (Option Turn)) (n : ℕ) → LinedUp hs turns → IsFirst turns n → (x : Item Classes) × (first_of hs ≡ item n x)
 first_turn hs turns n lined first = by_first (first_of hs) refl
   where
     t : Turn
@@ -86,7 +86,7 @@ first_turn hs turns n lined first = by_first (first_of hs) refl
     by_first (broken i f) e = absurd (not_broken hs i f lined.sound e)
     by_first nothing e = absurd (no_turn_at (turns_from 0 hs) n t (no_turns 0 hs e) at)
 
-pub no_turn : (hs : List reader.Ahead) (turns : List (Option Turn)) → LinedUp hs turns → NoTurns turns → first_of hs ≡ nothing
+pub no_turn : (hs : List reader.Peeked) (turns : List (Option Turn)) → LinedUp hs turns → NoTurns turns → first_of hs ≡ nothing
 no_turn hs turns lined none = by_first (first_of hs) refl
   where
     by_first : (f : First) → first_of hs ≡ f → first_of hs ≡ nothing
@@ -97,38 +97,38 @@ no_turn hs turns lined none = by_first (first_of hs) refl
 
 -- ---- one stream went on
 
-sound_set : (hs : List reader.Ahead) (n : ℕ) (h : reader.Ahead) → AllSound hs → fault_at (told h) ≡ None → AllSound (set hs n h)
+sound_set : (hs : List reader.Peeked) (n : ℕ) (h : reader.Peeked) → AllSound hs → fault_at (told h) ≡ None → AllSound (set hs n h)
 sound_set [] n h all here = tt
 sound_set (g ∷ hs) zero h all here = (here, all.1)
 sound_set (g ∷ hs) (suc m) h all here = (all.0, sound_set hs m h all.1 here)
 
-pub lined_again : (hs : List reader.Ahead) (old new : List (Option Turn)) (n : ℕ) (h : reader.Ahead) → LinedUp hs old → new ≡ set old n (turn_at n (told h)) → fault_at (told h) ≡ None
+pub lined_again : (hs : List reader.Peeked) (old new : List (Option Turn)) (n : ℕ) (h : reader.Peeked) → LinedUp hs old → new ≡ set old n (turn_at n (told h)) → fault_at (told h) ≡ None
     → LinedUp (set hs n h) new
 lined_again hs old new n h lined is sound = record {
   sound = sound_set hs n h lined.sound sound;
   turns_are = is ∙ (ap (λ (ts : List (Option Turn)). set ts n (turn_at n (told h))) lined.turns_are ∙ sym (turns_set 0 n n hs h (omega arith)));
 }
 
-fault_is : (h : reader.Ahead) (f : StreamFault) → fault_at (told h) ≡ Some f → h ≡ reader.fault f
+fault_is : (h : reader.Peeked) (f : StreamFault) → fault_at (told h) ≡ Some f → h ≡ reader.fault f
 fault_is reader.start f e = absurd cc
 fault_is (reader.item y) f e = absurd cc
 fault_is reader.ended f e = absurd cc
 fault_is (reader.fault g) f e = ap (λ (k : StreamFault). reader.fault k) (let same : g ≡ f = cc in same)
 
-behind_sound : (h : reader.Ahead) (g : First) (i : ℕ) (f : StreamFault) → fault_at (told h) ≡ None → g ≡ broken i f → with_first h (later g) ≡ broken (suc i) f
+behind_sound : (h : reader.Peeked) (g : First) (i : ℕ) (f : StreamFault) → fault_at (told h) ≡ None → g ≡ broken i f → with_first h (later g) ≡ broken (suc i) f
 behind_sound reader.start g i f sound e = rw e refl
 behind_sound (reader.item y) g i f sound e = rw e refl
 behind_sound reader.ended g i f sound e = rw e refl
 behind_sound (reader.fault k) g i f sound e = absurd cc
 
-pub broken_again : (hs : List reader.Ahead) (n : ℕ) (h : reader.Ahead) (f : StreamFault) → AllSound hs → n < length hs → fault_at (told h) ≡ Some f → first_of (set hs n h) ≡ broken n f
+pub broken_again : (hs : List reader.Peeked) (n : ℕ) (h : reader.Peeked) (f : StreamFault) → AllSound hs → n < length hs → fault_at (told h) ≡ Some f → first_of (set hs n h) ≡ broken n f
 broken_again [] n h f sound lt e = absurd (omega (arith, lt))
 broken_again (g ∷ hs) zero h f sound lt e = rw (fault_is h f e) refl
 broken_again (g ∷ hs) (suc m) h f sound lt e = behind_sound g (first_of (set hs m h)) m f sound.0 (broken_again hs m h f sound.1 (omega (arith, lt)) e)
 
 -- ---- the streams are lined up one after the other
 
-abbrev heads_of : List Reader → List reader.Ahead
+abbrev heads_of : List Reader → List reader.Peeked
 heads_of readers = map (λ r. r.ahead) readers
 
 heads_more : (rs : List Reader) (i : ℕ) (r : Reader) → i < length rs → r ≡ get_or rs i r → heads_of (take (suc i) rs) ≡ heads_of (take i rs) ++ r.ahead ∷ []
@@ -173,7 +173,7 @@ length-heads (r ∷ rs) = let rest = length-heads rs in omega (arith, rest)
 
 -- ---- a stage
 
-pub lined_going : (stage : Stage) (hs : List reader.Ahead) (turns : List (Option Turn)) → stage ≡ stages.Going → Stands stage hs turns → LinedUp hs turns
+pub lined_going : (stage : Stage) (hs : List reader.Peeked) (turns : List (Option Turn)) → stage ≡ stages.Going → Stands stage hs turns → LinedUp hs turns
 lined_going stage hs turns e stands = subst (λ (s : Stage). Stands s hs turns) e stands
 
 pub first_going : (m : Merge) (readers : List Reader) (stage : Stage) (f : First) → record { readers = readers; over = is_over stage } ≡ m → stage ≡ stages.Going
@@ -219,7 +219,7 @@ pub stands_again : (readers : List Reader) (stage next : Stage) (turns new : Lis
     → n < length readers → new ≡ set turns n (turn_at n (told r.ahead)) → next ≡ stage_of n (fault_at (told r.ahead)) → Stands next (heads_of (set readers n r)) new
 stands_again readers stage next turns new n r going stands within is next_is =
     subst (λ (s : Stage). Stands s (heads_of (set readers n r)) new) (sym next_is)
-    (subst (λ (hs : List reader.Ahead). Stands (stage_of n (fault_at (told r.ahead))) hs new) (sym (map-set (λ (q : Reader). q.ahead) readers n r))
+    (subst (λ (hs : List reader.Peeked). Stands (stage_of n (fault_at (told r.ahead))) hs new) (sym (map-set (λ (q : Reader). q.ahead) readers n r))
     (by_fault (fault_at (told r.ahead)) refl))
   where
     lined : LinedUp (heads_of readers) turns
@@ -241,7 +241,7 @@ first_broken m readers stage turns n f view e stands =
 
 -- ---- the item that comes next
 
-low_by : (from : ℕ) (h : reader.Ahead) (rs : List Reader) (t : Turn) → (IsLow t (turns_from (suc from) (heads_of rs)) → EachNotBefore t.time rs) → IsLow t (turns_from from (h ∷ heads_of rs))
+low_by : (from : ℕ) (h : reader.Peeked) (rs : List Reader) (t : Turn) → (IsLow t (turns_from (suc from) (heads_of rs)) → EachNotBefore t.time rs) → IsLow t (turns_from from (h ∷ heads_of rs))
     → AheadNotBefore t.time h × EachNotBefore t.time rs
 low_by from reader.start rs t others low = (tt, others low.1)
 low_by from (reader.item x) rs t others low = (not_before (turn_of from x) t low.0, others low.1)

@@ -113,7 +113,7 @@ refused_by r rs (suc m) x run is others e = by_head (head_of r) e
         let before_it = later_item (first_of (map head_of rs)) (suc m) x h in
         others m (before_it.1.1 ∙ ap (λ (k : ℕ). item k x) (number_is before_it.0 before_it.1.0))
 
-    by_head : (h : reader.Ahead) → with_first h (later (first_of (map head_of rs))) ≡ item (suc m) x
+    by_head : (h : reader.Peeked) → with_first h (later (first_of (map head_of rs))) ≡ item (suc m) x
         → with_first h (later (first_of (map head_of (set rs m run)))) ≡ broken (suc m) faults.NoMemory
     by_head reader.start k = rw (behind k) refl
     by_head (reader.item y) k = elim (least_item y (later (first_of (map head_of rs))) (suc m) x k) [ inl z ↦ absurd cc | inr j ↦ rw (behind j) refl ]
@@ -141,7 +141,7 @@ pub data Begins (rs actual : List (Run Classes)) : Type 0 where
   refused : (i : ℕ) → first_of (map head_of actual) ≡ broken i faults.NoMemory → Begins rs actual
   faulty : (i : ℕ) (f : StreamFault) → first_of (map head_of actual) ≡ broken i f → first_of (map head_of rs) ≡ broken i f → Begins rs actual
 
-with_broken : (h : reader.Ahead) (f : First) (i : ℕ) (g : StreamFault) → f ≡ broken i g
+with_broken : (h : reader.Peeked) (f : First) (i : ℕ) (g : StreamFault) → f ≡ broken i g
     → (with_first h (later f) ≡ broken (suc i) g) ⊎ ((k : StreamFault) × (h ≡ reader.fault k))
 with_broken reader.start f i g e = rw e (inl refl)
 with_broken (reader.item x) f i g e = rw e (inl refl)
@@ -159,7 +159,7 @@ begins_more r s rs ss (inl e) (refused i b) = by_head (with_broken (head_of s) (
 begins_more r s rs ss (inl e) (faulty i f b c) = by_head (with_broken (head_of s) (first_of (map head_of ss)) i f b)
   where
     by_head : (with_first (head_of s) (later (first_of (map head_of ss))) ≡ broken (suc i) f) ⊎ ((k : StreamFault) × (head_of s ≡ reader.fault k)) → Begins (r ∷ rs) (s ∷ ss)
-    by_head (inl h) = faulty (suc i) f h (ap (λ (h : reader.Ahead). with_first h (later (first_of (map head_of rs)))) (sym (ap head_of e)) ∙ both)
+    by_head (inl h) = faulty (suc i) f h (ap (λ (h : reader.Peeked). with_first h (later (first_of (map head_of rs)))) (sym (ap head_of e)) ∙ both)
       where
         both : with_first (head_of s) (later (first_of (map head_of rs))) ≡ broken (suc i) f
         both = ap (λ (g : First). with_first (head_of s) (later g)) (c ∙ sym b) ∙ h

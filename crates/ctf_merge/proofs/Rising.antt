@@ -25,7 +25,7 @@ run_from : (low time : Option ℤ) (items : List (Item Classes)) (fault : Option
 run_from low time [] fault ahead rises = tt
 run_from low time (x ∷ xs) fault ahead rises = (ahead, rises.1)
 
-pub low_heads : (from : ℕ) (h : reader.Ahead) (hs : List reader.Ahead) (t : Turn) → IsLow t (turns_from from (h ∷ hs)) → AheadNotBefore t.time h × IsLow t (turns_from (suc from) hs)
+pub low_heads : (from : ℕ) (h : reader.Peeked) (hs : List reader.Peeked) (t : Turn) → IsLow t (turns_from from (h ∷ hs)) → AheadNotBefore t.time h × IsLow t (turns_from (suc from) hs)
 low_heads from reader.start hs t low = (tt, low.1)
 low_heads from (reader.item x) hs t low = (not_before (turn_of from x) t low.0, low.1)
 low_heads from reader.ended hs t low = (tt, low.1)

@@ -10,12 +10,12 @@ use Rattle.std.proofs.lemmas.Cmp.{int_cmp_total, upto, tied_itself, ranked, int_
 use Rattle.ctf_packet.specs.Classes.{Classes}
 use Rattle.ctf_packet.specs.Items.{Item}
 use Rattle.ctf_packet.specs.ItemTimes.{time_of}
-use Rattle.ctf_stream.specs.Ahead.{told}
+use Rattle.ctf_stream.specs.Peeked.{told}
 use Rattle.ctf_stream.specs.Reader as reader
 use Rattle.stream_laws.specs.Times.{is_before}
 use Rattle.ctf_merge.specs.Merged.{First, item, broken, nothing, later, least, with_first, first_of}
-use Rattle.ctf_stream.specs.declared.ahead.Ahead.{Ahead}
-use Rattle.ctf_stream.specs.declared.ahead.Ahead.TheVariants as aheads
+use Rattle.ctf_stream.specs.declared.ahead.Peeked.{Peeked}
+use Rattle.ctf_stream.specs.declared.ahead.Peeked.TheVariants as aheads
 use Rattle.ctf_merge.specs.Trees.{IsLow}
 use Rattle.ctf_merge.specs.Turns.{Turn, turn_cmp, turns_total, turn_at, turns_from}
 use Rattle.ctf_merge.proofs.Merging.{later_item}
@@ -139,35 +139,35 @@ module _ {X : Type 0} (P : X → Type 0) where
 abbrev pub turn_of : ℕ → Item Classes → Turn
 turn_of number x = record { time = time_of x; number = number }
 
-pub turns_length : (from : ℕ) (hs : List reader.Ahead) → length (turns_from from hs) ≡ length hs
+pub turns_length : (from : ℕ) (hs : List reader.Peeked) → length (turns_from from hs) ≡ length hs
 turns_length from [] = refl
 turns_length from (h ∷ hs) = let rest = turns_length (suc from) hs in omega (arith, rest)
 
-pub turns_set : (from k n : ℕ) (hs : List reader.Ahead) (h : reader.Ahead) → k ≡ from + n → turns_from from (set hs n h) ≡ set (turns_from from hs) n (turn_at k (told h))
+pub turns_set : (from k n : ℕ) (hs : List reader.Peeked) (h : reader.Peeked) → k ≡ from + n → turns_from from (set hs n h) ≡ set (turns_from from hs) n (turn_at k (told h))
 turns_set from k n [] h is = refl
 turns_set from k zero (g ∷ hs) h is = ap (λ (j : ℕ). turn_at j (told h) ∷ turns_from (suc from) hs) (let at : from ≡ k = omega (arith, is) in at)
 turns_set from k (suc m) (g ∷ hs) h is = λ i. turn_at from (told g) ∷ turns_set (suc from) k m hs h (omega (arith, is)) i
 
-pub turns_more : (from k : ℕ) (hs : List reader.Ahead) (h : reader.Ahead) → k ≡ from + length hs → turns_from from (hs ++ h ∷ []) ≡ turns_from from hs ++ turn_at k (told h) ∷ []
+pub turns_more : (from k : ℕ) (hs : List reader.Peeked) (h : reader.Peeked) → k ≡ from + length hs → turns_from from (hs ++ h ∷ []) ≡ turns_from from hs ++ turn_at k (told h) ∷ []
 turns_more from k [] h is = ap (λ (j : ℕ). turn_at j (told h) ∷ []) (let at : from ≡ k = omega (arith, is) in at)
 turns_more from k (g ∷ hs) h is = λ i. turn_at from (told g) ∷ turns_more (suc from) k hs h (omega (arith, is)) i
 
 -- the first item has a turn
-pub turn_there : (from k : ℕ) (hs : List reader.Ahead) (n : ℕ) (x : Item Classes) → k ≡ from + n → first_of hs ≡ item n x → slice_get (turns_from from hs) n ≡ Some (Some (turn_of k x))
+pub turn_there : (from k : ℕ) (hs : List reader.Peeked) (n : ℕ) (x : Item Classes) → k ≡ from + n → first_of hs ≡ item n x → slice_get (turns_from from hs) n ≡ Some (Some (turn_of k x))
 turn_there from k [] n x is e = absurd cc
 turn_there from k (h ∷ hs) zero x is e =
-    ap (λ (a : reader.Ahead). Some (turn_at from (told a))) (front_by h (first_of hs) x e) ∙ ap (λ (j : ℕ). Some (Some (turn_of j x))) (let q : from ≡ k = omega (arith, is) in q)
+    ap (λ (a : reader.Peeked). Some (turn_at from (told a))) (front_by h (first_of hs) x e) ∙ ap (λ (j : ℕ). Some (Some (turn_of j x))) (let q : from ≡ k = omega (arith, is) in q)
 turn_there from k (h ∷ hs) (suc m) x is e = turn_there (suc from) k hs m x (omega (arith, is)) (next_by h (first_of hs) m x e)
 
 -- a turn is that of the stream at its place
-pub turn_number : (from n : ℕ) (hs : List reader.Ahead) (t : Turn) → slice_get (turns_from from hs) n ≡ Some (Some t) → t.number ≡ from + n
+pub turn_number : (from n : ℕ) (hs : List reader.Peeked) (t : Turn) → slice_get (turns_from from hs) n ≡ Some (Some t) → t.number ≡ from + n
 turn_number from n [] t e = absurd cc
 turn_number from zero (h ∷ hs) t e = by_head (told h) (some_is e)
   where
     some_is : Some (turn_at from (told h)) ≡ Some (Some t) → turn_at from (told h) ≡ Some t
     some_is e = cc
 
-    by_head : (a : Ahead) → turn_at from a ≡ Some t → t.number ≡ from + 0
+    by_head : (a : Peeked) → turn_at from a ≡ Some t → t.number ≡ from + 0
     by_head aheads.Start e = absurd cc
     by_head (aheads.Item time) e =
         let same : record { time = time; number = from } ≡ t = cc in
@@ -181,7 +181,7 @@ turn_number from (suc m) (h ∷ hs) t e = let there = turn_number (suc from) m h
 abbrev pub NoTurns : List (Option Turn) → Type 0
 NoTurns turns = AllByRecursion (λ t. t ≡ None) turns
 
-pub no_turns_by : (from : ℕ) (h : reader.Ahead) (hs : List reader.Ahead) → (first_of hs ≡ nothing → NoTurns (turns_from (suc from) hs)) → first_of (h ∷ hs) ≡ nothing → NoTurns (turns_from from (h ∷ hs))
+pub no_turns_by : (from : ℕ) (h : reader.Peeked) (hs : List reader.Peeked) → (first_of hs ≡ nothing → NoTurns (turns_from (suc from) hs)) → first_of (h ∷ hs) ≡ nothing → NoTurns (turns_from from (h ∷ hs))
 no_turns_by from h hs others e = by_head h (first_of hs) refl e
   where
     behind : (f : First) → later f ≡ nothing → f ≡ nothing
@@ -198,13 +198,13 @@ no_turns_by from h hs others e = by_head h (first_of hs) refl e
     not_least y (broken i f) e = absurd cc
     not_least y nothing e = absurd cc
 
-    by_head : (h : reader.Ahead) (f : First) → first_of hs ≡ f → with_first h (later f) ≡ nothing → NoTurns (turns_from from (h ∷ hs))
+    by_head : (h : reader.Peeked) (f : First) → first_of hs ≡ f → with_first h (later f) ≡ nothing → NoTurns (turns_from from (h ∷ hs))
     by_head reader.start f is e = (refl, others (is ∙ behind f e))
     by_head (reader.item y) f is e = absurd (not_least y (later f) e)
     by_head reader.ended f is e = (refl, others (is ∙ behind f e))
     by_head (reader.fault g) f is e = absurd cc
 
-pub no_turns : (from : ℕ) (hs : List reader.Ahead) → first_of hs ≡ nothing → NoTurns (turns_from from hs)
+pub no_turns : (from : ℕ) (hs : List reader.Peeked) → first_of hs ≡ nothing → NoTurns (turns_from from hs)
 no_turns from [] e = tt
 no_turns from (h ∷ hs) e = no_turns_by from h hs (no_turns (suc from) hs) e
 
@@ -217,7 +217,7 @@ none_low : (x : Turn) (t : Option Turn) → t ≡ None → IfSome t (λ u. is_lt
 none_low x None e = tt
 none_low x (Some u) e = absurd cc
 
-pub lows_by : (from k : ℕ) (h : reader.Ahead) (hs : List reader.Ahead) (n : ℕ) (x : Item Classes)
+pub lows_by : (from k : ℕ) (h : reader.Peeked) (hs : List reader.Peeked) (n : ℕ) (x : Item Classes)
     → ((k j : ℕ) (z : Item Classes) → k ≡ suc from + j → first_of hs ≡ item j z → IsLow (turn_of k z) (turns_from (suc from) hs))
     → k ≡ from + n → first_of (h ∷ hs) ≡ item n x → IsLow (turn_of k x) (turns_from from (h ∷ hs))
 lows_by from k h hs n x others is e = by_head h e
@@ -258,12 +258,12 @@ lows_by from k h hs n x others is e = by_head h e
         (not_less_itself (turn_of from y), all_other (λ t. t ≡ None) (λ t. IfSome t (λ u. is_lt (turn_cmp u (turn_of from y)) ≡ false)) (none_low (turn_of from y)) (turns_from (suc from) hs) (no_turns (suc from) hs at)) in
         subst (λ (t : Turn). IsLow t (turns_from from (reader.item y ∷ hs))) (λ i. turn_of (k_is i) (same i)) all
 
-    by_head : (h : reader.Ahead) → with_first h (later (first_of hs)) ≡ item n x → IsLow (turn_of k x) (turns_from from (h ∷ hs))
+    by_head : (h : reader.Peeked) → with_first h (later (first_of hs)) ≡ item n x → IsLow (turn_of k x) (turns_from from (h ∷ hs))
     by_head reader.start l = (tt, behind l)
     by_head (reader.item y) l = by_item y (first_of hs) refl l
     by_head reader.ended l = (tt, behind l)
     by_head (reader.fault f) l = absurd cc
 
-pub lows : (from k : ℕ) (hs : List reader.Ahead) (n : ℕ) (x : Item Classes) → k ≡ from + n → first_of hs ≡ item n x → IsLow (turn_of k x) (turns_from from hs)
+pub lows : (from k : ℕ) (hs : List reader.Peeked) (n : ℕ) (x : Item Classes) → k ≡ from + n → first_of hs ≡ item n x → IsLow (turn_of k x) (turns_from from hs)
 lows from k [] n x is e = absurd cc
 lows from k (h ∷ hs) n x is e = lows_by from k h hs n x (λ k j z at f. lows (suc from) k hs j z at f) is e

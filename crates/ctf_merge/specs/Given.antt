@@ -27,7 +27,7 @@ pub record IsGiven (m : Merge) (x : OwnedItem) : Type 0 where
   pub of : IsOf it.front.trace it.front.name x
 
 -- the item in front of a reader is given, unless a growth was refused
-abbrev pub GivesFront : reader.Ahead → Result (Option OwnedItem) StreamFault → Type 0
+abbrev pub GivesFront : reader.Peeked → Result (Option OwnedItem) StreamFault → Type 0
 GivesFront ahead (Ok (Some x)) = (end : ℕ) × (length : ℕ) × (ahead ≡ reader.item (item_of x end length))
 GivesFront ahead (Ok None) = ⊥
 GivesFront ahead (Err f) = f ≡ faults.NoMemory

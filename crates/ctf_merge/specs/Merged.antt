@@ -62,12 +62,12 @@ pub data IsCut (runs : List (Run Classes)) (all : List Placed) : Merged → Type
 -- ---- what it is, one item after the other
 
 -- what a run begins with
-abbrev pub head_by : List (Item Classes) → Option StreamFault → reader.Ahead
+abbrev pub head_by : List (Item Classes) → Option StreamFault → reader.Peeked
 head_by (x ∷ xs) fault = reader.item x
 head_by [] None = reader.ended
 head_by [] (Some f) = reader.fault f
 
-abbrev pub head_of : Run Classes → reader.Ahead
+abbrev pub head_of : Run Classes → reader.Peeked
 head_of run = head_by run.items run.fault
 
 -- what comes first of several streams
@@ -88,14 +88,14 @@ least x (item i y) = cond (is_before (time_of y) (time_of x)) (item i y) (item 0
 least x (broken i f) = broken i f
 least x nothing = item 0 x
 
-abbrev pub with_first : reader.Ahead → First → First
+abbrev pub with_first : reader.Peeked → First → First
 with_first reader.start rest = rest
 with_first (reader.item x) rest = least x rest
 with_first reader.ended rest = rest
 with_first (reader.fault f) rest = broken 0 f
 
 -- A fault without items before it is the first of all, at the least number; else the least item by time and then by number.
-abbrev pub first_of : List reader.Ahead → First
+abbrev pub first_of : List reader.Peeked → First
 first_of [] = nothing
 first_of (h ∷ hs) = with_first h (later (first_of hs))
 

@@ -129,7 +129,7 @@ FetchedUpTo (suc i) (r ∷ rs) [] = ⊥
 FetchedUpTo (suc i) (r ∷ rs) (s ∷ ss) = Fetched r s × FetchedUpTo i rs ss
 
 -- an item in front is not before this time
-abbrev pub AheadNotBefore : Option ℤ → reader.Ahead → Type 0
+abbrev pub AheadNotBefore : Option ℤ → reader.Peeked → Type 0
 AheadNotBefore low reader.start = Unit {0}
 AheadNotBefore low (reader.item x) = NotBefore low (time_of x)
 AheadNotBefore low reader.ended = Unit {0}

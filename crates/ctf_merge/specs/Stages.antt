@@ -24,7 +24,7 @@ stage_of number (Some fault) = stages.Broken number fault
 stage_of number None = stages.Going
 
 -- the streams are lined up; a fault is in front; or it was left behind
-abbrev pub Stands : Stage → List reader.Ahead → List (Option Turn) → Type 0
+abbrev pub Stands : Stage → List reader.Peeked → List (Option Turn) → Type 0
 Stands stages.Going heads turns = LinedUp heads turns
 Stands (stages.Broken number fault) heads turns = first_of heads ≡ broken number fault
 Stands stages.Over heads turns = Unit {0}

@@ -7,10 +7,10 @@ use Rattle.std.specs.Cmp.Lexicographic.{options_total}
 use Rattle.std.specs.List.{AllByRecursion}
 use Rattle.std.specs.declared.cmp.Ordering.{Ordering}
 use Rattle.ctf_packet.specs.declared.fault.StreamFault.{StreamFault}
-use Rattle.ctf_stream.specs.Ahead.{told}
+use Rattle.ctf_stream.specs.Peeked.{told}
 use Rattle.ctf_stream.specs.Reader as reader
-use Rattle.ctf_stream.specs.declared.ahead.Ahead.{Ahead}
-use Rattle.ctf_stream.specs.declared.ahead.Ahead.TheVariants as aheads
+use Rattle.ctf_stream.specs.declared.ahead.Peeked.{Peeked}
+use Rattle.ctf_stream.specs.declared.ahead.Peeked.TheVariants as aheads
 
 -- the turn of a stream whose item stands in front
 pub record Turn : Type 0 where
@@ -27,25 +27,25 @@ pub turns_total : IsTotalOrder turn_cmp
 turns_total = then_total (on_total (λ (t : Turn). t.time) (options_total int_cmp_total)) (on_total (λ (t : Turn). t.number) nat_cmp_total)
 
 -- the turn of a stream, where an item stands in front
-abbrev pub turn_at : ℕ → Ahead → Option Turn
+abbrev pub turn_at : ℕ → Peeked → Option Turn
 turn_at number aheads.Start = None
 turn_at number (aheads.Item time) = Some (record { time = time; number = number })
 turn_at number aheads.Ended = None
 turn_at number (aheads.Fault f) = None
 
 -- the turns of streams that are numbered from a number on
-abbrev pub turns_from : ℕ → List reader.Ahead → List (Option Turn)
+abbrev pub turns_from : ℕ → List reader.Peeked → List (Option Turn)
 turns_from from [] = []
 turns_from from (h ∷ hs) = turn_at from (told h) ∷ turns_from (suc from) hs
 
 -- the fault in front
-abbrev pub fault_at : Ahead → Option StreamFault
+abbrev pub fault_at : Peeked → Option StreamFault
 fault_at aheads.Start = None
 fault_at (aheads.Item time) = None
 fault_at aheads.Ended = None
 fault_at (aheads.Fault f) = Some f
 
 -- the turns of streams in front of which no fault stands
-pub record LinedUp (heads : List reader.Ahead) (turns : List (Option Turn)) : Type 0 where
+pub record LinedUp (heads : List reader.Peeked) (turns : List (Option Turn)) : Type 0 where
   pub sound : AllByRecursion (λ h. fault_at (told h) ≡ None) heads
   pub turns_are : turns ≡ turns_from 0 heads

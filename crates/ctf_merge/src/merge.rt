@@ -14,11 +14,11 @@ ghost use Rattle.ctf_merge.specs.Turns.{turn_at, fault_at};
 
 use crate::fault::MergeFault;
 use crate::turn::Turn;
-use crate::turns::Turns;
+use crate::turns::TournamentTree;
 use ctf_bits::Source;
 use ctf_list::NoMemory;
 use ctf_packet::StreamFault;
-use ctf_stream::{Ahead, OwnedItem, StreamReader, Told};
+use ctf_stream::{CurrentItem, OwnedItem, Peeked, StreamReader};
 use std::alloc::Global;
 use std::marker::Model;
 
@@ -64,7 +64,7 @@ impl Stage {
 pub struct Merge<'a, S: Source + Drop> {
     readers: Vec<StreamReader<'a, S>>,
     /// The turns of the streams with an item in front, while no fault comes next.
-    turns: Turns,
+    turns: TournamentTree,
     stage: Stage,
 }
 
@@ -90,10 +90,10 @@ fn fetch<'a, S: Source + Drop>(reader: &mut StreamReader<'a, S>)
     ensures { Fetched reader.old reader.new }
 {
     match reader.ahead() {
-        Ahead::Start => reader.go_on(),
-        Ahead::Item(_) => {}
-        Ahead::Ended => {}
-        Ahead::Fault(_) => {}
+        Peeked::Start => reader.go_on(),
+        Peeked::Item(_) => {}
+        Peeked::Ended => {}
+        Peeked::Fault(_) => {}
     }
 }
 
@@ -136,22 +136,22 @@ fn give<'a, S: Source + Drop>(
 /// Lines up a stream by what stands in front of it: its turn, where that is an item, in the place of the one before. Gives
 /// the fault that stands there.
 #[inline(always)]
-fn line_up(turns: &mut Turns, number: usize, ahead: Ahead) -> Option<StreamFault>
+fn line_up(turns: &mut TournamentTree, number: usize, ahead: Peeked) -> Option<StreamFault>
     requires number { number + 1 < 2 ^ 63 }
     requires within { number < length turns.old }
     ensures fault { result ≡ fault_at ahead }
     ensures turns { turns.new ≡ set turns.old number (turn_at number ahead) }
 {
-    if let Ahead::Item(time) = ahead {
+    if let Peeked::Item(time) = ahead {
         turns.put(number, Some(Turn::new(time, number)));
         return None;
     }
     turns.put(number, None);
     match ahead {
-        Ahead::Fault(fault) => Some(fault),
-        Ahead::Item(_time) => None,
-        Ahead::Start => None,
-        Ahead::Ended => None,
+        Peeked::Fault(fault) => Some(fault),
+        Peeked::Item(_time) => None,
+        Peeked::Start => None,
+        Peeked::Ended => None,
     }
 }
 
@@ -159,11 +159,11 @@ fn line_up(turns: &mut Turns, number: usize, ahead: Ahead) -> Option<StreamFault
 fn line_up_each<'a, S: Source + Drop>(
     alloc: Global,
     readers: &[StreamReader<'a, S>],
-) -> Result<(Turns, Stage), NoMemory>
+) -> Result<(TournamentTree, Stage), NoMemory>
     ensures stands { IfOk result (λ r. Stands r.1 (map (λ s. s.ahead) readers.now) r.0) }
     ensures open { IfOk result (λ r. is_over r.1 ≡ false) }
 {
-    let mut turns = Turns::new(alloc, readers.len())?;
+    let mut turns = TournamentTree::new(alloc, readers.len())?;
     for (number, reader) in readers.iter().enumerate() {
         if let Some(fault) = line_up(&mut turns, number, reader.ahead()) {
             return Ok((turns, Stage::Broken(number, fault)));
@@ -236,7 +236,7 @@ impl<'a, S: Source + Drop> Merge<'a, S> {
 
     /// The item that comes next, by reference: with its values, or an event record as its text where its reader was asked for
     /// texts and read it as that. `None` where a fault comes next, and at the end. No memory is taken.
-    pub fn head(&self) -> Option<Told<'_>>
+    pub fn head(&self) -> Option<CurrentItem<'_>>
         ensures shows { ShowsHead self.now result }
         ensures made { IfSome result IsMadeTold }
         ensures none { IfNone result (NoItemComes self.now) }

@@ -20,14 +20,14 @@ const NOBODY: usize = (1 << 63) - 1;
 /// They are the leaves of a tree, and each node above is the lesser of the two below it, so that the first one is the least
 /// turn. Which of two that is, is chosen without a jump: streams take turns as they please, and a processor can't foresee it.
 #[derive(Drop)]
-pub(crate) struct Turns {
+pub(crate) struct TournamentTree {
     /// A node's two lie at twice its place and behind that; the first node is at 1, and nothing at 0.
     nodes: Vec<u128>,
     /// How many leaves there are, and where the first one is.
     leaves: usize,
 }
 
-impl Model for Turns {
+impl Model for TournamentTree {
     ghost use Rattle.std.specs.Prelude.{List, Option, drop, map};
     ghost use Rattle.ctf_merge.specs.Trees.{turn_in, IsTree, AreNodes};
     ghost use Rattle.ctf_merge.specs.Turns as turns;
@@ -39,9 +39,9 @@ impl Model for Turns {
     ghost invariant = { λ t. IsTree t.leaves t.nodes.items × AreNodes 0 (drop t.leaves t.nodes.items) };
 }
 
-impl Turns {
-    /// Those of so many streams, of which none has a turn.
-    pub(crate) fn new(alloc: Global, count: usize) -> Result<Turns, NoMemory>
+impl TournamentTree {
+    /// The tree of so many streams, of which none has a turn.
+    pub(crate) fn new(alloc: Global, count: usize) -> Result<TournamentTree, NoMemory>
         ensures { IfOk result (λ turns. turns ≡ replicate count None) }
     {
         let mut nodes = Vec::new(alloc);
@@ -49,7 +49,7 @@ impl Turns {
             return Err(NoMemory);
         };
         match nodes.resize(places, NOTHING) {
-            Ok(()) => Ok(Turns {
+            Ok(()) => Ok(TournamentTree {
                 nodes,
                 leaves: count,
             }),

@@ -2,7 +2,7 @@
 use Rattle.std.proofs.Common.{◌≡◌, inl, inr, ℤ, List, ℕ, Option, Some, None, ok_or, refl, MatchResult, IfSome, IsSomeAnd}
 use Rattle.jiff_core.specs.declared.civil.datetime.DateTime.{DateTime}
 use Rattle.jiff_tz.specs.declared.timezone.TimeZone.{TimeZone}
-use Rattle.ctf_stamp.specs.Zones.{instant_in}
+use Rattle.ctf_timestamp.specs.Zones.{instant_in}
 use Rattle.ctf_options.specs.declared.civil.Day.{Day}
 use Rattle.ctf_options.specs.declared.civil.Clock.{Clock}
 use Rattle.ctf_options.specs.declared.usage.Usage.TheVariants.{Bad}

@@ -6,11 +6,11 @@ use Rattle.jiff_tz.specs.PosixReader.{read_whole}
 use Rattle.jiff_tz.specs.declared.timezone.TimeZone.{TimeZone}
 use Rattle.jiff_tz.specs.declared.timezone.TimeZone.TheVariants.{UTC}
 use Rattle.ctf_clock.specs.declared.moment.Shift.{Shift}
-use Rattle.ctf_stamp.specs.declared.style.ClockStyle.{ClockStyle}
-use Rattle.ctf_stamp.specs.declared.style.ClockStyle.TheVariants.{Time, Date, Seconds, Cycles}
+use Rattle.ctf_timestamp.specs.declared.style.ClockStyle.{ClockStyle}
+use Rattle.ctf_timestamp.specs.declared.style.ClockStyle.TheVariants.{Time, Date, Seconds, Cycles}
 use Rattle.ctf_options.specs.Numbers.{halves, integer_in}
 use Rattle.ctf_options.specs.Times.{Names, NamesNone}
-use Rattle.ctf_stamp.specs.declared.trim.Trim.{Trim}
+use Rattle.ctf_timestamp.specs.declared.trim.Trim.{Trim}
 
 -- the text of a value, where it is given
 abbrev pub given : Option (Bor (List ℕ)) → Option (List ℕ)

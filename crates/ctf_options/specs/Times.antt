@@ -6,7 +6,7 @@ use Rattle.jiff_core.specs.Date.{IsYmd}
 use Rattle.jiff_core.specs.Time.{IsTime, IsHms}
 use Rattle.jiff_core.specs.declared.civil.datetime.DateTime.{DateTime}
 use Rattle.jiff_tz.specs.declared.timezone.TimeZone.{TimeZone}
-use Rattle.ctf_stamp.specs.Zones.{instant_in}
+use Rattle.ctf_timestamp.specs.Zones.{instant_in}
 use Rattle.ctf_options.specs.declared.civil.Day.{Day}
 use Rattle.ctf_options.specs.declared.civil.Clock.{Clock}
 use Rattle.ctf_options.specs.Numbers.{halves, number_in, number_of, signed, magnitude}

@@ -11,7 +11,7 @@ use crate::options::Options;
 use crate::usage::Usage;
 use clap::ArgMatches;
 use ctf_list::{List, NoMemory, Text};
-use ctf_stamp::Style;
+use ctf_timestamp::Style;
 use std::alloc::Global;
 
 /// The folders that a command line may name, at the most.

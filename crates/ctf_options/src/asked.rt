@@ -7,7 +7,7 @@ use crate::number::{halves, integer};
 use crate::time::instant;
 use crate::usage::Usage;
 use ctf_clock::Shift;
-use ctf_stamp::{ClockStyle, Trim, Zone, ZoneFault};
+use ctf_timestamp::{ClockStyle, Trim, Zone, ZoneFault};
 use std::alloc::Global;
 
 /// UTC, or the zone of a POSIX rule.
@@ -63,7 +63,7 @@ pub(crate) fn shift_of(seconds: Option<&str>, nanos: Option<&str>) -> Result<Shi
 }
 
 /// What stands within brackets, where the text begins with one.
-fn unbracketed(text: &str) -> Option<&str>
+fn text_in_brackets(text: &str) -> Option<&str>
     ensures { option_map (λ text. text.now) result ≡ asked.unbracketed text.now }
 {
     match text.strip_prefix('[') {
@@ -77,7 +77,7 @@ fn range(text: &str) -> Option<(&str, &str)>
     ensures { MatchOption result (asked.range_in text.now ≡ None)
         (λ parts. asked.range_in text.now ≡ Some (parts.0.now, parts.1.now)) }
 {
-    halves(unbracketed(text)?, ',')
+    halves(text_in_brackets(text)?, ',')
 }
 
 /// The instant that a text names, where there is a text.

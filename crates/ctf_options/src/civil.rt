@@ -5,7 +5,7 @@ ghost use Rattle.ctf_options.specs.Numbers as numbers;
 ghost use Rattle.ctf_options.specs.Times as times;
 
 use crate::number::{halves, number_of};
-use crate::time::dotted;
+use crate::time::split_at_dot;
 use jiff::civil::DateTime;
 
 /// The parts of a date, as they are written.
@@ -68,7 +68,7 @@ fn read_clock(text: &str) -> Option<Clock>
         });
     };
     let minute = two(minute)?;
-    let (second, nanos) = dotted(rest)?;
+    let (second, nanos) = split_at_dot(rest)?;
     let second = two(second)?;
     Some(Clock {
         hour,

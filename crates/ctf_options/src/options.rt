@@ -2,7 +2,7 @@
 
 use ctf_clock::Shift;
 use ctf_list::{List, Text};
-use ctf_stamp::{Style, Trim};
+use ctf_timestamp::{Style, Trim};
 
 /// What the words of a command line ask for.
 #[derive(Drop)]

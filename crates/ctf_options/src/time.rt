@@ -6,7 +6,7 @@ ghost use Rattle.ctf_options.specs.Times as times;
 use crate::civil::civil;
 use crate::number::{halves, number, number_of, sign, signed};
 use crate::usage::Usage;
-use ctf_stamp::Zone;
+use ctf_timestamp::Zone;
 use std::alloc::Global;
 
 /// The digits behind a dot, at most: they count nanoseconds.
@@ -28,7 +28,7 @@ fn fraction(digits: &str) -> Option<u32>
 }
 
 /// What stands before a dot, and the nanoseconds behind it. A text may have no dot.
-pub(crate) fn dotted(text: &str) -> Option<(&str, u32)>
+pub(crate) fn split_at_dot(text: &str) -> Option<(&str, u32)>
     ensures value { MatchOption result (times.dotted text.now ≡ None)
         (λ parts. times.dotted text.now ≡ Some (parts.0.now, parts.1)) }
     ensures bound { IfSome result (λ parts. parts.1 < 1000000000) }
@@ -44,7 +44,7 @@ fn nanos(text: &str) -> Option<u128>
     ensures value { result ≡ times.nanos_in text.now }
     ensures bound { IfSome result (λ nanos. nanos < 2 ^ 100) }
 {
-    let (seconds, nanos) = dotted(text)?;
+    let (seconds, nanos) = split_at_dot(text)?;
     Some(u128::from(number(seconds)?) * SECOND + u128::from(nanos))
 }
 

@@ -15,20 +15,20 @@ use Rattle.ctf_packet.specs.Moved as moved
 use Rattle.ctf_packet.specs.Packets.{moves, clock_behind}
 use Rattle.ctf_packet.specs.Records.{ids_in}
 use Rattle.ctf_packet.specs.declared.fault.StreamFault.{StreamFault}
-use Rattle.ctf_packet.specs.declared.moves.Told.{Told}
+use Rattle.ctf_packet.specs.declared.moves.IdAndClock.{IdAndClock}
 use Rattle.ctf_packet.specs.declared.told.HeaderTold.{HeaderTold}
 
 -- the clock that integers set, if none of them was refused
-abbrev pub behind : Bool → Told → Option Moment
+abbrev pub behind : Bool → IdAndClock → Option Moment
 behind true told = Some told.clock
 behind false told = None
 
 -- it is set by these integers, one after the other, unless one of them is refused
-abbrev pub Moves : Line → List (ℕ × ℕ) → Told → Bool → Told → Type 0
+abbrev pub Moves : Line → List (ℕ × ℕ) → IdAndClock → Bool → IdAndClock → Type 0
 Moves line integers old result new = behind result new ≡ advanced_by line old.clock integers
 
 -- the last of these numbers is kept, unless one of the integers was refused
-abbrev pub KeepsLast : List ℤ → Told → Bool → Told → Type 0
+abbrev pub KeepsLast : List ℤ → IdAndClock → Bool → IdAndClock → Type 0
 KeepsLast numbers old result new = IsTrue result → new.id ≡ last_or old.id numbers
 
 -- the integers that set the clock: that of an integer itself, those of a value, of a structure's members, of an array's

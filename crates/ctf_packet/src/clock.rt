@@ -7,7 +7,7 @@ ghost use Rattle.ctf_packet.specs.Packets as packets;
 
 use crate::fault::StreamFault;
 use crate::field::Field;
-use crate::moves::moved;
+use crate::moves::moment_after;
 use crate::reached::Reached;
 use ctf_class::Class;
 use ctf_clock::{Moment, Timeline, discarded_between, lost_between};
@@ -72,7 +72,7 @@ fn set(
         None => Ok(Some(clock)),
         Some(class) => match value {
             None => Ok(Some(clock)),
-            Some(value) => match moved(line, class, value, clock) {
+            Some(value) => match moment_after(line, class, value, clock) {
                 Some(next) => Ok(Some(next)),
                 None => Err(StreamFault::ClockRefused),
             },

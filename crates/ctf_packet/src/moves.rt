@@ -13,17 +13,17 @@ use ctf_decode::{Value, choice_in, elements_in, members_in, named_id};
 
 /// What was read of a value: the last number named `id`, and the clock.
 #[derive(Clone, Copy)]
-pub(crate) struct Told {
+pub(crate) struct IdAndClock {
     pub(crate) id: Option<i128>,
     pub(crate) clock: Moment,
 }
 
 /// The moment that is reached where the moving integers of a value set the clock, in the order in which
 /// they were decoded. `None` exactly where one of them is refused.
-pub fn moved(line: &Timeline, class: &Class, value: &Value, clock: Moment) -> Option<Moment>
+pub fn moment_after(line: &Timeline, class: &Class, value: &Value, clock: Moment) -> Option<Moment>
     ensures { result ≡ advanced_by line.now clock (moved.moved (form class.now) (val value.now)) }
 {
-    let mut told = Told { id: None, clock };
+    let mut told = IdAndClock { id: None, clock };
     if tell_scope(line, class, value, &mut told) {
         Some(told.clock)
     } else {
@@ -37,7 +37,7 @@ pub fn moved(line: &Timeline, class: &Class, value: &Value, clock: Moment) -> Op
 /// Few classes are told apart at once, here and in a structure: comparisons are foreseen better than a table of jumps.
 #[cycle(told)]
 #[inline(never)]
-fn tell(line: &Timeline, class: &Class, value: &Value, told: &mut Told) -> bool
+fn tell(line: &Timeline, class: &Class, value: &Value, told: &mut IdAndClock) -> bool
     ensures clock { Moves line.now (value_moves class.now value.now) told.old result told.new }
     ensures id { KeepsLast (value_ids class.now value.now) told.old result told.new }
 {
@@ -52,7 +52,12 @@ fn tell(line: &Timeline, class: &Class, value: &Value, told: &mut Told) -> bool
 
 /// Sets the clock by the integers of a scope, and keeps its last `id`. Mostly it is a structure, which takes no call.
 #[inline(always)]
-pub(crate) fn tell_scope(line: &Timeline, class: &Class, value: &Value, told: &mut Told) -> bool
+pub(crate) fn tell_scope(
+    line: &Timeline,
+    class: &Class,
+    value: &Value,
+    told: &mut IdAndClock,
+) -> bool
     ensures clock { Moves line.now (value_moves class.now value.now) told.old result told.new }
     ensures id { KeepsLast (value_ids class.now value.now) told.old result told.new }
 {
@@ -65,7 +70,7 @@ pub(crate) fn tell_scope(line: &Timeline, class: &Class, value: &Value, told: &m
 /// Sets the clock by the integers of a value that is seldom a structure or an integer, and keeps its last `id`.
 #[cycle(told)]
 #[inline(never)]
-fn tell_any(line: &Timeline, class: &Class, value: &Value, told: &mut Told) -> bool
+fn tell_any(line: &Timeline, class: &Class, value: &Value, told: &mut IdAndClock) -> bool
     ensures clock { Moves line.now (value_moves class.now value.now) told.old result told.new }
     ensures id { KeepsLast (value_ids class.now value.now) told.old result told.new }
 {
@@ -91,7 +96,12 @@ fn tell_any(line: &Timeline, class: &Class, value: &Value, told: &mut Told) -> b
 /// Sets the clock by the integers of members, and keeps their last `id`.
 #[cycle(told)]
 #[inline(always)]
-fn tell_members(line: &Timeline, members: &[Member], values: &[Value], told: &mut Told) -> bool
+fn tell_members(
+    line: &Timeline,
+    members: &[Member],
+    values: &[Value],
+    told: &mut IdAndClock,
+) -> bool
     ensures clock { Moves line.now (member_moves members.now values.now) told.old result told.new }
     ensures id { KeepsLast (member_ids members.now values.now) told.old result told.new }
 {
@@ -111,7 +121,7 @@ fn tell_members(line: &Timeline, members: &[Member], values: &[Value], told: &mu
 /// Sets the clock by the integers of one member, and keeps its last `id`. A variant goes to its option at once.
 #[cycle(told)]
 #[inline(always)]
-fn tell_member(line: &Timeline, class: &Class, value: &Value, told: &mut Told) -> bool
+fn tell_member(line: &Timeline, class: &Class, value: &Value, told: &mut IdAndClock) -> bool
     ensures clock { Moves line.now (value_moves class.now value.now) told.old result told.new }
     ensures id { KeepsLast (value_ids class.now value.now) told.old result told.new }
 {
@@ -134,7 +144,7 @@ fn tell_member(line: &Timeline, class: &Class, value: &Value, told: &mut Told) -
 
 /// Sets the clock by the integers of elements, and keeps their last `id`.
 #[cycle(told)]
-fn tell_elements(line: &Timeline, element: &Class, values: &[Value], told: &mut Told) -> bool
+fn tell_elements(line: &Timeline, element: &Class, values: &[Value], told: &mut IdAndClock) -> bool
     ensures clock { Moves line.now (element_moves element.now values.now) told.old result told.new }
     ensures id { KeepsLast (element_ids element.now values.now) told.old result told.new }
 {
@@ -149,7 +159,7 @@ fn tell_elements(line: &Timeline, element: &Class, values: &[Value], told: &mut 
 /// Sets the clock by the integers of the option that was chosen, and keeps its last `id`.
 #[cycle(told)]
 #[inline(always)]
-fn tell_option(line: &Timeline, options: &[Member], value: &Value, told: &mut Told) -> bool
+fn tell_option(line: &Timeline, options: &[Member], value: &Value, told: &mut IdAndClock) -> bool
     ensures clock { Moves line.now (choice_moves options.now value.now) told.old result told.new }
     ensures id { KeepsLast (choice_ids options.now value.now) told.old result told.new }
 {
@@ -167,7 +177,7 @@ fn tell_chosen(
     options: &[Member],
     i: usize,
     inner: &Value,
-    told: &mut Told,
+    told: &mut IdAndClock,
 ) -> bool
     ensures clock { Moves line.now (option_moves options.now i inner.now) told.old result told.new }
     ensures id { KeepsLast (option_ids options.now i inner.now) told.old result told.new }
@@ -180,7 +190,7 @@ fn tell_chosen(
 
 /// Sets the clock by an integer, if it is a moving one.
 #[inline(always)]
-fn set_by(line: &Timeline, integer: &Integer, value: &Value, told: &mut Told) -> bool
+fn set_by(line: &Timeline, integer: &Integer, value: &Value, told: &mut IdAndClock) -> bool
     ensures clock { Moves line.now (integer_moves integer.now value.now) told.old result told.new }
     ensures id { told.new.id ≡ told.old.id }
 {

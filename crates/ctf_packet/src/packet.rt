@@ -22,7 +22,7 @@ use ctf_decode::Value;
 pub struct OpenPacket<'a> {
     pub stream: &'a StreamClass,
     /// The times of the stream's clock, where it has one.
-    pub line: Option<Timeline>,
+    pub timeline: Option<Timeline>,
     /// Where it begins in the stream, in bytes.
     pub start: u64,
     /// Where it ends in the stream, in bytes.
@@ -82,7 +82,7 @@ fn discarded_before(reached: Option<&Reached>) -> Option<u64>
 ///
 /// F9 exactly where its clock is refused.
 #[tactic(auto, unfolding(crate::specs::Packets::placed))]
-pub fn placed<'a>(
+pub fn packet_of_sizes<'a>(
     stream: &'a StreamClass,
     shift: Shift,
     reached: Option<&Reached>,
@@ -99,22 +99,22 @@ pub fn placed<'a>(
         (packets.placed (stream_form shift stream.now) (option_copied reached.entry) start values
         first sizes) }
     ensures line { IfOk result
-        (λ packet. packet.line ≡ (stream_form shift packet.stream.now).line) }
+        (λ packet. packet.timeline ≡ (stream_form shift packet.stream.now).line) }
     ensures places { IfOk result (Placed start first sizes) }
 {
-    let line = timeline_of(stream, shift);
-    let before = clock_before(line.as_ref(), reached)?;
+    let timeline = timeline_of(stream, shift);
+    let before = clock_before(timeline.as_ref(), reached)?;
     let class = stream.packet_context();
-    let clock = clock_behind(line.as_ref(), before, class, context)?;
+    let clock = clock_behind(timeline.as_ref(), before, class, context)?;
     let end = role(class, context, b"timestamp_end");
     let number = role(class, context, b"packet_seq_num");
     let count = role(class, context, b"events_discarded");
-    let until = clock_until(line.as_ref(), clock, end);
+    let until = clock_until(timeline.as_ref(), clock, end);
     let sequence = number_of(&number);
     let discarded = number_of(&count);
     Ok(OpenPacket {
         stream,
-        line,
+        timeline,
         start,
         end: start + sizes.packet / 8,
         first,

@@ -13,7 +13,7 @@ ghost use Rattle.ctf_packet.specs.Gives.{OrRefused};
 use crate::fault::StreamFault;
 use crate::packet::OpenPacket;
 use crate::scope::record_scope;
-use crate::spares::Spares;
+use crate::scratch::Scratch;
 use crate::told::told_by;
 use ctf_class::{EventClass, PlannedEvent, Scope, StreamClass};
 use ctf_clock::Moment;
@@ -71,13 +71,13 @@ pub fn planned_named(stream: &StreamClass, id: Option<i128>) -> Option<PlannedEv
 {
     match id {
         None => stream.planned_only(),
-        Some(id) => stream.planned(u64::try_from(id).ok()?),
+        Some(id) => stream.planned_event(u64::try_from(id).ok()?),
     }
 }
 
 /// The scopes of an event record behind its header: the contexts and the fields, from a place of a packet on, whose
 /// content ends at the bit `content` (CTF 1.8.3, section 6.2). The place where the last one ends, in bits from the packet's
-/// first one. Their values are in `scopes` then, and the memory of `spares` is used.
+/// first one. Their values are in `scopes` then, and the memory of `scratch` is used.
 ///
 /// An error is the first fault of these scopes: F6, F8, F11, or `NoMemory`.
 #[tactic(auto, unfolding(crate::specs::Records::bodied))]
@@ -88,7 +88,7 @@ pub fn put_body(
     bytes: &[u8],
     place: u64,
     content: u64,
-    spares: &mut Spares,
+    scratch: &mut Scratch,
     scopes: &mut Scopes,
 ) -> Result<u64, StreamFault>
     requires start { place ≤ content }
@@ -102,29 +102,29 @@ pub fn put_body(
     ensures packet { OnOk result
         (packet_values (values_of scopes.new) ≡ packet_values (values_of scopes.old)) }
 {
-    let Ok(at) = spares.room_for(event.id) else {
+    let Ok(at) = scratch.room_for(event.id) else {
         return Err(StreamFault::NoMemory);
     };
-    let shared = stream.event_context();
+    let stream_context = stream.event_context();
     let end = record_scope(
         alloc,
-        shared,
+        stream_context,
         bytes,
         place,
         content,
         Scope::StreamEventContext,
-        &mut spares.shared,
+        &mut scratch.stream_context,
         scopes,
     )?;
-    let own = event.context();
+    let event_context = event.context();
     let end = record_scope(
         alloc,
-        own,
+        event_context,
         bytes,
         end,
         content,
         Scope::EventContext,
-        &mut spares.bodies[at].own,
+        &mut scratch.bodies[at].event_context,
         scopes,
     )?;
     let fields = event.fields();
@@ -135,7 +135,7 @@ pub fn put_body(
         end,
         content,
         Scope::EventFields,
-        &mut spares.bodies[at].fields,
+        &mut scratch.bodies[at].fields,
         scopes,
     )
 }
@@ -156,7 +156,7 @@ fn put_head<'a>(
     requires content { packet.now.content ≤ 2 ^ 62 }
     requires held { packet.now.content ≤ 8 * length bytes.now }
     ensures puts { (shift : Shift) →
-        packet.now.line ≡ (stream_form shift packet.now.stream.now).line →
+        packet.now.timeline ≡ (stream_form shift packet.now.stream.now).line →
         PutsHead packet.now.stream.now (values_of scopes.old)
         (records.headed (stream_form shift packet.now.stream.now) bytes.now packet.now.content
         (values_of scopes.old) clock place) result scopes.new }
@@ -178,7 +178,7 @@ fn put_head<'a>(
         scopes,
     )?;
     let header = scopes.get(Scope::EventHeader);
-    match told_by(packet.line.as_ref(), clock, class, header) {
+    match told_by(packet.timeline.as_ref(), clock, class, header) {
         Err(fault) => Err(fault),
         Ok(told) => match event_named(stream, told.id) {
             Some(event) => Ok(Head {
@@ -192,16 +192,16 @@ fn put_head<'a>(
 }
 
 /// Leaves the packet's values alone.
-fn leave_record(spares: &mut Spares, scopes: &mut Scopes)
+fn leave_record(scratch: &mut Scratch, scopes: &mut Scopes)
     ensures { scopes.new ≡ without_record scopes.old }
 {
-    spares.take_back(scopes);
+    scratch.take_back(scopes);
     scopes.leave_record();
 }
 
 /// The header of the event record at a place of a packet, in bits from its first one, where `bytes` are the packet's
 /// and its clock came so far. The values of the packet's header and context are in `scopes`, and so is that of the header
-/// then, but of no other scope of an event record. The memory of `spares` is used.
+/// then, but of no other scope of an event record. The memory of `scratch` is used.
 ///
 /// An error is the first fault of the header: F6 to F9, F11, or `NoMemory`.
 #[inline(always)]
@@ -211,14 +211,14 @@ pub fn next_head<'a>(
     bytes: &[u8],
     clock: Option<Moment>,
     place: u64,
-    spares: &mut Spares,
+    scratch: &mut Scratch,
     scopes: &mut Scopes,
 ) -> Result<Head<'a>, StreamFault>
     requires start { place ≤ packet.now.content }
     requires content { packet.now.content ≤ 2 ^ 62 }
     requires held { packet.now.content ≤ 8 * length bytes.now }
     ensures puts { (shift : Shift) →
-        packet.now.line ≡ (stream_form shift packet.now.stream.now).line →
+        packet.now.timeline ≡ (stream_form shift packet.now.stream.now).line →
         PutsHead packet.now.stream.now (packet_values (values_of scopes.old))
         (records.headed (stream_form shift packet.now.stream.now) bytes.now packet.now.content
         (packet_values (values_of scopes.old)) clock place) result scopes.new }
@@ -227,21 +227,21 @@ pub fn next_head<'a>(
     ensures packet { OnOk result
         (packet_values (values_of scopes.new) ≡ packet_values (values_of scopes.old)) }
 {
-    leave_record(spares, scopes);
+    leave_record(scratch, scopes);
     put_head(
         alloc,
         packet,
         bytes,
         clock,
         place,
-        &mut spares.header,
+        &mut scratch.header,
         scopes,
     )
 }
 
 /// The event record at a place of a packet, in bits from its first one, where `bytes` are the packet's
 /// and its clock came so far. The values of the packet's header and context are in `scopes`, and so are
-/// those of the record then. The memory of `spares` is used.
+/// those of the record then. The memory of `scratch` is used.
 ///
 /// An error is the first fault of the record: F6 to F11, or `NoMemory`.
 #[tactic(auto, unfolding(crate::specs::Records::record_at))]
@@ -251,14 +251,14 @@ pub fn next_record<'a>(
     bytes: &[u8],
     clock: Option<Moment>,
     place: u64,
-    spares: &mut Spares,
+    scratch: &mut Scratch,
     scopes: &mut Scopes,
 ) -> Result<EventRecord<'a>, StreamFault>
     requires start { place ≤ packet.now.content }
     requires content { packet.now.content ≤ 2 ^ 62 }
     requires held { packet.now.content ≤ 8 * length bytes.now }
     ensures records { (shift : Shift) →
-        packet.now.line ≡ (stream_form shift packet.now.stream.now).line →
+        packet.now.timeline ≡ (stream_form shift packet.now.stream.now).line →
         OrRefused (recorded_of packet.now.stream.now (values_of scopes.new)) result
         (records.record_at (opened_of shift (packet_values (values_of scopes.old)) packet.now)
         bytes.now clock place) }
@@ -267,17 +267,17 @@ pub fn next_record<'a>(
     ensures packet { OnOk result
         (packet_values (values_of scopes.new) ≡ packet_values (values_of scopes.old)) }
 {
-    let head = next_head(alloc, packet, bytes, clock, place, spares, scopes)?;
+    let head = next_head(alloc, packet, bytes, clock, place, scratch, scopes)?;
     let stream = packet.stream;
     let content = packet.content;
     let event = head.event;
     let end = put_body(
-        alloc, stream, event, bytes, head.end, content, spares, scopes,
+        alloc, stream, event, bytes, head.end, content, scratch, scopes,
     )?;
     if end == place {
         return Err(StreamFault::EmptyEvent);
     }
-    spares.note(end - place, scopes.spent());
+    scratch.note(end - place, scopes.spent());
     Ok(EventRecord {
         event,
         clock: head.clock,

@@ -6,7 +6,7 @@ ghost use Rattle.ctf_packet.specs.Packets as packets;
 ghost use Rattle.ctf_packet.specs.Telling.{TellsHeader};
 
 use crate::fault::StreamFault;
-use crate::moves::{Told, tell_scope};
+use crate::moves::{IdAndClock, tell_scope};
 use ctf_class::Class;
 use ctf_clock::{Moment, Timeline};
 use ctf_decode::{Value, last_id};
@@ -36,12 +36,12 @@ pub(crate) fn told_by(
     match class {
         None => Ok(HeaderTold {
             id: None,
-            clock: unmoved(line, clock),
+            clock: unchanged_clock(line, clock),
         }),
         Some(class) => match header {
             None => Ok(HeaderTold {
                 id: None,
-                clock: unmoved(line, clock),
+                clock: unchanged_clock(line, clock),
             }),
             Some(header) => told_in(line, clock, class, header),
         },
@@ -49,7 +49,7 @@ pub(crate) fn told_by(
 }
 
 /// The clock behind a scope that does not set it.
-fn unmoved(line: Option<&Timeline>, clock: Option<Moment>) -> Option<Moment>
+fn unchanged_clock(line: Option<&Timeline>, clock: Option<Moment>) -> Option<Moment>
     ensures { packets.clock_behind (option_copied line.entry) clock [] ≡ Ok result }
 {
     match line {
@@ -93,7 +93,7 @@ fn told_on(
     ensures { TellsHeader (Some line.now) (Some clock) (Some (form class.now))
         (Some (val header.now)) result }
 {
-    let mut told = Told { id: None, clock };
+    let mut told = IdAndClock { id: None, clock };
     if tell_scope(line, class, header, &mut told) {
         Ok(HeaderTold {
             id: told.id,

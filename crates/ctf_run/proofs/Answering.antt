@@ -5,8 +5,8 @@ use Rattle.ctf_class.specs.declared.trace.TraceClass.{TraceClass}
 use Rattle.ctf_load.proofs.Existing.{class_or_fault_of}
 use Rattle.ctf_load.specs.Loading.{Describes, IsBroken}
 use Rattle.ctf_options.specs.declared.options.Options.{Options}
-use Rattle.ctf_outcome.specs.Table.{is_refusal}
-use Rattle.ctf_outcome.specs.declared.load.LoadFault.{LoadFault}
+use Rattle.ctf_faults.specs.Table.{is_refusal}
+use Rattle.ctf_faults.specs.declared.load.LoadFault.{LoadFault}
 use Rattle.ctf_session.specs.Answers.{Answer}
 use Rattle.ctf_session.specs.Inputs.{Input}
 use Rattle.ctf_run.specs.Laws.{HasAnswer, OneTrace, IsAnswerOfOne}

@@ -3,7 +3,7 @@ use Rattle.std.proofs.Common.{◌≡◌, Bool, true, false, cond, ℕ, zero, suc
 use Rattle.std.specs.Prelude.{unwrap_or}
 use Rattle.ctf_class.specs.declared.trace.TraceClass.{TraceClass}
 use Rattle.ctf_load.specs.Loading.{Describes}
-use Rattle.ctf_outcome.specs.declared.load.LoadFault.{LoadFault}
+use Rattle.ctf_faults.specs.declared.load.LoadFault.{LoadFault}
 use Rattle.ctf_run.specs.Loaded.{HaveClasses, IsFirstFault, IsUnloaded}
 use Rattle.ctf_run.specs.declared.loading.Unloaded.TheVariants as unloaded
 use Rattle.ctf_run.specs.declared.trace.Trace.{Trace}

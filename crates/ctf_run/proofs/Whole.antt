@@ -5,7 +5,7 @@ use Rattle.ctf_class.specs.declared.trace.TraceClass.{TraceClass}
 use Rattle.ctf_merge.specs.Merged.{merged}
 use Rattle.ctf_merge.specs.Merges.{MergedOrRefused}
 use Rattle.ctf_options.specs.declared.options.Options.{Options}
-use Rattle.ctf_outcome.specs.declared.outcome.Outcome.{Outcome}
+use Rattle.ctf_faults.specs.declared.outcome.Outcome.{Outcome}
 use Rattle.ctf_session.specs.Answers.{Setting, answer}
 use Rattle.ctf_session.specs.Inputs.{Input, run_in, setting_of, AllTell}
 use Rattle.ctf_session.specs.Steps.{Session, Answered, IsNamed, answer_of}

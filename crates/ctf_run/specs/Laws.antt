@@ -3,11 +3,11 @@ use Rattle.std.specs.Prelude.{◌≡◌, ◌↔◌, false, List, [], ◌∷◌, 
 use Rattle.ctf_class.specs.declared.trace.TraceClass.{TraceClass}
 use Rattle.ctf_load.specs.Loading.{Describes, IsBroken}
 use Rattle.ctf_options.specs.declared.options.Options.{Options}
-use Rattle.ctf_outcome.specs.Lines.{metadata_line}
-use Rattle.ctf_outcome.specs.Table.{is_refusal}
-use Rattle.ctf_outcome.specs.declared.load.LoadFault.{LoadFault}
-use Rattle.ctf_outcome.specs.declared.outcome.Outcome.TheVariants as outcomes
-use Rattle.ctf_outcome.specs.declared.outcome.RunFault.TheVariants as faults
+use Rattle.ctf_faults.specs.Lines.{metadata_line}
+use Rattle.ctf_faults.specs.Table.{is_refusal}
+use Rattle.ctf_faults.specs.declared.load.LoadFault.{LoadFault}
+use Rattle.ctf_faults.specs.declared.outcome.Outcome.TheVariants as outcomes
+use Rattle.ctf_faults.specs.declared.outcome.RunFault.TheVariants as faults
 use Rattle.ctf_session.specs.Answers.{Answer}
 use Rattle.ctf_run.specs.Traces.{Trace, printed, IsAnswer}
 

@@ -3,10 +3,10 @@ use Rattle.std.specs.Prelude.{◌≡◌, ℕ, false, cond, List, Some, take, sli
 use Rattle.std.specs.List.{AllZip}
 use Rattle.ctf_class.specs.declared.trace.TraceClass.{TraceClass}
 use Rattle.ctf_load.specs.Loading.{Describes, IsBroken}
-use Rattle.ctf_outcome.specs.Table.{is_refusal}
-use Rattle.ctf_outcome.specs.declared.load.LoadFault.{LoadFault}
-use Rattle.ctf_outcome.specs.declared.outcome.RunFault.{RunFault}
-use Rattle.ctf_outcome.specs.declared.outcome.RunFault.TheVariants.{Metadata, Stream, NoMemory}
+use Rattle.ctf_faults.specs.Table.{is_refusal}
+use Rattle.ctf_faults.specs.declared.load.LoadFault.{LoadFault}
+use Rattle.ctf_faults.specs.declared.outcome.RunFault.{RunFault}
+use Rattle.ctf_faults.specs.declared.outcome.RunFault.TheVariants.{Metadata, Stream, NoMemory}
 use Rattle.ctf_run.specs.declared.loading.Unloaded.{Unloaded}
 use Rattle.ctf_run.specs.declared.loading.Unloaded.TheVariants as unloaded
 use Rattle.ctf_run.specs.declared.trace.Trace.{Trace}

@@ -1,10 +1,10 @@
 -- The line of a fault of metadata.
 use Rattle.std.specs.Prelude.{◌≡◌, ℕ, cond, List, [], length, nat_lt, Option, None, slice_get, option_map, string_bytes}
-use Rattle.ctf_outcome.specs.Lines.{metadata_line}
-use Rattle.ctf_outcome.specs.declared.load.LoadFault.{LoadFault}
-use Rattle.ctf_outcome.specs.declared.outcome.Outcome.{Outcome}
-use Rattle.ctf_outcome.specs.declared.outcome.Outcome.TheVariants as outcomes
-use Rattle.ctf_outcome.specs.declared.outcome.RunFault.TheVariants as faults
+use Rattle.ctf_faults.specs.Lines.{metadata_line}
+use Rattle.ctf_faults.specs.declared.load.LoadFault.{LoadFault}
+use Rattle.ctf_faults.specs.declared.outcome.Outcome.{Outcome}
+use Rattle.ctf_faults.specs.declared.outcome.Outcome.TheVariants as outcomes
+use Rattle.ctf_faults.specs.declared.outcome.RunFault.TheVariants as faults
 use Rattle.ctf_session.specs.Writing.{Texts, Written, Writes, WritesParts}
 use Rattle.ctf_run.specs.declared.trace.Trace.{Trace}
 

@@ -6,12 +6,12 @@ use Rattle.ctf_class.specs.declared.trace.TraceClass.{TraceClass}
 use Rattle.ctf_load.specs.Loading.{Describes, IsBroken}
 use Rattle.ctf_merge.specs.Merged.{merged}
 use Rattle.ctf_options.specs.declared.options.Options.{Options}
-use Rattle.ctf_outcome.specs.Lines.{metadata_line}
-use Rattle.ctf_outcome.specs.Table.{is_refusal}
-use Rattle.ctf_outcome.specs.declared.load.LoadFault.{LoadFault}
-use Rattle.ctf_outcome.specs.declared.outcome.Outcome.{Outcome}
-use Rattle.ctf_outcome.specs.declared.outcome.Outcome.TheVariants as outcomes
-use Rattle.ctf_outcome.specs.declared.outcome.RunFault.TheVariants as faults
+use Rattle.ctf_faults.specs.Lines.{metadata_line}
+use Rattle.ctf_faults.specs.Table.{is_refusal}
+use Rattle.ctf_faults.specs.declared.load.LoadFault.{LoadFault}
+use Rattle.ctf_faults.specs.declared.outcome.Outcome.{Outcome}
+use Rattle.ctf_faults.specs.declared.outcome.Outcome.TheVariants as outcomes
+use Rattle.ctf_faults.specs.declared.outcome.RunFault.TheVariants as faults
 use Rattle.ctf_session.specs.Answers.{Answer, answer}
 use Rattle.ctf_session.specs.Inputs.{Given, Input, run_in, setting_of}
 use Rattle.ctf_session.specs.Steps.{Answered}

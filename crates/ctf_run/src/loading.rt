@@ -6,7 +6,7 @@ ghost use Rattle.ctf_run.specs.Loaded.{IsLoadFault, HaveClasses, IsUnloaded, of_
 
 use crate::trace::Trace;
 use ctf_class::TraceClass;
-use ctf_outcome::{LoadFault, RunFault};
+use ctf_faults::{LoadFault, RunFault};
 use std::alloc::{AllocFailed, Global};
 
 /// The trace class that metadata denotes (CTF 1.8.3, section 7).

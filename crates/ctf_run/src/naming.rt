@@ -13,7 +13,7 @@ use std::alloc::Global;
 
 /// The streams of traces with their classes and the names that are shown: where there are several traces, that of
 /// the trace, `/` and that of the stream.
-pub(crate) fn named<'a, S: Drop>(
+pub(crate) fn name_traces<'a, S: Drop>(
     alloc: Global,
     traces: Vec<Trace<S>>,
     classes: &'a [TraceClass],
@@ -32,7 +32,7 @@ pub(crate) fn named<'a, S: Drop>(
             metadata: _,
             streams,
         } = trace;
-        let streams = shown(alloc, several, &name, streams)?;
+        let streams = name_streams(alloc, several, &name, streams)?;
         named.push(Streams {
             class: &classes[number],
             streams,
@@ -43,7 +43,7 @@ pub(crate) fn named<'a, S: Drop>(
 }
 
 /// The streams of a trace with the names that are shown of them.
-fn shown<S: Drop>(
+fn name_streams<S: Drop>(
     alloc: Global,
     several: bool,
     trace: &str,
@@ -54,14 +54,14 @@ fn shown<S: Drop>(
         map (shown_as several trace.now) (map (stream_of given) streams.items)) }
 {
     if several {
-        joined(alloc, trace, streams)
+        join_names(alloc, trace, streams)
     } else {
         Ok(streams)
     }
 }
 
 /// The streams of a trace, each with the name of the trace in front of its own.
-fn joined<S: Drop>(
+fn join_names<S: Drop>(
     alloc: Global,
     trace: &str,
     streams: Vec<(String, S)>,

@@ -5,15 +5,15 @@ ghost use Rattle.ctf_session.specs.Inputs.{given_by};
 ghost use Rattle.ctf_session.specs.Steps.{counts_by, CountsAfter, SameForMessages, SettledBy, IsNamed};
 ghost use Rattle.ctf_session.specs.Writing.{written_by};
 ghost use Rattle.ctf_run.specs.Traces.{traces_of, EachTells, Runs};
-ghost use Rattle.ctf_outcome.specs.Table.{is_refusal};
+ghost use Rattle.ctf_faults.specs.Table.{is_refusal};
 ghost use Rattle.ctf_run.specs.Told.{TellsFault};
 
 use crate::loading::{Unloaded, load_all};
-use crate::naming::named;
+use crate::naming::name_traces;
 use crate::trace::Trace;
 use ctf_bits::{Sink, Source};
+use ctf_faults::{LoadFault, Outcome, RunFault, metadata_line};
 use ctf_options::Options;
-use ctf_outcome::{LoadFault, Outcome, RunFault, metadata_line};
 use ctf_session::{Log, Session, print_all, say};
 use std::alloc::Global;
 
@@ -53,7 +53,7 @@ pub fn run<S: Source + Drop, W: Log, E: Sink>(
         }
         Err(Unloaded::NoMemory) => return Outcome::NoMemory,
     };
-    let streams = match named(alloc, traces, &classes) {
+    let streams = match name_traces(alloc, traces, &classes) {
         Ok(streams) => streams,
         Err(_refused) => return Outcome::NoMemory,
     };

@@ -2,7 +2,7 @@
 use Rattle.std.proofs.Common.{◌≡◌, ℕ, List, [], Option, Some, None, slice_get, get_or, option_map, refl, sym, ap, ◌∙◌, subst}
 use Rattle.std.specs.Option.{unwrap_or}
 use Rattle.std.proofs.lemmas.Option.{get_or_from_slice_get, slice_get-map, unwrap_or-slice_get}
-use Rattle.ctf_line.specs.Texts.{event_text}
+use Rattle.ctf_record_text.specs.Texts.{event_text}
 use Rattle.ctf_merge.specs.Merged.{item}
 use Rattle.ctf_merge.specs.Merges.{Merge, IsNext, first_now, names_of}
 use Rattle.ctf_packet.specs.Classes.{Classes}

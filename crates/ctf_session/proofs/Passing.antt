@@ -13,7 +13,7 @@ use Rattle.ctf_session.specs.Passing.{GivenBy, HasGiven, without, Pass}
 
 -- ---- one reader
 
-rest_by : (h : reader.Ahead) (cut : ℕ) (behind : Run Classes) (x : Item Classes) → h ≡ reader.item x
+rest_by : (h : reader.Peeked) (cut : ℕ) (behind : Run Classes) (x : Item Classes) → h ≡ reader.item x
     → behind_ahead h cut behind ≡ without_first (with_ahead h (behind_ahead h cut behind))
 rest_by reader.start cut behind x e = absurd cc
 rest_by (reader.item y) cut behind x e = refl
@@ -23,7 +23,7 @@ rest_by (reader.fault f) cut behind x e = absurd cc
 abbrev given_run : Run Classes → ℕ → ℕ → ℕ → Type 0
 given_run run all taken held = GivenBy run.items run.fault run.at all taken held
 
-given_as : (h : reader.Ahead) (cut : ℕ) (behind : Run Classes) (taken held : ℕ) (left : List ℕ) → IsFetched h → OnLine h taken cut held → IsAllTaken h left
+given_as : (h : reader.Peeked) (cut : ℕ) (behind : Run Classes) (taken held : ℕ) (left : List ℕ) → IsFetched h → OnLine h taken cut held → IsAllTaken h left
     → given_run (with_ahead h (behind_ahead h cut behind)) (taken + length left) taken held
 given_as reader.start cut behind taken held left fetched line all = absurd fetched
 given_as (reader.item x) cut behind taken held left fetched line all = (line.0, line.1)

@@ -5,11 +5,11 @@ use Rattle.ctf_merge.specs.Merged.{Merged, Placed, then}
 use Rattle.ctf_merge.specs.Merges.{MergedOrRefused, IsRefusal}
 use Rattle.ctf_merge.specs.declared.fault.MergeFault.{MergeFault}
 use Rattle.ctf_merge.specs.declared.fault.MergeFault.TheVariants as merges
-use Rattle.ctf_outcome.specs.declared.outcome.Outcome.{Outcome}
-use Rattle.ctf_outcome.specs.declared.outcome.Outcome.TheVariants as outcomes
-use Rattle.ctf_outcome.specs.declared.outcome.RunFault.{RunFault}
-use Rattle.ctf_stamp.specs.declared.trim.Verdict.{Verdict}
-use Rattle.ctf_stamp.specs.declared.trim.Verdict.TheVariants.{Before, Within, After}
+use Rattle.ctf_faults.specs.declared.outcome.Outcome.{Outcome}
+use Rattle.ctf_faults.specs.declared.outcome.Outcome.TheVariants as outcomes
+use Rattle.ctf_faults.specs.declared.outcome.RunFault.{RunFault}
+use Rattle.ctf_timestamp.specs.declared.trim.Verdict.{Verdict}
+use Rattle.ctf_timestamp.specs.declared.trim.Verdict.TheVariants.{Before, Within, After}
 use Rattle.ctf_session.specs.Answers.{Setting, Answer, answer, verdict, is_after, is_within, text_of, fault_texts, fault_pieces, fault_of, outcome_of}
 use Rattle.ctf_session.specs.Steps.{Session, Goes, Ends, EndsBy, EachAfter, IsQuiet, IsQuietBy, SettledBy, told_by, next_texts, shown_text, last_shown, Answered, IsNamed, IsWant, answer_of}
 use Rattle.ctf_session.specs.Writing.{Texts, no_texts, and_then, joined, first_of, behind, Written, Writes, WritesParts, SaysSettled, Stopped, Finished, EndsInMessage}

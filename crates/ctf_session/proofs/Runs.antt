@@ -3,9 +3,9 @@ use Rattle.std.proofs.Common.{◌≡◌, ◌⊎◌, inl, inr, ℤ, Bool, true, f
 use Rattle.std.proofs.lemmas.List.{append-nil}
 use Rattle.ctf_merge.specs.Merged.{Merged, Placed, then}
 use Rattle.ctf_merge.specs.declared.fault.MergeFault.{MergeFault}
-use Rattle.ctf_outcome.specs.declared.outcome.Outcome.TheVariants.{Done}
-use Rattle.ctf_stamp.specs.declared.trim.Verdict.{Verdict}
-use Rattle.ctf_stamp.specs.declared.trim.Verdict.TheVariants.{Before, Within, After}
+use Rattle.ctf_faults.specs.declared.outcome.Outcome.TheVariants.{Done}
+use Rattle.ctf_timestamp.specs.declared.trim.Verdict.{Verdict}
+use Rattle.ctf_timestamp.specs.declared.trim.Verdict.TheVariants.{Before, Within, After}
 use Rattle.ctf_session.specs.Answers.{Setting, Answer, answer, answer_by, trimmed, within, some_after, is_after, is_within, verdict, text_of, fault_texts, fault_pieces, outcome_of}
 use Rattle.ctf_session.specs.Steps.{EachAfter, told_by, next_texts_by, shown_text, last_shown}
 use Rattle.ctf_session.specs.Writing.{Texts, no_texts, and_then, joined, first_of, EndsInMessage}

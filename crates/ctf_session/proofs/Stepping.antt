@@ -6,17 +6,17 @@ use Rattle.stream_laws.specs.Times.{NotBefore}
 use Rattle.ctf_merge.specs.Merged.{Merged, Placed, ends, then, PlacedRise}
 use Rattle.ctf_merge.specs.Merges.{Merge, MergedOrRefused, GoesOn, IsNext, LeavesOne, coming_of}
 use Rattle.ctf_merge.specs.declared.fault.MergeFault.TheVariants.{Stream}
-use Rattle.ctf_outcome.specs.Lines.{stream_line}
+use Rattle.ctf_faults.specs.Lines.{stream_line}
 use Rattle.ctf_packet.specs.Classes.{Classes}
 use Rattle.ctf_packet.specs.Items.{Item}
 use Rattle.ctf_packet.specs.declared.fault.StreamFault.{StreamFault}
 use Rattle.ctf_packet.specs.declared.fault.StreamFault.TheVariants as streams
-use Rattle.ctf_outcome.specs.declared.outcome.Outcome.{Outcome}
-use Rattle.ctf_outcome.specs.declared.outcome.Outcome.TheVariants as outcomes
-use Rattle.ctf_stamp.specs.Trims.{is_past, is_early, verdict_of}
-use Rattle.ctf_stamp.specs.declared.trim.Trim.{Trim}
-use Rattle.ctf_stamp.specs.declared.trim.Verdict.{Verdict}
-use Rattle.ctf_stamp.specs.declared.trim.Verdict.TheVariants.{Before, Within, After}
+use Rattle.ctf_faults.specs.declared.outcome.Outcome.{Outcome}
+use Rattle.ctf_faults.specs.declared.outcome.Outcome.TheVariants as outcomes
+use Rattle.ctf_timestamp.specs.Trims.{is_past, is_early, verdict_of}
+use Rattle.ctf_timestamp.specs.declared.trim.Trim.{Trim}
+use Rattle.ctf_timestamp.specs.declared.trim.Verdict.{Verdict}
+use Rattle.ctf_timestamp.specs.declared.trim.Verdict.TheVariants.{Before, Within, After}
 use Rattle.ctf_packet.specs.ItemTimes.{time_of}
 use Rattle.ctf_stream.specs.Reader as reader
 use Rattle.ctf_stream.specs.Reader.{Reader}
@@ -82,11 +82,11 @@ open_coming ended m e = rw e refl
 
 -- ---- the item that is left behind is the first one to come
 
-abbrev head_in : Option Reader → reader.Ahead
+abbrev head_in : Option Reader → reader.Peeked
 head_in None = reader.start
 head_in (Some r) = r.ahead
 
-abbrev item_in : Item Classes → reader.Ahead → Item Classes
+abbrev item_in : Item Classes → reader.Peeked → Item Classes
 item_in x reader.start = x
 item_in x (reader.item y) = y
 item_in x reader.ended = x

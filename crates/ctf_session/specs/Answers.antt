@@ -8,16 +8,16 @@ use Rattle.ctf_log.specs.Lines.{line_of}
 use Rattle.ctf_merge.specs.Merged.{Merged, Placed}
 use Rattle.ctf_merge.specs.declared.fault.MergeFault.{MergeFault}
 use Rattle.ctf_merge.specs.declared.fault.MergeFault.TheVariants.{Stream, NoMemory}
-use Rattle.ctf_outcome.specs.Lines.{stream_line}
-use Rattle.ctf_outcome.specs.declared.outcome.Outcome.{Outcome}
-use Rattle.ctf_outcome.specs.declared.outcome.Outcome.TheVariants.{Done, Fault}
-use Rattle.ctf_outcome.specs.declared.outcome.RunFault.{RunFault}
-use Rattle.ctf_outcome.specs.declared.outcome.RunFault.TheVariants as faults
-use Rattle.ctf_stamp.specs.Trims.{verdict_of}
-use Rattle.ctf_stamp.specs.declared.style.Style.{Style}
-use Rattle.ctf_stamp.specs.declared.trim.Trim.{Trim}
-use Rattle.ctf_stamp.specs.declared.trim.Verdict.{Verdict}
-use Rattle.ctf_stamp.specs.declared.trim.Verdict.TheVariants.{Before, Within, After}
+use Rattle.ctf_faults.specs.Lines.{stream_line}
+use Rattle.ctf_faults.specs.declared.outcome.Outcome.{Outcome}
+use Rattle.ctf_faults.specs.declared.outcome.Outcome.TheVariants.{Done, Fault}
+use Rattle.ctf_faults.specs.declared.outcome.RunFault.{RunFault}
+use Rattle.ctf_faults.specs.declared.outcome.RunFault.TheVariants as faults
+use Rattle.ctf_timestamp.specs.Trims.{verdict_of}
+use Rattle.ctf_timestamp.specs.declared.style.Style.{Style}
+use Rattle.ctf_timestamp.specs.declared.trim.Trim.{Trim}
+use Rattle.ctf_timestamp.specs.declared.trim.Verdict.{Verdict}
+use Rattle.ctf_timestamp.specs.declared.trim.Verdict.TheVariants.{Before, Within, After}
 use Rattle.ctf_packet.specs.ItemTimes.{time_of}
 use Rattle.ctf_session.specs.Writing.{Texts, no_texts, joined}
 

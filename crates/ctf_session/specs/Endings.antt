@@ -1,8 +1,8 @@
 -- How sessions end.
 use Rattle.std.specs.Prelude.{Option, Some, None}
-use Rattle.ctf_outcome.specs.declared.outcome.Outcome as outcome
-use Rattle.ctf_outcome.specs.declared.outcome.Outcome.TheVariants as outcomes
-use Rattle.ctf_outcome.specs.declared.outcome.RunFault.TheVariants as faults
+use Rattle.ctf_faults.specs.declared.outcome.Outcome as outcome
+use Rattle.ctf_faults.specs.declared.outcome.Outcome.TheVariants as outcomes
+use Rattle.ctf_faults.specs.declared.outcome.RunFault.TheVariants as faults
 use Rattle.ctf_session.specs.declared.step.Stop.{Stop}
 use Rattle.ctf_session.specs.declared.step.Stop.TheVariants as stops
 use Rattle.ctf_session.specs.declared.step.Ending.{Ending}

@@ -2,8 +2,8 @@
 use Rattle.std.specs.Prelude.{◌≡◌, ℕ, Option, Some, None, Result, Ok, Err}
 use Rattle.ctf_bits.specs.declared.sink.SinkFault.{SinkFault}
 use Rattle.ctf_bits.specs.declared.sink.SinkFault.TheVariants as sink
-use Rattle.ctf_outcome.specs.declared.outcome.Outcome.{Outcome}
-use Rattle.ctf_outcome.specs.declared.outcome.Outcome.TheVariants as outcomes
+use Rattle.ctf_faults.specs.declared.outcome.Outcome.{Outcome}
+use Rattle.ctf_faults.specs.declared.outcome.Outcome.TheVariants as outcomes
 use Rattle.ctf_merge.specs.declared.fault.MergeFault.TheVariants.{Stream}
 use Rattle.ctf_packet.specs.declared.fault.StreamFault.{StreamFault}
 use Rattle.ctf_session.specs.Answers.{Setting, fault_of, fault_texts}

@@ -4,14 +4,14 @@ use Rattle.ctf_bits.specs.Count.{one_more}
 use Rattle.ctf_merge.specs.Merged.{Merged, Placed, ends, then, PlacedRise}
 use Rattle.ctf_merge.specs.Merges.{MergedOrRefused, EachTells, LeavesOne}
 use Rattle.ctf_merge.specs.declared.fault.MergeFault.{MergeFault}
-use Rattle.ctf_outcome.specs.Table as table
-use Rattle.ctf_outcome.specs.declared.outcome.Outcome.{Outcome}
-use Rattle.ctf_outcome.specs.declared.outcome.Outcome.TheVariants as outcomes
-use Rattle.ctf_outcome.specs.declared.outcome.RunFault.{RunFault}
-use Rattle.ctf_outcome.specs.declared.outcome.RunFault.TheVariants as faults
+use Rattle.ctf_faults.specs.Table as table
+use Rattle.ctf_faults.specs.declared.outcome.Outcome.{Outcome}
+use Rattle.ctf_faults.specs.declared.outcome.Outcome.TheVariants as outcomes
+use Rattle.ctf_faults.specs.declared.outcome.RunFault.{RunFault}
+use Rattle.ctf_faults.specs.declared.outcome.RunFault.TheVariants as faults
 use Rattle.ctf_packet.specs.declared.fault.StreamFault.TheVariants as streams
-use Rattle.ctf_stamp.specs.declared.trim.Verdict.{Verdict}
-use Rattle.ctf_stamp.specs.declared.trim.Verdict.TheVariants.{Before, Within, After}
+use Rattle.ctf_timestamp.specs.declared.trim.Verdict.{Verdict}
+use Rattle.ctf_timestamp.specs.declared.trim.Verdict.TheVariants.{Before, Within, After}
 use Rattle.ctf_stream.specs.Reader.{Reader}
 use Rattle.ctf_session.specs.Answers.{Setting, Answer, answer, verdict, is_after, is_within, text_of, last_after, fault_texts, outcome_of}
 use Rattle.ctf_session.specs.Writing.{Texts, no_texts, Written, Writes, WritesParts, Stopped, Finished}

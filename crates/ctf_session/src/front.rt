@@ -18,7 +18,7 @@ use crate::step::Stop;
 use ctf_bits::{Sink, Source};
 use ctf_log::Printer;
 use ctf_merge::Merge;
-use ctf_stream::{Ahead, Told};
+use ctf_stream::{CurrentItem, Peeked};
 
 /// The time of the item in front, that of the stream of this number, in nanoseconds since the epoch.
 pub(crate) fn front_time<'a, S: Source + Drop>(merge: &Merge<'a, S>, number: usize) -> Option<i64>
@@ -30,10 +30,10 @@ pub(crate) fn front_time<'a, S: Source + Drop>(merge: &Merge<'a, S>, number: usi
         unreachable!()
     };
     match reader.ahead() {
-        Ahead::Item(time) => time,
-        Ahead::Start => unreachable!(),
-        Ahead::Ended => unreachable!(),
-        Ahead::Fault(_) => unreachable!(),
+        Peeked::Item(time) => time,
+        Peeked::Start => unreachable!(),
+        Peeked::Ended => unreachable!(),
+        Peeked::Fault(_) => unreachable!(),
     }
 }
 
@@ -70,11 +70,11 @@ pub(crate) fn print_front<'a, S: Source + Drop, W: Log, E: Sink>(
         unreachable!()
     };
     match told {
-        Told::Item(item) => match print(printer, &item, last, out, err) {
+        CurrentItem::Item(item) => match print(printer, &item, last, out, err) {
             None => Ok(last_after(last, &item)),
             Some(stop) => Err(stop),
         },
-        Told::Text(event) => match print_text(printer, &event, last, out) {
+        CurrentItem::Text(event) => match print_text(printer, &event, last, out) {
             None => Ok(last_behind(last, event.moment)),
             Some(stop) => Err(stop),
         },

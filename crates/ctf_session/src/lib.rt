@@ -11,8 +11,8 @@ mod session;
 mod step;
 mod writing;
 
+pub use ctf_faults::{LoadFault, Outcome, RunFault, io_line};
 pub use ctf_merge::MergeFault;
-pub use ctf_outcome::{LoadFault, Outcome, RunFault, io_line};
 pub use input::Streams;
 pub use laws::{bytes_given, first_parts, whole_in_one};
 pub use log::Log;

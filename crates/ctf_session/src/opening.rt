@@ -68,15 +68,15 @@ fn open_streams<'a, S: Source + Drop>(
     for (name, source) in streams {
         let name = Text::from_string(name);
         let reader = StreamReader::new(alloc, class, name, source, shift);
-        readers.push(asked(reader))?;
+        readers.push(reader_of_texts(reader))?;
         numbers.push(number)?;
     }
     Ok(())
 }
 
 /// A reader that from now on gives event records as texts, where these can be made without the values.
-fn asked<'a, S: Source + Drop>(reader: StreamReader<'a, S>) -> StreamReader<'a, S>
+fn reader_of_texts<'a, S: Source + Drop>(reader: StreamReader<'a, S>) -> StreamReader<'a, S>
     ensures { (made : Bool) × (result ≡ record reader.entry { writes = made }) }
 {
-    reader.writing()
+    reader.with_texts()
 }

@@ -2,7 +2,7 @@
 
 ghost use Rattle.std.specs.Prelude.{◌≡◌, ◌⊎◌, ℕ, ℤ, [], List, IsTrue, Option, None, option_map};
 ghost use Rattle.ctf_class.specs.declared.trace.TraceClass.{TraceClass};
-ghost use Rattle.ctf_line.specs.Texts.{event_text};
+ghost use Rattle.ctf_record_text.specs.Texts.{event_text};
 ghost use Rattle.ctf_log.specs.Lines.{event_line, line_of};
 ghost use Rattle.ctf_packet.specs.Classes.{Classes};
 ghost use Rattle.ctf_packet.specs.Items.{Event};

@@ -17,14 +17,14 @@ use crate::opening::open_all;
 use crate::printing::say;
 use crate::step::{Ending, Step, Stop};
 use ctf_bits::{Sink, Source};
+use ctf_faults::{Outcome, stream_line};
 use ctf_list::NoMemory;
 use ctf_log::Printer;
 use ctf_merge::{Merge, MergeFault};
 use ctf_options::Options;
-use ctf_outcome::{Outcome, stream_line};
 use ctf_packet::StreamFault;
-use ctf_stamp::{Trim, Verdict};
 use ctf_stream::StreamReader;
+use ctf_timestamp::{Trim, Verdict};
 use std::alloc::Global;
 use std::marker::Model;
 

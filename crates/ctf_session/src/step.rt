@@ -3,7 +3,7 @@
 ghost use Rattle.std.specs.Prelude.{◌≡◌};
 ghost use Rattle.ctf_session.specs.Endings as endings;
 
-use ctf_outcome::{Outcome, RunFault};
+use ctf_faults::{Outcome, RunFault};
 use ctf_packet::StreamFault;
 
 /// What a step of a session did.

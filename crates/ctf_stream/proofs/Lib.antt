@@ -1,3 +1,3 @@
 mod Steps
-mod Courses
+mod ReadStates
 mod Written

@@ -3,8 +3,8 @@ use Rattle.std.proofs.Common.{◌≡◌, ℕ, ◌<◌, ◌≤◌, Bool, IsTrue, 
 use Rattle.ctf_clock.specs.declared.moment.Moment.{Moment}
 use Rattle.ctf_clock.specs.declared.moment.Shift.{Shift}
 use Rattle.ctf_decode.specs.Known.{Known}
-use Rattle.ctf_line.specs.Making.{Made}
-use Rattle.ctf_line.specs.Texts.{values_text}
+use Rattle.ctf_record_text.specs.Making.{Made}
+use Rattle.ctf_record_text.specs.Texts.{values_text}
 use Rattle.ctf_packet.specs.Classes.{Classes}
 use Rattle.ctf_packet.specs.Scopes.{Values}
 use Rattle.ctf_packet.specs.Packets.{Opened}

@@ -1,6 +1,6 @@
 -- The text of an event record in front.
 use Rattle.std.proofs.Common.{◌≡◌, ◌-◌, Bool, List, ℕ, take, Some, ap, sym, ◌∙◌}
-use Rattle.ctf_line.specs.Texts.{values_text, event_text}
+use Rattle.ctf_record_text.specs.Texts.{values_text, event_text}
 use Rattle.ctf_clock.specs.declared.moment.Shift.{Shift}
 use Rattle.ctf_decode.specs.Known.{Known}
 use Rattle.ctf_packet.specs.Classes.{Classes}
@@ -8,10 +8,10 @@ use Rattle.ctf_packet.specs.Items.{Event}
 use Rattle.ctf_packet.specs.Scopes.{Values}
 use Rattle.ctf_packet.specs.Views.{values_of, packet_values}
 use Rattle.ctf_stream.specs.Coming.{opened_in, values_at, IsWritten}
-use Rattle.ctf_stream.specs.Course.{IsPartOf}
+use Rattle.ctf_stream.specs.ReadState.{IsPartOf}
 use Rattle.ctf_stream.specs.declared.packet.Packet.{Packet}
 use Rattle.ctf_stream.specs.declared.packet.WrittenRecord.{WrittenRecord}
-use Rattle.ctf_text.specs.Lines.{packet_part}
+use Rattle.ctf_format.specs.Lines.{packet_part}
 
 module _ (writes : Bool) (shift : Shift) (known : Known) (bytes part line : List ℕ) (p : Packet) (w : WrittenRecord) where
   abbrev pub the_event : Event Classes

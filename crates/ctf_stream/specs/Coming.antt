@@ -4,8 +4,8 @@ use Rattle.ctf_clock.specs.declared.moment.Moment.{Moment}
 use Rattle.ctf_clock.specs.declared.moment.Shift.{Shift}
 use Rattle.ctf_decode.specs.Known.{Known}
 use Rattle.ctf_class.specs.Streams.{StreamClass}
-use Rattle.ctf_line.specs.Texts.{values_text}
-use Rattle.ctf_line.specs.declared.record.LineRecord.{LineRecord}
+use Rattle.ctf_record_text.specs.Texts.{values_text}
+use Rattle.ctf_record_text.specs.declared.record.LineRecord.{LineRecord}
 use Rattle.ctf_packet.specs.Classes.{Classes}
 use Rattle.ctf_packet.specs.Packets.{Opened}
 use Rattle.ctf_packet.specs.Items.{Run, Item, stops, before, from_place, lost, discarded, lost_before, discarded_before, gap_of, item_of}

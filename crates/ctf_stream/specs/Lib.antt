@@ -1,8 +1,8 @@
 pub mod Coming
-pub mod Course
+pub mod ReadState
 pub mod Reader
 pub mod Standing
-pub mod Ahead
+pub mod Peeked
 pub mod Codes
 pub mod Shown
 pub mod Owned

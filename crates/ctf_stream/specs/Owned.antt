@@ -12,7 +12,7 @@ use Rattle.ctf_packet.specs.Items.{Run, stops, before}
 use Rattle.ctf_packet.specs.declared.fault.StreamFault.{StreamFault}
 use Rattle.ctf_packet.specs.declared.fault.StreamFault.TheVariants as faults
 use Rattle.ctf_fetch.specs.Fetching.{OrNoMemory}
-use Rattle.ctf_stream.specs.Reader.{Ahead, start, item, ended, fault, Reader, coming}
+use Rattle.ctf_stream.specs.Reader.{Peeked, start, item, ended, fault, Reader, coming}
 use Rattle.ctf_stream.specs.declared.owned.OwnedEvent.{OwnedEvent}
 use Rattle.ctf_stream.specs.declared.owned.OwnedGap.{OwnedGap}
 use Rattle.ctf_stream.specs.declared.owned.OwnedItem.{OwnedItem}
@@ -54,13 +54,13 @@ Gives old new (Ok None) = (old ≡ stops None new.cut) × (coming new ≡ old)
 Gives old new (Err f) = OrNoMemory (λ g. old ≡ stops (Some g) new.cut) f × (coming new ≡ stops (Some f) new.cut)
 
 -- what stands in front then: nothing behind an item that was given, and the end or the fault that was told
-abbrev pub ahead_behind : Result (Option OwnedItem) StreamFault → Ahead
+abbrev pub ahead_behind : Result (Option OwnedItem) StreamFault → Peeked
 ahead_behind (Ok (Some x)) = start
 ahead_behind (Ok None) = ended
 ahead_behind (Err f) = fault f
 
 -- an item in front is the one that is given, out of the packet that is held, unless a growth was refused
-abbrev pub GivesAhead : Ahead → Reader → Result (Option OwnedItem) StreamFault → Type 0
+abbrev pub GivesAhead : Peeked → Reader → Result (Option OwnedItem) StreamFault → Type 0
 GivesAhead (item x) new (Ok (Some y)) = x ≡ item_of y new.taken new.held
 GivesAhead (item x) new (Ok None) = ⊥
 GivesAhead (item x) new (Err f) = f ≡ faults.NoMemory

@@ -8,12 +8,12 @@ use Rattle.ctf_packet.specs.declared.fault.StreamFault.TheVariants as faults
 use Rattle.ctf_fetch.specs.Fetching.{longest_bytes, most_taken}
 
 -- what stands in front
-pub data Ahead : Type 0 where
+pub data Peeked : Type 0 where
   -- nothing was fetched yet, or the item that stood here was given away
-  start : Ahead
-  item : Item Classes → Ahead
-  ended : Ahead
-  fault : StreamFault → Ahead
+  start : Peeked
+  item : Item Classes → Peeked
+  ended : Peeked
+  fault : StreamFault → Peeked
 
 pub record Reader : Type 0 where
   pub trace : TraceClass
@@ -23,7 +23,7 @@ pub record Reader : Type 0 where
   pub tells : Bool
   -- whether event records are told as texts, where they can
   pub writes : Bool
-  pub ahead : Ahead
+  pub ahead : Peeked
   -- what is to come behind that, where the source tells
   pub behind : Run Classes
   -- the bytes that the source has left
@@ -38,14 +38,14 @@ pub record Reader : Type 0 where
   pub room : ℕ
 
 -- what is to come behind what stands in front: nothing behind an end or a fault
-abbrev pub behind_ahead : Ahead → ℕ → Run Classes → Run Classes
+abbrev pub behind_ahead : Peeked → ℕ → Run Classes → Run Classes
 behind_ahead start cut behind = behind
 behind_ahead (item x) cut behind = behind
 behind_ahead ended cut behind = stops None cut
 behind_ahead (fault f) cut behind = stops (Some f) cut
 
 -- what is to come: what stands in front, and what is behind it
-abbrev pub with_ahead : Ahead → Run Classes → Run Classes
+abbrev pub with_ahead : Peeked → Run Classes → Run Classes
 with_ahead start run = run
 with_ahead (item x) run = before (x ∷ []) run
 with_ahead ended run = run
@@ -66,31 +66,31 @@ abbrev pub OrRefused : {C : Type 0} → Run C → Run C → Type 0
 OrRefused run actual = (actual ≡ run) ⊎ IsRefused actual
 
 -- the item in front
-abbrev pub item_ahead : Ahead → Option (Item Classes)
+abbrev pub item_ahead : Peeked → Option (Item Classes)
 item_ahead start = None
 item_ahead (item x) = Some x
 item_ahead ended = None
 item_ahead (fault f) = None
 
 -- the fault in front
-abbrev pub fault_ahead : Ahead → Option StreamFault
+abbrev pub fault_ahead : Peeked → Option StreamFault
 fault_ahead start = None
 fault_ahead (item x) = None
 fault_ahead ended = None
 fault_ahead (fault f) = Some f
 
-abbrev pub HasItem : Ahead → Type 0
+abbrev pub HasItem : Peeked → Type 0
 HasItem ahead = IsSome (item_ahead ahead)
 
 -- the first item was fetched, or the end or a fault was met
-abbrev pub IsFetched : Ahead → Type 0
+abbrev pub IsFetched : Peeked → Type 0
 IsFetched start = ⊥
 IsFetched (item x) = Unit {0}
 IsFetched ended = Unit {0}
 IsFetched (fault f) = Unit {0}
 
 -- nothing but this end or this fault comes from now on
-abbrev pub IsLast : Ahead → Type 0
+abbrev pub IsLast : Peeked → Type 0
 IsLast start = ⊥
 IsLast (item x) = ⊥
 IsLast ended = Unit {0}
@@ -111,7 +111,7 @@ packet_length (lost gap) = gap.packet_length
 -- packet that begins at the cut point, and that packet, or all before the cut point, and none; those to the end of the
 -- packet that holds the item in front, and that packet; at the end all before the cut point, and none; before a fault at
 -- most a packet and a byte behind the cut point, and none (own).
-abbrev pub OnLine : Ahead → ℕ → ℕ → ℕ → Type 0
+abbrev pub OnLine : Peeked → ℕ → ℕ → ℕ → Type 0
 OnLine start taken cut held = (taken ≡ cut + held) × (held ≤ longest_bytes)
 OnLine (item x) taken cut held = (taken ≡ packet_end x) × (held ≡ packet_length x) × (held ≤ longest_bytes)
 OnLine ended taken cut held = (taken ≡ cut) × (held ≡ 0)
@@ -121,14 +121,14 @@ abbrev pub IsOnLine : Reader → Type 0
 IsOnLine r = OnLine r.ahead r.taken r.cut r.held × (r.taken ≤ most_taken)
 
 -- at the end all bytes were taken
-abbrev pub IsAllTaken : Ahead → List ℕ → Type 0
+abbrev pub IsAllTaken : Peeked → List ℕ → Type 0
 IsAllTaken start left = Unit {0}
 IsAllTaken (item x) left = Unit {0}
 IsAllTaken ended left = left ≡ []
 IsAllTaken (fault f) left = Unit {0}
 
 -- one item less may come
-abbrev pub RoomTaken : Ahead → ℕ → ℕ → Type 0
+abbrev pub RoomTaken : Peeked → ℕ → ℕ → Type 0
 RoomTaken start old new = new ≤ old
 RoomTaken (item x) old new = new < old
 RoomTaken ended old new = new ≡ old

@@ -2,19 +2,19 @@
 use Rattle.std.specs.Prelude.{◌≡◌, ◌⊎◌, ℕ, Bool, IsTrue, List, Option, Some, None, IsSome, IfSome, option_copied, option_map}
 use Rattle.ctf_class.specs.declared.trace.TraceClass.{TraceClass}
 use Rattle.ctf_decode.specs.Views.{val}
-use Rattle.ctf_line.specs.Texts.{event_text}
+use Rattle.ctf_record_text.specs.Texts.{event_text}
 use Rattle.ctf_packet.specs.Classes.{Classes}
 use Rattle.ctf_packet.specs.Views.{values_of}
 use Rattle.ctf_packet.specs.Items as items
-use Rattle.ctf_stream.specs.Reader.{Ahead, item_ahead}
+use Rattle.ctf_stream.specs.Reader.{Peeked, item_ahead}
 use Rattle.ctf_stream.specs.declared.item.Event.{Event}
 use Rattle.ctf_stream.specs.declared.item.EventText.{EventText}
 use Rattle.ctf_stream.specs.declared.item.Gap.{Gap}
-use Rattle.ctf_stream.specs.declared.item.Told.{Told}
-use Rattle.ctf_stream.specs.declared.item.Told.TheVariants as told
+use Rattle.ctf_stream.specs.declared.item.CurrentItem.{CurrentItem}
+use Rattle.ctf_stream.specs.declared.item.CurrentItem.TheVariants as told
 use Rattle.ctf_stream.specs.declared.item.Item.{Item}
 use Rattle.ctf_stream.specs.declared.item.Item.TheVariants as shown
-use Rattle.ctf_text.specs.Lines.{packet_part}
+use Rattle.ctf_format.specs.Lines.{packet_part}
 
 -- an event record, whose packet ends at a byte of the stream and has so many
 abbrev pub event_of : Event → ℕ → ℕ → items.Event Classes
@@ -46,30 +46,30 @@ IsOf trace name (shown.Discarded g) = g.name.now ≡ name
 IsOf trace name (shown.Lost g) = g.name.now ≡ name
 
 -- it is the item in front; or none stands there
-abbrev pub Shows : TraceClass → List ℕ → Ahead → Option Item → Type 0
+abbrev pub Shows : TraceClass → List ℕ → Peeked → Option Item → Type 0
 Shows trace name ahead (Some x) = ((end : ℕ) × ((length : ℕ) × (item_ahead ahead ≡ Some (item_of x end length)))) × IsOf trace name x
 Shows trace name ahead None = item_ahead ahead ≡ None
 
 -- where values are not to be had of each item, there may be none of an item that stands there
-abbrev pub ShowsValues : Bool → TraceClass → List ℕ → Ahead → Option Item → Type 0
+abbrev pub ShowsValues : Bool → TraceClass → List ℕ → Peeked → Option Item → Type 0
 ShowsValues writes trace name ahead (Some x) = Shows trace name ahead (Some x)
 ShowsValues writes trace name ahead None = (item_ahead ahead ≡ None) ⊎ IsTrue writes
 
 -- it is the text of the event record in front, with its clock
-abbrev pub ShowsText : Ahead → EventText → Type 0
+abbrev pub ShowsText : Peeked → EventText → Type 0
 ShowsText ahead t = (e : items.Event Classes) × (item_ahead ahead ≡ Some (items.event e)) × (t.moment ≡ e.clock) × (t.text.now ≡ event_text e)
 
 -- the item in front is told, or none stands there
-abbrev pub Tells : TraceClass → List ℕ → Ahead → Option Told → Type 0
+abbrev pub Tells : TraceClass → List ℕ → Peeked → Option CurrentItem → Type 0
 Tells trace name ahead (Some (told.Item x)) = Shows trace name ahead (Some x)
 Tells trace name ahead (Some (told.Text t)) = ShowsText ahead t
 Tells trace name ahead None = item_ahead ahead ≡ None
 
-abbrev pub IsMadeTold : Told → Type 0
+abbrev pub IsMadeTold : CurrentItem → Type 0
 IsMadeTold (told.Item x) = IsMade x
 IsMadeTold (told.Text t) = Unit {0}
 
 -- texts are told where they were asked for
-abbrev pub IsAsked : Bool → Told → Type 0
+abbrev pub IsAsked : Bool → CurrentItem → Type 0
 IsAsked writes (told.Item x) = Unit {0}
 IsAsked writes (told.Text t) = IsTrue writes

@@ -1,7 +1,7 @@
 //! What stands in front of a reader.
 
 ghost use Rattle.std.specs.Prelude.{◌≡◌, option_map};
-ghost use Rattle.ctf_stream.specs.Ahead.{told, time_in};
+ghost use Rattle.ctf_stream.specs.Peeked.{told, time_in};
 
 use crate::packet::{Front, Packet};
 use crate::reader::{Head, StreamReader};
@@ -11,7 +11,7 @@ use ctf_packet::StreamFault;
 
 /// What stands in front of a reader.
 #[derive(Clone, Copy)]
-pub enum Ahead {
+pub enum Peeked {
     /// Nothing was fetched yet.
     Start,
     /// An item, and its time, in nanoseconds since the epoch, where its stream has a clock.
@@ -59,21 +59,21 @@ fn time_at(clock: Option<Moment>) -> Option<i64>
 
 impl<'a, S: Source + Drop> StreamReader<'a, S> {
     /// What stands in front. Mostly it is an item.
-    pub fn ahead(&self) -> Ahead
+    pub fn ahead(&self) -> Peeked
         ensures { result ≡ told self.now.ahead }
     {
         if let Head::Item(front) = &self.head {
-            return match &self.course.packet {
-                Some(packet) => Ahead::Item(time_of(front, packet)),
-                None => Ahead::Start,
+            return match &self.read_state.packet {
+                Some(packet) => Peeked::Item(time_of(front, packet)),
+                None => Peeked::Start,
             };
         }
         if let Head::Fault(fault) = &self.head {
-            return Ahead::Fault(*fault);
+            return Peeked::Fault(*fault);
         }
         if let Head::Ended = &self.head {
-            return Ahead::Ended;
+            return Peeked::Ended;
         }
-        Ahead::Start
+        Peeked::Start
     }
 }

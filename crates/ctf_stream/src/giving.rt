@@ -6,22 +6,22 @@ ghost use Rattle.ctf_clock.specs.declared.moment.Shift.{Shift};
 ghost use Rattle.ctf_packet.specs.Classes.{stream_form};
 ghost use Rattle.ctf_packet.specs.Records.{record_at};
 ghost use Rattle.ctf_packet.specs.Views.{values_of, packet_values, opened_of, recorded_of};
-ghost use Rattle.ctf_stream.specs.Course.{Stands, HoldsIn};
+ghost use Rattle.ctf_stream.specs.ReadState.{Stands, HoldsIn};
 ghost use Rattle.ctf_stream.specs.Owned.{item_of, IsOf, with_scope};
 ghost use Rattle.ctf_stream.specs.Reader.{item};
 ghost use Rattle.ctf_stream.specs.Standing.{item_at};
 
 use crate::copy::copy;
-use crate::course::Course;
 use crate::owned::{OwnedEvent, OwnedGap, OwnedItem};
 use crate::packet::{Front, WrittenRecord};
+use crate::read_state::ReadState;
 use ctf_class::Scope;
 use ctf_decode::Scopes;
 use ctf_list::{NoMemory, Text};
-use ctf_packet::{EventRecord, OpenPacket, Spares, next_record};
+use ctf_packet::{EventRecord, OpenPacket, Scratch, next_record};
 use std::alloc::Global;
 
-impl<'a> Course<'a> {
+impl<'a> ReadState<'a> {
     /// The item in front by value, of the packet at hand, which stays. `name` is the stream's.
     pub(crate) fn give(
         &mut self,
@@ -59,9 +59,9 @@ impl<'a> Course<'a> {
             })),
             Front::Written(written) => {
                 let bytes = self.buffer.as_slice();
-                let spares = &mut self.spares;
+                let scratch = &mut self.scratch;
                 let scopes = &mut self.scopes;
-                let record = read_again(alloc, opened, bytes, written, spares, scopes)?;
+                let record = read_again(alloc, opened, bytes, written, scratch, scopes)?;
                 Ok(OwnedItem::Event(OwnedEvent {
                     trace: self.cut.trace,
                     stream: opened.stream,
@@ -94,14 +94,14 @@ fn read_again<'a>(
     packet: &OpenPacket<'a>,
     bytes: &[u8],
     written: &WrittenRecord<'a>,
-    spares: &mut Spares,
+    scratch: &mut Scratch,
     scopes: &mut Scopes,
 ) -> Result<EventRecord<'a>, NoMemory>
     requires start { written.now.begin ≤ packet.now.content }
     requires content { packet.now.content ≤ 2 ^ 62 }
     requires held { packet.now.content ≤ 8 * length bytes.now }
     ensures records { (shift : Shift) →
-        packet.now.line ≡ (stream_form shift packet.now.stream.now).line →
+        packet.now.timeline ≡ (stream_form shift packet.now.stream.now).line →
         IfOk result (λ r.
         record_at (opened_of shift (packet_values (values_of scopes.old)) packet.now) bytes.now
         written.now.before written.now.begin ≡
@@ -115,7 +115,7 @@ fn read_again<'a>(
         bytes,
         written.before,
         written.begin,
-        spares,
+        scratch,
         scopes,
     ) {
         Ok(record) => Ok(record),

@@ -57,7 +57,7 @@ pub struct EventText<'r> {
 
 /// What a reader tells of the item in front of it.
 #[derive(Clone, Copy)]
-pub enum Told<'r> {
+pub enum CurrentItem<'r> {
     /// The item, with its values.
     Item(Item<'r>),
     /// An event record that was read as text.

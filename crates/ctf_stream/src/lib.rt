@@ -3,15 +3,15 @@
 
 mod ahead;
 mod copy;
-mod course;
 mod giving;
 mod item;
 mod owned;
 mod packet;
 mod part;
+mod read_state;
 mod reader;
 
-pub use ahead::Ahead;
-pub use item::{Event, EventText, Gap, Item, Told};
+pub use ahead::Peeked;
+pub use item::{CurrentItem, Event, EventText, Gap, Item};
 pub use owned::{OwnedEvent, OwnedGap, OwnedItem};
 pub use reader::StreamReader;

@@ -3,8 +3,8 @@
 ghost use Rattle.std.specs.Prelude.{◌≡◌, ◌<◌, ◌≤◌, ◌*◌, ◌^◌, Option, Some, Ok, OnOk, IfOk, IfSome, IfNone, IsTrue, length};
 ghost use Rattle.ctf_clock.specs.declared.moment.Moment.{Moment};
 ghost use Rattle.ctf_clock.specs.declared.moment.Shift.{Shift};
-ghost use Rattle.ctf_line.specs.Making.{Makes};
-ghost use Rattle.ctf_line.specs.Shorts.{IsShortOf};
+ghost use Rattle.ctf_record_text.specs.Making.{Makes};
+ghost use Rattle.ctf_record_text.specs.Shorts.{IsShortOf};
 ghost use Rattle.ctf_packet.specs.Classes.{Classes, stream_form};
 ghost use Rattle.ctf_packet.specs.Items.{Run};
 ghost use Rattle.ctf_packet.specs.Records.{record_at};
@@ -13,8 +13,8 @@ ghost use Rattle.ctf_stream.specs.Coming.{front_in, left_in, room_in, HoldsFront
 
 use ctf_clock::Moment;
 use ctf_decode::Scopes;
-use ctf_line::{Attempt, LineRecord, ShortHeader, next_line, written_line};
-use ctf_packet::{EventRecord, OpenPacket, Spares, StreamFault, next_record};
+use ctf_packet::{EventRecord, OpenPacket, Scratch, StreamFault, next_record};
+use ctf_record_text::{Attempt, LineRecord, ShortHeader, next_line, written_line};
 use std::alloc::Global;
 
 /// A packet whose items are told one after the other.
@@ -79,12 +79,12 @@ impl<'a> Packet<'a> {
         requires within { Within bytes.now self.old }
         requires looked { IsShortOf self.old.opened.stream.now self.old.short }
         ensures takes { (shift : Shift) (follows : Option Moment → Run Classes) →
-            self.old.opened.line ≡ (stream_form shift self.old.opened.stream.now).line →
+            self.old.opened.timeline ≡ (stream_form shift self.old.opened.stream.now).line →
             IfSome result (λ front.
             TakesItem shift follows (left_in shift scopes.now bytes.now follows self.old) self.new
             scopes.now bytes.now (Ok (Some front))) }
         ensures written { (shift : Shift) →
-            self.old.opened.line ≡ (stream_form shift self.old.opened.stream.now).line →
+            self.old.opened.timeline ≡ (stream_form shift self.old.opened.stream.now).line →
             IfSome result (HoldsFront writes shift scopes.now bytes.now part.now line.new.items
             self.new) }
         ensures room { IfSome result (λ _. room_in self.new < room_in self.old) }
@@ -122,7 +122,7 @@ impl<'a> Packet<'a> {
     /// The next item, out of the packet's bytes; `None` behind the last one. `scopes` has the values of the
     /// packet, and of an event record then, unless `writes` asks for its text and this could be written at the front of
     /// `line`; `part` is the text that the lines of the packet share. `attempt` tells what `next_written` tried before. The
-    /// memory of `spares` is used.
+    /// memory of `scratch` is used.
     ///
     /// An error is the fault of the next event record: F6 to F11, or `NoMemory`.
     pub(crate) fn next(
@@ -132,17 +132,17 @@ impl<'a> Packet<'a> {
         writes: bool,
         part: &[u8],
         attempt: Attempt,
-        spares: &mut Spares,
+        scratch: &mut Scratch,
         scopes: &mut Scopes,
         line: &mut Vec<u8>,
     ) -> Result<Option<Front<'a>>, StreamFault>
         requires { Within bytes.now self.old }
         ensures takes { (shift : Shift) (follows : Option Moment → Run Classes) →
-            self.old.opened.line ≡ (stream_form shift self.old.opened.stream.now).line →
+            self.old.opened.timeline ≡ (stream_form shift self.old.opened.stream.now).line →
             TakesItem shift follows (left_in shift scopes.old bytes.now follows self.old) self.new
             scopes.new bytes.now result }
         ensures written { (shift : Shift) →
-            self.old.opened.line ≡ (stream_form shift self.old.opened.stream.now).line →
+            self.old.opened.timeline ≡ (stream_form shift self.old.opened.stream.now).line →
             IfOk result (λ front.
             IfSome front (HoldsFront writes shift scopes.new bytes.now part.now line.new.items
             self.new)) }
@@ -175,7 +175,7 @@ impl<'a> Packet<'a> {
             writes,
             part,
             attempt,
-            spares,
+            scratch,
             scopes,
             line,
         )?;
@@ -199,7 +199,7 @@ fn event_at<'a>(
     writes: bool,
     part: &[u8],
     attempt: Attempt,
-    spares: &mut Spares,
+    scratch: &mut Scratch,
     scopes: &mut Scopes,
     line: &mut Vec<u8>,
 ) -> Result<LineRecord<'a>, StreamFault>
@@ -207,7 +207,7 @@ fn event_at<'a>(
     requires content { packet.now.content ≤ 2 ^ 62 }
     requires held { packet.now.content ≤ 8 * length bytes.now }
     ensures makes { (shift : Shift) →
-        packet.now.line ≡ (stream_form shift packet.now.stream.now).line →
+        packet.now.timeline ≡ (stream_form shift packet.now.stream.now).line →
         Makes packet.now.stream.now
         (record_at (opened_of shift (packet_values (values_of scopes.old)) packet.now) bytes.now
         clock place) part.now scopes.new line.new.items result }
@@ -220,10 +220,10 @@ fn event_at<'a>(
 {
     if writes {
         return next_line(
-            alloc, packet, part, bytes, clock, place, attempt, spares, scopes, line,
+            alloc, packet, part, bytes, clock, place, attempt, scratch, scopes, line,
         );
     }
-    let record = next_record(alloc, packet, bytes, clock, place, spares, scopes)?;
+    let record = next_record(alloc, packet, bytes, clock, place, scratch, scopes)?;
     Ok(LineRecord { record, text: None })
 }
 

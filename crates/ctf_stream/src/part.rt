@@ -2,12 +2,12 @@
 
 ghost use Rattle.std.specs.Prelude.{◌≡◌, [], option_map, option_copied, OnOk};
 ghost use Rattle.ctf_decode.specs.Views.{val};
-ghost use Rattle.ctf_text.specs.Lines.{packet_part};
+ghost use Rattle.ctf_format.specs.Lines.{packet_part};
 
 use ctf_class::Class;
 use ctf_decode::Value;
+use ctf_format::put_packet_part;
 use ctf_list::NoMemory;
-use ctf_text::put_packet_part;
 use std::alloc::Global;
 use std::marker::Model;
 

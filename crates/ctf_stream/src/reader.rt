@@ -7,18 +7,18 @@ ghost use Rattle.ctf_stream.specs.Shown.{ShowsValues, Tells, IsMade, IsMadeTold,
 ghost use Rattle.ctf_stream.specs.Reader.{start, fault_ahead, coming, rest_of, OrRefused, IsFetched, IsLast, IsOnLine, IsAllTaken, RoomTaken};
 ghost use Rattle.ctf_stream.specs.Owned.{Gives, GivesAhead, GivesOf, GivesRoom, KeepsBehind, ahead_behind};
 
-use crate::course::Course;
-use crate::item::{Item, Told};
+use crate::item::{CurrentItem, Item};
 use crate::owned::OwnedItem;
 use crate::packet::Front;
+use crate::read_state::ReadState;
 use ctf_bits::Source;
 use ctf_class::TraceClass;
 use ctf_clock::Shift;
 use ctf_decode::Scopes;
-use ctf_fetch::CutPoint;
-use ctf_line::Attempt;
+use ctf_fetch::PacketStart;
 use ctf_list::Text;
 use ctf_packet::StreamFault;
+use ctf_record_text::Attempt;
 use std::alloc::Global;
 use std::marker::Model;
 
@@ -39,13 +39,13 @@ pub struct StreamReader<'a, S: Source + Drop> {
     alloc: Global,
     name: Text,
     source: S,
-    pub(crate) course: Course<'a>,
+    pub(crate) read_state: ReadState<'a>,
     pub(crate) head: Head<'a>,
 }
 
 impl<'a, S: Source + Drop> Model for StreamReader<'a, S> {
     ghost use Rattle.std.specs.Prelude.{◌+◌, length};
-    ghost use Rattle.ctf_stream.specs.Course.{coming_of, room_of};
+    ghost use Rattle.ctf_stream.specs.ReadState.{coming_of, room_of};
     ghost use Rattle.ctf_stream.specs.Reader.{Reader};
     ghost use Rattle.ctf_stream.specs.Standing.{ahead_of, room_ahead, IsStanding};
 
@@ -58,20 +58,20 @@ impl<'a, S: Source + Drop> Model for StreamReader<'a, S> {
     ghost coded = { Prim.hlevel (codes, kinds.the_row.coded, coded_val) };
 
     ghost view = { λ r. record {
-      trace = r.course.cut.trace.now;
+      trace = r.read_state.cut.trace.now;
       name = r.name;
       tells = S.tells r.source;
-      writes = r.course.writes;
-      ahead = ahead_of r.course r.head;
-      behind = coming_of (S.ending r.source) (S.left r.source) r.course;
+      writes = r.read_state.writes;
+      ahead = ahead_of r.read_state r.head;
+      behind = coming_of (S.ending r.source) (S.left r.source) r.read_state;
       left = S.left r.source;
-      taken = r.course.taken;
-      cut = r.course.cut.at;
-      held = length r.course.buffer;
-      room = room_ahead r.head + room_of r.course;
+      taken = r.read_state.taken;
+      cut = r.read_state.cut.at;
+      held = length r.read_state.buffer;
+      room = room_ahead r.head + room_of r.read_state;
     } };
 
-    ghost invariant = { λ r. IsStanding r.course r.head };
+    ghost invariant = { λ r. IsStanding r.read_state r.head };
 }
 
 impl<'a, S: Source + Drop> StreamReader<'a, S> {
@@ -96,28 +96,28 @@ impl<'a, S: Source + Drop> StreamReader<'a, S> {
         ensures on_line { IsOnLine result }
         ensures writes { result.writes ≡ false }
     {
-        let cut = CutPoint {
+        let cut = PacketStart {
             trace,
             shift,
             reached: None,
             at: 0,
         };
-        let course = Course::new(alloc, cut);
+        let read_state = ReadState::new(alloc, cut);
         StreamReader {
             alloc,
             name,
             source,
-            course,
+            read_state,
             head: Head::Start,
         }
     }
 
     /// From now on the reader tells event records as texts, where these can be made without the values.
-    pub fn writing(self) -> StreamReader<'a, S>
+    pub fn with_texts(self) -> StreamReader<'a, S>
         ensures { result ≡ record self.entry { writes = true } }
     {
         let mut reader = self;
-        reader.course.writes = true;
+        reader.read_state.writes = true;
         reader
     }
 
@@ -149,7 +149,10 @@ impl<'a, S: Source + Drop> StreamReader<'a, S> {
             Head::Start => {}
         }
         let mut attempt = Attempt::Open;
-        if let Some(front) = self.course.next_written(self.alloc, false, &mut attempt) {
+        if let Some(front) = self
+            .read_state
+            .next_written(self.alloc, false, &mut attempt)
+        {
             self.head = Head::Item(front);
             return;
         }
@@ -175,18 +178,21 @@ impl<'a, S: Source + Drop> StreamReader<'a, S> {
         ensures all_taken { IsTrue self.old.tells → IsAllTaken self.new.ahead self.new.left }
     {
         let mut attempt = Attempt::Open;
-        if let Some(front) = self.course.next_written(self.alloc, true, &mut attempt) {
+        if let Some(front) = self.read_state.next_written(self.alloc, true, &mut attempt) {
             self.head = Head::Item(front);
             return;
         }
-        match self.course.advance(self.alloc, &mut self.source, attempt) {
+        match self
+            .read_state
+            .advance(self.alloc, &mut self.source, attempt)
+        {
             Ok(Some(front)) => self.head = Head::Item(front),
             Ok(None) => {
-                self.course.release(self.alloc);
+                self.read_state.release(self.alloc);
                 self.head = Head::Ended;
             }
             Err(fault) => {
-                self.course.release(self.alloc);
+                self.read_state.release(self.alloc);
                 self.head = Head::Fault(fault);
             }
         }
@@ -270,13 +276,13 @@ impl<'a, S: Source + Drop> StreamReader<'a, S> {
             Head::Fault(fault) => return Err(*fault),
             Head::Item(front) => front,
         };
-        match self.course.give(self.alloc, front, &self.name) {
+        match self.read_state.give(self.alloc, front, &self.name) {
             Ok(item) => {
                 self.head = Head::Start;
                 Ok(Some(item))
             }
             Err(_) => {
-                self.course.release(self.alloc);
+                self.read_state.release(self.alloc);
                 self.head = Head::Fault(StreamFault::NoMemory);
                 Err(StreamFault::NoMemory)
             }
@@ -284,13 +290,13 @@ impl<'a, S: Source + Drop> StreamReader<'a, S> {
     }
 
     /// The item in front, if one stands there: an event record as a text, if it was read as that. No memory is taken.
-    pub fn told(&self) -> Option<Told<'_>>
+    pub fn told(&self) -> Option<CurrentItem<'_>>
         ensures tells { Tells self.now.trace self.now.name self.now.ahead result }
         ensures made { IfSome result IsMadeTold }
         ensures asked { IfSome result (IsAsked self.now.writes) }
     {
         match &self.head {
-            Head::Item(front) => self.course.told(front, self.name.as_str()),
+            Head::Item(front) => self.read_state.current_item(front, self.name.as_str()),
             Head::Start => None,
             Head::Ended => None,
             Head::Fault(_) => None,
@@ -305,8 +311,8 @@ impl<'a, S: Source + Drop> StreamReader<'a, S> {
         ensures made { IfSome result IsMade }
     {
         match self.told() {
-            Some(Told::Item(item)) => Some(item),
-            Some(Told::Text(_)) => None,
+            Some(CurrentItem::Item(item)) => Some(item),
+            Some(CurrentItem::Text(_)) => None,
             None => None,
         }
     }
@@ -327,7 +333,7 @@ impl<'a, S: Source + Drop> StreamReader<'a, S> {
     pub fn held(&self) -> usize
         ensures { result ≡ self.now.held }
     {
-        self.course.buffer.len()
+        self.read_state.buffer.len()
     }
 
     /// The source.

@@ -11,10 +11,10 @@ use Rattle.ctf_meaning.specs.Shapes.{Shape, struct, no_member}
 use Rattle.ctf_meaning.specs.Blocks.{entry_name, block_faults, twice_faults}
 use Rattle.ctf_meaning.specs.Settings.{minus_faults}
 use Rattle.ctf_meaning.proofs.Lists.{some_same}
-use Rattle.ctf_walk.specs.Seen.{nothing_seen}
-use Rattle.ctf_walk.specs.Items.{item_told}
-use Rattle.ctf_walk.specs.Blocks.{Placed, NamedClass, Walked, start, placed, class_named, plain_row, scopes_told, entries_told, declaration_told, declarations_told, text_told}
-use Rattle.ctf_walk.specs.Laws.{class_among, class_in_row}
+use Rattle.ctf_meaning_steps.specs.Seen.{nothing_seen}
+use Rattle.ctf_meaning_steps.specs.Items.{item_told}
+use Rattle.ctf_meaning_steps.specs.Blocks.{Placed, NamedClass, Walked, start, placed, class_named, plain_row, scopes_told, entries_told, declaration_told, declarations_told, text_told}
+use Rattle.ctf_meaning_steps.specs.Laws.{class_among, class_in_row}
 use Rattle.ctf_types.proofs.Sound.{after_unless, after_then, ok_same}
 
 -- the fields of an event have a class in its row

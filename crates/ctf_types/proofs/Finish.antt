@@ -16,7 +16,7 @@ use Rattle.ctf_meaning.specs.Streams.{Stream, numbered, streams, stream_by, trac
 use Rattle.ctf_meaning.specs.Faults.{clocks_moved, has_other, faults}
 use Rattle.ctf_meaning.specs.Denotes.{event_in, class_of_text}
 use Rattle.ctf_types.specs.declared.gather.Parts.{Parts}
-use Rattle.ctf_types.specs.declared.linked.Head.{Head}
+use Rattle.ctf_types.specs.declared.linked.StreamHead.{StreamHead}
 use Rattle.ctf_types.specs.declared.trace.TraceAt.{TraceAt}
 use Rattle.ctf_types.specs.Gathered.{joined_all, heads_in}
 use Rattle.ctf_types.specs.Resolved.{IsFinished, or_plain_head}
@@ -31,7 +31,7 @@ module _ (text : List Declaration) (order : Order) where
   abbrev several : Stream → List ResolveFault
   several s = when (has_other (clocks_moved text s.block)) SeveralClocks
 
-  some_several : (ss : List Stream) (hs : List Head) → AreHeads text order ss hs → list_any (λ h. h.has_several) hs ≡ true → Contains (flat_map several ss) SeveralClocks
+  some_several : (ss : List Stream) (hs : List StreamHead) → AreHeads text order ss hs → list_any (λ h. h.has_several) hs ≡ true → Contains (flat_map several ss) SeveralClocks
   some_several [] [] h any = absurd (grind (arith, any))
   some_several [] (x ∷ hs) h any = absurd h
   some_several (s ∷ ss) [] h any = absurd h
@@ -43,7 +43,7 @@ module _ (text : List Declaration) (order : Order) where
           in_front (several s) (flat_map several ss) SeveralClocks (subst (λ b. Contains (when b SeveralClocks) SeveralClocks) (sym is ∙ h.0.several) (0, omega arith, refl))
       by_this false is any later = behind (several s) (flat_map several ss) SeveralClocks (later any)
 
-  none_several : (ss : List Stream) (hs : List Head) → AreHeads text order ss hs → list_any (λ h. h.has_several) hs ≡ false → flat_map several ss ≡ []
+  none_several : (ss : List Stream) (hs : List StreamHead) → AreHeads text order ss hs → list_any (λ h. h.has_several) hs ≡ false → flat_map several ss ≡ []
   none_several [] [] h any = refl
   none_several [] (x ∷ hs) h any = absurd h
   none_several (s ∷ ss) [] h any = absurd h

@@ -13,13 +13,13 @@ use Rattle.ctf_meaning.specs.Blocks.{is_trace}
 use Rattle.ctf_meaning.specs.Streams.{Stream, stream_by, streams}
 use Rattle.ctf_meaning.specs.Denotes.{scope_class, event_class, event_in, trace_entries}
 use Rattle.ctf_meaning.proofs.Lists.{some_same}
-use Rattle.ctf_types.specs.declared.linked.Head.{Head}
+use Rattle.ctf_types.specs.declared.linked.StreamHead.{StreamHead}
 use Rattle.ctf_types.specs.declared.linked.Linked.{Linked}
 use Rattle.ctf_types.specs.declared.linked.Linked.TheVariants as linked
 use Rattle.ctf_types.specs.Gathered.{heads_in, events_at, header_of, IsHead, IsEventAt, AreLinked}
 
 module _ (text : List Declaration) (order : Order) where
-  abbrev pub AreHeads : List Stream → List Head → Type 0
+  abbrev pub AreHeads : List Stream → List StreamHead → Type 0
   AreHeads [] [] = Unit {0}
   AreHeads (s ∷ ss) (h ∷ hs) = IsHead text order s h × AreHeads ss hs
   AreHeads _ _ = ⊥

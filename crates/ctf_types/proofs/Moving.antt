@@ -3,8 +3,8 @@ use Rattle.std.proofs.Common.{◌≡◌, ℕ, List, [], ◌++◌, Option, Some, 
 use Rattle.std.specs.Prelude.{option_copied}
 use Rattle.ctf_class.specs.declared.route.Scope.TheVariants.{PacketContext, EventHeader, StreamEventContext}
 use Rattle.ctf_class.specs.declared.trace.Clock.{Clock}
-use Rattle.ctf_linked.specs.declared.moved.Moved.{Moved}
-use Rattle.ctf_linked.specs.MovedClocks.{Tells}
+use Rattle.ctf_paths.specs.declared.moved.Moved.{Moved}
+use Rattle.ctf_paths.specs.MovedClocks.{Tells}
 use Rattle.ctf_meaning.specs.Written.{Declaration}
 use Rattle.ctf_meaning.specs.Streams.{home_of_stream, trace_of}
 use Rattle.ctf_meaning.specs.Faults.{clocks_moved}

@@ -7,7 +7,7 @@ use Rattle.std.proofs.lemmas.List.{get_or-set_same, get_or-set_other, get_or-rep
 use Rattle.ctf_class.specs.declared.class.Class.{Class}
 use Rattle.ctf_class.specs.declared.trace.EventClass.{EventClass}
 use Rattle.ctf_types.specs.declared.gather.Parts.{Parts}
-use Rattle.ctf_types.specs.declared.linked.Head.{Head}
+use Rattle.ctf_types.specs.declared.linked.StreamHead.{StreamHead}
 use Rattle.ctf_types.specs.declared.linked.Linked.{Linked}
 use Rattle.ctf_types.specs.declared.linked.Linked.TheVariants as linked
 use Rattle.ctf_types.specs.Gathered.{head_in, header_in, event_at, events_at}
@@ -34,7 +34,7 @@ with_trace rows header parts p = record {
   events = no_events rows (linked.Trace header) parts (λ j. refl) p;
 }
 
-pub with_stream : (rows : List Linked) (head : Head) (parts : Parts) → IsParted rows parts →
+pub with_stream : (rows : List Linked) (head : StreamHead) (parts : Parts) → IsParted rows parts →
     IsParted (rows ++ linked.Stream head ∷ []) (record { headers = parts.headers; heads = parts.heads ++ head ∷ []; events = parts.events })
 with_stream rows head parts p = record {
   headers = adds_none header_in rows (linked.Stream head) parts.headers refl p.headers;

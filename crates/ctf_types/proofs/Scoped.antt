@@ -14,9 +14,9 @@ use Rattle.ctf_meaning.specs.Links.{link_faults_at, class_at}
 use Rattle.ctf_meaning.specs.Blocks.{clocks_of}
 use Rattle.ctf_meaning.specs.Paths.{Frame}
 use Rattle.ctf_meaning.specs.Scopes.{Home, scope_of, spot_of, frames_before}
-use Rattle.ctf_walk.specs.Told.{Told}
-use Rattle.ctf_walk.specs.Linking.{class_told}
-use Rattle.ctf_walk.proofs.Linked.{linking_gives_class, linking_tells_fault}
+use Rattle.ctf_meaning_steps.specs.Told.{Told}
+use Rattle.ctf_meaning_steps.specs.Linking.{class_told}
+use Rattle.ctf_meaning_steps.proofs.Linked.{linking_gives_class, linking_tells_fault}
 use Rattle.ctf_types.specs.Texts.{IsScopeLinked, scope_fails}
 
 module _ (text : List Declaration) (order : Order) (home : Home) (scope : Scope) where

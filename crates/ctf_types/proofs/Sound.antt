@@ -10,10 +10,10 @@ use Rattle.ctf_meaning.specs.Blocks.{block_faults, twice_faults}
 use Rattle.ctf_meaning.specs.Scopes.{scope_faults}
 use Rattle.ctf_meaning.specs.Faults.{most_nodes}
 use Rattle.ctf_meaning.proofs.Lists.{Each, each_append, each_none}
-use Rattle.ctf_walk.specs.Told.{Told, ◌>>=◌, unless}
-use Rattle.ctf_walk.specs.Seen.{Seen, nothing_seen}
-use Rattle.ctf_walk.specs.Items.{item_told}
-use Rattle.ctf_walk.specs.Blocks.{Placed, Walked, start, placed, plain_row, scopes_told, entries_told, declaration_told, declarations_told, text_told}
+use Rattle.ctf_meaning_steps.specs.Told.{Told, ◌>>=◌, unless}
+use Rattle.ctf_meaning_steps.specs.Seen.{Seen, nothing_seen}
+use Rattle.ctf_meaning_steps.specs.Items.{item_told}
+use Rattle.ctf_meaning_steps.specs.Blocks.{Placed, Walked, start, placed, plain_row, scopes_told, entries_told, declaration_told, declarations_told, text_told}
 
 -- the class of a scope is a structure without floats
 abbrev pub IsSound : Placed → Type 0

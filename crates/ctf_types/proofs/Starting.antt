@@ -14,9 +14,9 @@ use Rattle.ctf_meaning.specs.Scopes.{Home, in_home, is_structure, scope_faults, 
 use Rattle.ctf_meaning.specs.Streams.{trace_of}
 use Rattle.ctf_meaning.proofs.Lists.{Each, append_right, some_same}
 use Rattle.ctf_meaning.proofs.Shaped.{when_not}
-use Rattle.ctf_walk.specs.Blocks.{Placed}
-use Rattle.ctf_walk.specs.Laws.{class_among, class_in_row}
-use Rattle.ctf_walk.proofs.Text.{walk_finds_scopes}
+use Rattle.ctf_meaning_steps.specs.Blocks.{Placed}
+use Rattle.ctf_meaning_steps.specs.Laws.{class_among, class_in_row}
+use Rattle.ctf_meaning_steps.proofs.Text.{walk_finds_scopes}
 use Rattle.ctf_types.specs.declared.trace.TraceAt.{TraceAt}
 use Rattle.ctf_types.specs.Resolved.{IsWalked}
 use Rattle.ctf_types.specs.Whole.{HasNoOwn, IsTraceOf}

@@ -10,7 +10,7 @@ use Rattle.ctf_meaning.specs.Settings.{trace_order_of}
 use Rattle.ctf_meaning.specs.Blocks.{value_at, uuid_of}
 use Rattle.ctf_meaning.specs.Streams.{Stream, numbered, streams, trace_of, home_of_stream, or_plain}
 use Rattle.ctf_meaning.specs.Denotes.{scope_class, event_in, stream_class, trace_class, trace_entries, class_of_text, host_of}
-use Rattle.ctf_types.specs.declared.linked.Head.{Head}
+use Rattle.ctf_types.specs.declared.linked.StreamHead.{StreamHead}
 use Rattle.ctf_types.specs.declared.linked.Linked.{Linked}
 use Rattle.ctf_types.specs.Resolved.{or_plain_head}
 use Rattle.ctf_types.specs.Gathered.{joined, joined_all, header_of, IsHead, AreLinked}
@@ -25,13 +25,13 @@ module _ (text : List Declaration) (order : Order) where
   AreEvents (s ∷ ss) (es ∷ ess) = (all_there (filter_map (event_in text order s.id) (numbered text)) ≡ Some es) × AreEvents ss ess
   AreEvents _ _ = ⊥
 
-  pub or_plain_heads : (ss : List Stream) (hs : List Head) → AreHeads text order ss hs → AreHeads text order (or_plain ss) (or_plain_head hs)
+  pub or_plain_heads : (ss : List Stream) (hs : List StreamHead) → AreHeads text order ss hs → AreHeads text order (or_plain ss) (or_plain_head hs)
   or_plain_heads [] [] h = (record { id = refl; packet_context = refl; event_header = refl; event_context = refl; clock = refl; several = refl }, tt)
   or_plain_heads [] (x ∷ hs) h = absurd h
   or_plain_heads (s ∷ ss) [] h = absurd h
   or_plain_heads (s ∷ ss) (x ∷ hs) h = h
 
-  pub stream_is : (s : Stream) (h : Head) (es : List EventClass) → IsHead text order s h → all_there (filter_map (event_in text order s.id) (numbered text)) ≡ Some es →
+  pub stream_is : (s : Stream) (h : StreamHead) (es : List EventClass) → IsHead text order s h → all_there (filter_map (event_in text order s.id) (numbered text)) ≡ Some es →
       stream_class text order s ≡ Some (joined h es)
   stream_is s h es head events =
       then_is _ (scope_class text order (home_of_stream text s.block) PacketContext) h.packet_context head.packet_context
@@ -40,7 +40,7 @@ module _ (text : List Declaration) (order : Order) where
       ∙ then_is _ (all_there (filter_map (event_in text order s.id) (numbered text))) es events
       ∙ (λ j. Some (record { id = sym head.id j; packet_context = h.packet_context; event_header = h.event_header; event_context = h.event_context; clock = sym head.clock j; events = es }))
 
-  pub streams_are : (ss : List Stream) (hs : List Head) (ess : List (List EventClass)) → AreHeads text order ss hs → AreEvents ss ess →
+  pub streams_are : (ss : List Stream) (hs : List StreamHead) (ess : List (List EventClass)) → AreHeads text order ss hs → AreEvents ss ess →
       all_there (map (stream_class text order) ss) ≡ Some (joined_all hs ess)
   streams_are [] [] [] h e = refl
   streams_are [] [] (es ∷ ess) h e = absurd e
@@ -51,7 +51,7 @@ module _ (text : List Declaration) (order : Order) where
       ap (λ o. all_there (o ∷ map (stream_class text order) ss)) (stream_is s x es h.0 e.0)
       ∙ ap (option_map (λ others. joined x es ∷ others)) (streams_are ss hs ess h.1 e.1)
 
-  pub class_is : (entries : List BlockEntry) (n : ℕ) (rows : List Linked) (hs : List Head) (ess : List (List EventClass)) →
+  pub class_is : (entries : List BlockEntry) (n : ℕ) (rows : List Linked) (hs : List StreamHead) (ess : List (List EventClass)) →
       first (filter_map trace_entries text) ≡ Some entries → (value_at entries (codes "byte_order") >>= trace_order_of) ≡ Some order →
       trace_of text ≡ Some n → AreLinked text order (numbered text) rows →
       AreHeads text order (streams text) hs → AreEvents (streams text) ess →

@@ -11,11 +11,11 @@ use Rattle.ctf_meaning.specs.There.{first}
 use Rattle.ctf_meaning.specs.Streams.{Stream, stream_by, stream_of, streams, home_of_stream}
 use Rattle.ctf_meaning.specs.Faults.{link_faults, clocks_moved, has_other}
 use Rattle.ctf_meaning.specs.Denotes.{scope_class, event_class, trace_entries}
-use Rattle.ctf_types.specs.declared.linked.Head.{Head}
+use Rattle.ctf_types.specs.declared.linked.StreamHead.{StreamHead}
 use Rattle.ctf_types.specs.declared.linked.Linked.{Linked}
 use Rattle.ctf_types.specs.declared.linked.Linked.TheVariants as linked
 
-abbrev pub joined : Head → List EventClass → StreamClass
+abbrev pub joined : StreamHead → List EventClass → StreamClass
 joined head events = record {
   id = head.id;
   packet_context = head.packet_context;
@@ -25,13 +25,13 @@ joined head events = record {
   events = events;
 }
 
-abbrev pub joined_all : List Head → List (List EventClass) → List StreamClass
+abbrev pub joined_all : List StreamHead → List (List EventClass) → List StreamClass
 joined_all [] events = []
 joined_all (h ∷ hs) [] = []
 joined_all (h ∷ hs) (es ∷ ess) = joined h es ∷ joined_all hs ess
 
 -- what stands in the rows
-abbrev pub head_in : Linked → Option Head
+abbrev pub head_in : Linked → Option StreamHead
 head_in (linked.Stream head) = Some head
 head_in _ = None
 
@@ -43,7 +43,7 @@ abbrev pub event_at : ℕ → Linked → Option EventClass
 event_at place (linked.Event stream e) = if nat_eq stream place then Some e else None
 event_at place _ = None
 
-abbrev pub heads_in : List Linked → List Head
+abbrev pub heads_in : List Linked → List StreamHead
 heads_in rows = filter_map head_in rows
 
 abbrev pub events_at : ℕ → List Linked → List EventClass
@@ -54,7 +54,7 @@ header_of rows = option_and_then (λ h. h) (first (filter_map header_in rows))
 
 module _ (text : List Declaration) (order : Order) where
   -- the stream class of a stream, without its events
-  pub record IsHead (s : Stream) (h : Head) : Type 0 where
+  pub record IsHead (s : Stream) (h : StreamHead) : Type 0 where
     pub id : h.id ≡ s.id
     pub packet_context : scope_class text order (home_of_stream text s.block) PacketContext ≡ Some h.packet_context
     pub event_header : scope_class text order (home_of_stream text s.block) EventHeader ≡ Some h.event_header

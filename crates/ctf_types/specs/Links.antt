@@ -10,7 +10,7 @@ use Rattle.ctf_meaning.specs.There.{first, only}
 use Rattle.ctf_meaning.specs.Streams.{Stream, home_of_stream}
 use Rattle.ctf_meaning.specs.Faults.{scope_links, clocks_moved, has_other}
 use Rattle.ctf_meaning.specs.Denotes.{scope_class}
-use Rattle.ctf_types.specs.declared.linked.Head.{Head}
+use Rattle.ctf_types.specs.declared.linked.StreamHead.{StreamHead}
 use Rattle.ctf_types.specs.declared.link.MovedClock.{MovedClock}
 use Rattle.ctf_types.specs.Gathered.{IsHead}
 
@@ -25,7 +25,7 @@ module _ (text : List Declaration) (order : Order) where
     pub made : scope_class text order (record { trace = Some k; stream = None; event = None }) PacketHeader ≡ Some c
 
   -- the stream class of this id by the stream block of this number
-  pub record HasHead (k : ℕ) (id : ℕ) (h : Head) : Type 0 where
+  pub record HasHead (k : ℕ) (id : ℕ) (h : StreamHead) : Type 0 where
     pub clean : scope_links text (home_of_stream text (Some k)) StreamKind ≡ []
     pub head : IsHead text order (record { block = Some k; id = id }) h
 

@@ -8,18 +8,18 @@ use Rattle.ctf_meaning.specs.Name.{Word}
 use Rattle.ctf_meaning.specs.Written.{Declaration}
 use Rattle.ctf_meaning.specs.Faults.{faults}
 use Rattle.ctf_meaning.specs.Denotes.{class_of_text, host_of}
-use Rattle.ctf_walk.specs.Blocks.{Placed, Walked, text_told}
+use Rattle.ctf_meaning_steps.specs.Blocks.{Placed, Walked, text_told}
 use Rattle.ctf_types.specs.declared.gather.Parts.{Parts}
-use Rattle.ctf_types.specs.declared.linked.Head.{Head}
+use Rattle.ctf_types.specs.declared.linked.StreamHead.{StreamHead}
 use Rattle.ctf_types.specs.declared.trace.TraceAt.{TraceAt}
 use Rattle.ctf_types.specs.Gone.{AllGiven}
 use Rattle.ctf_types.specs.Whole.{HasNoOwn, IsTraceOf}
 
 -- the head of a stream without a block
-abbrev pub plain_head : Head
+abbrev pub plain_head : StreamHead
 plain_head = record { id = 0; packet_context = None; event_header = None; event_context = None; clock = None; has_several = false }
 
-abbrev pub or_plain_head : List Head → List Head
+abbrev pub or_plain_head : List StreamHead → List StreamHead
 or_plain_head [] = plain_head ∷ []
 or_plain_head (h ∷ hs) = h ∷ hs
 

@@ -16,8 +16,8 @@ use Rattle.ctf_meaning.specs.Scopes as meaning
 use Rattle.ctf_meaning.specs.Scopes.{scope_at, scope_of, spot_of}
 use Rattle.ctf_meaning.specs.Shapes.{Shape, has_float}
 use Rattle.ctf_meaning.specs.Streams.{streams, trace_of}
-use Rattle.ctf_walk.specs.Laws.{class_in_row}
-use Rattle.ctf_declared.specs.Courses.{placed_seen}
+use Rattle.ctf_meaning_steps.specs.Laws.{class_in_row}
+use Rattle.ctf_declarations.specs.DeclaredSoFar.{placed_seen}
 use Rattle.ctf_types.specs.Whole.{HasNoOwn, AreSettled, ArePlaced, stream_at}
 use Rattle.ctf_types.specs.declared.home.Home.{Home}
 use Rattle.ctf_types.specs.declared.text.Text.{Text}

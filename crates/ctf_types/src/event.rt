@@ -71,7 +71,7 @@ impl<'a> Text<'a> {
             (λ f. (f ≡ fault.NoMemory) ⊎
             Contains (scope_links text (home_by home.now) kind.Event) f) }
     {
-        let heading = Heading::new(alloc, copied(alloc, self.host)?, event.name)?;
+        let heading = Heading::new(alloc, copy_host(alloc, self.host)?, event.name)?;
         let context = self.class(alloc, home, Scope::EventContext)?;
         let fields = self.class(alloc, home, Scope::EventFields)?;
         match fields {
@@ -88,7 +88,7 @@ impl<'a> Text<'a> {
 }
 
 /// A host once more.
-pub fn copied(alloc: Global, host: Option<&[u8]>) -> Result<Option<List<u8>>, AllocError>
+pub fn copy_host(alloc: Global, host: Option<&[u8]>) -> Result<Option<List<u8>>, AllocError>
     ensures { IfOk result (λ copy. copy ≡ option_copied host.entry) }
 {
     match host {

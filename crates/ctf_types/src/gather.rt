@@ -4,7 +4,7 @@ ghost use Rattle.std.specs.Prelude.{◌≡◌, [], ◌∷◌, ◌++◌, List, le
 ghost use Rattle.ctf_types.specs.declared.linked.Linked.{Linked as row_of};
 ghost use Rattle.ctf_types.specs.Parted.{IsParted, IsBelow};
 
-use crate::linked::{Head, Linked};
+use crate::linked::{Linked, StreamHead};
 use ctf_class::{Class, EventClass};
 use ctf_list::{List, NoMemory};
 use std::alloc::Global;
@@ -15,7 +15,7 @@ pub struct Parts {
     /// The class of the packet header, of each trace block.
     pub headers: List<Option<Class>>,
     /// The streams without their events.
-    pub heads: List<Head>,
+    pub heads: List<StreamHead>,
     /// The events of each stream.
     pub events: List<List<EventClass>>,
 }

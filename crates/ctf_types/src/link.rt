@@ -7,19 +7,19 @@ ghost use Rattle.ctf_meaning.specs.Streams.{home_of_stream};
 ghost use Rattle.ctf_meaning.specs.Written.{Declaration as WrittenDeclaration};
 ghost use Rattle.ctf_meaning.specs.Faults.{scope_links};
 ghost use Rattle.ctf_class.specs.declared.trace.Clock.{Clock};
-ghost use Rattle.ctf_linked.specs.MovedClocks.{Tells};
+ghost use Rattle.ctf_paths.specs.MovedClocks.{Tells};
 ghost use Rattle.ctf_types.specs.Texts.{IsText, home_by, scope_moves};
 ghost use Rattle.ctf_types.specs.Whole.{stream_at};
 ghost use Rattle.ctf_types.specs.Links.{IsHeader, HasHead, IsMoved, stream_said};
 
 use crate::home::Home;
-use crate::linked::Head;
+use crate::linked::StreamHead;
 use crate::streams::StreamAt;
 use crate::text::Text;
 use ctf_class::{Class, Clock, Scope};
-use ctf_linked::{Moved, scope_moved};
 use ctf_list::NoMemory;
 use ctf_meaning::ResolveFault;
+use ctf_paths::{Moved, scope_moved};
 use std::alloc::{AllocError, Global};
 
 /// The clock of a stream class.
@@ -54,7 +54,7 @@ impl<'a> Text<'a> {
     }
 
     /// A stream class without its events, by a stream block.
-    pub fn head(&self, alloc: Global, number: usize, id: u64) -> Result<Head, ResolveFault>
+    pub fn head(&self, alloc: Global, number: usize, id: u64) -> Result<StreamHead, ResolveFault>
         ghost text: { List WrittenDeclaration }
         requires { IsText text self.now }
         ensures { MatchResult result
@@ -71,7 +71,7 @@ impl<'a> Text<'a> {
         let packet_context = self.class(alloc, &home, Scope::PacketContext)?;
         let event_header = self.class(alloc, &home, Scope::EventHeader)?;
         let event_context = self.class(alloc, &home, Scope::StreamEventContext)?;
-        Ok(Head {
+        Ok(StreamHead {
             id,
             packet_context,
             event_header,
@@ -92,10 +92,10 @@ impl<'a> Text<'a> {
             stream: Some(number),
             event: None,
         };
-        let moved = self.moved(alloc, &home, Scope::PacketContext, Moved::none())?;
-        let moved = self.moved(alloc, &home, Scope::EventHeader, moved)?;
-        let moved = self.moved(alloc, &home, Scope::StreamEventContext, moved)?;
-        let clock = copied(moved.first)?;
+        let moved = self.clocks_of_scope(alloc, &home, Scope::PacketContext, Moved::none())?;
+        let moved = self.clocks_of_scope(alloc, &home, Scope::EventHeader, moved)?;
+        let moved = self.clocks_of_scope(alloc, &home, Scope::StreamEventContext, moved)?;
+        let clock = copy_clock(moved.first)?;
         Ok(MovedClock {
             clock,
             has_several: moved.has_other,
@@ -103,7 +103,7 @@ impl<'a> Text<'a> {
     }
 
     /// The clocks that the integers of a scope move, behind those moved so far.
-    fn moved(
+    fn clocks_of_scope(
         &self,
         alloc: Global,
         home: &Home,
@@ -137,7 +137,7 @@ impl<'a> Text<'a> {
 }
 
 /// A clock once more.
-fn copied(clock: Option<&Clock>) -> Result<Option<Clock>, AllocError>
+fn copy_clock(clock: Option<&Clock>) -> Result<Option<Clock>, AllocError>
     ensures { IfOk result (λ copy. copy ≡ option_copied clock.entry) }
 {
     let Some(clock) = clock else {

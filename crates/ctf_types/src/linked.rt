@@ -9,7 +9,7 @@ use std::alloc::Global;
 
 /// A stream class without its events.
 #[derive(Drop)]
-pub struct Head {
+pub struct StreamHead {
     pub id: u64,
     pub packet_context: Option<Class>,
     pub event_header: Option<Class>,
@@ -27,14 +27,14 @@ pub enum Linked {
     /// A trace block: the class of the packet header.
     Trace(Option<Class>),
     /// A stream block.
-    Stream(Head),
+    Stream(StreamHead),
     /// An event block: the place of its stream among the streams, and its class.
     Event(usize, EventClass),
     /// Another declaration.
     Other,
 }
 
-impl Head {
+impl StreamHead {
     /// The stream class with its events, and with plans of their records as far as there is room.
     pub fn with_events(
         self,

@@ -4,7 +4,7 @@ ghost use Rattle.std.specs.Prelude.{◌≡◌, ◌⊎◌, List, Some, map, Match
 ghost use Rattle.ctf_meaning.specs.There.{first};
 ghost use Rattle.ctf_types.specs.declared.trace.TraceAt.{TraceAt};
 ghost use Rattle.std.specs.List.{list_any};
-ghost use Rattle.ctf_declared.specs.Courses.{placed_seen};
+ghost use Rattle.ctf_declarations.specs.DeclaredSoFar.{placed_seen};
 ghost use Rattle.ctf_meaning.specs.declared.fault.ResolveFault.TheVariants as fault;
 ghost use Rattle.ctf_meaning.specs.Denotes.{Denotes, Faulty};
 ghost use Rattle.ctf_meaning.specs.Reading.{declaration_of};
@@ -13,19 +13,19 @@ ghost use Rattle.ctf_types.specs.Gathered.{joined_all};
 ghost use Rattle.ctf_types.specs.Resolved.{IsWalked, Resolves, IsFinished, or_plain_head};
 
 use crate::clocks::clocks;
-use crate::event::copied;
+use crate::event::copy_host;
 use crate::gather::Parts;
-use crate::linked::Head;
+use crate::linked::StreamHead;
 use crate::streams::streams;
 use crate::text::Text;
 use crate::trace::{TraceAt, trace};
 use ctf_attributes::host;
 use ctf_bits::Order;
 use ctf_class::{Class, EventClass, Indexed, PlanRoom, StreamClass, TraceClass};
-use ctf_declared::{ScopeShape, declared};
-use ctf_linked::Clocks;
+use ctf_declarations::{ScopeShape, scope_classes};
 use ctf_list::{List, NoMemory};
 use ctf_meaning::ResolveFault;
+use ctf_paths::Clocks;
 use std::alloc::Global;
 use tsdl_tree::{Declaration, Tree};
 
@@ -36,7 +36,7 @@ pub fn resolve(alloc: Global, tree: &Tree) -> Result<TraceClass, ResolveFault>
     ensures { MatchResult result (Denotes tree.now) (λ f. (f ≡ fault.NoMemory) ⊎
         Faulty tree.now f) }
 {
-    match declared(alloc, tree) {
+    match scope_classes(alloc, tree) {
         Ok(rows) => resolve_walked(alloc, tree.declarations.as_slice(), rows.as_slice()),
         Err(fault) => Err(fault),
     }
@@ -67,7 +67,7 @@ fn resolve_walked(
         host,
     };
     match text.link(alloc, declarations) {
-        Ok(parts) => finished(alloc, trace, host, parts),
+        Ok(parts) => trace_class_of(alloc, trace, host, parts),
         Err(fault) => Err(fault),
     }
 }
@@ -93,7 +93,7 @@ fn number_of(trace: Option<TraceAt>) -> Option<usize>
 }
 
 /// The trace class from its parts.
-fn finished(
+fn trace_class_of(
     alloc: Global,
     trace: Option<TraceAt>,
     host: Option<&[u8]>,
@@ -110,22 +110,22 @@ fn finished(
     if has_several(heads.as_slice()) {
         return Err(ResolveFault::Clock);
     }
-    let streams = joined(alloc, heads, parts.events)?;
+    let streams = join_events(alloc, heads, parts.events)?;
     Ok(TraceClass {
         uuid: trace.settings.uuid,
-        host: copied(alloc, host)?,
+        host: copy_host(alloc, host)?,
         streams: Indexed::new(alloc, streams)?,
         packet_header: header_of(parts.headers),
     })
 }
 
 /// The streams, or the one without a block where there is none.
-fn or_plain(heads: List<Head>) -> Result<List<Head>, NoMemory>
+fn or_plain(heads: List<StreamHead>) -> Result<List<StreamHead>, NoMemory>
     ensures { IfOk result (λ some. some ≡ or_plain_head heads) }
 {
     let mut heads = heads;
     if heads.is_empty() {
-        heads.push(Head {
+        heads.push(StreamHead {
             id: 0,
             packet_context: None,
             event_header: None,
@@ -138,16 +138,16 @@ fn or_plain(heads: List<Head>) -> Result<List<Head>, NoMemory>
 }
 
 /// Whether the integers of a stream move several clocks.
-fn has_several(heads: &[Head]) -> bool
+fn has_several(heads: &[StreamHead]) -> bool
     ensures { result ≡ list_any (λ h. h.has_several) heads.now }
 {
     heads.iter().any(|head| head.has_several)
 }
 
 /// The streams with their events.
-fn joined(
+fn join_events(
     alloc: Global,
-    heads: List<Head>,
+    heads: List<StreamHead>,
     events: List<List<EventClass>>,
 ) -> Result<List<StreamClass>, NoMemory>
     ensures { IfOk result (λ streams. streams ≡ joined_all heads events) }

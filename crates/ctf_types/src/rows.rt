@@ -2,14 +2,14 @@
 
 ghost use Rattle.std.specs.Prelude.{◌≡◌, map, option_map, option_copied};
 ghost use Rattle.ctf_meaning.specs.Paths.{rank};
-ghost use Rattle.ctf_shape.specs.Knowns.{known};
-ghost use Rattle.ctf_walk.specs.Laws.{class_among, class_in_row};
-ghost use Rattle.ctf_declared.specs.Courses.{placed_seen};
+ghost use Rattle.ctf_declared_class.specs.Knowns.{known};
+ghost use Rattle.ctf_meaning_steps.specs.Laws.{class_among, class_in_row};
+ghost use Rattle.ctf_declarations.specs.DeclaredSoFar.{placed_seen};
 
 use ctf_class::Scope;
-use ctf_declared::ScopeShape;
+use ctf_declarations::ScopeShape;
+use ctf_declared_class::Known;
 use ctf_list::List;
-use ctf_shape::Known;
 
 /// The class that a declaration gives to a scope.
 pub fn class_in<'a>(rows: &'a [List<ScopeShape>], number: usize, scope: Scope) -> Option<&'a Known>

@@ -2,10 +2,10 @@
 
 ghost use Rattle.std.specs.Prelude.{◌≡◌, ◌⊎◌, List, map, option_map, option_and_then, option_copied, Contains, IfOk, MatchResult};
 ghost use Rattle.ctf_meaning.specs.declared.fault.ResolveFault.TheVariants as fault;
-ghost use Rattle.ctf_linked.specs.Spots.{earlier_by};
+ghost use Rattle.ctf_paths.specs.Spots.{earlier_by};
 ghost use Rattle.ctf_meaning.specs.Scopes.{scope_of, frame_by, frames_before};
 ghost use Rattle.ctf_meaning.specs.Written.{Declaration as WrittenDeclaration};
-ghost use Rattle.ctf_shape.specs.Knowns.{known};
+ghost use Rattle.ctf_declared_class.specs.Knowns.{known};
 ghost use Rattle.ctf_types.specs.Texts.{IsText, IsScopeLinked, scope_fails, home_by};
 
 use crate::home::{Home, scopes_before};
@@ -13,11 +13,11 @@ use crate::rows::class_in;
 use crate::streams::StreamAt;
 use ctf_bits::Order;
 use ctf_class::{Class, Indexed, Scope};
-use ctf_declared::ScopeShape;
-use ctf_linked::{Clocks, Earlier, scope_class};
+use ctf_declarations::ScopeShape;
+use ctf_declared_class::{Known, Shape};
 use ctf_list::{List, NoMemory};
 use ctf_meaning::ResolveFault;
-use ctf_shape::{Known, Shape};
+use ctf_paths::{Clocks, Earlier, scope_class};
 use std::alloc::Global;
 
 /// What is known of a text of which no declaration has a fault of its own.

@@ -17,9 +17,9 @@ use Rattle.ctf_packet.specs.declared.fault.StreamFault.{StreamFault}
 use Rattle.ctf_packet.specs.declared.fault.StreamFault.TheVariants as faults
 use Rattle.ctf_packet.proofs.Going.{first}
 use Rattle.ctf_packet.proofs.Measures.{possible}
-use Rattle.ctf_front.specs.Wants.{Begun, Want, more, whole, rest, faulty, asked_at, or_faulty, wanted}
-use Rattle.ctf_front.proofs.Following.{follow, behind_stream, behind_header, wants}
-use Rattle.ctf_front.proofs.Telling.{wants_tell}
+use Rattle.ctf_packet_demand.specs.Wants.{Begun, Want, more, whole, rest, faulty, asked_at, or_faulty, wanted}
+use Rattle.ctf_packet_demand.proofs.Following.{follow, behind_stream, behind_header, wants}
+use Rattle.ctf_packet_demand.proofs.Telling.{wants_tell}
 use Rattle.stream_laws.specs.Holding.{is_rest}
 use Rattle.stream_laws.proofs.Named.{same, there}
 

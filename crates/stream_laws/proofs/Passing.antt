@@ -13,7 +13,7 @@ use Rattle.ctf_packet.specs.declared.reached.Reached.{Reached}
 use Rattle.ctf_packet.specs.declared.fault.StreamFault.{StreamFault}
 use Rattle.ctf_packet.specs.declared.fault.StreamFault.TheVariants as faults
 use Rattle.ctf_packet.proofs.Cutting as cutting
-use Rattle.ctf_front.specs.Wants.{wanted}
+use Rattle.ctf_packet_demand.specs.Wants.{wanted}
 use Rattle.stream_laws.specs.Holding.{packet_end, packet_start, is_rest, is_in_rest, IsHeld}
 use Rattle.stream_laws.proofs.Splitting.{IsOf, Within, Behind, empty, packet_splits}
 use Rattle.stream_laws.proofs.Again.{Sized, Resting, opened_how, sized_length, sized_ends, opens_again, rest_at_first}
@@ -47,12 +47,12 @@ module _ {C : Type 0} (trace : TraceForm C) where
 
   -- where the packet of an item stands, among the bytes from a place on; where it is the rest of the stream, this ends
   -- with it, cleanly
-  abbrev Ahead : Ending → ℕ → List ℕ → Item C → Type 0
-  Ahead ending at left x =
+  abbrev Peeked : Ending → ℕ → List ℕ → Item C → Type 0
+  Peeked ending at left x =
       (at ≤ packet_start x) × (packet_start x < packet_end x) × (packet_end x ≤ at + length left) × (is_rest (wanted trace None (drop (packet_start x - at) left)) ≡ true → (ending ≡ Clean) × (packet_end x ≡ at + length left))
 
   abbrev Holds : Ending → Ending → Option Reached → ℕ → List ℕ → List ℕ → List (Item C) → Item C → Type 0
-  Holds ending other reached at left more_bytes first x = Ahead ending at left x × (Ends other at left more_bytes x → Same other reached at left more_bytes first x)
+  Holds ending other reached at left more_bytes first x = Peeked ending at left x × (Ends other at left more_bytes x → Same other reached at left more_bytes first x)
 
   -- the packet's own bytes, with others behind them
   sized_again : (other : Ending) (reached : Option Reached) (at : ℕ) (left : List ℕ) (p : Opened C) (ys : List ℕ) → nat_lt longest_stream at ≡ false → Sized trace reached at left p
@@ -104,7 +104,7 @@ module _ {C : Type 0} (trace : TraceForm C) where
   -- an item of the packet at a place
   stands_there : (ending : Ending) (at : ℕ) (left : List ℕ) (x : Item C) (p : Opened C) → p.start ≡ at → 1 ≤ p.end - p.start → p.end ≤ at + length left
       → (is_rest (wanted trace None left) ≡ true → (ending ≡ Clean) × (p.end ≡ at + length left))
-      → IsOf p x → (packet_start x ≡ at) × Ahead ending at left x
+      → IsOf p x → (packet_start x ≡ at) × Peeked ending at left x
   stands_there ending at left x p starts some there last of =
       let e = of.0 in
       let l = of.1 in

@@ -4,7 +4,7 @@ use Rattle.ctf_bits.specs.declared.source.Ending.{Ending}
 use Rattle.ctf_bits.specs.declared.source.Ending.TheVariants.{Clean}
 use Rattle.ctf_packet.specs.Classes.{TraceForm}
 use Rattle.ctf_packet.specs.Items.{Item, event, discarded, lost}
-use Rattle.ctf_front.specs.Wants.{Want, more, whole, rest, faulty, wanted}
+use Rattle.ctf_packet_demand.specs.Wants.{Want, more, whole, rest, faulty, wanted}
 
 -- where the packet of an item ends in its stream, and how long it is, in bytes
 abbrev pub packet_end : {C : Type 0} → Item C → ℕ

@@ -9,7 +9,7 @@ use crate::classes::{class, type_declaration};
 use crate::failure::{Failure, Read};
 use crate::part::{Part, many};
 use crate::settings::{attributes, path, setting_behind};
-use crate::terminals::{begins, closed, expect, goes_on, has_more, open};
+use crate::terminals::{begins, end_with, expect, goes_on, has_more, open};
 use std::alloc::Global;
 use tsdl_text::{Symbol, Token};
 use tsdl_tree::{BlockEntry, BlockKind, Declaration, Path, TableKind};
@@ -39,7 +39,7 @@ fn class_behind<'t, 'a>(
 {
     let rest = expect(Symbol::Assign, tokens)?;
     let (class, rest) = class(alloc, false, depth, rest)?;
-    let (class, rest) = closed(class, Symbol::Semicolon, rest)?;
+    let (class, rest) = end_with(class, Symbol::Semicolon, rest)?;
     Ok((BlockEntry::Class { name, class }, rest))
 }
 
@@ -124,8 +124,8 @@ fn block<'t, 'a>(
     let rest = open(depth, tokens)?;
     let inner = Entry { depth: depth - 1 };
     let (entries, rest) = many(alloc, &inner, rest)?;
-    let (entries, rest) = closed(entries, Symbol::CloseBrace, rest)?;
-    let (entries, rest) = closed(entries, Symbol::Semicolon, rest)?;
+    let (entries, rest) = end_with(entries, Symbol::CloseBrace, rest)?;
+    let (entries, rest) = end_with(entries, Symbol::Semicolon, rest)?;
     Ok((Declaration::Block { kind, entries }, rest))
 }
 
@@ -141,7 +141,7 @@ fn table<'t, 'a>(
     ensures shorter { IfOk result (λ x. length x.1.now < length tokens.now) }
 {
     let (settings, rest) = attributes(alloc, depth, tokens)?;
-    let (settings, rest) = closed(settings, Symbol::Semicolon, rest)?;
+    let (settings, rest) = end_with(settings, Symbol::Semicolon, rest)?;
     Ok((Declaration::Table { kind, settings }, rest))
 }
 

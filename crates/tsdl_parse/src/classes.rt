@@ -6,12 +6,12 @@ ghost use Rattle.tsdl_grammar.specs.Steps.{all, begins, begins_compound, before_
 ghost use Rattle.tsdl_grammar.specs.Reading.{align_at, tag_at, integer_at, floating_point_at, string_at, class_declared, fields_behind, compound_behind, struct_at, variant_at, compound_at, class_at, alias_name_at, alias_at, definition_at, typedecl_at, item_at, body_at};
 ghost use Rattle.tsdl_parse.specs.Gives.{Gives};
 
-use crate::declarators::declared;
+use crate::declarators::declarator_list;
 use crate::enums::enumeration;
 use crate::failure::{Failure, Read};
 use crate::part::{Part, at_most_one, room_for, start};
 use crate::settings::{attributes, path};
-use crate::terminals::{OwnName, begins, closed, constant, expect, goes_on, open, past};
+use crate::terminals::{OwnName, begins, constant, end_with, expect, goes_on, open, past};
 use crate::typenames::typename;
 use ctf_list::List;
 use std::alloc::Global;
@@ -40,7 +40,7 @@ impl Part for OwnAlign {
         let rest = expect(Symbol::Align, tokens)?;
         let rest = expect(Symbol::OpenParen, rest)?;
         let (align, rest) = constant(rest)?;
-        closed(align, Symbol::CloseParen, rest)
+        end_with(align, Symbol::CloseParen, rest)
     }
 
     ghost stops = { λ _. refl };
@@ -65,7 +65,7 @@ impl Part for OwnTag {
     fn read<'t, 'a>(&self, alloc: Global, tokens: &'t [Token<'a>]) -> Read<'t, 'a, Path> {
         let rest = expect(Symbol::Less, tokens)?;
         let (tag, rest) = path(alloc, rest)?;
-        closed(tag, Symbol::Greater, rest)
+        end_with(tag, Symbol::Greater, rest)
     }
 
     ghost stops = { λ _. refl };
@@ -130,7 +130,7 @@ fn class_declared<'t, 'a>(
     ensures reads { Gives (λ x. (x.0, x.1.now)) result (class_declared class tokens.now) }
     ensures shorter { IfOk result (λ x. length x.1.now < length tokens.now) }
 {
-    let (declarators, rest) = declared(alloc, tokens)?;
+    let (declarators, rest) = declarator_list(alloc, tokens)?;
     Ok(((class, declarators), rest))
 }
 
@@ -265,7 +265,7 @@ fn alias_name<'t, 'a>(alloc: Global, tokens: &'t [Token<'a>]) -> Read<'t, 'a, Ty
 {
     let rest = expect(Symbol::Assign, tokens)?;
     let (name, rest) = typename(alloc, false, rest)?;
-    closed(name, Symbol::Semicolon, rest)
+    end_with(name, Symbol::Semicolon, rest)
 }
 
 /// `typealias class := name;`
@@ -378,5 +378,5 @@ fn body<'t, 'a>(alloc: Global, depth: u32, tokens: &'t [Token<'a>]) -> Read<'t, 
 {
     let rest = open(depth, tokens)?;
     let (items, rest) = items(alloc, depth - 1, rest)?;
-    closed(items, Symbol::CloseBrace, rest)
+    end_with(items, Symbol::CloseBrace, rest)
 }

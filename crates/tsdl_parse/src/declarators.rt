@@ -9,7 +9,7 @@ ghost use Rattle.tsdl_parse.specs.Gives.{Gives};
 use crate::failure::{Failure, Read};
 use crate::part::{Part, many, more};
 use crate::settings::path;
-use crate::terminals::{begins, closed, expect, identifier};
+use crate::terminals::{begins, end_with, expect, identifier};
 use ctf_list::List;
 use std::alloc::Global;
 use tsdl_text::{Kind, Symbol, Token};
@@ -52,7 +52,7 @@ impl Part for Bracketed {
     fn read<'t, 'a>(&self, alloc: Global, tokens: &'t [Token<'a>]) -> Read<'t, 'a, Length> {
         let rest = expect(Symbol::OpenBracket, tokens)?;
         let (bound, rest) = bound(alloc, rest)?;
-        closed(bound, Symbol::CloseBracket, rest)
+        end_with(bound, Symbol::CloseBracket, rest)
     }
 
     ghost stops = { λ _. refl };
@@ -105,7 +105,7 @@ fn declarators<'t, 'a>(alloc: Global, tokens: &'t [Token<'a>]) -> Read<'t, 'a, L
 
 /// `declarator, ..;`
 #[tactic(auto, unfolding(tsdl_grammar::specs::Reading::declared_at))]
-pub(crate) fn declared<'t, 'a>(
+pub(crate) fn declarator_list<'t, 'a>(
     alloc: Global,
     tokens: &'t [Token<'a>],
 ) -> Read<'t, 'a, List<Declarator>>
@@ -113,5 +113,5 @@ pub(crate) fn declared<'t, 'a>(
     ensures shorter { IfOk result (λ x. length x.1.now < length tokens.now) }
 {
     let (declarators, rest) = declarators(alloc, tokens)?;
-    closed(declarators, Symbol::Semicolon, rest)
+    end_with(declarators, Symbol::Semicolon, rest)
 }

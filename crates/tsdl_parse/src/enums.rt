@@ -9,7 +9,7 @@ ghost use Rattle.tsdl_parse.specs.Gives.{Gives};
 use crate::failure::{Failure, Read};
 use crate::part::{Part, at_most_one, more};
 use crate::settings::{attributes, number};
-use crate::terminals::{OwnName, begins, closed, expect, open, past};
+use crate::terminals::{OwnName, begins, end_with, expect, open, past};
 use crate::typenames::typename;
 use ctf_list::List;
 use std::alloc::Global;
@@ -165,7 +165,7 @@ fn labels<'t, 'a>(alloc: Global, depth: u32, tokens: &'t [Token<'a>]) -> Read<'t
     let rest = open(depth, tokens)?;
     let (first, rest) = label(alloc, rest)?;
     let (labels, rest) = more(alloc, first, &NextLabel, rest)?;
-    closed(labels, Symbol::CloseBrace, past(Symbol::Comma, rest))
+    end_with(labels, Symbol::CloseBrace, past(Symbol::Comma, rest))
 }
 
 /// Whether labels, or the container before them, come first.

@@ -12,7 +12,7 @@ use crate::failure::Failure;
 use crate::fault::SyntaxFault;
 use crate::part::many;
 use std::alloc::Global;
-use tsdl_text::{Line, Token};
+use tsdl_text::{LineNumber, Token};
 use tsdl_tree::Tree;
 
 /// How many braces may stand in one another, those of blocks, bodies, labels and attributes alike.
@@ -35,17 +35,17 @@ fn tree(alloc: Global, tokens: &[Token<'_>]) -> Result<Tree, Failure>
 }
 
 /// The line of the last token, 1 where there is none.
-fn last_line(tokens: &[Token<'_>]) -> Line
+fn last_line(tokens: &[Token<'_>]) -> LineNumber
     ensures { result ≡ last_line tokens.now }
 {
     match tokens {
-        [] => Line::new(1),
+        [] => LineNumber::new(1),
         [.., last] => last.line,
     }
 }
 
 /// The line at which so many tokens were left, but none behind the last token's.
-fn line_at(left: usize, tokens: &[Token<'_>]) -> Line
+fn line_at(left: usize, tokens: &[Token<'_>]) -> LineNumber
     ensures first { 1 ≤ result }
     ensures last { result ≤ last_line tokens.now }
 {

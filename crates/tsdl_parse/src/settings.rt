@@ -8,7 +8,7 @@ ghost use Rattle.tsdl_parse.specs.Gives.{Gives};
 
 use crate::failure::{Failure, Read};
 use crate::part::{Part, many, more};
-use crate::terminals::{begins, closed, constant, expect, goes_on, open, past, word};
+use crate::terminals::{begins, constant, end_with, expect, goes_on, open, past, word};
 use ctf_list::List;
 use std::alloc::Global;
 use tsdl_text::{Symbol, Token};
@@ -109,7 +109,7 @@ pub(crate) fn setting_behind<'t, 'a>(
 {
     let rest = expect(Symbol::Equals, tokens)?;
     let (value, rest) = value(alloc, rest)?;
-    let (value, rest) = closed(value, Symbol::Semicolon, rest)?;
+    let (value, rest) = end_with(value, Symbol::Semicolon, rest)?;
     Ok((Setting { name, value }, rest))
 }
 
@@ -149,5 +149,5 @@ pub(crate) fn attributes<'t, 'a>(
 {
     let rest = open(depth, tokens)?;
     let (settings, rest) = many(alloc, &NextSetting, rest)?;
-    closed(settings, Symbol::CloseBrace, rest)
+    end_with(settings, Symbol::CloseBrace, rest)
 }

@@ -39,7 +39,7 @@ pub(crate) fn expect<'t, 'a>(
 }
 
 /// What was read before the symbol, which must come first, and what follows it.
-pub(crate) fn closed<'t, 'a, T: Drop>(
+pub(crate) fn end_with<'t, 'a, T: Drop>(
     tree: T,
     symbol: Symbol,
     tokens: &'t [Token<'a>],

@@ -2,7 +2,7 @@
 
 ghost use Rattle.std.specs.Prelude.{◌≡◌, ◌≢◌, ℕ, MatchOption};
 
-use crate::line::Line;
+use crate::line::LineNumber;
 use std::alloc::AllocError;
 use thiserror::Error;
 
@@ -29,7 +29,7 @@ pub enum MetaFault {
     TooLong,
     /// S1: on this line there is a place at which no token, blank or comment begins.
     #[error("no token")]
-    NoToken(Line),
+    NoToken(LineNumber),
     /// A growth was refused.
     #[error("no memory")]
     NoMemory,
@@ -37,7 +37,7 @@ pub enum MetaFault {
 
 impl MetaFault {
     /// The line of a place at which no token begins, and `None` of another fault.
-    pub fn line(&self) -> Option<Line>
+    pub fn line(&self) -> Option<LineNumber>
         ensures { MatchOption result
             ((line : ℕ) → self.now ≢ MetaFault.NoToken line)
             (λ line. self.now ≡ MetaFault.NoToken line) }

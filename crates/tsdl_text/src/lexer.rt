@@ -9,7 +9,7 @@ ghost use Rattle.tsdl_text.specs.Scanning.{unmarked_value, constant_value, block
 ghost use Rattle.tsdl_text.specs.Tokens.{newlines, lexeme, Lexes, TokensRefused};
 
 use crate::fault::MetaFault;
-use crate::line::Line;
+use crate::line::LineNumber;
 use crate::string::{character, digit_count, number};
 use crate::token::{Kind, Symbol, Token};
 use std::alloc::Global;
@@ -235,7 +235,7 @@ fn is_suffix(bytes: &[u8]) -> bool
 
 /// The value of digits of a base and a suffix.
 #[tactic(auto, unfolding(crate::specs::Scanning::unmarked_value))]
-fn unmarked(base: u8, bytes: &[u8]) -> Option<u64>
+fn number_of_digits(base: u8, bytes: &[u8]) -> Option<u64>
     requires { 1 ≤ base }
     ensures { result ≡ unmarked_value base bytes.now }
 {
@@ -253,9 +253,9 @@ fn constant(bytes: &[u8]) -> Option<u64>
     ensures { result ≡ constant_value bytes.now }
 {
     match bytes {
-        [b'0', b'x' | b'X', digits @ ..] => unmarked(16, digits),
-        [b'0', ..] => unmarked(8, bytes),
-        _ => unmarked(10, bytes),
+        [b'0', b'x' | b'X', digits @ ..] => number_of_digits(16, digits),
+        [b'0', ..] => number_of_digits(8, bytes),
+        _ => number_of_digits(10, bytes),
     }
 }
 
@@ -327,7 +327,7 @@ pub fn tokens<'a>(alloc: Global, text: &'a [u8]) -> Result<Vec<Token<'a>>, MetaF
     while start < text.len() {
         let rest = &text[start..];
         let Some(extent) = piece(rest) else {
-            return Err(MetaFault::NoToken(Line::new(line)));
+            return Err(MetaFault::NoToken(LineNumber::new(line)));
         };
         let bytes = &rest[..extent.len];
         if let Some(kind) = extent.kind {
@@ -337,7 +337,7 @@ pub fn tokens<'a>(alloc: Global, text: &'a [u8]) -> Result<Vec<Token<'a>>, MetaF
                 kind,
                 text: bytes,
                 start,
-                line: Line::new(line),
+                line: LineNumber::new(line),
             }])?;
         }
         start += extent.len;

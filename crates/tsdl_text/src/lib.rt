@@ -11,6 +11,6 @@ mod token;
 
 pub use fault::MetaFault;
 pub use lexer::tokens;
-pub use line::Line;
+pub use line::LineNumber;
 pub use packet::{HEADER_LEN, MOST_BYTES, metadata_text};
 pub use token::{Kind, Symbol, Token};

@@ -6,11 +6,11 @@ use std::marker::Model;
 
 /// The number of a line, which is at least 1. Contracts see the number.
 #[derive(Clone, Copy, Debug, PartialEq, Eq)]
-pub struct Line {
+pub struct LineNumber {
     number: usize,
 }
 
-impl Model for Line {
+impl Model for LineNumber {
     ghost use Rattle.std.specs.Prelude.{ℕ, ◌≤◌};
 
     ghost Value = { ℕ };
@@ -22,13 +22,13 @@ impl Model for Line {
     ghost inverse = { λ number. record { number = number } };
 }
 
-impl Line {
+impl LineNumber {
     /// The line of this number.
-    pub fn new(number: usize) -> Line
+    pub fn new(number: usize) -> LineNumber
         requires { 1 ≤ number }
         ensures { result ≡ number }
     {
-        Line { number }
+        LineNumber { number }
     }
 
     /// The number, at least 1.

@@ -86,7 +86,7 @@ fn simple_escape(character: u8) -> Option<u8>
 
 /// The character that is written after a backslash, and how many bytes it takes with it.
 #[tactic(auto, unfolding(crate::specs::Strings::escape_at))]
-fn escaped(text: &[u8]) -> Option<(u8, usize)>
+fn escaped_character(text: &[u8]) -> Option<(u8, usize)>
     ensures value { result ≡ escape_at text.now }
     ensures some { IfSome result (λ found. (0 < found.1) × (found.1 ≤ 1 + length text.now)) }
 {
@@ -109,7 +109,7 @@ pub(crate) fn character(text: &[u8]) -> Option<(u8, usize)>
 {
     match text {
         [] => None,
-        [b'\\', rest @ ..] => escaped(rest),
+        [b'\\', rest @ ..] => escaped_character(rest),
         [b'"' | b'\n', ..] => None,
         [byte, ..] => Some((*byte, 1)),
     }

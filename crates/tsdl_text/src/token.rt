@@ -5,7 +5,7 @@ ghost use Rattle.tsdl_text.specs.Symbols.{spelling, is_keyword, is_type_keyword,
 ghost use Rattle.tsdl_text.specs.Characters.{StandsFor};
 ghost use Rattle.tsdl_text.specs.Strings.{string_value};
 
-use crate::line::Line;
+use crate::line::LineNumber;
 use crate::string::string_value;
 use ctf_list::NoMemory;
 use std::alloc::Global;
@@ -183,7 +183,7 @@ pub struct Token<'a> {
     pub kind: Kind,
     pub text: &'a [u8],
     pub start: usize,
-    pub line: Line,
+    pub line: LineNumber,
 }
 
 impl Token<'_> {

@@ -6,7 +6,7 @@ use crate::texts::code_of;
 use ctf_meaning::ResolveFault;
 use ctf_types::resolve;
 use tsdl_parse::{SyntaxFault, parse};
-use tsdl_text::{Line, Token, metadata_text, tokens};
+use tsdl_text::{LineNumber, Token, metadata_text, tokens};
 use tsdl_tree::Tree;
 
 /// Puts words about a metadata text: the code of its fault, with the line where it has one (`S2:1`), or `accepted`; how
@@ -54,7 +54,7 @@ fn put_tree(row: &mut Row<'_>, tree: &Tree) {
 }
 
 /// Puts a code, with the line where there is one.
-fn put_code(row: &mut Row<'_>, lead: &[u8], code: &[u8], line: Option<Line>) {
+fn put_code(row: &mut Row<'_>, lead: &[u8], code: &[u8], line: Option<LineNumber>) {
     row.put(lead);
     row.put(code);
     if let Some(line) = line {

@@ -8,8 +8,8 @@ use ctf_class::TraceClass;
 use ctf_list::{List, NoMemory};
 use ctf_log::line;
 use ctf_merge::{Merge, MergeFault};
-use ctf_stamp::{ClockStyle, Style, Zone};
 use ctf_stream::{Item, OwnedItem};
+use ctf_timestamp::{ClockStyle, Style, Zone};
 use std::alloc::Global;
 
 /// Puts what comes first in the merge of some streams, at the beginning and behind each call.

@@ -8,7 +8,7 @@ use ctf_class::TraceClass;
 use ctf_clock::Shift;
 use ctf_list::{List, NoMemory, Text};
 use ctf_packet::StreamFault;
-use ctf_stream::{OwnedItem, StreamReader, Told};
+use ctf_stream::{CurrentItem, OwnedItem, StreamReader};
 use std::alloc::Global;
 
 /// How long the pieces are in which bytes are given again.
@@ -40,12 +40,12 @@ pub fn put_readers(row: &mut Row<'_>, trace: &TraceClass, asked: &Asked, streams
 
 /// Puts what the reader of a stream tells, and in which pieces the bytes come to the same.
 fn put_stream(row: &mut Row<'_>, stream: Stream<'_>) {
-    let whole = reading(row.alloc, stream, stream.asked.input);
+    let whole = reader_row(row.alloc, stream, stream.asked.input);
     row.put(&whole);
     if let Manner::Whole = stream.asked.input {
         row.put(b"alike in pieces of");
         for piece in PIECES {
-            if reading(row.alloc, stream, Manner::Drip(piece)) == whole {
+            if reader_row(row.alloc, stream, Manner::Drip(piece)) == whole {
                 row.put_number(b" ", piece as i128);
             }
         }
@@ -54,7 +54,7 @@ fn put_stream(row: &mut Row<'_>, stream: Stream<'_>) {
 }
 
 /// What the reader of a stream tells where its bytes come in this manner.
-fn reading(alloc: Global, stream: Stream<'_>, manner: Manner) -> Vec<u8> {
+fn reader_row(alloc: Global, stream: Stream<'_>, manner: Manner) -> Vec<u8> {
     let mut row = Row::new(alloc, "");
     let mut readers = List::new(alloc);
     let added = add_reader(alloc, &mut readers, stream, manner);
@@ -79,7 +79,7 @@ pub fn add_reader<'a>(
     };
     let mut reader = StreamReader::new(alloc, stream.trace, name, source, shift);
     if stream.asked.writes {
-        reader = reader.writing();
+        reader = reader.with_texts();
     }
     Ok(readers.push(reader)?)
 }
@@ -121,8 +121,8 @@ fn put_step(
 /// Puts what stands in front, and answers whether that is an end or a fault. A reader tells an item as it shows it.
 fn put_front(row: &mut Row<'_>, reader: &StreamReader<'_, RowSource>, shown: Shown) -> bool {
     match (reader.told(), reader.head()) {
-        (Some(Told::Item(_)), Some(item)) => put_item(row, &item, shown),
-        (Some(Told::Text(event)), None) => put_text(row, &event),
+        (Some(CurrentItem::Item(_)), Some(item)) => put_item(row, &item, shown),
+        (Some(CurrentItem::Text(event)), None) => put_text(row, &event),
         (None, None) => return put_last(row, reader.fault()),
         _ => row.put(b"an item of which another is told\n"),
     }

@@ -4,7 +4,7 @@ use crate::row::Row;
 use crate::value::words::text_of;
 use ctf_class::Class;
 use ctf_decode::Value;
-use ctf_text::value_text;
+use ctf_format::value_text;
 use std::alloc::Global;
 
 /// Puts how many numbers begin with these digits, and a line before for each of which others are shown.

@@ -1,6 +1,6 @@
 //! Class numbers and stamps of event records.
 
-use crate::row::{Row, decoded};
+use crate::row::{Row, bytes_of_digits};
 use crate::value::decoding::put_fault;
 use crate::value::place::Place;
 use ctf_class::Class;
@@ -36,7 +36,7 @@ pub fn put_row(row: &mut Row<'_>, class: &Class) {
 /// Puts what a header says, or its fault.
 fn put_header(row: &mut Row<'_>, class: &Class, header: &str, making: &mut Making) {
     let (range, digits) = header.split_once(' ').unwrap_or((header, ""));
-    let bytes = decoded(row.alloc, digits);
+    let bytes = bytes_of_digits(row.alloc, digits);
     if let Some(place) = Place::new(range, &bytes) {
         put_place(row, class, place, making);
     }
@@ -61,14 +61,14 @@ fn put_place(row: &mut Row<'_>, class: &Class, place: Place<'_>, making: &mut Ma
 
 /// Puts what the value of a header says, in place of other stamps.
 fn put_read(row: &mut Row<'_>, class: &Class, value: &Value) {
-    match moved(row.alloc, class, value) {
+    match header_stamps(row.alloc, class, value) {
         Ok(stamps) => put_said(row, last_id(class, value), &stamps),
         Err(_) => row.put(b"no memory"),
     }
 }
 
 /// The stamps of a header, in place of another one.
-fn moved(alloc: Global, class: &Class, value: &Value) -> Result<Vec<(u32, u64)>, NoMemory> {
+fn header_stamps(alloc: Global, class: &Class, value: &Value) -> Result<Vec<(u32, u64)>, NoMemory> {
     let mut stamps = Vec::new(alloc);
     stamps.push((1, 1))?;
     moving_into(class, value, &mut stamps)?;

@@ -6,8 +6,8 @@ use crate::value::standing::LINE;
 use crate::value::words::values_of;
 use ctf_class::{EventClass, StreamClass};
 use ctf_decode::Value;
+use ctf_format::{put_record, record_text};
 use ctf_list::NoMemory;
-use ctf_text::{put_record, record_text};
 use std::alloc::Global;
 
 /// The classes of an event record, and the text of its packet.
@@ -21,8 +21,8 @@ struct Place<'a> {
 /// The values of an event record.
 #[derive(Clone, Copy)]
 struct Scopes<'a> {
-    shared: Option<&'a Value>,
-    own: Option<&'a Value>,
+    stream_context: Option<&'a Value>,
+    event_context: Option<&'a Value>,
     fields: &'a Value,
 }
 
@@ -46,13 +46,13 @@ pub fn put_row(row: &mut Row<'_>, kind: &str, stream: &StreamClass) {
 fn scopes_of(values: &[Value]) -> Option<Scopes<'_>> {
     match values {
         [fields] => Some(Scopes {
-            shared: None,
-            own: None,
+            stream_context: None,
+            event_context: None,
             fields,
         }),
-        [shared, own, fields] => Some(Scopes {
-            shared: Some(shared),
-            own: Some(own),
+        [stream_context, event_context, fields] => Some(Scopes {
+            stream_context: Some(stream_context),
+            event_context: Some(event_context),
             fields,
         }),
         _ => None,
@@ -81,8 +81,8 @@ fn put_shown(row: &mut Row<'_>, kind: &str, place: Place<'_>, scopes: Scopes<'_>
             place.packet,
             place.stream,
             place.event,
-            scopes.shared,
-            scopes.own,
+            scopes.stream_context,
+            scopes.event_context,
             scopes.fields,
         ),
     };
@@ -96,8 +96,8 @@ fn line_of(alloc: Global, place: Place<'_>, scopes: Scopes<'_>) -> Result<Vec<u8
         place.packet,
         place.stream,
         place.event,
-        scopes.shared,
-        scopes.own,
+        scopes.stream_context,
+        scopes.event_context,
         scopes.fields,
         &mut line,
         5,

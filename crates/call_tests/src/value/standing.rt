@@ -10,7 +10,7 @@ use crate::value::place::Place;
 use crate::value::words::values_of;
 use ctf_class::{Class, RecordPlan, Scope, StreamClass};
 use ctf_decode::Scopes;
-use ctf_text::{Content, Standing, put_planned_record, put_standing};
+use ctf_format::{Content, Standing, put_planned_record, put_standing};
 
 /// What stands in a line, and behind its fifth byte what stood there.
 pub const LINE: &[u8] = b"[12] and what was there";
@@ -63,7 +63,7 @@ fn scopes_of(row: &Row<'_>) -> Scopes {
 
 /// Puts the text of the scopes of an event record at a place.
 pub fn put_planned_row(row: &mut Row<'_>, stream: &StreamClass) {
-    if let Some(planned) = stream.planned(row.long()) {
+    if let Some(planned) = stream.planned_event(row.long()) {
         let range = row.word();
         let bytes = row.bytes();
         if let Some(place) = Place::new(range, &bytes) {

@@ -4,7 +4,7 @@
 //! and `list:N` take the last N values as members or elements, and `option:N` takes the last value as that of the option of
 //! this place.
 
-use crate::row::{Row, decoded};
+use crate::row::{Row, bytes_of_digits};
 use ctf_decode::Value;
 use ctf_list::{Boxed, List};
 use std::alloc::Global;
@@ -56,7 +56,7 @@ fn add_value(alloc: Global, values: &mut Vec<Value>, word: &str) -> Option<()> {
         "i" => Value::Signed(rest.parse::<i64>().ok()?),
         "label" => Value::Label(rest.parse::<i128>().ok()?),
         "text" => text_of(alloc, rest.as_bytes())?,
-        "bytes" => text_of(alloc, &decoded(alloc, rest))?,
+        "bytes" => text_of(alloc, &bytes_of_digits(alloc, rest))?,
         "option" => option_of(alloc, values, rest.parse::<usize>().ok()?)?,
         _ => parts_of(values, kind, rest.parse::<usize>().ok()?)?,
     };

@@ -13,8 +13,8 @@ placed order bytes rest pos n x behind is =
 
 pub returns-then-shift-n-le64-clause-value : goal.returns-then-shift-n-le64-clause-value
 returns-then-shift-n-le64-clause-value c =
-    placed c.args.order c.args.bytes.now c.split_at.result.1.now c.args.pos c.args.n c.windowed.result c.split_at.ensures.back c.windowed.ensures.value
+    placed c.args.order c.args.bytes.now c.split_at.result.1.now c.args.pos c.args.n c.number_in_window.result c.split_at.ensures.back c.number_in_window.ensures.value
 
 pub returns-else-from-ge8-clause-value : goal.returns-else-from-ge8-clause-value
 returns-else-from-ge8-clause-value c =
-    placed c.args.order c.args.bytes.now c.split_at.result.1.now c.args.pos c.args.n c.joined.result c.split_at.ensures.back c.joined.ensures.value
+    placed c.args.order c.args.bytes.now c.split_at.result.1.now c.args.pos c.args.n c.number_of_bytes.result c.split_at.ensures.back c.number_of_bytes.ensures.value

@@ -99,7 +99,7 @@ option_on_demand-returns-clause-value g t c =
 pub value_on_demand-returns-in_err-inner-in-Structure-clause-faulty : goal.value_on_demand-returns-in_err-inner-in-Structure-clause-faulty
 value_on_demand-returns-in_err-inner-in-Structure-clause-faulty g t c = λ tells.
     let fault = c.in_err-inner-in-Structure.field-0.0 in
-    let all = c.opened.new.buffer ++ g.S.Source.left c.opened.new.source in
+    let all = c.opening_end.new.buffer ++ g.S.Source.left c.opening_end.new.source in
     let ending = g.S.Source.ending c.args.source.now in
     let fails = structure_fails c.args.class.now c.args.place.now c.in-Structure.members ending all fault c.in-Structure.is (c.in_err-inner-in-Structure.ensures.faulty tells) in
     let e : c.from_residual.result ≡ Err fault = search rules in
@@ -116,16 +116,16 @@ value_on_demand-returns-in_ok-inner-in-Structure-clause-faulty g t c = λ tells.
     let longer = length-append new left in
     let within : inner.end ≤ min (8 * length (new ++ left)) longest = omega (arith, reached, grown, longer) in
     let same = structure_found c.args.class.now c.args.place.now c.in-Structure.members inner (new ++ left) c.in-Structure.is c.in_ok-inner-in-Structure.ensures.opens within in
-    let told : IfErr result (OrNoMemory (Failed (g.S.Source.ending c.opened.new.source) (members_at c.in-Structure.members inner (new ++ left)))) =
-    rw c.as_slice.ensures at (c.members_on_demand.ensures.faulty (c.opened.ensures.tells tells)) in
-    let there_is = subst (λ e. IfErr result (OrNoMemory (Failed e (members_at c.in-Structure.members inner (new ++ left))))) (c.opened.ensures.same_end tells) told in
+    let told : IfErr result (OrNoMemory (Failed (g.S.Source.ending c.opening_end.new.source) (members_at c.in-Structure.members inner (new ++ left)))) =
+    rw c.as_slice.ensures at (c.members_on_demand.ensures.faulty (c.opening_end.ensures.tells tells)) in
+    let there_is = subst (λ e. IfErr result (OrNoMemory (Failed e (members_at c.in-Structure.members inner (new ++ left))))) (c.opening_end.ensures.same_end tells) told in
     subst (λ r. IfErr result (OrNoMemory (Failed (g.S.Source.ending c.args.source.now) r))) (sym same) there_is
 
 pub value_on_demand-returns-in_err-inner-in-Array-clause-faulty : goal.value_on_demand-returns-in_err-inner-in-Array-clause-faulty
 value_on_demand-returns-in_err-inner-in-Array-clause-faulty g t c = λ tells.
     let place = c.args.place.now in
     let fault = c.in_err-inner-in-Array.field-0.0 in
-    let all = c.opened-in-Array.new.buffer ++ g.S.Source.left c.opened-in-Array.new.source in
+    let all = c.opening_end-in-Array.new.buffer ++ g.S.Source.left c.opening_end-in-Array.new.source in
     let ending = g.S.Source.ending c.args.source.now in
     let told : OrNoMemory (FailsToOpen ending place (next_multiple_of place.end c.in-Array.element.align) all) fault = rw c.get-element.ensures at (c.in_err-inner-in-Array.ensures.faulty tells) in
     let fails = array_fails c.args.class.now place c.in-Array.length c.in-Array.element c.length_at-count.result ending all fault c.in-Array.is c.length_at-count.ensures told in
@@ -157,7 +157,7 @@ value_on_demand-returns-in_ok-inner-in-Array-clause-faulty g t c = λ tells.
     let within : inner.end ≤ min (8 * length (new ++ left)) longest = omega (arith, reached, grown, longer) in
     let opens : IsOpened c.args.place.now (next_multiple_of c.args.place.now.end c.in-Array.element.align) inner = rw c.get-element.ensures at c.in_ok-inner-in-Array.ensures.opens in
     let same = array_found c.args.class.now c.args.place.now c.in-Array.length c.in-Array.element c.length_at-count.result inner (new ++ left) c.in-Array.is c.length_at-count.ensures opens within in
-    let told : IfErr result (OrNoMemory (Failed (g.S.Source.ending c.opened-in-Array.new.source) (elements_at c.in-Array.element c.length_at-count.result inner (new ++ left)))) =
-    rw c.get-element.ensures at (c.elements_on_demand.ensures.faulty (c.opened-in-Array.ensures.tells tells)) in
-    let there_is = subst (λ e. IfErr result (OrNoMemory (Failed e (elements_at c.in-Array.element c.length_at-count.result inner (new ++ left))))) (c.opened-in-Array.ensures.same_end tells) told in
+    let told : IfErr result (OrNoMemory (Failed (g.S.Source.ending c.opening_end-in-Array.new.source) (elements_at c.in-Array.element c.length_at-count.result inner (new ++ left)))) =
+    rw c.get-element.ensures at (c.elements_on_demand.ensures.faulty (c.opening_end-in-Array.ensures.tells tells)) in
+    let there_is = subst (λ e. IfErr result (OrNoMemory (Failed e (elements_at c.in-Array.element c.length_at-count.result inner (new ++ left))))) (c.opening_end-in-Array.ensures.same_end tells) told in
     subst (λ r. IfErr result (OrNoMemory (Failed (g.S.Source.ending c.args.source.now) r))) (sym same) there_is

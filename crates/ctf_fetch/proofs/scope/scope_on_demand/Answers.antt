@@ -2,7 +2,7 @@ use Rattle.std.proofs.Common.{◌++◌, ap}
 use Rattle.ctf_packet.specs.Packets.{front}
 use Rattle.ctf_packet.specs.Views.{values_of}
 use Rattle.ctf_packet.proofs.Standing.{form_of}
-use Rattle.ctf_front.proofs.Asking.{at_none}
+use Rattle.ctf_packet_demand.proofs.Asking.{at_none}
 use Rattle.ctf_fetch.proofs.scope.scope_on_demand.Goals as goal
 
 pub returns-in-None-clause-puts : goal.returns-in-None-clause-puts

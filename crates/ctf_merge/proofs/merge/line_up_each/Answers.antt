@@ -1,6 +1,6 @@
 use Rattle.std.proofs.Common.{◌≡◌, set, sym, ap, ◌∙◌, subst, add-one, arith}
-use Rattle.ctf_stream.specs.Ahead.{told}
-use Rattle.ctf_stream.specs.declared.ahead.Ahead.{Ahead}
+use Rattle.ctf_stream.specs.Peeked.{told}
+use Rattle.ctf_stream.specs.declared.ahead.Peeked.{Peeked}
 use Rattle.ctf_merge.specs.Turns.{fault_at, turn_at}
 use Rattle.ctf_merge.proofs.Lining.{lined_more, broken_first}
 use Rattle.ctf_merge.proofs.merge.line_up_each.Goals as goal
@@ -17,6 +17,6 @@ loop-number-preserved g c =
     let r = c.index-readers-number.result in
     let told_is : c.ahead.result ≡ told r.ahead = cc in
     let turns_is : c.line_up.new.turns ≡ set c.loop-number.turns c.loop-number.number (turn_at c.loop-number.number (told r.ahead)) =
-    subst (λ (a : Ahead). c.line_up.new.turns ≡ set c.loop-number.turns c.loop-number.number (turn_at c.loop-number.number a)) told_is c.line_up.ensures.turns in
+    subst (λ (a : Peeked). c.line_up.new.turns ≡ set c.loop-number.turns c.loop-number.number (turn_at c.loop-number.number a)) told_is c.line_up.ensures.turns in
     rw add-one (lined_more c.args.readers.now c.loop-number.number r c.loop-number.turns c.line_up.new.turns (omega arith) c.index-readers-number.is
     c.loop-number.invariant turns_is (ap fault_at (sym told_is) ∙ sym c.line_up.ensures.fault ∙ c.in_default.is))

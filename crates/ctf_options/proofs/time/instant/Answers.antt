@@ -1,6 +1,6 @@
 use Rattle.std.proofs.Common.{◌≡◌, ◌∙◌, arith, refl, sym}
 use Rattle.std.proofs.lemmas.Grind.{common_steps}
-use Rattle.ctf_stamp.specs.Zones.{instant_in}
+use Rattle.ctf_timestamp.specs.Zones.{instant_in}
 use Rattle.ctf_options.specs.Times as times
 use Rattle.ctf_options.proofs.Instants.{none_there, settled}
 use Rattle.ctf_options.proofs.time.instant.Goals as goal

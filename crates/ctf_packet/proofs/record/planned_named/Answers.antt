@@ -12,4 +12,4 @@ returns-in_ok-ok-in-Some-clause-event c =
     let told : c.in-Some.id ≡ pos n = search rules in
     let small : n < 2 ^ 64 = omega arith in
     let named = ap (event_named (map (event_form s) s.events)) (c.in-Some.is ∙ ap Some told) ∙ sym (number_within s (pos n) n refl small) in
-    IfSome_then c.planned.result c.planned.ensures.event (λ p first. named ∙ ap (option_map (event_form s)) first)
+    IfSome_then c.planned_event.result c.planned_event.ensures.event (λ p first. named ∙ ap (option_map (event_form s)) first)

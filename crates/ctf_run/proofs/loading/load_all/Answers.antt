@@ -1,6 +1,6 @@
 use Rattle.std.proofs.Common.{◌≡◌, refl, suc, sym, ap, ◌∙◌, subst, arith, ◌+◌, ◌++◌, ◌∷◌, [], take, slice_get, Some}
 use Rattle.std.proofs.lemmas.Option.{slice_get_read}
-use Rattle.ctf_outcome.specs.Table.{is_refusal}
+use Rattle.ctf_faults.specs.Table.{is_refusal}
 use Rattle.ctf_run.specs.Loaded.{HaveClasses, IsUnloaded}
 use Rattle.ctf_run.proofs.Classed.{have_more, have_all, told_so}
 use Rattle.ctf_run.proofs.loading.load_all.Goals as goal

@@ -15,16 +15,16 @@ returns-in-Err-Broken-clause-runs g c = λ tells out err.
     (rw (← c.deref.ensures.value) (rw c.in-Err-Broken.field-0-is at c.in-Err-Broken.ensures)) (rw (← c.deref-in-Err-Broken.ensures.value) (c.tell.ensures.told out err))
     c.tell.ensures.behind (said g.E.Sink.accepted _ _ _ c.tell.ensures.settled)
 
-pub named-requires : goal.named-requires
-named-requires g c = rw c.deref-2.ensures.value (have_length c.args.traces.items c.in-Ok.classes.items (rw (← c.deref.ensures.value) c.in-Ok.ensures))
+pub name_traces-requires : goal.name_traces-requires
+name_traces-requires g c = rw c.deref-2.ensures.value (have_length c.args.traces.items c.in-Ok.classes.items (rw (← c.deref.ensures.value) c.in-Ok.ensures))
 
 pub returns-in-Ok-new-clause-runs : goal.returns-in-Ok-new-clause-runs
 returns-in-Ok-new-clause-runs g c = λ tells out err.
     let given : g.row.S.Denot → Given = given_by g.S.Source.tells g.S.Source.left g.S.Source.ending in
     let all : List Trace = traces_of given c.args.traces.items in
     let classes : List TraceClass = c.in-Ok.classes.items in
-    let inputs : List Input = sessions.inputs_from given 0 c.in-Ok-named.streams.items in
-    let same : inputs ≡ inputs_from (are_several all) 0 all classes = subst (λ (cs : List TraceClass). inputs ≡ inputs_from (are_several all) 0 all cs) c.deref-2.ensures.value (c.in-Ok-named.ensures given) in
+    let inputs : List Input = sessions.inputs_from given 0 c.in-Ok-name_traces.streams.items in
+    let same : inputs ≡ inputs_from (are_several all) 0 all classes = subst (λ (cs : List TraceClass). inputs ≡ inputs_from (are_several all) 0 all cs) c.deref-2.ensures.value (c.in-Ok-name_traces.ensures given) in
     let each : sessions.AllTell inputs = subst sessions.AllTell (sym same) (inputs_tell (are_several all) 0 all classes tells) in
     run_whole all c.args.options.now classes inputs c.in-Ok-new.session c.print_all.result _
     (have_same given c.args.traces.items classes (rw (← c.deref.ensures.value) c.in-Ok.ensures)) same

@@ -2,7 +2,7 @@ use Rattle.std.proofs.Common.{◌≡◌, inl, inr, ◌⊎◌}
 use Rattle.ctf_meaning.specs.declared.fault.ResolveFault.TheVariants as fault
 use Rattle.ctf_meaning.specs.Denotes.{Faulty}
 use Rattle.ctf_meaning.specs.Reading.{written}
-use Rattle.ctf_walk.proofs.Text.{walk_tells_own}
+use Rattle.ctf_meaning_steps.proofs.Text.{walk_tells_own}
 use Rattle.ctf_types.proofs.Firsts.{own_told}
 use Rattle.ctf_types.proofs.resolving.resolve.Goals as goal
 

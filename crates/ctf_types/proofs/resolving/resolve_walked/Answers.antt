@@ -6,7 +6,7 @@ use Rattle.ctf_meaning.specs.Denotes.{host_of}
 use Rattle.ctf_meaning.specs.Faults.{faults}
 use Rattle.ctf_meaning.specs.Reading.{declaration_of}
 use Rattle.ctf_meaning.specs.Streams.{streams, trace_of}
-use Rattle.ctf_declared.specs.Courses.{placed_seen}
+use Rattle.ctf_declarations.specs.DeclaredSoFar.{placed_seen}
 use Rattle.ctf_types.specs.Whole.{AreSettled, ArePlaced, IsTraceOf, stream_at}
 use Rattle.ctf_types.proofs.Distinct.{settled}
 use Rattle.ctf_types.proofs.Firsts.{link_told}
@@ -44,8 +44,8 @@ link-requires g c =
       },
     )
 
-pub finished-requires : goal.finished-requires
-finished-requires g c = record {
+pub trace_class_of-requires : goal.trace_class_of-requires
+trace_class_of-requires g c = record {
   own = starting.own g.text (map (map placed_seen) c.args.rows.now) c.requires.1;
   traced = subst (λ t. IsTraceOf t c.in_ok-trace.trace) (sym c.requires.0) c.in_ok-trace.ensures;
   hosted = c.host-host.ensures ∙ ap host_of (sym c.requires.0);

@@ -1,6 +1,6 @@
 use Rattle.std.proofs.Common.{◌≡◌, map, drop}
-use Rattle.ctf_walk.specs.Laws.{class_among}
-use Rattle.ctf_declared.specs.Courses.{placed_seen}
+use Rattle.ctf_meaning_steps.specs.Laws.{class_among}
+use Rattle.ctf_declarations.specs.DeclaredSoFar.{placed_seen}
 use Rattle.ctf_types.proofs.rows.class_of.Given as goal
 
 abbrev pub invariant-loop-placed : goal.invariant-loop-placed

@@ -15,4 +15,4 @@ returns-clause-made c = λ _ ks of.
     let begun : IsTrue c.in_ok-add_member.field-0 = search rules in
     let ended : IsTrue c.in_ok-add_later.field-0 = search rules in
     let count : new.count ≡ old.count + (length xs + 2) = search rules in
-    made_scope ks c.args.class.now x xs c.opening.result.now old c.add_member.new.self others new is (search rules) c.opening.ensures (c.in_ok-add_member.ensures.made begun) (c.in_ok-add_later.ensures.made ended) refl count of
+    made_scope ks c.args.class.now x xs c.opening_text.result.now old c.add_member.new.self others new is (search rules) c.opening_text.ensures (c.in_ok-add_member.ensures.made begun) (c.in_ok-add_later.ensures.made ended) refl count of

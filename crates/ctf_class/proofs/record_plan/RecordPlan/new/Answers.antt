@@ -7,14 +7,14 @@ use Rattle.ctf_class.proofs.record_plan.RecordPlan.new.Goals as goal
 
 pub returns-then-branch-3 : goal.returns-then-branch-3
 returns-then-branch-3 c =
-    let shared = option_copied c.args.shared in
-    let own = option_copied c.args.own in
+    let stream_context = option_copied c.args.stream_context in
+    let event_context = option_copied c.args.event_context in
     let fields = c.args.fields.now in
     let one : IsTrue c.in_ok-add_optional.field-0 = search rules in
     let two : IsTrue c.in_ok-add_optional-2.field-0 = search rules in
     let three : IsTrue c.in_ok-add_scope.field-0 = search rules in
     let first = c.in_ok-add_optional.ensures.made one [] c.new-making.ensures.made in
-    let second = c.in_ok-add_optional-2.ensures.made two (and_scope shared []) first in
-    let third = c.in_ok-add_scope.ensures.made three (and_scope shared [] ++ and_scope own []) second in
-    let all : IsMadeOf (scopes_of shared own fields) c.add_scope.new.self = subst (λ ks. IsMadeOf ks c.add_scope.new.self) (scopes_are shared own fields) third in
-    IfOk-weaker c.finish.result _ (IsPlanOf (scopes_of shared own fields)) (λ plan is. is (scopes_of shared own fields) all) c.finish.ensures
+    let second = c.in_ok-add_optional-2.ensures.made two (and_scope stream_context []) first in
+    let third = c.in_ok-add_scope.ensures.made three (and_scope stream_context [] ++ and_scope event_context []) second in
+    let all : IsMadeOf (scopes_of stream_context event_context fields) c.add_scope.new.self = subst (λ ks. IsMadeOf ks c.add_scope.new.self) (scopes_are stream_context event_context fields) third in
+    IfOk-weaker c.finish.result _ (IsPlanOf (scopes_of stream_context event_context fields)) (λ plan is. is (scopes_of stream_context event_context fields) all) c.finish.ensures

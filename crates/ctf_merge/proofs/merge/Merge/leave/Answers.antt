@@ -1,8 +1,8 @@
 use Rattle.std.proofs.Common.{◌≡◌, ◌<◌, ◌+◌, length, set, IsTrue, Option, ap, ◌∙◌, subst, arith}
 use Rattle.ctf_packet.specs.declared.fault.StreamFault.{StreamFault}
-use Rattle.ctf_stream.specs.Ahead.{told}
+use Rattle.ctf_stream.specs.Peeked.{told}
 use Rattle.ctf_stream.specs.Reader.{IsFetched}
-use Rattle.ctf_stream.specs.declared.ahead.Ahead.{Ahead}
+use Rattle.ctf_stream.specs.declared.ahead.Peeked.{Peeked}
 use Rattle.ctf_merge.specs.Stages.{is_over, stage_of}
 use Rattle.ctf_merge.specs.Turns.{turn_at, fault_at}
 use Rattle.ctf_merge.proofs.Going.{each_at, each_set, map-kept, room-front, goes-item, leaves_one}
@@ -41,7 +41,7 @@ invariant_of-self g c =
     let going = next_going c.self.inside.readers.items c.self.inside.stage c.self.inside.turns c.args.number at.0 at.1 c.self.invariant.stands in
     let told_is = c.ahead-ahead.ensures in
     let turns_is : c.line_up-fault.new.turns ≡ set c.self.inside.turns c.args.number (turn_at c.args.number (told c.go_on.new.self.ahead)) =
-    subst (λ (a : Ahead). c.line_up-fault.new.turns ≡ set c.self.inside.turns c.args.number (turn_at c.args.number a)) told_is c.line_up-fault.ensures.turns in
+    subst (λ (a : Peeked). c.line_up-fault.new.turns ≡ set c.self.inside.turns c.args.number (turn_at c.args.number a)) told_is c.line_up-fault.ensures.turns in
     let next = c.meet.ensures ∙ ap (λ (f : Option StreamFault). stage_of c.args.number f) (c.line_up-fault.ensures.fault ∙ ap fault_at told_is) in
     record {
       fetched = each_set (λ r. IsFetched r.ahead) c.self.inside.readers.items c.args.number c.go_on.new.self c.self.invariant.fetched c.go_on.ensures.fetched;

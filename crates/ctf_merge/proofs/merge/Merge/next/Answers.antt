@@ -1,9 +1,9 @@
 use Rattle.std.proofs.Common.{◌≡◌, ◌<◌, ◌+◌, length, set, IsTrue, Option, Ok, refl, sym, ap, ◌∙◌, subst, arith}
 use Rattle.ctf_merge.specs.Merged.{First}
 use Rattle.ctf_packet.specs.declared.fault.StreamFault.{StreamFault}
-use Rattle.ctf_stream.specs.Ahead.{told}
+use Rattle.ctf_stream.specs.Peeked.{told}
 use Rattle.ctf_stream.specs.Reader.{IsFetched}
-use Rattle.ctf_stream.specs.declared.ahead.Ahead.{Ahead}
+use Rattle.ctf_stream.specs.declared.ahead.Peeked.{Peeked}
 use Rattle.ctf_merge.specs.Given.{Gives, GivesFirst, GivesRoom}
 use Rattle.ctf_merge.specs.Merges.{Merge, EachTells, LeavesFront, coming_of, room_of}
 use Rattle.ctf_merge.specs.Stages.{is_over, stage_of}
@@ -38,7 +38,7 @@ invariant_of-self g c =
     let at = turn_front c.self.inside.readers.items c.self.inside.stage c.self.inside.turns c.in-Some.number c.in-Going.is c.self.invariant.stands c.in-Some.ensures.first in
     let told_is = c.ahead-ahead.ensures in
     let turns_is : c.line_up-fault.new.turns ≡ set c.self.inside.turns c.in-Some.number (turn_at c.in-Some.number (told c.give.new.reader.ahead)) =
-    subst (λ (a : Ahead). c.line_up-fault.new.turns ≡ set c.self.inside.turns c.in-Some.number (turn_at c.in-Some.number a)) told_is c.line_up-fault.ensures.turns in
+    subst (λ (a : Peeked). c.line_up-fault.new.turns ≡ set c.self.inside.turns c.in-Some.number (turn_at c.in-Some.number a)) told_is c.line_up-fault.ensures.turns in
     let next = c.meet.ensures ∙ ap (λ (f : Option StreamFault). stage_of c.in-Some.number f) (c.line_up-fault.ensures.fault ∙ ap fault_at told_is) in
     record {
       fetched = each_set (λ r. IsFetched r.ahead) c.self.inside.readers.items c.in-Some.number c.give.new.reader c.self.invariant.fetched c.in-Ok.ensures.fetched;

@@ -1,7 +1,7 @@
 use Rattle.std.proofs.Common.{sym, refl, ap, ◌∙◌, subst, None}
 use Rattle.ctf_merge.specs.Merged.{Merged, PlacedRise}
 use Rattle.ctf_merge.specs.Merges.{coming_of, names_of}
-use Rattle.ctf_stamp.specs.Trims.{verdict_of}
+use Rattle.ctf_timestamp.specs.Trims.{verdict_of}
 use Rattle.ctf_session.specs.Answers.{Setting}
 use Rattle.ctf_session.specs.Endings.{ended_by}
 use Rattle.ctf_session.specs.Sessions.{left_by}

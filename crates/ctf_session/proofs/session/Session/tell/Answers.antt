@@ -1,5 +1,5 @@
 use Rattle.std.proofs.Common.{ap, refl}
-use Rattle.ctf_outcome.specs.declared.outcome.RunFault.TheVariants as faults
+use Rattle.ctf_faults.specs.declared.outcome.RunFault.TheVariants as faults
 use Rattle.ctf_session.proofs.Stepping.{line_is}
 use Rattle.ctf_session.proofs.session.Session.tell.Goals as goal
 

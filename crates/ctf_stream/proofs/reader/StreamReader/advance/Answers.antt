@@ -1,14 +1,14 @@
 use Rattle.std.proofs.Common.{inl, refl, ◌≡◌, ◌∙◌, ap, sym}
-use Rattle.ctf_stream.specs.Course.{coming_of}
+use Rattle.ctf_stream.specs.ReadState.{coming_of}
 use Rattle.ctf_stream.specs.Reader.{coming, behind_ahead, with_ahead}
-use Rattle.ctf_stream.proofs.Courses.{comes}
+use Rattle.ctf_stream.proofs.ReadStates.{comes}
 use Rattle.ctf_stream.proofs.reader.StreamReader.advance.Goals as goal
 
 pub returns-in-Some-clause-comes : goal.returns-in-Some-clause-comes
 returns-in-Some-clause-comes g c = λ tells.
     let ending = g.S.Source.ending c.self.inside.source in
     let left = g.S.Source.left c.self.inside.source in
-    let old = coming_of ending left c.self.inside.course in
+    let old = coming_of ending left c.self.inside.read_state in
     let new = c.next_written.new.self in
     let front = c.in-Some.front in
     let now = c.args.self.now in

@@ -1,6 +1,6 @@
 use Rattle.std.proofs.Common.{◌≡◌, ◌++◌, map, drop}
 use Rattle.std.specs.Prelude.{filter_map, option_and_then}
-use Rattle.ctf_linked.specs.Spots.{earlier_by}
+use Rattle.ctf_paths.specs.Spots.{earlier_by}
 use Rattle.ctf_meaning.specs.Scopes.{scope_of, frame_by}
 use Rattle.ctf_types.specs.Texts.{home_by}
 use Rattle.ctf_types.proofs.text.Text.before.Given as goal

@@ -1,9 +1,9 @@
 use Rattle.std.proofs.Common.{◌≡◌, map, sym, ap, ◌∙◌, inl, inr, ◌⊎◌}
 use Rattle.std.specs.Prelude.{Contains}
-use Rattle.ctf_linked.specs.Spots.{earlier_by}
+use Rattle.ctf_paths.specs.Spots.{earlier_by}
 use Rattle.ctf_meaning.specs.declared.fault.ResolveFault.TheVariants as fault
-use Rattle.ctf_shape.specs.Knowns.{known}
-use Rattle.ctf_shape.specs.Views.{shape as shape_by}
+use Rattle.ctf_declared_class.specs.Knowns.{known}
+use Rattle.ctf_declared_class.specs.Views.{shape as shape_by}
 use Rattle.ctf_types.specs.Texts.{scope_fails, home_by}
 use Rattle.ctf_types.proofs.Scoped.{declared, fails, told_at}
 use Rattle.ctf_types.proofs.text.Text.class.Goals as goal

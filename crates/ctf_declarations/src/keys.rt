@@ -1,0 +1,52 @@
+//! Names as keys: no two names have one key.
+
+ghost use Rattle.std.specs.Prelude.{◌≡◌, ◌++◌, ◌∷◌, [], IfOk, OnOk, flat_map};
+ghost use Rattle.ctf_declarations.specs.Keys.{word_key, key_of};
+ghost use Rattle.ctf_declarations.specs.Views.{name};
+
+use crate::names::Name;
+use std::alloc::{AllocError, Global};
+use tsdl_tree::Word;
+
+/// The key of a name.
+pub fn key(alloc: Global, given: Name<'_>) -> Result<Vec<u16>, AllocError>
+    ensures { IfOk result (λ key. key.items ≡ key_of (name given.entry)) }
+{
+    match given {
+        Name::Plain(words) => words_key(alloc, words),
+        Name::Struct(word) => word_key(alloc, 1, word),
+        Name::Variant(word) => word_key(alloc, 2, word),
+        Name::Enum(word) => word_key(alloc, 3, word),
+    }
+}
+
+fn words_key(alloc: Global, words: &[Word]) -> Result<Vec<u16>, AllocError>
+    ensures { IfOk result (λ key. key.items ≡ 0 ∷ flat_map word_key words.now) }
+{
+    let mut key = Vec::new(alloc);
+    key.push(0)?;
+    for word in words {
+        push_word(&mut key, word.as_slice())?;
+    }
+    Ok(key)
+}
+
+fn word_key(alloc: Global, kind: u16, word: &[u8]) -> Result<Vec<u16>, AllocError>
+    ensures { IfOk result (λ key. key.items ≡ kind ∷ word_key word.now) }
+{
+    let mut key = Vec::new(alloc);
+    key.push(kind)?;
+    push_word(&mut key, word)?;
+    Ok(key)
+}
+
+/// Puts a word behind a key.
+fn push_word(key: &mut Vec<u16>, word: &[u8]) -> Result<(), AllocError>
+    ensures { OnOk result (key.new.items ≡ key.old.items ++ word_key word.now) }
+{
+    for byte in word {
+        key.push(u16::from(*byte) + 1)?;
+    }
+    key.push(0)?;
+    Ok(())
+}

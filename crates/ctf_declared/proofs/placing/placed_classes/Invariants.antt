@@ -1,8 +1,0 @@
-use Rattle.std.proofs.Common.{◌≡◌, map, take}
-use Rattle.std.specs.Prelude.{filter_map}
-use Rattle.ctf_walk.specs.Blocks.{placed_in}
-use Rattle.ctf_declared.specs.Courses.{placed_seen, named_class}
-use Rattle.ctf_declared.proofs.placing.placed_classes.Given as goal
-
-abbrev pub invariant-loop-scope : goal.invariant-loop-scope
-invariant-loop-scope l = map placed_seen l.row ≡ filter_map (placed_in (map named_class l.classes)) (take l.scope-index l.scope-items)

@@ -1,5 +1,0 @@
-pub mod Keys
-pub mod Views
-pub mod Given
-pub mod Members
-pub mod Courses

@@ -1,0 +1,207 @@
+-- Values among the members and the scopes before them.
+use Rattle.std.proofs.Common.{Bor, ◌≡◌, ℕ, zero, suc, ◌+◌, ◌-◌, ◌%◌, ◌<◌, ◌≤◌, ◌⊎◌, inl, inr, List, [], ◌∷◌, ◌++◌, length, take, get_or, set, Option, Some, None, IfSome, refl, sym, ap, subst, ◌∙◌, arith, rules, length-append, ⊎_elim}
+use Rattle.std.specs.Prelude.{ℤ, slice_get, option_and_then}
+use Rattle.std.specs.Int.{next_multiple_of}
+use Rattle.std.proofs.lemmas.List.{get_or-set_same, get_or-set_other}
+use Rattle.ctf_class.specs.declared.route.Length.{Length}
+use Rattle.ctf_class.specs.declared.route.Length.TheVariants.{Fixed, Field}
+use Rattle.ctf_class.specs.declared.route.Origin.TheVariants.{Enclosing, Earlier}
+use Rattle.ctf_class.specs.declared.route.Route.{Route}
+use Rattle.ctf_class.specs.declared.route.Scope.{Scope}
+use Rattle.ctf_class.specs.declared.route.Scope.TheVariants.{PacketHeader, PacketContext}
+use Rattle.ctf_class.specs.declared.span.Choice.{Choice}
+use Rattle.ctf_decode.specs.Forms as forms
+use Rattle.ctf_decode.specs.Forms.{Form, align_of}
+use Rattle.ctf_decode.specs.Input.{Input, Env}
+use Rattle.ctf_decode.specs.Known.{Known}
+use Rattle.ctf_decode.specs.Routes.{chosen, found, found_from, inside, length_of, number_of, option_at, tag_of}
+use Rattle.ctf_decode.specs.Values.{Val, down}
+use Rattle.ctf_decode.specs.Views as views
+use Rattle.ctf_decode.specs.declared.place.Frame as frames
+use Rattle.ctf_decode.specs.declared.place.Frame.TheVariants as frame
+use Rattle.ctf_decode.specs.Walk.{and_then, as_list, begin, open_at, repeat, walk}
+use Rattle.ctf_format.specs.Around.{Agrees, ChoosesIn, CountsIn, Finds, MembersAre, PutsIn, Sees, SharesPacket, WritesIn, sight}
+use Rattle.ctf_format.specs.Standing.{Before, Counts, ValueIs, Writes, among}
+use Rattle.ctf_format.specs.Texts.{Shown}
+use Rattle.ctf_format.specs.declared.around.Around as around
+use Rattle.ctf_format.specs.declared.around.Around.TheVariants as arounds
+use Rattle.ctf_format.specs.declared.around.Members.{Members}
+use Rattle.ctf_format.specs.declared.around.Seen.{Seen}
+use Rattle.ctf_format.specs.declared.content.Content.{Content}
+use Rattle.ctf_format.specs.declared.standing.Last.{Last}
+use Rattle.ctf_format.specs.declared.standing.Last.TheVariants as lasts
+use Rattle.ctf_format.specs.declared.standing.Next.{Next}
+use Rattle.ctf_format.proofs.StandingLemmas.{last_of}
+
+-- a value that is known is found
+finds_value : (l : Last) (v : Val) → ValueIs l v → Finds l (Some v)
+finds_value lasts.Unknown v is = tt
+finds_value (lasts.Unsigned n) v is = ap Some is
+finds_value (lasts.Label z) v is = ap Some is
+
+earlier_member : (vs : List Val) (v : Val) (j : ℕ) → j < length vs → slice_get (vs ++ v ∷ []) j ≡ slice_get vs j
+earlier_member [] v j within = absurd (omega (arith, within))
+earlier_member (w ∷ vs) v zero within = refl
+earlier_member (w ∷ vs) v (suc j) within = earlier_member vs v j (omega (arith, within))
+
+-- no members
+pub none_are : (m : Members) → m.count ≡ 0 → MembersAre m []
+none_are m none = (sym none, λ j within near. absurd (omega (arith, none, within)))
+
+last_or_earlier : (j n count : ℕ) → count ≡ n + 1 → j < count → (j ≡ n) ⊎ (j < n)
+last_or_earlier j n count counted within = grind (arith, counted, within)
+
+-- one member more
+pub one_more : (m : Members) (count : ℕ) (last : Last) (vs : List Val) (v : Val) → count ≡ length vs + 1 → length m.numbers ≡ 8 → ValueIs last v → MembersAre m vs
+    → MembersAre (record { count = count; numbers = set m.numbers (length vs % 8) last }) (vs ++ v ∷ [])
+one_more m count last vs v counted eight is are = (length-append vs (v ∷ []) ∙ sym counted, finds)
+  where
+    finds : (j : ℕ) → j < count → count ≤ j + 8 → Finds (get_or (set m.numbers (length vs % 8) last) (j % 8) lasts.Unknown) (slice_get (vs ++ v ∷ []) j)
+    finds j within near =
+        ⊎_elim (λ same.
+        let at : j % 8 ≡ length vs % 8 = ap (λ k. k % 8) same in
+        let few : length vs % 8 < length m.numbers = omega (arith, eight) in
+        let number : get_or (set m.numbers (length vs % 8) last) (j % 8) lasts.Unknown ≡ last = ap (λ k. get_or (set m.numbers (length vs % 8) last) k lasts.Unknown) at ∙ get_or-set_same m.numbers (length vs % 8) last lasts.Unknown few in
+        let there : slice_get (vs ++ v ∷ []) j ≡ Some v = last_of vs v j (sym same) in
+        subst (λ l. Finds l (slice_get (vs ++ v ∷ []) j)) (sym number) (subst (Finds last) (sym there) (finds_value last v is)))
+        (λ before.
+        let other : (j % 8 ≡ length vs % 8) → ⊥ = λ same. omega (arith, same, before, near, counted) in
+        let number = get_or-set_other m.numbers (length vs % 8) (j % 8) last lasts.Unknown other in
+        let old : Finds (get_or m.numbers (j % 8) lasts.Unknown) (slice_get vs j) = are.1 j (omega (arith, before, are.0)) (omega (arith, near, counted, are.0)) in
+        subst (λ l. Finds l (slice_get (vs ++ v ∷ []) j)) (sym number) (subst (Finds (get_or m.numbers (j % 8) lasts.Unknown)) (sym (earlier_member vs v j before)) old))
+        (last_or_earlier j (length vs) count counted within)
+
+-- What is known of a number is right of what is found.
+pub counts_found : (l : Last) (n : ℕ) (seen : Seen) (route : Route) (out : ℕ) → route.origin ≡ Enclosing out → l ≡ lasts.Unsigned n
+    → ((earlier : Scope → Option Val) (env : Env) → Sees seen earlier env → Finds l (found_from (Enclosing out) route.steps earlier env)) → CountsIn seen (Field route) n
+unfolding found
+counts_found l n seen route out origin is finds earlier env sees =
+    ap (λ o. number_of (found_from o route.steps earlier env)) origin ∙ ap number_of (subst (λ x. Finds x (found_from (Enclosing out) route.steps earlier env)) is (finds earlier env sees))
+
+pub chooses_found : (l : Last) (z : ℤ) (i : ℕ) (seen : Seen) (route : Route) (choices : List Choice) (out : ℕ) → route.origin ≡ Enclosing out → l ≡ lasts.Label z → Some i ≡ chosen choices z
+    → ((earlier : Scope → Option Val) (env : Env) → Sees seen earlier env → Finds l (found_from (Enclosing out) route.steps earlier env)) → ChoosesIn seen route choices i
+unfolding found
+chooses_found l z i seen route choices out origin is chooses finds earlier env sees =
+    ap (λ o. option_and_then (chosen choices) (tag_of (found_from o route.steps earlier env))) origin
+    ∙ ap (λ o. option_and_then (chosen choices) (tag_of o)) (subst (λ x. Finds x (found_from (Enclosing out) route.steps earlier env)) is (finds earlier env sees)) ∙ sym chooses
+
+-- without a structure around it a value has no members before it
+pub env-Top : views.env frame.Top ≡ []
+env-Top = search (rules, frames.the_lemmas)
+
+-- The packet's values are those that are known.
+same_packet : (known : Known) (scope : Scope) (earlier : Scope → Option Val) → (scope ≡ PacketHeader) ⊎ (scope ≡ PacketContext) → SharesPacket known earlier → earlier scope ≡ views.earlier known scope
+same_packet known scope earlier (inl is) shares = ap earlier is ∙ shares.0 ∙ ap (views.earlier known) (sym is)
+same_packet known scope earlier (inr is) shares = ap earlier is ∙ shares.1 ∙ ap (views.earlier known) (sym is)
+
+shares_of : (seen : Seen) (earlier : Scope → Option Val) (env : Env) → Sees seen earlier env → SharesPacket (sight seen.around.now).known earlier
+shares_of seen earlier [] sees = absurd sees
+shares_of seen earlier (vs ∷ env) sees = sees.1.0
+
+found_in_packet : (known : Known) (route : Route) (scope : Scope) (earlier : Scope → Option Val) (env : Env) → route.origin ≡ Earlier scope → (scope ≡ PacketHeader) ⊎ (scope ≡ PacketContext) → SharesPacket known earlier
+    → found route earlier env ≡ found route (views.earlier known) []
+unfolding found
+found_in_packet known route scope earlier env origin of_packet shares =
+    ap (λ o. found_from o route.steps earlier env) origin ∙ ap (option_and_then (down route.steps)) (same_packet known scope earlier of_packet shares) ∙ ap (λ o. found_from o route.steps (views.earlier known) []) (sym origin)
+
+pub counts_in_packet : (seen : Seen) (known : Known) (route : Route) (scope : Scope) → known ≡ (sight seen.around.now).known → route.origin ≡ Earlier scope → (scope ≡ PacketHeader) ⊎ (scope ≡ PacketContext)
+    → CountsIn seen (Field route) (length_of (Field route) (views.earlier known) [])
+counts_in_packet seen known route scope is origin of_packet earlier env sees =
+    ap number_of (found_in_packet known route scope earlier env origin of_packet (subst (λ k. SharesPacket k earlier) (sym is) (shares_of seen earlier env sees)))
+
+pub chooses_in_packet : (seen : Seen) (known : Known) (route : Route) (choices : List Choice) (scope : Scope) (i : ℕ) → known ≡ (sight seen.around.now).known → route.origin ≡ Earlier scope → (scope ≡ PacketHeader) ⊎ (scope ≡ PacketContext)
+    → Some i ≡ option_at route choices (views.earlier known) [] → ChoosesIn seen route choices i
+chooses_in_packet seen known route choices scope i is origin of_packet chooses earlier env sees =
+    ap (λ o. option_and_then (chosen choices) (tag_of o)) (found_in_packet known route scope earlier env origin of_packet (subst (λ k. SharesPacket k earlier) (sym is) (shares_of seen earlier env sees))) ∙ sym chooses
+
+-- Whatever is seen around it, what stands behind any members stands in a structure.
+pub writes_any : (r : Option Next) (k : Form) (shown : Shown) (packet : Content) (place : ℕ) (line items : List ℕ) (seen : Seen) → ((before : Before) → Writes r before k shown packet place line items) → WritesIn r seen k shown packet place line items
+writes_any None k shown packet place line items seen writes = tt
+writes_any (Some n) k shown packet place line items seen writes = within
+  where
+    within : PutsIn seen k shown packet.bytes.now packet.end place line n (take n.text items)
+    within spent room earlier [] sees = absurd sees
+    within spent room earlier (vs ∷ env) sees = writes (record { index = length vs; last = lasts.Unknown }) spent room earlier env vs refl tt
+
+-- a text and an array whose length is known there
+pub writes_counted : (r : Option Next) (many : Length) (count : ℕ) (to : Length → Form) (shown : Shown) (packet : Content) (place : ℕ) (line items : List ℕ) (seen : Seen) → CountsIn seen many count
+    → ((c : Input) (e : Env) (p s : ℕ) → length_of many c.earlier e ≡ count → walk (to many) c e p s ≡ walk (to (Fixed count)) c e p s)
+    → ((before : Before) (l : Length) → Counts l before count → Writes r before (to l) shown packet place line items) → WritesIn r seen (to many) shown packet place line items
+writes_counted None many count to shown packet place line items seen counts same writes = tt
+writes_counted (Some n) many count to shown packet place line items seen counts same writes = within
+  where
+    within : PutsIn seen (to many) shown packet.bytes.now packet.end place line n (take n.text items)
+    within spent room earlier [] sees = absurd sees
+    within spent room earlier (vs ∷ env) sees =
+        let p = writes (record { index = length vs; last = lasts.Unknown }) (Fixed count) (λ ea en ws counted last. refl) spent room earlier env vs refl tt in
+        (p.0, same (among packet.bytes.now packet.end earlier) (vs ∷ env) place spent (counts earlier (vs ∷ env) sees) ∙ p.1, p.2, p.3)
+
+pub counted_array : (a : ℕ) (k : Form) (many : Length) (n : ℕ) (c : Input) (e : Env) (p s : ℕ) → length_of many c.earlier e ≡ n → walk (forms.array a many k) c e p s ≡ walk (forms.array a (Fixed n) k) c e p s
+counted_array a k many n c e p s is =
+    let b = next_multiple_of p (align_of k) in ap (λ m. begin c s (open_at c b (and_then (repeat (walk k c e) m [] b (s + 1)) as_list))) is
+
+sight-Within : (seen : Seen) → sight (arounds.Within seen.members seen.around) ≡ record { known = (sight seen.around.now).known; frames = seen.members.now ∷ (sight seen.around.now).frames }
+sight-Within seen = search (rules, around.the_lemmas)
+
+sight-Scopes : (scopes : Bor Known) → sight (arounds.Scopes scopes) ≡ record { known = scopes.now; frames = [] }
+sight-Scopes scopes = search (rules, around.the_lemmas)
+
+-- Around a scope there are only the packet's values.
+pub agrees_top : (scopes : Bor Known) (earlier : Scope → Option Val) (env : Env) → SharesPacket scopes.now earlier → Agrees (sight (arounds.Scopes scopes)) earlier env
+agrees_top scopes earlier env shares = subst (λ s. Agrees s earlier env) (sym (sight-Scopes scopes)) (shares, tt)
+
+-- A structure among what is seen has its members, and what is around it, around its own members.
+pub agrees_within : (seen : Seen) (earlier : Scope → Option Val) (env : Env) → Sees seen earlier env → Agrees (sight (arounds.Within seen.members seen.around)) earlier env
+agrees_within seen earlier [] sees = absurd sees
+agrees_within seen earlier (vs ∷ env) sees = subst (λ s. Agrees s earlier (vs ∷ env)) (sym (sight-Within seen)) (sees.1.0, (sees.0, sees.1.1))
+
+-- What is found further out is found around the structure.
+pub further_out : (seen : Seen) (out index : ℕ) (l : Last) → (out ≡ 0 → ⊥)
+    → ((earlier : Scope → Option Val) (env : Env) → Agrees (sight seen.around.now) earlier env → Finds l (option_and_then (λ (vs : List Val). slice_get vs index) (slice_get env (out - 1))))
+    → (earlier : Scope → Option Val) (env : Env) → Agrees (sight (arounds.Within seen.members seen.around)) earlier env → Finds l (option_and_then (λ (vs : List Val). slice_get vs index) (slice_get env out))
+further_out seen out index l some finds earlier env agrees = by_env out env some finds (subst (λ s. Agrees s earlier env) (sight-Within seen) agrees)
+  where
+    by_env : (n : ℕ) (e : Env) → (n ≡ 0 → ⊥) → ((earlier : Scope → Option Val) (env : Env) → Agrees (sight seen.around.now) earlier env → Finds l (option_and_then (λ (vs : List Val). slice_get vs index) (slice_get env (n - 1))))
+        → Agrees (record { known = (sight seen.around.now).known; frames = seen.members.now ∷ (sight seen.around.now).frames }) earlier e → Finds l (option_and_then (λ (vs : List Val). slice_get vs index) (slice_get e n))
+    by_env zero e some finds agrees = absurd (some refl)
+    by_env (suc n) [] some finds agrees = absurd agrees.1
+    by_env (suc n) (vs ∷ e) some finds agrees =
+        let one : suc n - 1 ≡ n = omega arith in
+        subst (λ k. Finds l (option_and_then (λ (ws : List Val). slice_get ws index) (slice_get e k))) one (finds earlier e (agrees.0, agrees.1.1))
+
+-- the member that one step leads to
+one_step : (found : Option Val) → option_and_then (down []) found ≡ found
+one_step None = refl
+one_step (Some v) = refl
+
+member_in : (steps : List ℕ) (index : ℕ) (l : Last) (structure : Option (List Val)) → steps ≡ index ∷ [] → Finds l (option_and_then (λ (vs : List Val). slice_get vs index) structure) → Finds l (option_and_then (inside steps) structure)
+member_in steps index l None is finds = finds
+member_in steps index l (Some vs) is finds = subst (Finds l) (sym (one_step (slice_get vs index)) ∙ ap (λ ss. inside ss vs) (sym is)) finds
+
+-- the number of a member of the innermost structure, and of one further out
+pub member_here : (seen : Seen) (index : ℕ) (steps : List ℕ) (l : Last) → steps ≡ index ∷ [] → ((vs : List Val) → MembersAre seen.members.now vs → Finds l (slice_get vs index))
+    → (earlier : Scope → Option Val) (env : Env) → Sees seen earlier env → Finds l (found_from (Enclosing 0) steps earlier env)
+member_here seen index steps l is finds earlier [] sees = absurd sees
+member_here seen index steps l is finds earlier (vs ∷ env) sees = member_in steps index l (Some vs) is (finds vs sees.0)
+
+pub member_further : (seen : Seen) (out index : ℕ) (steps : List ℕ) (l : Last) → (out ≡ 0 → ⊥) → steps ≡ index ∷ []
+    → ((earlier : Scope → Option Val) (env : Env) → Agrees (sight seen.around.now) earlier env → Finds l (option_and_then (λ (vs : List Val). slice_get vs index) (slice_get env (out - 1))))
+    → (earlier : Scope → Option Val) (env : Env) → Sees seen earlier env → Finds l (found_from (Enclosing out) steps earlier env)
+member_further seen out index steps l some is finds earlier env sees =
+    member_in steps index l (slice_get env out) is (further_out seen out index l some finds earlier env (agrees_within seen earlier env sees))
+
+-- a length and a tag, if their number is known
+pub counts_if : (o : Option ℕ) (l : Last) (seen : Seen) (many : Length) (route : Route) (out : ℕ) → many ≡ Field route → route.origin ≡ Enclosing out → IfSome o (λ n. l ≡ lasts.Unsigned n)
+    → ((earlier : Scope → Option Val) (env : Env) → Sees seen earlier env → Finds l (found_from (Enclosing out) route.steps earlier env)) → IfSome o (CountsIn seen many)
+counts_if None l seen many route out is origin known finds = tt
+counts_if (Some n) l seen many route out is origin known finds = subst (λ m. CountsIn seen m n) (sym is) (counts_found l n seen route out origin known finds)
+
+pub chooses_if : (o : Option ℕ) (l : Last) (z : ℤ) (seen : Seen) (route : Route) (choices : List Choice) (out : ℕ) → o ≡ chosen choices z → route.origin ≡ Enclosing out → l ≡ lasts.Label z
+    → ((earlier : Scope → Option Val) (env : Env) → Sees seen earlier env → Finds l (found_from (Enclosing out) route.steps earlier env)) → IfSome o (ChoosesIn seen route choices)
+chooses_if None l z seen route choices out is origin known finds = tt
+chooses_if (Some i) l z seen route choices out is origin known finds = chooses_found l z i seen route choices out origin known is finds
+
+pub chooses_if_in_packet : (o : Option ℕ) (seen : Seen) (known : Known) (route : Route) (choices : List Choice) (scope : Scope) → known ≡ (sight seen.around.now).known → route.origin ≡ Earlier scope → (scope ≡ PacketHeader) ⊎ (scope ≡ PacketContext)
+    → o ≡ option_at route choices (views.earlier known) [] → IfSome o (ChoosesIn seen route choices)
+chooses_if_in_packet None seen known route choices scope is origin of_packet chooses = tt
+chooses_if_in_packet (Some i) seen known route choices scope is origin of_packet chooses = chooses_in_packet seen known route choices scope i is origin of_packet chooses

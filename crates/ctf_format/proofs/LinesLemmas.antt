@@ -1,0 +1,97 @@
+-- Packet contexts and lines, part by part.
+use Rattle.std.proofs.Common.{◌≡◌, ℕ, zero, suc, ◌+◌, ◌<◌, ◌≤◌, Bool, true, false, cond, List, [], ◌∷◌, ◌++◌, map, drop, length, get_or, refl, sym, ap, ◌∙◌, arith, append_assoc, append-nil, length-append}
+use Rattle.std.specs.List.{flat_map}
+use Rattle.std.proofs.lemmas.Grind.{flat_map-append}
+use Rattle.ctf_class.specs.declared.class.Member.{Member}
+use Rattle.ctf_decode.specs.declared.value.Value.{Value}
+use Rattle.ctf_decode.specs.Values.{vals_of, no_vals}
+use Rattle.ctf_decode.specs.Views.{val}
+use Rattle.ctf_format.specs.Rows.{row, joined}
+use Rattle.ctf_format.specs.Texts.{part_text, member_part}
+use Rattle.ctf_format.specs.Lines.{is_of_packet, shown_members, context_text}
+use Rattle.ctf_format.proofs.NamesLemmas.{here, drop-all, row_next}
+
+abbrev shown_of : List Member → List Value → List (List ℕ)
+shown_of ms vs = shown_members ms (vals_of (map val vs))
+
+none_shown : (ms : List Member) → shown_members ms no_vals ≡ []
+none_shown [] = refl
+none_shown (m ∷ ms) = refl
+
+pub shown_end : (ms : List Member) (vs : List Value) (i : ℕ) → length vs ≤ i → shown_of (drop i ms) (drop i vs) ≡ []
+shown_end ms vs i past = ap (shown_of (drop i ms)) (drop-all vs i past) ∙ none_shown (drop i ms)
+
+next : (ms : List Member) (vs : List Value) (i : ℕ) (m : Member) (v : Value) (b : Bool) → i < length ms → i < length vs → m ≡ get_or ms i m → v ≡ get_or vs i v → is_of_packet m.name ≡ b
+    → shown_of (drop i ms) (drop i vs) ≡ cond b (shown_of (drop (i + 1) ms) (drop (i + 1) vs)) (part_text (member_part m) (val v) ∷ shown_of (drop (i + 1) ms) (drop (i + 1) vs))
+next ms vs i m v b in_ms in_vs m_is v_is is =
+    let rest = shown_of (drop (i + 1) ms) (drop (i + 1) vs) in
+    (λ j. shown_of (here ms i m in_ms m_is j) (here vs i v in_vs v_is j)) ∙ ap (λ c. cond c rest (part_text (member_part m) (val v) ∷ rest)) is
+
+-- a member that is shown is written
+pub shown_more : (ms : List Member) (vs : List Value) (i : ℕ) (m : Member) (v : Value) (line more before : List ℕ) (lead mark : ℕ) (all : List (List ℕ)) → i < length ms → i < length vs → m ≡ get_or ms i m → v ≡ get_or vs i v → is_of_packet m.name ≡ false
+    → line ++ row lead (shown_of (drop i ms) (drop i vs)) ≡ before ++ row mark all → more ≡ line ++ (lead ∷ 32 ∷ part_text (member_part m) (val v)) → more ++ row 44 (shown_of (drop (i + 1) ms) (drop (i + 1) vs)) ≡ before ++ row mark all
+shown_more ms vs i m v line more before lead mark all in_ms in_vs m_is v_is is already wrote =
+    let rest = shown_of (drop (i + 1) ms) (drop (i + 1) vs) in
+    let text = part_text (member_part m) (val v) in
+    ap (λ xs. xs ++ row 44 rest) wrote ∙ row_next line before text rest all lead mark (ap (λ texts. line ++ row lead texts) (sym (next ms vs i m v false in_ms in_vs m_is v_is is)) ∙ already)
+
+item : (vs : List Value) (i : ℕ) → i < length vs → (v : Value) × (v ≡ get_or vs i v)
+item [] i within = absurd (omega arith)
+item (v ∷ vs) zero within = (v, refl)
+item (v ∷ vs) (suc i) within = item vs i (omega arith)
+
+-- another one is not
+pub shown_same : (ms : List Member) (vs : List Value) (i : ℕ) (m : Member) (line before : List ℕ) (lead mark : ℕ) (all : List (List ℕ)) → i < length ms → i < length vs → m ≡ get_or ms i m → is_of_packet m.name ≡ true
+    → line ++ row lead (shown_of (drop i ms) (drop i vs)) ≡ before ++ row mark all → line ++ row lead (shown_of (drop (i + 1) ms) (drop (i + 1) vs)) ≡ before ++ row mark all
+shown_same ms vs i m line before lead mark all in_ms in_vs m_is is already =
+    let v = item vs i in_vs in
+    ap (λ texts. line ++ row lead texts) (sym (next ms vs i m v.0 true in_ms in_vs m_is v.1 is)) ∙ already
+
+-- a context of which nothing was written
+pub context_none : (texts : List (List ℕ)) (line before : List ℕ) → length line ≡ length before → line ≡ before ++ row 123 texts → line ≡ before ++ context_text texts
+context_none [] line before same wrote = wrote
+context_none (text ∷ texts) line before same wrote =
+    absurd (omega (arith, ap length wrote, length-append before (row 123 (text ∷ texts))))
+
+-- one of which something was written
+pub context_some : (texts : List (List ℕ)) (line before : List ℕ) → (length line ≡ length before → ⊥) → line ≡ before ++ row 123 texts → line ++ (32 ∷ 125 ∷ []) ≡ before ++ context_text texts
+context_some [] line before other wrote = absurd (other (ap length (wrote ∙ append-nil before)))
+context_some (text ∷ texts) line before other wrote =
+    ap (λ xs. xs ++ (32 ∷ 125 ∷ [])) wrote ∙ append_assoc before (row 123 (text ∷ texts)) (32 ∷ 125 ∷ [])
+
+-- texts, each with a comma behind it, and a last one
+abbrev pub followed : List ℕ → List ℕ
+followed text = text ++ (44 ∷ 32 ∷ [])
+
+row_joined : (texts : List (List ℕ)) (last : List ℕ) → row 44 (texts ++ last ∷ []) ≡ 44 ∷ 32 ∷ joined (texts ++ last ∷ [])
+row_joined [] last = refl
+row_joined (text ∷ texts) last = refl
+
+pub joined_last : (texts : List (List ℕ)) (last : List ℕ) → joined (texts ++ last ∷ []) ≡ flat_map followed texts ++ last
+joined_last [] last = append-nil last
+joined_last (text ∷ texts) last =
+    ap (λ xs. text ++ xs) (row_joined texts last ∙ ap (λ xs. 44 ∷ 32 ∷ xs) (joined_last texts last))
+    ∙ sym (append_assoc text (44 ∷ 32 ∷ []) (flat_map followed texts ++ last))
+    ∙ sym (append_assoc (followed text) (flat_map followed texts) last)
+
+-- a heading and scopes, of which each but the last has a comma behind it
+pub record_chain : (old heading last first second third fourth : List ℕ) (packet shared own : List (List ℕ)) → first ≡ old ++ heading → second ≡ first ++ flat_map followed packet → third ≡ second ++ flat_map followed shared → fourth ≡ third ++ flat_map followed own
+    → fourth ++ last ≡ old ++ (heading ++ joined (packet ++ (shared ++ (own ++ last ∷ []))))
+record_chain old heading last first second third fourth packet shared own wrote_first wrote_second wrote_third wrote_fourth =
+    let p = flat_map followed packet in
+    let s = flat_map followed shared in
+    let o = flat_map followed own in
+    let all : fourth ≡ (((old ++ heading) ++ p) ++ s) ++ o =
+    wrote_fourth ∙ ap (λ xs. xs ++ o) (wrote_third ∙ ap (λ xs. xs ++ s) (wrote_second ∙ ap (λ xs. xs ++ p) wrote_first))
+    in
+    let texts : packet ++ (shared ++ (own ++ last ∷ [])) ≡ (packet ++ (shared ++ own)) ++ last ∷ [] =
+    ap (λ xs. packet ++ xs) (sym (append_assoc shared own (last ∷ []))) ∙ sym (append_assoc packet (shared ++ own) (last ∷ []))
+    in
+    let parts : flat_map followed (packet ++ (shared ++ own)) ≡ p ++ (s ++ o) =
+    flat_map-append followed packet (shared ++ own) ∙ ap (λ xs. p ++ xs) (flat_map-append followed shared own)
+    in
+    let line : joined (packet ++ (shared ++ (own ++ last ∷ []))) ≡ (p ++ (s ++ o)) ++ last =
+    ap joined texts ∙ joined_last (packet ++ (shared ++ own)) last ∙ ap (λ xs. xs ++ last) parts
+    in
+    let grouped : ((((old ++ heading) ++ p) ++ s) ++ o) ++ last ≡ old ++ (heading ++ ((p ++ (s ++ o)) ++ last)) = simp append_assoc in
+    ap (λ xs. xs ++ last) all ∙ grouped ∙ ap (λ xs. old ++ (heading ++ xs)) (sym line)

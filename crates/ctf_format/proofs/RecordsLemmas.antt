@@ -1,0 +1,399 @@
+-- Event records that are written by their plan are shown as their classes say.
+use Rattle.std.proofs.Common.{◌≡◌, ℕ, zero, suc, ◌+◌, ◌-◌, ◌*◌, ◌%◌, ◌<◌, ◌≤◌, false, ℤ, pos, negsuc, List, [], ◌∷◌, ◌++◌, drop, length, get_or, Option, Some, None, IfSome, codes, refl, sym, ap, subst, ◌∙◌, arith, append_assoc, append-nil}
+use Rattle.std.specs.Prelude.{if◌then◌else◌}
+use Rattle.std.specs.Int.{next_multiple_of}
+use Rattle.ctf_bits.specs.Number.{number, signed_number}
+use Rattle.ctf_bits.specs.declared.number.Order.TheVariants.{Le}
+use Rattle.std.specs.List.{All, flat_map}
+use Rattle.std.proofs.lemmas.List.Elements.{All-cons, All-nil}
+use Rattle.ctf_bits.specs.Placed.{Placed, number_behind}
+use Rattle.std.specs.Fmt.{signed_decimal}
+use Rattle.ctf_class.proofs.AlignmentLemmas.{divides_too, next_behind}
+use Rattle.ctf_class.specs.Names.{field_text}
+use Rattle.ctf_class.specs.Records.{Slot, Scoped, laters, slots_of, slots, between, all_slots, values_in, AreScoped, IsNumber, AreInRun, IsField, Behind, LeadsBefore, numbers_room, room_of, AreRuns}
+use Rattle.ctf_class.specs.declared.class.Class.{Class}
+use Rattle.ctf_class.specs.declared.class.Kind as kind
+use Rattle.ctf_class.specs.declared.class.Member.{Member}
+use Rattle.ctf_class.specs.declared.record_plan.Field.{Field}
+use Rattle.ctf_class.specs.declared.record_plan.Run.{Run}
+use Rattle.ctf_class.specs.declared.plain_number.PlainNumber.{PlainNumber}
+use Rattle.ctf_class.specs.declared.route.Length.TheVariants as lengths
+use Rattle.ctf_class.specs.declared.route.Route.{Route}
+use Rattle.ctf_decode.specs.Forms.{Form, integer}
+use Rattle.ctf_decode.specs.Input.{bits_of}
+use Rattle.ctf_decode.specs.Views.{form}
+use Rattle.ctf_decode.specs.declared.scopes.TheConstants.{MOST_VALUES}
+use Rattle.ctf_format.specs.Plain.{plain_text}
+use Rattle.ctf_format.specs.Records.{Reached, IsLastNumber, PutsField, PutsFields, PutsScopes, TakesRun, IsNear, behind}
+use Rattle.ctf_format.specs.Standing.{Before, Counts, LastIs, Puts, PutsOne, PutsNext, StandsAsNumber, known}
+use Rattle.ctf_format.specs.Texts.{Shown, Part, integer_text, value_text, part_text, member_part}
+use Rattle.ctf_format.specs.declared.standing.Last.{Last}
+use Rattle.ctf_format.specs.declared.standing.MembersEnd.{MembersEnd}
+use Rattle.ctf_format.specs.declared.standing.Next.{Next}
+use Rattle.ctf_format.proofs.StandingLemmas.{Going, PutsBehind, anywhere, last_is, going_begins, going_on, puts_next, known_next, going_ends, closed, puts_structure, as_one, form_integer, text_integer, member-is, stands_number}
+use Rattle.ctf_format.proofs.PlainLemmas.{plain_integer}
+use Rattle.ctf_format.proofs.ArrayLemmas.{next_named, counts_last}
+
+-- a value behind its name is the field
+pub puts_named : (m : Member) (lead : List ℕ) (packet : List ℕ) (content place end : ℕ) (before line after name : List ℕ) → line ≡ before ++ (lead ++ name) → name ≡ field_text m.name → PutsOne (form m.class) (value_text m.class) packet content place end line after
+    → PutsOne (form m.class) (λ v. lead ++ part_text (member_part m) v) packet content place end before after
+puts_named m lead packet content place end before line after name wrote named puts spent few earlier env =
+    let p = puts spent few earlier env in
+    let text = value_text m.class p.0 in
+    let part : part_text (member_part m) p.0 ≡ field_text m.name ++ text = ap (λ (x : Part). part_text x p.0) (member-is m) in
+    (p.0, p.1, p.2 ∙ ap (λ xs. xs ++ text) wrote ∙ append_assoc before (lead ++ name) text ∙ ap (λ xs. before ++ xs) (append_assoc lead name text) ∙ ap (λ xs. before ++ (lead ++ (xs ++ text))) named ∙ ap (λ xs. before ++ (lead ++ xs)) (sym part))
+
+-- fields behind fields
+pub fields_join : (packet : List ℕ) (content : ℕ) (xs ys : List Slot) (from mid to : Reached) → PutsFields xs packet content from mid → PutsFields ys packet content mid to → PutsFields (xs ++ ys) packet content from to
+fields_join packet content [] ys from mid to first second = subst (λ r. PutsFields ys packet content r to) first second
+fields_join packet content (x ∷ xs) ys from mid to first second = (first.0, first.1, fields_join packet content xs ys first.0 mid to first.2 second)
+
+-- and apart again
+pub fields_split : (packet : List ℕ) (content : ℕ) (xs ys : List Slot) (from to : Reached) → PutsFields (xs ++ ys) packet content from to
+    → (mid : Reached) × PutsFields xs packet content from mid × PutsFields ys packet content mid to
+fields_split packet content [] ys from to puts = (from, refl, puts)
+fields_split packet content (x ∷ xs) ys from to puts =
+    let s = fields_split packet content xs ys puts.0 to puts.2 in
+    (s.0, (puts.0, puts.1, s.1), s.2)
+
+-- numbers of a run end within it
+run_reach : (from span : ℕ) (ss rest : List Slot) (ns : List PlainNumber) → AreInRun from ss ns span rest → from ≤ span
+run_reach from span ss rest [] are = omega (arith, are.0)
+run_reach from span [] rest (n ∷ ns) are = absurd are
+run_reach from span (s ∷ ss) rest (n ∷ ns) are =
+    let further = run_reach (n.window.place + n.window.size) span ss rest ns are.1 in
+    let behind : from ≤ n.window.place = omega (arith, ap (λ (w : Placed). w.place) are.0.window) in
+    omega (arith, further, behind)
+
+run_behind : (from span : ℕ) (ss rest : List Slot) (ns : List PlainNumber) → AreInRun from ss ns span rest → All (λ (n : PlainNumber). n.window.place ≤ span) ns
+run_behind from span ss rest [] are = All-nil (λ (n : PlainNumber). n.window.place ≤ span)
+run_behind from span [] rest (n ∷ ns) are = absurd are
+run_behind from span (s ∷ ss) rest (n ∷ ns) are =
+    let next = n.window.place + n.window.size in
+    let inside : n.window.place ≤ span = omega (arith, run_reach next span ss rest ns are.1) in
+    All-cons (λ (k : PlainNumber). k.window.place ≤ span) n ns inside (run_behind next span ss rest ns are.1)
+
+-- what is left behind the field of a run
+pub left_behind : (ss : List Slot) (f : Option Field) (Holds : List Slot → Type 0) → Behind ss f Holds → (others : List Slot) × Behind ss f (λ xs. xs ≡ others) × Holds others
+left_behind ss None Holds behind = (ss, refl, behind)
+left_behind [] (Some f) Holds behind = absurd behind
+left_behind (s ∷ ss) (Some f) Holds behind = (ss, (behind.0, refl), behind.1)
+
+-- the first of some runs
+pub takes_first : (ss : List Slot) (r : Run) (rs : List Run) → AreRuns ss (r ∷ rs) → (others : List Slot) × TakesRun ss r others × AreRuns others rs
+takes_first ss r rs are =
+    let left = left_behind are.0 r.field (λ xs. AreRuns xs rs) are.4 in
+    (left.0, (are.0, are.1, left.1), left.2)
+
+-- runs of a plan are near
+pub runs_near : (ss : List Slot) (rs : List Run) → AreRuns ss rs → All IsNear rs
+runs_near ss [] are = All-nil IsNear
+runs_near ss (r ∷ rs) are =
+    let first = takes_first ss r rs are in
+    All-cons IsNear r rs (record { room = are.2; bounded = are.3; behind = run_behind 0 r.span ss are.0 r.numbers are.1 }) (runs_near first.0 rs first.2)
+
+-- the room of numbers alone, and of the text behind them
+pub room_alone : (ns : List PlainNumber) (f : Option Field) → numbers_room ns ≤ room_of ns f
+room_alone [] None = omega arith
+room_alone [] (Some f) = omega arith
+room_alone (n ∷ ns) f = let more = room_alone ns f in omega (arith, more)
+
+pub room_behind : (ns : List PlainNumber) (f : Field) → room_of ns (Some f) + 24 ≡ numbers_room ns + (length f.ready + 90)
+room_behind [] f = omega arith
+room_behind (n ∷ ns) f = let more = room_behind ns f in omega (arith, more)
+
+-- the number that is not below zero
+nat_of : ℤ → ℕ
+nat_of (pos n) = n
+nat_of (negsuc n) = 0
+
+-- a number of a run is its field
+number_alone : (s : Slot) (n : PlainNumber) (from first place content : ℕ) (packet line : List ℕ) → IsNumber from s n → 8 * first ≡ place → place + (n.window.place + n.window.size) ≤ content
+    → (next_multiple_of (place + from) s.align ≤ content) × PutsOne (form s.member.class) (λ v. s.lead ++ part_text (member_part s.member) v) packet content (next_multiple_of (place + from) s.align) (place + (n.window.place + n.window.size)) line (line ++ plain_text packet first n)
+number_alone s n from first place content packet line is starts within =
+    let m = s.member in
+    let i = n.integer in
+    let a = m.class.align in
+    let begun = next_multiple_of from s.align in
+    let end = place + (n.window.place + n.window.size) in
+    let digits = signed_decimal (number_behind n.window packet first) in
+    let named = line ++ n.ready in
+    let after = line ++ plain_text packet first n in
+    let whole : place % 8 ≡ 0 = omega (arith, starts) in
+    let begins : next_multiple_of (place + from) s.align ≡ place + begun = next_behind place from s.align (divides_too place 8 s.align whole is.begins) in
+    let ends : end ≡ place + (next_multiple_of begun a + bits_of i) = ap (λ (w : Placed). place + (w.place + w.size)) is.window in
+    let wrote : after ≡ named ++ signed_decimal (number_behind (record { place = next_multiple_of begun a; size = bits_of i; is_signed = i.is_signed }) packet first) = sym (append_assoc line n.ready digits) ∙ ap (λ (w : Placed). named ++ signed_decimal (number_behind w packet first)) is.window in
+    let puts : PutsOne (integer a i) (integer_text i) packet content (place + begun) end named after = plain_integer i a packet content first place begun end named after is.decimal is.little starts (divides_too place 8 a whole is.divides) ends within wrote in
+    let there : PutsOne (form m.class) (λ v. s.lead ++ part_text (member_part m) v) packet content (place + begun) end line after =
+    puts_named m s.lead packet content (place + begun) end line named after (field_text m.name) (ap (λ t. line ++ t) is.ready) refl
+    (as_one (integer a i) (form m.class) (integer_text i) (value_text m.class) packet content (place + begun) end named after after (form_integer m.class i is.is) (text_integer m.class i is.is) refl puts)
+    in
+    let near : begun ≤ n.window.place = omega (arith, ap (λ (w : Placed). w.place) is.window) in
+    (omega (arith, begins, near, within), subst (λ p. PutsOne (form m.class) (λ v. s.lead ++ part_text (member_part m) v) packet content p end line after) (sym begins) there)
+
+-- and an unsigned one stands there as its number
+number_stands : (s : Slot) (n : PlainNumber) (from first place content v : ℕ) (packet : List ℕ) → IsNumber from s n → 8 * first ≡ place → place + (n.window.place + n.window.size) ≤ content → n.integer.is_signed ≡ false → number_behind n.window packet first ≡ pos v
+    → StandsAsNumber (form s.member.class) packet content (next_multiple_of (place + from) s.align) v
+unfolding number nat_of
+number_stands s n from first place content v packet is starts within plain read =
+    let i = n.integer in
+    let a = s.member.class.align in
+    let begun = next_multiple_of from s.align in
+    let at = next_multiple_of (place + from) s.align in
+    let whole : place % 8 ≡ 0 = omega (arith, starts) in
+    let begins : at ≡ place + begun = next_behind place from s.align (divides_too place 8 s.align whole is.begins) in
+    let stands : next_multiple_of at a ≡ 8 * first + n.window.place = ap (λ p. next_multiple_of p a) begins ∙ next_behind place begun a (divides_too place 8 a whole is.divides) ∙ (λ j. sym starts j + sym (ap (λ (w : Placed). w.place) is.window) j) in
+    let wide : n.window.size ≡ bits_of i = ap (λ (w : Placed). w.size) is.window in
+    let signs : n.window.is_signed ≡ false = ap (λ (w : Placed). w.is_signed) is.window ∙ plain in
+    let told : number_behind n.window packet first ≡ pos (number Le packet (8 * first + n.window.place) n.window.size) = ap (λ b. if b then signed_number Le packet (8 * first + n.window.place) n.window.size else pos (number Le packet (8 * first + n.window.place) n.window.size)) signs in
+    let same : v ≡ number i.order packet (next_multiple_of at a) (bits_of i) = ap nat_of (sym read ∙ told) ∙ (λ j. number (sym is.little j) packet (sym stands j) (wide j)) in
+    subst (λ f. StandsAsNumber f packet content at v) (form_integer s.member.class i is.is) (stands_number a i packet content at v plain (omega (arith, stands, wide, starts, within)) same)
+
+-- a value alone is a field
+alone_field : (s : Slot) (packet : List ℕ) (content : ℕ) (from to : Reached) → next_multiple_of from.place s.align ≤ content → PutsOne (form s.member.class) (λ v. s.lead ++ part_text (member_part s.member) v) packet content (next_multiple_of from.place s.align) to.place from.line to.line → to.more ≡ from.more
+    → IfSome to.last (StandsAsNumber (form s.member.class) packet content (next_multiple_of from.place s.align)) → PutsField s packet content from to
+alone_field s packet content from to within puts same stands =
+    let shown : Shown = λ v. s.lead ++ part_text (member_part s.member) v in
+    let begun = next_multiple_of from.place s.align in
+    (within, 0, (let none : to.more ≡ from.more + 0 = omega (arith, same) in none), puts_next (behind s.index from.last) (form s.member.class) shown packet content begun to.place 0 from.line to.line puts, stands)
+
+-- how far the numbers of a run came
+abbrev pub numbers_to : ℕ → ℕ → Option ℕ → List ℕ → Reached
+numbers_to place more last line = record { place = place; more = more; last = last; line = line }
+
+number_field : (s : Slot) (n : PlainNumber) (from first place content more : ℕ) (known last : Option ℕ) (packet line : List ℕ) → IsNumber from s n → 8 * first ≡ place → place + (n.window.place + n.window.size) ≤ content → IfSome last (λ v. (n.integer.is_signed ≡ false) × (number_behind n.window packet first ≡ pos v))
+    → PutsField s packet content (numbers_to (place + from) more known line) (numbers_to (place + (n.window.place + n.window.size)) more last (line ++ plain_text packet first n))
+number_field s n from first place content more known last packet line is starts within number_is =
+    let alone = number_alone s n from first place content packet line is starts within in
+    alone_field s packet content (numbers_to (place + from) more known line) (numbers_to (place + (n.window.place + n.window.size)) more last (line ++ plain_text packet first n)) alone.0 alone.1 refl (stands last number_is)
+  where
+    stands : (o : Option ℕ) → IfSome o (λ v. (n.integer.is_signed ≡ false) × (number_behind n.window packet first ≡ pos v)) → IfSome o (StandsAsNumber (form s.member.class) packet content (next_multiple_of (place + from) s.align))
+    stands None told = tt
+    stands (Some v) told = number_stands s n from first place content v packet is starts within told.0 told.1
+
+-- the numbers of a run are its first fields
+pub numbers_fields : (ss rest : List Slot) (ns : List PlainNumber) (from span first place content more : ℕ) (last : Option ℕ) (packet line : List ℕ) → AreInRun from ss ns span rest → IsLastNumber last ns packet first → 8 * first ≡ place → place + span ≤ content
+    → (used : List Slot) × (ss ≡ used ++ rest) × PutsFields used packet content (numbers_to (place + from) more None line) (numbers_to (place + span) more last (line ++ flat_map (plain_text packet first) ns))
+numbers_fields ss rest [] from span first place content more last packet line are known starts within =
+    ([], sym are.1, λ j. numbers_to (place + are.0 j) more (known j) (append-nil line j))
+numbers_fields [] rest (n ∷ ns) from span first place content more last packet line are known starts within = absurd are
+numbers_fields (s ∷ ss) rest (n ∷ []) from span first place content more last packet line are known starts within =
+    let next = n.window.place + n.window.size in
+    let ends : span ≡ next = are.1.0 in
+    let one = number_field s n from first place content more None last packet line are.0 starts (omega (arith, ends, within)) known in
+    (s ∷ [], ap (λ xs. s ∷ xs) (sym are.1.1), (numbers_to (place + next) more last (line ++ plain_text packet first n), one, λ j. numbers_to (place + ends j) more last (line ++ append-nil (plain_text packet first n) j)))
+numbers_fields (s ∷ ss) rest (n ∷ (m ∷ ns)) from span first place content more last packet line are known starts within =
+    let next = n.window.place + n.window.size in
+    let longer = line ++ plain_text packet first n in
+    let inside : place + next ≤ content = omega (arith, within, run_reach next span ss rest (m ∷ ns) are.1) in
+    let behind = numbers_fields ss rest (m ∷ ns) next span first place content more last packet longer are.1 known starts within in
+    let all = flat_map (plain_text packet first) (m ∷ ns) in (
+      s ∷ behind.0,
+      ap (λ xs. s ∷ xs) behind.1,
+      (
+        numbers_to (place + next) more None longer,
+        number_field s n from first place content more None None packet line are.0 starts inside tt,
+        subst (λ xs. PutsFields behind.0 packet content (numbers_to (place + next) more None longer) (numbers_to (place + span) more last xs)) (append_assoc line (plain_text packet first n) all) behind.2,
+      ),
+    )
+
+at_one : (p : ℕ) → next_multiple_of p 1 ≡ p
+at_one p = omega arith
+
+-- what is left behind one more
+drop_one : {A : Type 0} (xs : List A) (i : ℕ) (x : A) (rest : List A) → drop i xs ≡ x ∷ rest → (i < length xs) × (x ≡ get_or xs i x) × (drop (i + 1) xs ≡ rest)
+drop_one [] zero x rest left = absurd (omega (arith, ap length left))
+drop_one [] (suc i) x rest left = absurd (omega (arith, ap length left))
+drop_one (y ∷ xs) zero x rest left = (omega arith, sym (ap (λ ys. get_or ys 0 x) left), ap (drop 1) left)
+drop_one (y ∷ xs) (suc i) x rest left =
+    let d = drop_one xs i x rest left in
+    let more : suc i + 1 ≡ suc (i + 1) = omega arith in
+    (omega (arith, d.0), d.1, ap (λ k. drop k (y ∷ xs)) more ∙ d.2)
+
+-- a value behind so many members, of which the last is known
+behind_members : (i : ℕ) (last : Last) (k : Form) (shown : Shown) (packet : List ℕ) (content place : ℕ) (line : List ℕ) (to : Next) (after : List ℕ) → PutsNext (record { index = i; last = last }) k shown packet content place line to after
+    → PutsBehind anywhere (LastIs last) i k shown packet content place line to after
+behind_members i last k shown packet content place line to after puts spent room earlier env vs there counted is = puts spent room earlier env vs counted is
+
+-- members behind the first
+later_going : (all rest : List Member) (packet : List ℕ) (content begin i base some : ℕ) (before : List ℕ) (from to : Reached) → drop (suc i) all ≡ rest → from.more ≡ base + some → Going anywhere all packet content begin (suc i) from.place some (LastIs (known from.last)) before from.line → PutsFields (laters (suc i) rest) packet content from to
+    → (more : ℕ) × (to.more ≡ base + more) × Going anywhere all packet content begin (suc i + length rest) to.place more (LastIs (known to.last)) before to.line
+later_going all [] packet content begin i base some before from to left counted going puts =
+    let none : suc i ≡ suc i + 0 = omega arith in
+    (some, ap (λ (r : Reached). r.more) puts ∙ counted, subst (λ k. Going anywhere all packet content begin k to.place some (LastIs (known to.last)) before to.line) none (subst (λ (r : Reached). Going anywhere all packet content begin (suc i) r.place some (LastIs (known r.last)) before r.line) (sym puts) going))
+later_going all (m ∷ rest) packet content begin i base some before from to left counted going puts =
+    let d = drop_one all (suc i) m rest left in
+    let mid = puts.0 in
+    let field = puts.1 in
+    let more = field.1 in
+    let shown : Shown = λ v. 44 ∷ 32 ∷ part_text (member_part m) v in
+    let so_far : Before = record { index = suc i; last = known from.last } in
+    let end : Next = record { place = mid.place; text = 0; more = more; last = known mid.last } in
+    let told : PutsNext so_far (form m.class) shown packet content (next_multiple_of from.place 1) from.line end mid.line = known_next mid.last so_far (form m.class) shown packet content (next_multiple_of from.place 1) mid.place 0 more from.line mid.line field.3 field.4 in
+    let next : PutsNext so_far (form m.class) shown packet content from.place from.line end mid.line = subst (λ p. PutsNext so_far (form m.class) shown packet content p from.line end mid.line) (at_one from.place) told in
+    let on = going_on anywhere all packet content begin before (suc i) from.place some (LastIs (known from.last)) (LastIs (known mid.last)) m 44 from.line end mid.line d.0 d.1 refl going (λ vs v counted are_known is. last_is (known mid.last) vs v is) (behind_members (suc i) (known from.last) (form m.class) shown packet content from.place from.line end mid.line next) in
+    let one : suc i + 1 ≡ suc (suc i) = omega arith in
+    let sum : mid.more ≡ base + (some + more) = (let f = field.2 in omega (arith, f, counted)) in
+    let others = later_going all rest packet content begin (suc i) base (some + more) before mid to (sym (ap (λ k. drop k all) one) ∙ d.2) sum (subst (λ k. Going anywhere all packet content begin k mid.place (some + more) (LastIs (known mid.last)) before mid.line) one on) puts.2 in
+    let count : suc (suc i) + length rest ≡ suc i + suc (length rest) = omega arith in
+    (others.0, others.1, subst (λ k. Going anywhere all packet content begin k to.place others.0 (LastIs (known to.last)) before to.line) count others.2)
+
+-- the fields of a structure, and the brace behind them, are its value, with so many others in its arrays
+pub scope_puts : (k : Class) (s : Scoped) (opens packet : List ℕ) (content spent : ℕ) (from to : Reached) → k.kind ≡ kind.Structure s.members → k.align ≡ s.align → 0 < length s.members → PutsFields (slots opens s) packet content from to
+    → (more : ℕ) × (to.more ≡ from.more + more) × (spent + 1 + length s.members + more ≤ MOST_VALUES → Puts (form k) (value_text k) packet content from.place spent to.place (spent + 1 + length s.members + more) (from.line ++ opens) (to.line ++ (32 ∷ 125 ∷ [])))
+scope_puts k s opens packet content spent from to is aligned some puts = by_members s.members is some puts
+  where
+    by_members : (ms : List Member) → k.kind ≡ kind.Structure ms → 0 < length ms → PutsFields (slots_of opens s.align ms) packet content from to
+        → (more : ℕ) × (to.more ≡ from.more + more) × (spent + 1 + length ms + more ≤ MOST_VALUES → Puts (form k) (value_text k) packet content from.place spent to.place (spent + 1 + length ms + more) (from.line ++ opens) (to.line ++ (32 ∷ 125 ∷ [])))
+    by_members [] is some puts = absurd (omega (arith, some))
+    by_members (m ∷ ms) is some puts =
+        let all = m ∷ ms in
+        let begin = next_multiple_of from.place s.align in
+        let opened = from.line ++ opens in
+        let mid = puts.0 in
+        let field = puts.1 in
+        let end : Next = record { place = mid.place; text = 0; more = field.1; last = known mid.last } in
+        let shown : Shown = λ v. (opens ++ (123 ∷ 32 ∷ [])) ++ part_text (member_part m) v in
+        let none : Before = record { index = 0; last = known None } in
+        let told : PutsNext none (form m.class) shown packet content begin from.line end mid.line = known_next mid.last none (form m.class) shown packet content begin mid.place 0 field.1 from.line mid.line field.3 field.4 in
+        let first : PutsNext none (form m.class) (λ v. 123 ∷ 32 ∷ part_text (member_part m) v) packet content begin opened end mid.line = λ sp fw ea en vs counted last.
+        let p = told sp fw ea en vs counted last in
+        let part = part_text (member_part m) p.0 in
+        (p.0, p.1, p.2 ∙ ap (λ xs. from.line ++ xs) (append_assoc opens (123 ∷ 32 ∷ []) part) ∙ sym (append_assoc from.line opens (123 ∷ 32 ∷ part)), p.3)
+        in
+        let no_more : 0 + field.1 ≡ field.1 = omega arith in
+        let one : Going anywhere all packet content begin 1 mid.place field.1 (LastIs (known mid.last)) opened mid.line = subst (λ n. Going anywhere all packet content begin 1 mid.place n (LastIs (known mid.last)) opened mid.line) no_more (going_on anywhere all packet content begin opened 0 begin 0 (LastIs (known None)) (LastIs (known mid.last)) m 123 opened end mid.line (omega arith) refl refl (going_begins anywhere all packet content begin opened (LastIs (known None)) tt) (λ vs v counted are_known is. last_is (known mid.last) vs v is) (behind_members 0 (known None) (form m.class) (λ v. 123 ∷ 32 ∷ part_text (member_part m) v) packet content begin opened end mid.line first)) in
+        let going = later_going all ms packet content begin 0 from.more field.1 opened mid to refl field.2 one puts.2 in
+        let counted : 1 + length ms ≡ length all = omega arith in
+        let ends : MembersEnd = record { place = to.place; text = 0; more = going.0 } in
+        let rows = going_ends anywhere all packet content begin opened to.place going.0 0 (LastIs (known to.last)) to.line (subst (λ i. Going anywhere all packet content begin i to.place going.0 (LastIs (known to.last)) opened to.line) counted going.2) in
+        let whole = closed anywhere all packet content begin 0 ends opened to.line (to.line ++ (32 ∷ 125 ∷ [])) (omega arith) refl rows in
+        (going.0, going.1, λ few earlier env. puts_structure anywhere k all packet content from.place begin spent ends (spent + 1 + length all + going.0) opened (to.line ++ (32 ∷ 125 ∷ [])) is (ap (next_multiple_of from.place) (sym aligned)) field.0 refl few whole earlier env tt)
+
+-- the fields of structures, and the brace behind them, are their values
+pub scopes_puts : (ks : List Class) (ss : List Scoped) (opens packet : List ℕ) (content spent : ℕ) (from to : Reached) → 0 < length ks → AreScoped ks ss → PutsFields (all_slots opens ss) packet content from to
+    → (more : ℕ) × (to.more ≡ from.more + more) × (spent + values_in ss + more ≤ MOST_VALUES → PutsScopes ks packet content from.place spent to.place (spent + values_in ss + more) (from.line ++ opens) (to.line ++ (32 ∷ 125 ∷ [])))
+scopes_puts [] ss opens packet content spent from to some are puts = absurd (omega (arith, some))
+scopes_puts (k ∷ ks) [] opens packet content spent from to some are puts = absurd are
+scopes_puts (k ∷ []) (s ∷ []) opens packet content spent from to some are puts =
+    let one = scope_puts k s opens packet content spent from to are.0 are.1 are.3 (subst (λ xs. PutsFields xs packet content from to) (append-nil (slots opens s)) puts) in
+    let total : spent + 1 + length s.members + one.0 ≡ spent + values_in (s ∷ []) + one.0 = omega arith in
+    (one.0, one.1, λ few. subst (λ n. Puts (form k) (value_text k) packet content from.place spent to.place n (from.line ++ opens) (to.line ++ (32 ∷ 125 ∷ []))) total (one.2 (omega (arith, few))))
+scopes_puts (k ∷ []) (s ∷ (t ∷ ss)) opens packet content spent from to some are puts = absurd are.4
+scopes_puts (k ∷ (l ∷ ks)) (s ∷ []) opens packet content spent from to some are puts = absurd are.4
+scopes_puts (k ∷ (l ∷ ks)) (s ∷ (t ∷ ss)) opens packet content spent from to some are puts =
+    let rest = t ∷ ss in
+    let apart = fields_split packet content (slots opens s) (all_slots between rest) from to puts in
+    let mid = apart.0 in
+    let first = scope_puts k s opens packet content spent from mid are.0 are.1 are.3 apart.1 in
+    let many = spent + 1 + length s.members + first.0 in
+    let others = scopes_puts (l ∷ ks) rest between packet content many mid to (omega arith) are.4 apart.2 in
+    let more = first.0 + others.0 in
+    let total : many + values_in rest + others.0 ≡ spent + values_in (s ∷ rest) + more = omega arith in
+    let text : mid.line ++ between ≡ (mid.line ++ (32 ∷ 125 ∷ [])) ++ codes ", " = sym (append_assoc mid.line (32 ∷ 125 ∷ []) (44 ∷ 32 ∷ [])) in
+    let sum : to.more ≡ from.more + more = (let a = first.1 in let b = others.1 in omega (arith, a, b)) in (
+      more,
+      sum,
+      λ few. (
+        mid.place,
+        many,
+        mid.line ++ (32 ∷ 125 ∷ []),
+        first.2 (omega (arith, few)),
+        subst (λ n. PutsScopes (l ∷ ks) packet content mid.place many to.place n ((mid.line ++ (32 ∷ 125 ∷ [])) ++ codes ", ") (to.line ++ (32 ∷ 125 ∷ []))) total
+            (subst (λ xs. PutsScopes (l ∷ ks) packet content mid.place many to.place (many + values_in rest + others.0) xs (to.line ++ (32 ∷ 125 ∷ []))) text (others.2 (omega (arith, few)))),
+      ),
+    )
+
+-- the numbers of a run, in a buffer
+pub run_numbers : (ss rest : List Slot) (ns ms : List PlainNumber) (span first place content more : ℕ) (last : Option ℕ) (packet before line after : List ℕ) → AreInRun 0 ss ns span rest → ms ≡ ns → IsLastNumber last ns packet first → 8 * first ≡ place → place + span ≤ content → line ≡ before → after ≡ line ++ flat_map (plain_text packet first) ms
+    → (used : List Slot) × (ss ≡ used ++ rest) × PutsFields used packet content (numbers_to place more None before) (numbers_to (place + span) more last after)
+run_numbers ss rest ns ms span first place content more last packet before line after are same known starts within kept wrote =
+    let all = numbers_fields ss rest ns 0 span first place content more last packet before are known starts within in
+    let none : place + 0 ≡ place = omega arith in
+    let text : before ++ flat_map (plain_text packet first) ns ≡ after = sym (wrote ∙ ap (λ xs. xs ++ flat_map (plain_text packet first) ms) kept ∙ ap (λ xs. before ++ flat_map (plain_text packet first) xs) same) in
+    (all.0, all.1, subst (λ p. PutsFields all.0 packet content (numbers_to p more None before) (numbers_to (place + span) more last after)) none (subst (λ xs. PutsFields all.0 packet content (numbers_to (place + 0) more None before) (numbers_to (place + span) more last xs)) text all.2))
+
+-- no number is asked for
+pub no_number : (ns : List PlainNumber) (packet : List ℕ) (first : ℕ) → IsLastNumber None ns packet first
+no_number [] packet first = refl
+no_number (n ∷ []) packet first = tt
+no_number (n ∷ (m ∷ ns)) packet first = no_number (m ∷ ns) packet first
+
+-- the last of some numbers
+pub last_number : (ns : List PlainNumber) (n : PlainNumber) (r : Option ℕ) (packet : List ℕ) (first : ℕ) → 0 < length ns → n ≡ get_or ns (length ns - 1) n → n.integer.is_signed ≡ false → IfSome r (λ v. number_behind n.window packet first ≡ pos v) → IsLastNumber r ns packet first
+last_number [] n r packet first some is plain read = absurd (omega (arith, some))
+last_number (m ∷ []) n r packet first some is plain read = told r read
+  where
+    told : (o : Option ℕ) → IfSome o (λ v. number_behind n.window packet first ≡ pos v) → IfSome o (λ v. (m.integer.is_signed ≡ false) × (number_behind m.window packet first ≡ pos v))
+    told None read = tt
+    told (Some v) read = (subst (λ (x : PlainNumber). x.integer.is_signed ≡ false) is plain, subst (λ (x : PlainNumber). number_behind x.window packet first ≡ pos v) is read)
+last_number (m ∷ (k ∷ ns)) n r packet first some is plain read =
+    let count : suc (suc (length ns)) - 1 ≡ suc (length ns - 0) = omega arith in
+    let fewer : length ns - 0 ≡ suc (length ns) - 1 = omega arith in
+    last_number (k ∷ ns) n r packet first (omega arith) (is ∙ ap (λ i. get_or (m ∷ (k ∷ ns)) i n) count ∙ ap (λ i. get_or (k ∷ ns) i n) fewer) plain read
+
+-- nothing behind them
+pub behind_none : (rest others : List Slot) (o : Option Field) → o ≡ None → Behind rest o (λ xs. xs ≡ others) → rest ≡ others
+behind_none rest others o is behind = subst (λ f. Behind rest f (λ xs. xs ≡ others)) is behind
+
+-- a field behind them
+pub behind_some : (rest others : List Slot) (o : Option Field) (f : Field) → o ≡ Some f → Behind rest o (λ xs. xs ≡ others) → (s : Slot) × (rest ≡ s ∷ others) × IsField s f
+behind_some rest others o f is behind = one rest (subst (λ g. Behind rest g (λ xs. xs ≡ others)) is behind)
+  where
+    one : (xs : List Slot) → Behind xs (Some f) (λ ys. ys ≡ others) → (s : Slot) × (xs ≡ s ∷ others) × IsField s f
+    one [] holds = absurd holds
+    one (s ∷ xs) holds = (s, ap (λ ys. s ∷ ys) holds.1, holds.0)
+
+pub run_field : (slots others : List Slot) (s : Slot) (ns : List PlainNumber) (packet : List ℕ) (content first : ℕ) (from : Reached) (mid : Option ℕ → Reached) (r : Option ℕ) (to : ℕ → Reached)
+    → ((last : Option ℕ) → IsLastNumber last ns packet first → (used : List Slot) × (slots ≡ used ++ (s ∷ others)) × PutsFields used packet content from (mid last))
+    → IfSome r (λ t. (last : Option ℕ) × IsLastNumber last ns packet first × PutsField s packet content (mid last) (to t))
+    → IfSome r (λ t. (x : List Slot) × (slots ≡ x ++ others) × PutsFields x packet content from (to t))
+run_field slots others s ns packet content first from mid None to numbers field = tt
+run_field slots others s ns packet content first from mid (Some t) to numbers field =
+    let before = numbers field.0 field.1 in
+    let used = before.0 in
+    (used ++ s ∷ [], before.1 ∙ sym (append_assoc used (s ∷ []) others), fields_join packet content used (s ∷ []) from (mid field.0) (to t) before.2 (to t, field.2, refl))
+
+-- a length that is the number before
+pub counts_behind : (route : Route) (index n : ℕ) → LeadsBefore route index → Counts (lengths.Field route) (behind index (Some n)) n
+counts_behind route zero n leads = absurd (omega (arith, leads.1.2))
+counts_behind route (suc i) n leads = counts_last route (record { index = suc i; last = known (Some n) }) n leads refl
+
+-- a value behind what is printed before it is its field
+pub field_next : (s : Slot) (f : Field) (packet : List ℕ) (content begin place more some end : ℕ) (last : Option ℕ) (before line after : List ℕ) → IsField s f → begin ≡ next_multiple_of place f.align → begin ≤ content → line ≡ before ++ f.ready
+    → PutsNext (behind s.index last) (form s.member.class) (value_text s.member.class) packet content begin line (record { place = end; text = 0; more = some; last = known None }) after
+    → PutsField s packet content (numbers_to place more last before) (numbers_to end (more + some) None after)
+field_next s f packet content begin place more some end last before line after is begins within wrote puts =
+    let m = s.member in
+    let to : Next = record { place = end; text = 0; more = some; last = known None } in
+    let shown : Shown = λ v. s.lead ++ part_text (member_part m) v in
+    let at : begin ≡ next_multiple_of place s.align = begins ∙ ap (next_multiple_of place) is.align in
+    let there = next_named (behind s.index last) m s.lead packet content begin before line to after (field_text m.name) (wrote ∙ ap (λ t. before ++ t) is.ready) refl puts in
+    (omega (arith, at, within), some, refl, subst (λ p. PutsNext (behind s.index last) (form m.class) shown packet content p before to after) at there, tt)
+
+pub field_alone : (s : Slot) (f : Field) (packet : List ℕ) (content begin place more end : ℕ) (last : Option ℕ) (before line after : List ℕ) → IsField s f → begin ≡ next_multiple_of place f.align → begin ≤ content → line ≡ before ++ f.ready
+    → PutsOne (form s.member.class) (value_text s.member.class) packet content begin end line after
+    → PutsField s packet content (numbers_to place more last before) (numbers_to end more None after)
+field_alone s f packet content begin place more end last before line after is begins within wrote puts =
+    let none : more + 0 ≡ more = omega arith in
+    subst (λ n. PutsField s packet content (numbers_to place more last before) (numbers_to end n None after)) none
+    (field_next s f packet content begin place more 0 end last before line after is begins within wrote (puts_next (behind s.index last) (form s.member.class) (value_text s.member.class) packet content begin end 0 line after puts))
+
+up_again : (p a : ℕ) → a ≡ 8 → next_multiple_of (next_multiple_of p 8) a ≡ next_multiple_of p a
+up_again p a is = subst (λ b. next_multiple_of (next_multiple_of p 8) b ≡ next_multiple_of p b) (sym is) (let same : next_multiple_of (next_multiple_of p 8) 8 ≡ next_multiple_of p 8 = omega arith in same)
+
+-- structures begin at a byte, from wherever that is asked for
+pub fields_from : (ks : List Class) (ss : List Scoped) (opens packet : List ℕ) (content place more : ℕ) (last : Option ℕ) (line : List ℕ) (to : Reached) → 0 < length ks → AreScoped ks ss → PutsFields (all_slots opens ss) packet content (numbers_to (next_multiple_of place 8) more last line) to
+    → PutsFields (all_slots opens ss) packet content (numbers_to place more last line) to
+fields_from [] ss opens packet content place more last line to some are puts = absurd (omega (arith, some))
+fields_from (k ∷ ks) [] opens packet content place more last line to some are puts = absurd are
+fields_from (k ∷ ks) (s ∷ ss) opens packet content place more last line to some are puts = by_members s.members are.3 puts
+  where
+    by_members : (ms : List Member) → 0 < length ms → PutsFields (slots_of opens s.align ms ++ all_slots between ss) packet content (numbers_to (next_multiple_of place 8) more last line) to
+        → PutsFields (slots_of opens s.align ms ++ all_slots between ss) packet content (numbers_to place more last line) to
+    by_members [] some puts = absurd (omega (arith, some))
+    by_members (m ∷ ms) some puts =
+        let shown : Shown = λ v. (opens ++ (123 ∷ 32 ∷ [])) ++ part_text (member_part m) v in
+        let mid = puts.0 in
+        let Begins : ℕ → Type 0 = λ q. (q ≤ content) × (n : ℕ) × (mid.more ≡ more + n) × PutsNext (record { index = 0; last = known None }) (form m.class) shown packet content q line (record { place = mid.place; text = 0; more = n; last = known None }) mid.line × IfSome mid.last (StandsAsNumber (form m.class) packet content q) in
+        (mid, subst Begins (up_again place s.align are.2) puts.1, puts.2)

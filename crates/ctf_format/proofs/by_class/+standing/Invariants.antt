@@ -1,0 +1,27 @@
+use Rattle.std.proofs.Common.{◌≡◌, ◌≤◌, take, vec_len}
+use Rattle.ctf_decode.specs.Views.{form}
+use Rattle.ctf_decode.specs.declared.scopes.TheConstants.{MOST_VALUES}
+use Rattle.ctf_format.specs.Around.{Agrees, MembersAre, sight}
+use Rattle.ctf_format.specs.Standing.{mark_at}
+use Rattle.ctf_format.specs.Texts.{value_text}
+use Rattle.ctf_format.proofs.ByClassLemmas as items
+use Rattle.ctf_format.proofs.StandingLemmas as members
+use Rattle.ctf_format.proofs.by_class.+standing.Given as goal
+
+abbrev pub invariant-put_members-loop-i : goal.invariant-put_members-loop-i
+invariant-put_members-loop-i l = record {
+  within : l.place ≤ l.packet.end;
+  held : l.text ≤ vec_len l.buffer;
+  few : l.more ≤ MOST_VALUES;
+  marked : l.lead ≡ mark_at 123 l.i;
+  going : members.Going (Agrees (sight l.around)) l.members l.packet.bytes.now l.packet.end l.begin l.i l.place l.more (MembersAre l.before) (take l.at l.fn.buffer.items) (take l.text l.buffer.items);
+}
+
+abbrev pub invariant-put_row-loop-i : goal.invariant-put_row-loop-i
+invariant-put_row-loop-i l = record {
+  within : l.place ≤ l.packet.end;
+  held : l.text ≤ vec_len l.buffer;
+  few : l.more ≤ MOST_VALUES;
+  marked : l.lead ≡ mark_at 91 l.i;
+  going : items.Going l.seen (form l.element) (value_text l.element) l.count l.packet l.begin l.i l.place l.more (take l.at l.fn.buffer.items) (take l.text l.buffer.items);
+}

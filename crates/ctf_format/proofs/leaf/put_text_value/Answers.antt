@@ -1,0 +1,7 @@
+use Rattle.std.proofs.Common.{take}
+use Rattle.ctf_format.proofs.ByClassLemmas.{writes_text}
+use Rattle.ctf_format.proofs.leaf.put_text_value.Goals as goal
+
+pub returns-clause-puts : goal.returns-clause-puts
+returns-clause-puts c = λ before a many counts.
+    writes_text before a many c.args.count c.args.packet.now c.args.place c.in_ok-ends.ends (take c.args.at c.args.buffer.now.items) c.put_fixed_text.new.buffer.items counts c.in_ok-ends.ensures.puts

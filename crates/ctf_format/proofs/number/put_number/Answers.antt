@@ -1,0 +1,9 @@
+use Rattle.std.proofs.Common.{arith}
+use Rattle.std.proofs.lemmas.List.{length-set}
+use Rattle.ctf_format.proofs.DigitsLemmas.{length_octal}
+use Rattle.ctf_format.proofs.number.put_number.Goals as goal
+
+pub put_digits-requires-clause-room : goal.put_digits-requires-clause-room
+put_digits-requires-clause-room c =
+    let zero_written = length-set c.args.line.now c.args.at 48 in
+    omega (arith, length_octal c.pattern-in-Octal.result (omega arith))

@@ -1,0 +1,40 @@
+use Rattle.std.proofs.Common.{◌≡◌, ◌+◌, ◌<◌, ◌≤◌, ◌++◌, ◌∷◌, [], None, take, length, sym, subst, append-nil, rules, arith}
+use Rattle.std.specs.Int.{next_multiple_of}
+use Rattle.std.specs.List.{All}
+use Rattle.ctf_class.specs.Records.{AreRuns, all_slots, values_in}
+use Rattle.ctf_decode.specs.declared.scopes.TheConstants.{MOST_VALUES}
+use Rattle.ctf_format.specs.Records.{IsNear, PutsFields, PutsScopes, reached}
+use Rattle.ctf_format.proofs.RecordsLemmas.{numbers_to, runs_near, fields_from, scopes_puts}
+use Rattle.ctf_format.proofs.planned_record.put_planned_record.Goals as goal
+
+pub put_runs-requires-clause-near : goal.put_runs-requires-clause-near
+put_runs-requires-clause-near c =
+    let plan = c.args.plan.now in
+    let some : 0 < length plan.runs = search (rules, arith) in
+    let is = c.requires.plan.1 some in
+    subst (All IsNear) (sym c.as_slice-runs.ensures) (runs_near (all_slots [] is.0) plan.runs is.3)
+
+pub returns-clause-puts : goal.returns-clause-puts
+returns-clause-puts c = λ classes several planned.
+    let plan = c.args.plan.now in
+    let bytes = c.args.packet.now.bytes.now in
+    let content = c.args.packet.now.end in
+    let place = c.args.from.place in
+    let spent = c.args.from.spent in
+    let to = c.put_runs.new.reach in
+    let before = take c.args.from.end c.args.buffer.now.items in
+    let after = take c.in_ok-text.text c.put_runs.new.buffer.items in
+    let some : 0 < length plan.runs = search (rules, arith) in
+    let is = planned some in
+    let slots = all_slots [] is.0 in
+    let puts = c.in_ok-text.ensures.puts slots (subst (AreRuns slots) (sym c.as_slice-runs.ensures) is.3) in
+    let line = puts.0 in
+    let begun : PutsFields slots bytes content (numbers_to (next_multiple_of place 8) 0 None before) (reached to line) = subst (λ p. PutsFields slots bytes content (numbers_to p 0 None before) (reached to line)) c.up-begin.ensures.value puts.1 in
+    let whole = scopes_puts classes is.0 [] bytes content spent (numbers_to place 0 None before) (reached to line) several is.1 (fields_from classes is.0 [] bytes content place 0 None before (reached to line) several is.1 begun) in
+    let count = c.in_ok-count.count in
+    let sum : count ≡ plan.count + to.more = search rules in
+    let total : spent + values_in is.0 + whole.0 ≡ spent + count = omega (arith, is.2, whole.1, sum) in
+    let few : spent + count ≤ MOST_VALUES = search (rules, arith) in
+    subst (λ n. PutsScopes classes bytes content place spent to.place n before after) total
+    (subst (λ xs. PutsScopes classes bytes content place spent to.place (spent + values_in is.0 + whole.0) before xs) (sym puts.2)
+    (subst (λ xs. PutsScopes classes bytes content place spent to.place (spent + values_in is.0 + whole.0) xs (line ++ (32 ∷ 125 ∷ []))) (append-nil before) (whole.2 (omega (arith, few, total)))))

@@ -1,0 +1,115 @@
+-- Values that are shown where they stand, among the members and the scopes before them (all own).
+use Rattle.std.specs.Prelude.{◌≡◌, ℕ, ◌+◌, ◌%◌, ◌<◌, ◌≤◌, List, [], ◌∷◌, ◌++◌, map, length, take, get_or, slice_get, Option, Some, IfSome, Ok, ⊤}
+use Rattle.ctf_class.specs.declared.class.Member.{Member}
+use Rattle.ctf_class.specs.declared.route.Length.{Length}
+use Rattle.ctf_class.specs.declared.route.Route.{Route}
+use Rattle.ctf_class.specs.declared.route.Scope.{Scope}
+use Rattle.ctf_class.specs.declared.route.Scope.TheVariants.{PacketHeader, PacketContext}
+use Rattle.ctf_class.specs.declared.span.Choice.{Choice}
+use Rattle.ctf_decode.specs.Forms.{Form, parts_of}
+use Rattle.ctf_decode.specs.Input.{Env}
+use Rattle.ctf_decode.specs.Known.{Known}
+use Rattle.ctf_decode.specs.Routes.{length_of, option_at}
+use Rattle.ctf_decode.specs.Values.{Val, vals_of, unsigned, label}
+use Rattle.ctf_decode.specs.Views as views
+use Rattle.ctf_decode.specs.Walk.{walk, walk_members, repeat}
+use Rattle.ctf_decode.specs.declared.scopes.TheConstants.{MOST_VALUES}
+use Rattle.ctf_format.specs.Standing.{among, ValueIs}
+use Rattle.ctf_format.specs.Texts.{Shown, member_part, member_texts, element_texts}
+use Rattle.ctf_format.specs.declared.around.Around.{Around, fold-Around}
+use Rattle.ctf_format.specs.declared.around.Around.TheOpen.{Around-F}
+use Rattle.ctf_format.specs.declared.around.Members.{Members}
+use Rattle.ctf_format.specs.declared.around.Seen.{Seen}
+use Rattle.ctf_format.specs.declared.content.Content.{Content}
+use Rattle.ctf_format.specs.declared.standing.Last.{Last}
+use Rattle.ctf_format.specs.declared.standing.Last.TheVariants as lasts
+use Rattle.ctf_format.specs.declared.standing.MembersEnd.{MembersEnd}
+use Rattle.ctf_format.specs.declared.standing.Next.{Next}
+
+-- the values of scopes, and the members before a value in the structures around it, the innermost first
+pub record Sight : Type 0 where
+  pub known : Known
+  pub frames : List Members
+
+abbrev pub around_step : Around-F Sight → Sight
+around_step (Around-F.Scopes scopes) = record { known = scopes.now; frames = [] }
+around_step (Around-F.Within members outer) = record { known = outer.now.known; frames = members.now ∷ outer.now.frames }
+
+-- what is seen around a structure
+abbrev pub sight : Around → Sight
+sight = fold-Around Sight around_step
+
+-- what a route finds is this number, as far as it is known
+abbrev pub Finds : Last → Option Val → Type 0
+Finds lasts.Unknown found = ⊤
+Finds (lasts.Unsigned n) found = found ≡ Some (unsigned n)
+Finds (lasts.Label z) found = found ≡ Some (label z)
+
+-- there are as many values as members, and the last eight have the numbers that are kept
+abbrev pub MembersAre : Members → List Val → Type 0
+MembersAre m vs =
+    (length vs ≡ m.count) × ((j : ℕ) → j < m.count → m.count ≤ j + 8 → Finds (get_or m.numbers (j % 8) lasts.Unknown) (slice_get vs j))
+
+-- the earlier members of structures are those that are known, as far as these go outwards
+abbrev pub FramesAre : List Members → Env → Type 0
+FramesAre [] env = ⊤
+FramesAre (m ∷ ms) [] = ⊥
+FramesAre (m ∷ ms) (vs ∷ env) = MembersAre m vs × FramesAre ms env
+
+-- the values of the packet's header and context are those that are known
+abbrev pub SharesPacket : Known → (Scope → Option Val) → Type 0
+SharesPacket known earlier = (earlier PacketHeader ≡ views.earlier known PacketHeader) × (earlier PacketContext ≡ views.earlier known PacketContext)
+
+abbrev pub Agrees : Sight → (Scope → Option Val) → Env → Type 0
+Agrees s earlier env = SharesPacket s.known earlier × FramesAre s.frames env
+
+-- what was decoded before a value in a structure is what is seen around it
+abbrev pub Sees : Seen → (Scope → Option Val) → Env → Type 0
+Sees s earlier [] = ⊥
+Sees s earlier (vs ∷ env) = MembersAre s.members.now vs × Agrees (sight s.around.now) earlier env
+
+-- an array of this length has so many elements there
+abbrev pub CountsIn : Seen → Length → ℕ → Type 0
+CountsIn seen many n = (earlier : Scope → Option Val) (env : Env) → Sees seen earlier env → length_of many earlier env ≡ n
+
+-- a tag makes this choice there
+abbrev pub ChoosesIn : Seen → Route → List Choice → ℕ → Type 0
+ChoosesIn seen tag choices i = (earlier : Scope → Option Val) (env : Env) → Sees seen earlier env → option_at tag choices earlier env ≡ Some i
+
+-- A value is there from a place to another, whatever was decoded before with these values of the packet, and its text
+-- follows a text. So many values were begun before it, and after it.
+abbrev pub PutsWith : Known → Form → Shown → List ℕ → ℕ → ℕ → ℕ → ℕ → ℕ → List ℕ → List ℕ → Type 0
+PutsWith known k shown packet content place spent end total before after =
+    (earlier : Scope → Option Val) (env : Env) → SharesPacket known earlier
+    → (v : Val) × (walk k (among packet content earlier) env place spent ≡ Ok (v, end, total)) × (after ≡ before ++ shown v)
+
+-- A value is there among what is seen around it, with so many values in it, of which so much is known, and its text follows
+-- a text.
+abbrev pub PutsIn : Seen → Form → Shown → List ℕ → ℕ → ℕ → List ℕ → Next → List ℕ → Type 0
+PutsIn seen k shown packet content place line next after =
+    (spent : ℕ) → spent + next.more < MOST_VALUES → (earlier : Scope → Option Val) (env : Env) → Sees seen earlier env
+    → (v : Val) × (walk k (among packet content earlier) env place spent ≡ Ok (v, next.place, spent + 1 + next.more)) × (after ≡ line ++ shown v) × ValueIs next.last v
+
+-- a value, if one was written, is there in a packet, and its text is after a line now
+abbrev pub WritesIn : Option Next → Seen → Form → Shown → Content → ℕ → List ℕ → List ℕ → Type 0
+WritesIn result seen k shown packet place line items =
+    IfSome result (λ next. PutsIn seen k shown packet.bytes.now packet.end place line next (take next.text items))
+
+-- Members are there one after the other in a structure where this was decoded before, with so many values in them, and their
+-- texts follow a text together.
+abbrev pub PutsMembers : (List (List ℕ) → List ℕ) → ((Scope → Option Val) → Env → Type 0) → List Member → List ℕ → ℕ → ℕ → List ℕ → MembersEnd → List ℕ → Type 0
+PutsMembers together Where ms packet content place before end after =
+    (spent : ℕ) → spent + length ms + end.more ≤ MOST_VALUES → (earlier : Scope → Option Val) (env : Env) → Where earlier env
+    → (vs : List Val) × (walk_members (parts_of (map views.member_part ms)) (among packet content earlier) env [] place spent ≡ Ok (vs, end.place, spent + length ms + end.more)) × (length vs ≡ length ms) × (after ≡ before ++ together (member_texts (map member_part ms) (vals_of vs)))
+
+-- members, if they were written, are there in a packet, and their texts are after a line now
+abbrev pub WritesMembers : (List (List ℕ) → List ℕ) → Option MembersEnd → Sight → List Member → Content → ℕ → List ℕ → List ℕ → Type 0
+WritesMembers together result around ms packet place line items =
+    IfSome result (λ end. PutsMembers together (Agrees around) ms packet.bytes.now packet.end place line end (take end.text items))
+
+-- so many elements of an array are there one after the other among what is seen around it, with so many values in all of them
+abbrev pub PutsItems : (List (List ℕ) → List ℕ) → Seen → Form → Shown → ℕ → Content → ℕ → List ℕ → MembersEnd → List ℕ → Type 0
+PutsItems together seen k shown count packet place line end after =
+    (spent : ℕ) → spent + count + end.more ≤ MOST_VALUES → (earlier : Scope → Option Val) (env : Env) → Sees seen earlier env
+    → (ws : List Val) × (repeat (walk k (among packet.bytes.now packet.end earlier) env) count [] place spent ≡ Ok (ws, end.place, spent + count + end.more)) × (length ws ≡ count)
+    × (after ≡ line ++ together (element_texts shown 0 (vals_of ws)))

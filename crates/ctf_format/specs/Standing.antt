@@ -1,0 +1,108 @@
+-- Values that are shown where they stand.
+use Rattle.std.specs.Prelude.{◌≡◌, ℕ, zero, suc, ◌+◌, ◌<◌, ◌≤◌, List, [], ◌∷◌, ◌++◌, map, length, take, Option, Some, None, IfSome, Ok, ⊤, if◌then◌else◌}
+use Rattle.ctf_class.specs.declared.class.Member.{Member}
+use Rattle.ctf_class.specs.declared.integer.Integer.{Integer}
+use Rattle.ctf_class.specs.declared.route.Length.{Length}
+use Rattle.ctf_class.specs.declared.route.Scope.{Scope}
+use Rattle.ctf_decode.specs.Fields.{members_in, elements_in, choice_in}
+use Rattle.ctf_decode.specs.Values.{Val, vals_of, unsigned, label}
+use Rattle.ctf_decode.specs.Forms.{Form, integer}
+use Rattle.ctf_decode.specs.Input.{Input, Env}
+use Rattle.ctf_decode.specs.Routes.{length_of}
+use Rattle.ctf_decode.specs.Walk.{walk, repeat}
+use Rattle.ctf_decode.specs.declared.scopes.TheConstants.{MOST_VALUES}
+use Rattle.ctf_format.specs.Rows.{enclosed}
+use Rattle.ctf_format.specs.Texts.{Shown, member_part, member_texts, element_texts, integer_text, chosen_text}
+use Rattle.ctf_format.specs.declared.content.Content.{Content}
+use Rattle.ctf_format.specs.declared.standing.Last.{Last}
+use Rattle.ctf_format.specs.declared.standing.Last.TheVariants as lasts
+use Rattle.ctf_format.specs.declared.standing.Next.{Next}
+
+-- a packet's bytes and the place in bits where its content ends, whatever was decoded before (own)
+abbrev pub among : List ℕ → ℕ → (Scope → Option Val) → Input
+among packet content earlier = record { packet = packet; content = content; earlier = earlier; limit = MOST_VALUES }
+
+-- A value stands from a place to another, whatever was decoded before, and its text follows a text. So many values were
+-- begun before it, and behind it (own).
+abbrev pub Puts : Form → Shown → List ℕ → ℕ → ℕ → ℕ → ℕ → ℕ → List ℕ → List ℕ → Type 0
+Puts k shown packet content place spent end total before after =
+    (earlier : Scope → Option Val) (env : Env) → (v : Val) × (walk k (among packet content earlier) env place spent ≡ Ok (v, end, total)) × (after ≡ before ++ shown v)
+
+-- the same of one value, where there may be one more
+abbrev pub PutsOne : Form → Shown → List ℕ → ℕ → ℕ → ℕ → List ℕ → List ℕ → Type 0
+PutsOne k shown packet content place end before after =
+    (spent : ℕ) → spent < MOST_VALUES → Puts k shown packet content place spent end (spent + 1) before after
+
+-- a value is this, as far as it is known
+abbrev pub ValueIs : Last → Val → Type 0
+ValueIs lasts.Unknown v = ⊤
+ValueIs (lasts.Unsigned n) v = v ≡ unsigned n
+ValueIs (lasts.Label z) v = v ≡ label z
+
+-- the last of these values is this, as far as it is known
+abbrev pub LastIs : Last → List Val → Type 0
+LastIs lasts.Unknown vs = ⊤
+LastIs (lasts.Unsigned n) vs = (ws : List Val) × (vs ≡ ws ++ unsigned n ∷ [])
+LastIs (lasts.Label z) vs = (ws : List Val) × (vs ≡ ws ++ label z ∷ [])
+
+-- the value of an unsigned integer, if its number is known
+abbrev pub known : Option ℕ → Last
+known None = lasts.Unknown
+known (Some n) = lasts.Unsigned n
+
+-- what is known of the value of an integer with these bits
+abbrev pub known_of : Integer → ℕ → Last
+known_of i bits = if i.is_signed then lasts.Unknown else lasts.Unsigned bits
+
+-- the mark before the text of an index, where this one stands before the first; 44 is a comma
+abbrev pub mark_at : ℕ → ℕ → ℕ
+mark_at first zero = first
+mark_at first (suc i) = 44
+
+-- so many members before a value in its structure, and the number of the last of them, as far as it is known
+pub record Before : Type 0 where
+  pub index : ℕ
+  pub last : Last
+
+-- the same of a value behind the members of a structure, with so many values in it, of which so much is known
+abbrev pub PutsNext : Before → Form → Shown → List ℕ → ℕ → ℕ → List ℕ → Next → List ℕ → Type 0
+PutsNext before k shown packet content place line next after =
+    (spent : ℕ) → spent + next.more < MOST_VALUES → (earlier : Scope → Option Val) (env : Env) (vs : List Val) → length vs ≡ before.index → LastIs before.last vs
+    → (v : Val) × (walk k (among packet content earlier) (vs ∷ env) place spent ≡ Ok (v, next.place, spent + 1 + next.more)) × (after ≡ line ++ shown v) × ValueIs next.last v
+
+-- an unsigned integer of this number stands at a place, whatever was decoded before
+abbrev pub StandsAsNumber : Form → List ℕ → ℕ → ℕ → ℕ → Type 0
+StandsAsNumber k packet content place n =
+    (spent : ℕ) → spent < MOST_VALUES → (earlier : Scope → Option Val) (env : Env) → (end : ℕ) × (walk k (among packet content earlier) env place spent ≡ Ok (unsigned n, end, spent + 1))
+
+-- an array of this length has so many elements behind the members of a structure
+abbrev pub Counts : Length → Before → ℕ → Type 0
+Counts many before n = (earlier : Scope → Option Val) (env : Env) (vs : List Val) → length vs ≡ before.index → LastIs before.last vs → length_of many earlier (vs ∷ env) ≡ n
+
+-- a value, if one was written, stands in a packet, and its text is behind a line now
+abbrev pub Writes : Option Next → Before → Form → Shown → Content → ℕ → List ℕ → List ℕ → Type 0
+Writes result before k shown packet place line items =
+    IfSome result (λ next. PutsNext before k shown packet.bytes.now packet.end place line next (take next.text items))
+
+-- what is shown of a structure of these members
+abbrev pub structure_text : List Member → Shown
+structure_text ms v = enclosed 123 125 (member_texts (map member_part ms) (members_in v))
+
+-- what is shown of a variant of these options
+abbrev pub variant_text : List Member → Shown
+variant_text ms v = chosen_text (map member_part ms) (choice_in v)
+
+-- what is shown of an array whose elements are shown so
+abbrev pub array_text : Shown → Shown
+array_text shown v = enclosed 91 93 (element_texts shown 0 (elements_in v))
+
+-- what is shown of an array of integers
+abbrev pub elements_text : Integer → Shown
+elements_text i = array_text (integer_text i)
+
+-- so many integers stand one behind the other, where there may be as many more, and they are shown as elements
+abbrev pub PutsElements : (List (List ℕ) → List ℕ) → ℕ → Integer → ℕ → List ℕ → ℕ → ℕ → ℕ → List ℕ → List ℕ → Type 0
+PutsElements together align i count packet content place end before after =
+    (spent : ℕ) → spent + count ≤ MOST_VALUES → (earlier : Scope → Option Val) (env : Env)
+    → (vs : List Val) × (repeat (walk (integer align i) (among packet content earlier) env) count [] place spent ≡ Ok (vs, end, spent + count)) × (length vs ≡ count)
+    × (after ≡ before ++ together (element_texts (integer_text i) 0 (vals_of vs)))

@@ -1,0 +1,138 @@
+//! Numbers of enumerations.
+
+ghost use Rattle.std.specs.Prelude.{◌≡◌, ◌+◌, ◌++◌, ◌∷◌, ◌<◌, ◌≤◌, length, take, map, vec_len, codes, IfOk};
+ghost use Rattle.ctf_class.specs.Labels.{label_at};
+ghost use Rattle.ctf_class.specs.Names.{label_text};
+ghost use Rattle.ctf_format.specs.Numbers.{number_text};
+ghost use Rattle.ctf_format.specs.Labels.{names_of, names_text, labelled_text};
+ghost use Rattle.ctf_format.specs.Rows.{row};
+
+use crate::mark::{put_bytes, put_end, put_lead, put_ready};
+use crate::number::{LONGEST_NUMBER, put_number};
+use crate::room::with_room;
+use ctf_class::{Integer, Labels};
+use ctf_list::NoMemory;
+
+/// Writes an enumeration's number, with the names of the labels that cover it, at an index of a buffer, and
+/// gives the index behind it. What stands before the index is kept. At an error the buffer is any buffer.
+pub fn put_labelled(
+    container: &Integer,
+    labels: &Labels,
+    number: i128,
+    buffer: &mut Vec<u8>,
+    at: usize,
+) -> Result<usize, NoMemory>
+    requires { at ≤ vec_len buffer.old }
+    ensures text { IfOk result (λ end. take end buffer.new.items ≡
+        take at buffer.old.items ++ labelled_text container.now labels.now number) }
+    ensures held { IfOk result (λ end. end ≤ vec_len buffer.new) }
+{
+    let end = put_names(labels, number, buffer, at)?;
+    with_room(LONGEST_NUMBER + 20, buffer, end)?;
+    Ok(put_container(container, number, buffer.as_mut_slice(), end))
+}
+
+/// Writes what stands behind the names.
+fn put_container(container: &Integer, number: i128, line: &mut [u8], at: usize) -> usize
+    requires { at + (LONGEST_NUMBER + 20) ≤ length line.old }
+    ensures text { take result line.new ≡
+        take at line.old ++
+        (codes " : container = " ++ (number_text container.now number ++ codes " )")) }
+    ensures near { result ≤ at + (LONGEST_NUMBER + 20) }
+{
+    let begin = put_bytes(b" : container = ", line, at);
+    let end = put_number(container, number, line, begin);
+    put_bytes(b" )", line, end)
+}
+
+/// Writes `( ` and the names of the labels that cover a number.
+fn put_names(
+    labels: &Labels,
+    number: i128,
+    buffer: &mut Vec<u8>,
+    at: usize,
+) -> Result<usize, NoMemory>
+    requires { at ≤ vec_len buffer.old }
+    ensures text { IfOk result (λ end. take end buffer.new.items ≡
+        take at buffer.old.items ++ (codes "( " ++ names_text (names_of labels.now number))) }
+    ensures held { IfOk result (λ end. end ≤ vec_len buffer.new) }
+{
+    match labels.next_shown(0, number) {
+        None => put_unknown(buffer, at),
+        Some(first) => match labels.next_shown(first + 1, number) {
+            None => put_name(b'(', labels, first, buffer, at),
+            Some(second) => put_several(labels, number, buffer, at),
+        },
+    }
+}
+
+fn put_unknown(buffer: &mut Vec<u8>, at: usize) -> Result<usize, NoMemory>
+    requires { at ≤ vec_len buffer.old }
+    ensures text { IfOk result (λ end. take end buffer.new.items ≡
+        take at buffer.old.items ++ codes "( <unknown>") }
+    ensures held { IfOk result (λ end. end ≤ vec_len buffer.new) }
+{
+    with_room(11, buffer, at)?;
+    Ok(put_bytes(b"( <unknown>", buffer.as_mut_slice(), at))
+}
+
+fn put_several(
+    labels: &Labels,
+    number: i128,
+    buffer: &mut Vec<u8>,
+    at: usize,
+) -> Result<usize, NoMemory>
+    requires { at ≤ vec_len buffer.old }
+    ensures text { IfOk result (λ end. take end buffer.new.items ≡
+        take at buffer.old.items ++
+        (codes "( " ++ (row 123 (map label_text (names_of labels.now number)) ++ codes " }"))) }
+    ensures held { IfOk result (λ end. end ≤ vec_len buffer.new) }
+{
+    with_room(2, buffer, at)?;
+    let begin = put_lead(b'(', buffer.as_mut_slice(), at);
+    let end = put_each_name(b'{', labels, number, buffer, begin)?;
+    put_end(b'}', buffer, end)
+}
+
+/// Writes the names of the labels that cover a number, each once, the first behind a mark.
+fn put_each_name(
+    mark: u8,
+    labels: &Labels,
+    number: i128,
+    buffer: &mut Vec<u8>,
+    at: usize,
+) -> Result<usize, NoMemory>
+    requires { at ≤ vec_len buffer.old }
+    ensures text { IfOk result (λ end. take end buffer.new.items ≡
+        take at buffer.old.items ++ row mark (map label_text (names_of labels.now number))) }
+    ensures held { IfOk result (λ end. end ≤ vec_len buffer.new) }
+{
+    let mut end = at;
+    let mut lead = mark;
+    let mut begin = 0;
+    while let Some(place) = labels.next_shown(begin, number) {
+        end = put_name(lead, labels, place, buffer, end)?;
+        lead = b',';
+        begin = place + 1;
+    }
+    Ok(end)
+}
+
+/// Writes the name of the label at a place behind a mark.
+#[inline(always)]
+fn put_name(
+    mark: u8,
+    labels: &Labels,
+    place: usize,
+    buffer: &mut Vec<u8>,
+    at: usize,
+) -> Result<usize, NoMemory>
+    requires within { place < length labels.now }
+    requires index { at ≤ vec_len buffer.old }
+    ensures text { IfOk result (λ end. take end buffer.new.items ≡
+        take at buffer.old.items ++ (mark ∷ 32 ∷ label_text (label_at labels.now place).name)) }
+    ensures held { IfOk result (λ end. end ≤ vec_len buffer.new) }
+{
+    let label = &labels.as_slice()[place];
+    put_ready(mark, label.name.ready(), 0, buffer, at)
+}

@@ -1,0 +1,119 @@
+//! The part of a line that the event records of a packet share.
+
+ghost use Rattle.std.specs.Prelude.{◌≡◌, ◌+◌, ◌++◌, ◌∷◌, ◌≤◌, take, map, vec_len, option_map, option_copied, IfOk};
+ghost use Rattle.ctf_decode.specs.Values.{vals_of};
+ghost use Rattle.ctf_decode.specs.Views.{val};
+ghost use Rattle.ctf_format.specs.Lines as lines;
+ghost use Rattle.ctf_format.specs.Rows.{row};
+
+use crate::mark::put_end;
+use crate::value::put_member;
+use ctf_class::{Class, Kind, Member};
+use ctf_decode::{Value, members_in};
+use ctf_list::NoMemory;
+
+/// Writes a packet context (CTF 1.8.3, section 5.2) without the members that say something of the packet
+/// alone, at an index of a buffer, in bytes, and gives the index behind it: nothing where no member is left,
+/// and where there is no class or no value. What stands before the index is kept, and the buffer grows where
+/// it has no room.
+///
+/// It fails where memory is refused, and the buffer is then any buffer.
+pub fn put_packet_part(
+    class: Option<&Class>,
+    value: Option<&Value>,
+    buffer: &mut Vec<u8>,
+    at: usize,
+) -> Result<usize, NoMemory>
+    requires { at ≤ vec_len buffer.old }
+    ensures text { IfOk result (λ end. take end buffer.new.items ≡
+        take at buffer.old.items ++ lines.packet_part (option_copied class.entry)
+        (option_map val (option_copied value.entry))) }
+    ensures held { IfOk result (λ end. end ≤ vec_len buffer.new) }
+{
+    match class {
+        None => Ok(at),
+        Some(class) => match value {
+            None => Ok(at),
+            Some(value) => put_context(members_of(class), members_in(value), buffer, at),
+        },
+    }
+}
+
+/// The members of a structure.
+fn members_of(class: &Class) -> &[Member]
+    ensures { result.now ≡ lines.members_of class.now }
+{
+    match &class.kind {
+        Kind::Structure { members } => members.as_slice(),
+        Kind::Integer(_) => &[],
+        Kind::Enumeration { container, labels } => &[],
+        Kind::String => &[],
+        Kind::Variant {
+            tag,
+            choices,
+            options,
+        } => &[],
+        Kind::Array { length, element } => &[],
+        Kind::Text { length } => &[],
+    }
+}
+
+/// Writes the members that are shown, in braces.
+fn put_context(
+    members: &[Member],
+    values: &[Value],
+    buffer: &mut Vec<u8>,
+    at: usize,
+) -> Result<usize, NoMemory>
+    requires { at ≤ vec_len buffer.old }
+    ensures text { IfOk result (λ end. take end buffer.new.items ≡
+        take at buffer.old.items ++ lines.context_text
+        (lines.shown_members members.now (vals_of (map val values.now)))) }
+    ensures held { IfOk result (λ end. end ≤ vec_len buffer.new) }
+{
+    let end = put_shown(members, values, buffer, at)?;
+    if end == at {
+        return Ok(at);
+    }
+    put_end(b'}', buffer, end)
+}
+
+/// Writes the members that are shown, the first behind `{`.
+fn put_shown(
+    members: &[Member],
+    values: &[Value],
+    buffer: &mut Vec<u8>,
+    at: usize,
+) -> Result<usize, NoMemory>
+    requires { at ≤ vec_len buffer.old }
+    ensures text { IfOk result (λ end. take end buffer.new.items ≡
+        take at buffer.old.items ++ row 123
+        (lines.shown_members members.now (vals_of (map val values.now)))) }
+    ensures held { IfOk result (λ end. end ≤ vec_len buffer.new) }
+{
+    let mut end = at;
+    let mut lead = b'{';
+    for (i, member) in members.iter().enumerate() {
+        if i >= values.len() {
+            return Ok(end);
+        }
+        if is_of_packet(member.name.as_slice()) {
+            continue;
+        }
+        end = put_member(lead, member, &values[i], buffer, end)?;
+        lead = b',';
+    }
+    Ok(end)
+}
+
+/// Whether a member of this name says something of the packet alone.
+fn is_of_packet(name: &[u8]) -> bool
+    ensures { result ≡ lines.is_of_packet name.now }
+{
+    name == b"packet_size".as_slice()
+        || name == b"content_size".as_slice()
+        || name == b"timestamp_begin".as_slice()
+        || name == b"timestamp_end".as_slice()
+        || name == b"events_discarded".as_slice()
+        || name == b"packet_seq_num".as_slice()
+}

@@ -1,0 +1,64 @@
+//! Texts of integers that stand at fixed distances.
+
+ghost use Rattle.std.specs.Prelude.{◌≡◌, ◌+◌, ◌/◌, ◌++◌, ◌≤◌, length, take, true};
+ghost use Rattle.std.specs.Fmt.{signed_decimal};
+ghost use Rattle.std.specs.List.{All, flat_map};
+ghost use Rattle.ctf_bits.specs.Placed.{number_behind};
+ghost use Rattle.ctf_class.specs.Records.{numbers_room};
+ghost use Rattle.ctf_format.specs.Plain.{plain_text};
+
+use crate::decimal::{put_signed_short, put_unsigned};
+use ctf_bits::Window;
+use ctf_class::PlainNumber;
+
+/// Writes numbers of a run that begins behind so many bytes at an index of a line, and gives the index behind them.
+#[inline(always)]
+pub(crate) fn put_numbers(
+    numbers: &[PlainNumber],
+    bytes: &[u8],
+    first: usize,
+    line: &mut [u8],
+    at: usize,
+) -> usize
+    requires room { at + numbers_room numbers.now ≤ length line.old }
+    requires held { All (λ n. first + n.window.place / 8 + 8 ≤ length bytes.now) numbers.now }
+    ensures text { take result line.new ≡
+        take at line.old ++ flat_map (plain_text bytes.now first) numbers.now }
+    ensures near { result + 24 ≤ at + numbers_room numbers.now }
+{
+    let mut text = at;
+    for number in numbers {
+        text = put_number(number, bytes, first, line, text);
+    }
+    text
+}
+
+/// Writes a number. Mostly it is not below zero.
+#[inline(always)]
+fn put_number(number: &PlainNumber, bytes: &[u8], first: usize, line: &mut [u8], at: usize) -> usize
+    requires room { at + length number.now.ready + 48 ≤ length line.old }
+    requires held { first + number.now.window.place / 8 + 8 ≤ length bytes.now }
+    ensures text { take result line.new ≡
+        take at line.old ++ plain_text bytes.now first number.now }
+    ensures near { result ≤ at + length number.now.ready + 24 }
+{
+    let begin = number.ready.put(line, at);
+    match number.window.number(bytes, first) {
+        Some(value) => put_unsigned(value, line, begin),
+        None => put_below_zero(&number.window, bytes, first, line, begin),
+    }
+}
+
+/// Writes a number that is below zero.
+#[cold]
+#[inline(never)]
+fn put_below_zero(window: &Window, bytes: &[u8], first: usize, line: &mut [u8], at: usize) -> usize
+    requires signed { window.now.is_signed ≡ true }
+    requires room { at + 21 ≤ length line.old }
+    requires held { first + window.now.place / 8 + 8 ≤ length bytes.now }
+    ensures text { take result line.new ≡
+        take at line.old ++ signed_decimal (number_behind window.now bytes.now first) }
+    ensures near { result ≤ at + 21 }
+{
+    put_signed_short(window.signed(bytes, first), line, at)
+}

@@ -1,0 +1,326 @@
+//! Texts of event records by their plans.
+
+ghost use Rattle.std.specs.Prelude.{List, ℕ, [], ◌∷◌, ◌≡◌, ◌+◌, ◌*◌, ◌/◌, ◌^◌, ◌-◌, ◌++◌, ◌<◌, ◌≤◌, length, take, vec_len, Option, IfSome};
+ghost use Rattle.std.specs.List.{All, flat_map};
+ghost use Rattle.ctf_class.specs.Records.{Slot, AreIntegers, AreRuns, IsField, IsPlanOf, numbers_room};
+ghost use Rattle.ctf_class.specs.declared.class.Class.{Class};
+ghost use Rattle.ctf_class.specs.declared.class.Member.{Member};
+ghost use Rattle.ctf_decode.specs.Views.{form};
+ghost use Rattle.ctf_format.specs.Plain.{plain_text};
+ghost use Rattle.ctf_format.specs.Records.{IsNear, IsLastNumber, PutsField, PutsFields, PutsOther, PutsScopes, TakesRun, behind_number, reached};
+ghost use Rattle.ctf_format.specs.Texts as texts;
+
+use crate::array::put_integers;
+use crate::content::Content;
+use crate::leaf::put_enumeration;
+use crate::mark::put_end;
+use crate::plain_number::put_numbers;
+use crate::room::with_room;
+use crate::standing::{Standing, put_fixed_text, put_integer, put_string};
+use ctf_bits::up;
+use ctf_class::{Field, Integers, Many, PlainNumber, PreparedText, RecordPlan, Run, Shown};
+use ctf_decode::MOST_VALUES;
+
+/// How far fields came.
+#[derive(Clone, Copy)]
+pub(crate) struct Reach {
+    /// Where the next one could begin, in bits from the packet's first one.
+    place: u64,
+    /// How many values were begun in arrays.
+    more: u64,
+}
+
+/// Writes the scopes of the event record after its header (CTF 1.8.3, section 6) at an index of a buffer, by the plan of
+/// such records: `from` has the place after the header, in bits from the packet's first one, how many values were begun
+/// before, and the index, in bytes. What is before the index is kept, and the buffer grows where it has no room.
+///
+/// `None` where there is no plan, where the record has a fault or ends in the last eight bytes of the content, and where
+/// memory is refused; the buffer is then any buffer.
+#[inline(always)]
+pub fn put_planned_record(
+    plan: &RecordPlan,
+    packet: &Content<'_>,
+    from: Standing,
+    buffer: &mut Vec<u8>,
+) -> Option<Standing>
+    requires plan { (classes : List Class) × IsPlanOf classes plan.now }
+    requires start { from.place ≤ packet.now.end }
+    requires few { from.spent ≤ MOST_VALUES }
+    requires index { from.end ≤ vec_len buffer.old }
+    ensures puts { (classes : List Class) → 0 < length classes → IsPlanOf classes plan.now →
+        IfSome result (λ s. PutsScopes classes packet.now.bytes.now packet.now.end from.place
+        from.spent s.place s.spent (take from.end buffer.old.items)
+        (take s.end buffer.new.items)) }
+    ensures within { IfSome result (λ s. s.place ≤ packet.now.end) }
+    ensures held { IfSome result (λ s. s.end ≤ vec_len buffer.new) }
+{
+    let runs = plan.runs.as_slice();
+    let begin = up(from.place, 8);
+    if runs.is_empty() || begin > packet.end {
+        return None;
+    }
+    let mut reach = Reach {
+        place: begin,
+        more: 0,
+    };
+    let text = put_runs(runs, packet, &mut reach, buffer, from.end)?;
+    let count = plan.count.checked_add(reach.more)?;
+    if count > MOST_VALUES - from.spent {
+        return None;
+    }
+    Some(Standing {
+        place: reach.place,
+        spent: from.spent + count,
+        end: text,
+    })
+}
+
+/// Writes the fields of runs, and a brace, and gives the index behind them; `reach` tells how far they came then.
+#[inline(never)]
+fn put_runs(
+    runs: &[Run],
+    packet: &Content<'_>,
+    reach: &mut Reach,
+    buffer: &mut Vec<u8>,
+    at: usize,
+) -> Option<usize>
+    requires near { All IsNear runs.now }
+    requires start { reach.old.place ≤ packet.now.end }
+    requires few { reach.old.more ≤ MOST_VALUES }
+    requires index { at ≤ vec_len buffer.old }
+    ensures puts { (slots : List Slot) → AreRuns slots runs.now →
+        IfSome result (λ text. (line : List ℕ) ×
+        PutsFields slots packet.now.bytes.now packet.now.end
+        (reached reach.old (take at buffer.old.items)) (reached reach.new line) ×
+        (take text buffer.new.items ≡ line ++ (32 ∷ 125 ∷ []))) }
+    ensures within { IfSome result (λ _. reach.new.place ≤ packet.now.end) }
+    ensures few { IfSome result (λ _. reach.new.more ≤ MOST_VALUES) }
+    ensures held { IfSome result (λ text. text ≤ vec_len buffer.new) }
+{
+    let mut so_far = *reach;
+    let mut text = at;
+    for run in runs {
+        let mut to = so_far;
+        text = put_run(run, packet, &mut to, buffer, text)?;
+        so_far = to;
+    }
+    *reach = so_far;
+    let Ok(text) = put_end(b'}', buffer, text) else {
+        return None;
+    };
+    Some(text)
+}
+
+/// Writes the fields of a run, and gives the index behind them; `reach` tells how far they came then.
+#[inline(always)]
+fn put_run(
+    run: &Run,
+    packet: &Content<'_>,
+    reach: &mut Reach,
+    buffer: &mut Vec<u8>,
+    at: usize,
+) -> Option<usize>
+    requires near { IsNear run.now }
+    requires start { reach.old.place ≤ packet.now.end }
+    requires few { reach.old.more ≤ MOST_VALUES }
+    requires index { at ≤ vec_len buffer.old }
+    ensures puts { (slots others : List Slot) → TakesRun slots run.now others →
+        IfSome result (λ text. (used : List Slot) × (slots ≡ used ++ others) ×
+        PutsFields used packet.now.bytes.now packet.now.end
+        (reached reach.old (take at buffer.old.items))
+        (reached reach.new (take text buffer.new.items))) }
+    ensures within { IfSome result (λ _. reach.new.place ≤ packet.now.end) }
+    ensures few { IfSome result (λ _. reach.new.more ≤ MOST_VALUES) }
+    ensures held { IfSome result (λ text. text ≤ vec_len buffer.new) }
+{
+    let begin = reach.place;
+    if begin % 8 != 0 || run.span + 64 > packet.end - begin {
+        return None;
+    }
+    if with_room(run.room, buffer, at).is_err() {
+        return None;
+    }
+    let first = (begin / 8) as usize;
+    let text = put_run_numbers(run.numbers.as_slice(), packet.bytes, first, buffer, at);
+    reach.place = begin + run.span;
+    match &run.field {
+        None => Some(text),
+        Some(field) => put_field(field, run, packet, reach, buffer, text),
+    }
+}
+
+/// Writes the numbers of a run that begins behind so many bytes at an index of a buffer that has room, and gives the index
+/// behind them.
+#[inline(always)]
+fn put_run_numbers(
+    numbers: &[PlainNumber],
+    bytes: &[u8],
+    first: usize,
+    buffer: &mut Vec<u8>,
+    at: usize,
+) -> usize
+    requires room { at + numbers_room numbers.now ≤ vec_len buffer.old }
+    requires held { All (λ n. first + n.window.place / 8 + 8 ≤ length bytes.now) numbers.now }
+    ensures text { take result buffer.new.items ≡
+        take at buffer.old.items ++ flat_map (plain_text bytes.now first) numbers.now }
+    ensures near { result + 24 ≤ at + numbers_room numbers.now }
+    ensures length { vec_len buffer.new ≡ vec_len buffer.old }
+{
+    put_numbers(numbers, bytes, first, buffer.as_mut_slice(), at)
+}
+
+/// Writes a text at an index of a buffer that has room for it and for 24 bytes more, and gives the index behind it.
+#[inline(always)]
+fn put_before(ready: &PreparedText, buffer: &mut Vec<u8>, at: usize) -> usize
+    requires { at + length ready.now + 24 ≤ vec_len buffer.old }
+    ensures text { take result buffer.new.items ≡ take at buffer.old.items ++ ready.now }
+    ensures end { result ≡ at + length ready.now }
+    ensures length { vec_len buffer.new ≡ vec_len buffer.old }
+{
+    ready.put(buffer.as_mut_slice(), at)
+}
+
+/// Writes a field behind the numbers of a run, and gives the index behind it; `reach` tells how far these came, and how far
+/// the field came then.
+#[inline(always)]
+fn put_field(
+    field: &Field,
+    run: &Run,
+    packet: &Content<'_>,
+    reach: &mut Reach,
+    buffer: &mut Vec<u8>,
+    at: usize,
+) -> Option<usize>
+    requires start { reach.old.place ≤ packet.now.end }
+    requires few { reach.old.more ≤ MOST_VALUES }
+    requires room { at + length field.now.ready + 90 ≤ vec_len buffer.old }
+    requires run { run.now.span ≤ reach.old.place }
+    requires held { All (λ n. (reach.old.place - run.now.span) / 8 + n.window.place / 8 + 8 ≤
+        length packet.now.bytes.now) run.now.numbers }
+    ensures puts { (slot : Slot) → IsField slot field.now →
+        IfSome result (λ text. (last : Option ℕ) ×
+        IsLastNumber last run.now.numbers packet.now.bytes.now
+        ((reach.old.place - run.now.span) / 8) ×
+        PutsField slot packet.now.bytes.now packet.now.end
+        (behind_number reach.old last (take at buffer.old.items))
+        (reached reach.new (take text buffer.new.items))) }
+    ensures within { IfSome result (λ _. reach.new.place ≤ packet.now.end) }
+    ensures few { IfSome result (λ _. reach.new.more ≤ MOST_VALUES) }
+    ensures held { IfSome result (λ text. text ≤ vec_len buffer.new) }
+{
+    let begin = field.align.up(reach.place);
+    if begin > packet.end {
+        return None;
+    }
+    let text = put_before(&field.ready, buffer, at);
+    match &field.shown {
+        Shown::String => {
+            let ends = put_string(packet, begin, buffer, text)?;
+            reach.place = ends.place;
+            Some(ends.text)
+        }
+        Shown::Text(count) => {
+            let ends = put_fixed_text(*count, packet, begin, buffer, text)?;
+            reach.place = ends.place;
+            Some(ends.text)
+        }
+        Shown::CountedText => {
+            let first = ((reach.place - run.span) / 8) as usize;
+            let count = last_number(run.numbers.as_slice(), packet.bytes, first)?;
+            let ends = put_fixed_text(count, packet, begin, buffer, text)?;
+            reach.place = ends.place;
+            Some(ends.text)
+        }
+        Shown::Labelled(labelled) => {
+            let labels = labelled.labels.get();
+            let container = &labelled.container;
+            let align = labelled.align;
+            let next = put_enumeration(container, labels, align, packet, begin, buffer, text)?;
+            reach.place = next.place;
+            Some(next.text)
+        }
+        Shown::Integers(are) => {
+            let first = ((reach.place - run.span) / 8) as usize;
+            // A copy, so that the others do not go through memory.
+            let mut to = Reach {
+                place: begin,
+                more: reach.more,
+            };
+            let numbers = run.numbers.as_slice();
+            let end = put_other(are, numbers, first, packet, &mut to, buffer, text)?;
+            *reach = to;
+            Some(end)
+        }
+    }
+}
+
+/// Writes integers that are none of the numbers of a run, but stand behind these, and gives the index behind them.
+#[inline(never)]
+fn put_other(
+    are: &Integers,
+    numbers: &[PlainNumber],
+    first: usize,
+    packet: &Content<'_>,
+    reach: &mut Reach,
+    buffer: &mut Vec<u8>,
+    at: usize,
+) -> Option<usize>
+    requires start { reach.old.place ≤ packet.now.end }
+    requires few { reach.old.more ≤ MOST_VALUES }
+    requires room { at + 66 ≤ vec_len buffer.old }
+    requires held { All (λ n. first + n.window.place / 8 + 8 ≤ length packet.now.bytes.now)
+        numbers.now }
+    ensures puts { (index : ℕ) (member : Member) →
+        AreIntegers index member are.now.integer are.now.align are.now.many →
+        IfSome result (λ text. (last : Option ℕ) ×
+        IsLastNumber last numbers.now packet.now.bytes.now first ×
+        PutsOther index last (form member.class) (texts.value_text member.class)
+        packet.now.bytes.now packet.now.end reach.old (take at buffer.old.items) reach.new
+        (take text buffer.new.items)) }
+    ensures within { IfSome result (λ _. reach.new.place ≤ packet.now.end) }
+    ensures few { IfSome result (λ _. reach.new.more ≤ MOST_VALUES) }
+    ensures held { IfSome result (λ text. text ≤ vec_len buffer.new) }
+{
+    let count = match are.many {
+        Many::One => {
+            let line = buffer.as_mut_slice();
+            let ends = put_integer(&are.integer, are.align, packet, reach.place, line, at)?;
+            reach.place = ends.place;
+            return Some(ends.text);
+        }
+        Many::Fixed(count) => count,
+        Many::Counted => last_number(numbers, packet.bytes, first)?,
+    };
+    let next = put_integers(
+        &are.integer,
+        are.align,
+        count,
+        packet,
+        reach.place,
+        buffer,
+        at,
+    )?;
+    let more = reach.more + next.more;
+    if more > MOST_VALUES {
+        return None;
+    }
+    reach.place = next.place;
+    reach.more = more;
+    Some(next.text)
+}
+
+/// The last of the numbers of a run that begins behind so many bytes, if it is unsigned.
+fn last_number(numbers: &[PlainNumber], bytes: &[u8], first: usize) -> Option<u64>
+    requires held { All (λ n. first + n.window.place / 8 + 8 ≤ length bytes.now) numbers.now }
+    ensures { IsLastNumber result numbers.now bytes.now first }
+{
+    let count = numbers.len();
+    if count == 0 {
+        return None;
+    }
+    let last = &numbers[count - 1];
+    if last.integer.is_signed {
+        return None;
+    }
+    last.window.number(bytes, first)
+}

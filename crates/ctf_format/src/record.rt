@@ -1,0 +1,154 @@
+//! What stands in an event record's line behind its stamp.
+
+ghost use Rattle.std.specs.Prelude.{◌≡◌, ◌+◌, ◌++◌, ◌∷◌, [], ◌≤◌, length, take, vec_len, codes, option_map, option_copied, Some, IfOk};
+ghost use Rattle.std.specs.List.{flat_map};
+ghost use Rattle.ctf_class.specs.HostAndName.{heading_text};
+ghost use Rattle.ctf_decode.specs.Views.{val};
+ghost use Rattle.ctf_format.specs.Lines as lines;
+
+use crate::mark::{put_lead, put_short_bytes};
+use crate::room::with_room;
+use crate::value::put_value;
+use ctf_class::{Class, EventClass, Heading, StreamClass};
+use ctf_decode::Value;
+use ctf_list::NoMemory;
+
+/// Writes the host, the name and the scopes of an event record (CTF 1.8.3, section 6) at an index of a
+/// buffer, in bytes, and gives the index behind them. `packet` is the part that the packet's event records
+/// share, as `put_packet_part` writes it; the values are those of the stream event context, of the event
+/// context and of the event fields. What stands before the index is kept, and the buffer grows where it has no
+/// room.
+///
+/// It fails where memory is refused, and the buffer is then any buffer.
+#[inline(always)]
+pub fn put_record(
+    packet: &[u8],
+    stream: &StreamClass,
+    event: &EventClass,
+    stream_context: Option<&Value>,
+    event_context: Option<&Value>,
+    fields: &Value,
+    buffer: &mut Vec<u8>,
+    at: usize,
+) -> Result<usize, NoMemory>
+    requires { at ≤ vec_len buffer.old }
+    ensures text { IfOk result (λ end. take end buffer.new.items ≡
+        take at buffer.old.items ++ lines.record_text packet.now stream.now event.now
+        (option_map val (option_copied stream_context.entry))
+        (option_map val (option_copied event_context.entry))
+        (val fields.now)) }
+    ensures held { IfOk result (λ end. end ≤ vec_len buffer.new) }
+{
+    let end = put_front(&event.heading, packet, buffer, at)?;
+    let end = put_scope(stream.event_context(), stream_context, buffer, end)?;
+    let end = put_scope(event.context(), event_context, buffer, end)?;
+    put_value(event.fields(), fields, buffer, end)
+}
+
+/// Writes what stands before the scopes of an event record at an index of a buffer, and gives the index behind it: the
+/// host, the name and, with a comma behind it, the part that the packet's event records share. What stands before the index
+/// is kept, and the buffer grows where it has no room.
+///
+/// It fails where memory is refused, and the buffer is then any buffer.
+#[inline(always)]
+pub fn put_front(
+    heading: &Heading,
+    packet: &[u8],
+    buffer: &mut Vec<u8>,
+    at: usize,
+) -> Result<usize, NoMemory>
+    requires { at ≤ vec_len buffer.old }
+    ensures text { IfOk result (λ end. take end buffer.new.items ≡
+        take at buffer.old.items ++ (heading_text heading.now ++ flat_map
+        (λ text. text ++ codes ", ") (lines.if_shown packet.now))) }
+    ensures held { IfOk result (λ end. end ≤ vec_len buffer.new) }
+{
+    let end = put_heading(heading, buffer, at)?;
+    put_shared_part(packet, buffer, end)
+}
+
+/// Writes the host and the name.
+#[inline(always)]
+fn put_heading(heading: &Heading, buffer: &mut Vec<u8>, at: usize) -> Result<usize, NoMemory>
+    requires { at ≤ vec_len buffer.old }
+    ensures text { IfOk result (λ end. take end buffer.new.items ≡
+        take at buffer.old.items ++ heading_text heading.now) }
+    ensures held { IfOk result (λ end. end ≤ vec_len buffer.new) }
+{
+    let ready = heading.ready();
+    with_room(ready.len() + 24, buffer, at)?;
+    Ok(ready.put(buffer.as_mut_slice(), at))
+}
+
+/// Writes a text, if it is not empty, and a comma behind it.
+#[inline(always)]
+fn put_shared_part(bytes: &[u8], buffer: &mut Vec<u8>, at: usize) -> Result<usize, NoMemory>
+    requires { at ≤ vec_len buffer.old }
+    ensures text { IfOk result (λ end. take end buffer.new.items ≡
+        take at buffer.old.items ++ flat_map (λ text. text ++ codes ", ")
+        (lines.if_shown bytes.now)) }
+    ensures held { IfOk result (λ end. end ≤ vec_len buffer.new) }
+{
+    if bytes.is_empty() {
+        return Ok(at);
+    }
+    with_room(bytes.len() + 2, buffer, at)?;
+    let line = buffer.as_mut_slice();
+    let end = put_short_bytes(bytes, line, at);
+    Ok(put_lead(b',', line, end))
+}
+
+/// Writes a scope, if it has a class and a value, and a comma behind it.
+#[inline(always)]
+fn put_scope(
+    class: Option<&Class>,
+    value: Option<&Value>,
+    buffer: &mut Vec<u8>,
+    at: usize,
+) -> Result<usize, NoMemory>
+    requires { at ≤ vec_len buffer.old }
+    ensures text { IfOk result (λ end. take end buffer.new.items ≡
+        take at buffer.old.items ++ flat_map (λ text. text ++ codes ", ")
+        (lines.scope_texts (option_copied class.entry)
+        (option_map val (option_copied value.entry)))) }
+    ensures held { IfOk result (λ end. end ≤ vec_len buffer.new) }
+{
+    match class {
+        None => Ok(at),
+        Some(class) => match value {
+            None => Ok(at),
+            Some(value) => put_followed(class, value, buffer, at),
+        },
+    }
+}
+
+/// Writes a value and a comma behind it.
+#[inline(always)]
+fn put_followed(
+    class: &Class,
+    value: &Value,
+    buffer: &mut Vec<u8>,
+    at: usize,
+) -> Result<usize, NoMemory>
+    requires { at ≤ vec_len buffer.old }
+    ensures text { IfOk result (λ end. take end buffer.new.items ≡
+        take at buffer.old.items ++ flat_map (λ text. text ++ codes ", ")
+        (lines.scope_texts (Some class.now) (Some (val value.now)))) }
+    ensures held { IfOk result (λ end. end ≤ vec_len buffer.new) }
+{
+    let end = put_value(class, value, buffer, at)?;
+    put_comma(buffer, end)
+}
+
+/// Writes a comma and a space at an index of a buffer, and gives the index behind them. What stands before the index is
+/// kept, and the buffer grows where it has no room. It fails where memory is refused, and the buffer is then any buffer.
+#[inline(always)]
+pub fn put_comma(buffer: &mut Vec<u8>, at: usize) -> Result<usize, NoMemory>
+    requires { at ≤ vec_len buffer.old }
+    ensures text { IfOk result (λ end. take end buffer.new.items ≡
+        take at buffer.old.items ++ codes ", ") }
+    ensures held { IfOk result (λ end. end ≤ vec_len buffer.new) }
+{
+    with_room(2, buffer, at)?;
+    Ok(put_lead(b',', buffer.as_mut_slice(), at))
+}

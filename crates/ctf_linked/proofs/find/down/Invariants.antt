@@ -1,7 +1,0 @@
-use Rattle.std.proofs.Common.{◌≡◌, drop, option_map}
-use Rattle.ctf_shape.specs.Views as views
-use Rattle.ctf_linked.specs.Finding.{further, down}
-use Rattle.ctf_linked.proofs.find.down.Given as goal
-
-abbrev pub invariant-loop-word : goal.invariant-loop-word
-invariant-loop-word l = option_map (further l.steps) (down (views.shape l.at) (drop l.word-index l.words)) ≡ option_map (further l.initial.steps) (down (views.shape l.shape) l.words)

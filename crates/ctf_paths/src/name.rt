@@ -1,0 +1,83 @@
+//! The words that a path begins with.
+
+ghost use Rattle.std.specs.Prelude.{◌≡◌, ◌∷◌, [], option_map, option_copied};
+ghost use Rattle.ctf_meaning.specs.Paths as paths;
+ghost use Rattle.ctf_meaning.specs.Paths.{behind_words, words_of};
+ghost use Rattle.ctf_paths.specs.Names.{absolute};
+
+use ctf_class::Scope;
+use tsdl_tree::Word;
+
+/// The scopes in the order in which they are decoded (CTF 1.8.3, section 7.3.2).
+const SCOPES: [Scope; 6] = [
+    Scope::PacketHeader,
+    Scope::PacketContext,
+    Scope::EventHeader,
+    Scope::StreamEventContext,
+    Scope::EventContext,
+    Scope::EventFields,
+];
+
+/// A path that begins with the name of a scope.
+#[derive(Drop)]
+pub struct Absolute<'a> {
+    pub scope: Scope,
+    /// What stands behind that name.
+    pub words: &'a [Word],
+}
+
+/// The words behind a first one.
+pub fn behind_word<'a>(word: &[u8], path: &'a [Word]) -> Option<&'a [Word]>
+    ensures { option_copied result ≡ behind_words (word.now ∷ []) path.now }
+{
+    match path {
+        [first, rest @ ..] if word == first.as_slice() => Some(rest),
+        _ => None,
+    }
+}
+
+/// The words behind two.
+fn behind_two<'a>(first: &[u8], second: &[u8], path: &'a [Word]) -> Option<&'a [Word]>
+    ensures { option_copied result ≡ behind_words (first.now ∷ second.now ∷ []) path.now }
+{
+    behind_word(second, behind_word(first, path)?)
+}
+
+/// The words behind three.
+fn behind_three<'a>(
+    first: &[u8],
+    second: &[u8],
+    third: &[u8],
+    path: &'a [Word],
+) -> Option<&'a [Word]>
+    ensures { option_copied result ≡
+        behind_words (first.now ∷ second.now ∷ third.now ∷ []) path.now }
+{
+    behind_word(third, behind_two(first, second, path)?)
+}
+
+/// The words behind the name of a scope.
+fn behind_scope<'a>(scope: Scope, path: &'a [Word]) -> Option<&'a [Word]>
+    ensures { option_copied result ≡ behind_words (words_of scope) path.now }
+{
+    match scope {
+        Scope::PacketHeader => behind_three(b"trace", b"packet", b"header", path),
+        Scope::PacketContext => behind_three(b"stream", b"packet", b"context", path),
+        Scope::EventHeader => behind_three(b"stream", b"event", b"header", path),
+        Scope::StreamEventContext => behind_three(b"stream", b"event", b"context", path),
+        Scope::EventContext => behind_two(b"event", b"context", path),
+        Scope::EventFields => behind_two(b"event", b"fields", path),
+    }
+}
+
+/// The scope whose name a path begins with, and the words behind it (CTF 1.8.3, section 7.3.2).
+pub fn scope_named<'a>(path: &'a [Word]) -> Option<Absolute<'a>>
+    ensures { option_map absolute result ≡ paths.scope_named path.now }
+{
+    for scope in SCOPES {
+        if let Some(words) = behind_scope(scope, path) {
+            return Some(Absolute { scope, words });
+        }
+    }
+    None
+}

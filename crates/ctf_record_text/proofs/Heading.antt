@@ -1,0 +1,91 @@
+-- The header of an event record, from what was told of it.
+use Rattle.std.proofs.Common.{◌≡◌, ℕ, List, [], Option, Some, None, Result, Ok, option_map, refl, ap, subst, ◌∙◌}
+use Rattle.std.specs.List.{last_or}
+use Rattle.ctf_class.specs.declared.class.Class.{Class}
+use Rattle.ctf_class.specs.Streams.{StreamClass}
+use Rattle.ctf_clock.specs.Clock.{Line, advanced_by}
+use Rattle.ctf_clock.specs.declared.moment.Moment.{Moment}
+use Rattle.ctf_clock.specs.declared.moment.Shift.{Shift}
+use Rattle.ctf_decode.specs.Fields.{ids}
+use Rattle.ctf_decode.specs.Forms.{Form}
+use Rattle.ctf_decode.specs.Values.{Val}
+use Rattle.ctf_decode.specs.Views.{form}
+use Rattle.ctf_decode.specs.Walk.{walk}
+use Rattle.ctf_record_text.specs.Headers.{Tells, TellsHead}
+use Rattle.ctf_record_text.specs.declared.header.Telling.{Telling}
+use Rattle.ctf_record_text.specs.declared.header.ToldHead.{ToldHead}
+use Rattle.ctf_packet.specs.Classes.{Classes, StreamForm, EventForm, stream_form, event_form}
+use Rattle.ctf_packet.specs.Moved.{moved}
+use Rattle.ctf_packet.specs.Packets.{or_fault, moves, clock_behind}
+use Rattle.ctf_packet.specs.Records.{Headed, headed, event_named, ids_in}
+use Rattle.ctf_packet.specs.Scopes.{◌>>=◌, Values, Stood, stood, scope_at, input_of, value_in, fault_in_record}
+use Rattle.ctf_packet.specs.declared.fault.StreamFault.{StreamFault}
+use Rattle.ctf_packet.specs.declared.fault.StreamFault.TheVariants as faults
+
+module _ (stream : StreamForm Classes) (bytes : List ℕ) (content : ℕ) (values : Values) (place : ℕ) where
+  abbrev behind_clock : Option Form → Stood → Option Moment → Result (Headed Classes) StreamFault
+  behind_clock class header next = or_fault faults.UnknownEvent (event_named stream.events (last_or None (ids_in class header.value))) >>= (λ event. Ok (record { event = event; clock = next; header = header }))
+
+  abbrev behind_header : Option Form → Option Line → Moment → Stood → Result (Headed Classes) StreamFault
+  behind_header class line clock header = clock_behind line (Some clock) (moves class header.value) >>= behind_clock class header
+
+  opens : (clock : Moment) → headed stream bytes content values (Some clock) place ≡ (scope_at fault_in_record stream.event_header (input_of bytes content values) place 0 >>= behind_header stream.event_header stream.line clock)
+  unfolding headed
+  opens clock = refl
+
+  headed_is : (k : Form) (line : Line) (clock next : Moment) (v : Val) (end spent : ℕ) (event : EventForm Classes) → stream.event_header ≡ Some k → stream.line ≡ Some line → walk k (input_of bytes content values) [] place 0 ≡ Ok (v, end, spent)
+      → advanced_by line clock (moved k v) ≡ Some next → event_named stream.events (last_or None (ids k v)) ≡ Some event
+      → headed stream bytes content values (Some clock) place ≡ Ok (record { event = event; clock = Some next; header = record { value = Some v; end = end; spent = spent } })
+  headed_is k line clock next v end spent event has_class has_line stands moves_on named =
+      let s : Stood = record { value = Some v; end = end; spent = spent } in
+      opens clock ∙ (λ i. scope_at fault_in_record (has_class i) (input_of bytes content values) place 0 >>= behind_header (has_class i) (has_line i) clock)
+      ∙ ap (λ r. stood fault_in_record r >>= behind_header (Some k) (Some line) clock) stands
+      ∙ ap (λ o. (or_fault faults.ClockRefused o >>= (λ n. Ok (Some n))) >>= behind_clock (Some k) s) moves_on
+      ∙ ap (λ o. or_fault faults.UnknownEvent o >>= (λ event. Ok (record { event = event; clock = Some next; header = s }))) named
+
+  -- the same without a clock
+  untimed_opens : (clock : Option Moment) → headed stream bytes content values clock place ≡ (scope_at fault_in_record stream.event_header (input_of bytes content values) place 0 >>= (λ header. clock_behind stream.line clock (moves stream.event_header header.value) >>= behind_clock stream.event_header header))
+  unfolding headed
+  untimed_opens clock = refl
+
+  untimed_is : (k : Form) (clock : Option Moment) (v : Val) (end spent : ℕ) (event : EventForm Classes) → stream.event_header ≡ Some k → stream.line ≡ None → walk k (input_of bytes content values) [] place 0 ≡ Ok (v, end, spent) → event_named stream.events (last_or None (ids k v)) ≡ Some event
+      → headed stream bytes content values clock place ≡ Ok (record { event = event; clock = None; header = record { value = Some v; end = end; spent = spent } })
+  untimed_is k clock v end spent event has_class no_line stands named =
+      let s : Stood = record { value = Some v; end = end; spent = spent } in
+      untimed_opens clock ∙ (λ i. scope_at fault_in_record (has_class i) (input_of bytes content values) place 0 >>= (λ header. clock_behind (no_line i) clock (moves (has_class i) header.value) >>= behind_clock (has_class i) header))
+      ∙ ap (λ r. stood fault_in_record r >>= (λ header. Ok None >>= behind_clock (Some k) header)) stands
+      ∙ ap (λ o. or_fault faults.UnknownEvent o >>= (λ event. Ok (record { event = event; clock = None; header = s }))) named
+
+pub tells_head : (class : StreamClass) (shift : Shift) (k : Class) (line : Line) (clock : Moment) (bytes : List ℕ) (content place : ℕ) (from to : Telling) (told : ToldHead)
+    → class.event_header ≡ Some k → (stream_form shift class).line ≡ Some line → from ≡ record { id = None; clock = clock; place = place; spent = 0 } → Tells (Some line) (form k) bytes content from to
+    → event_named (stream_form shift class).events to.id ≡ Some (event_form class told.head.event.now) → told.head.clock ≡ Some to.clock → told.head.end ≡ to.place → told.spent ≡ to.spent
+    → TellsHead class (stream_form shift class) bytes content (Some clock) place told
+tells_head class shift k line clock bytes content place from to told has_class has_line begins tells named clock_is end_is spent_is values =
+    let start : Telling = record { id = None; clock = clock; place = place; spent = 0 } in
+    let t = subst (λ (x : Telling). Tells (Some line) (form k) bytes content x to) begins tells (value_in values) [] in
+    let id = ap (event_named (stream_form shift class).events) t.3 ∙ named in
+    let header : Stood = record { value = Some t.0; end = to.place; spent = to.spent } in (
+      record { event = event_form class told.head.event.now; clock = Some to.clock; header = header },
+      headed_is (stream_form shift class) bytes content values place (form k) line clock to.clock t.0 to.place to.spent (event_form class told.head.event.now) (ap (option_map form) has_class) has_line t.1 t.2 id,
+      refl,
+      clock_is,
+      end_is,
+      spent_is,
+    )
+
+pub tells_untimed : (class : StreamClass) (shift : Shift) (k : Class) (clock : Option Moment) (start : Moment) (bytes : List ℕ) (content place : ℕ) (from to : Telling) (told : ToldHead)
+    → class.event_header ≡ Some k → (stream_form shift class).line ≡ None → from ≡ record { id = None; clock = start; place = place; spent = 0 } → Tells None (form k) bytes content from to
+    → event_named (stream_form shift class).events to.id ≡ Some (event_form class told.head.event.now) → told.head.clock ≡ None → told.head.end ≡ to.place → told.spent ≡ to.spent
+    → TellsHead class (stream_form shift class) bytes content clock place told
+tells_untimed class shift k clock start bytes content place from to told has_class no_line begins tells named clock_is end_is spent_is values =
+    let at : Telling = record { id = None; clock = start; place = place; spent = 0 } in
+    let t = subst (λ (x : Telling). Tells None (form k) bytes content x to) begins tells (value_in values) [] in
+    let id = ap (event_named (stream_form shift class).events) t.3 ∙ named in
+    let header : Stood = record { value = Some t.0; end = to.place; spent = to.spent } in (
+      record { event = event_form class told.head.event.now; clock = None; header = header },
+      untimed_is (stream_form shift class) bytes content values place (form k) clock t.0 to.place to.spent (event_form class told.head.event.now) (ap (option_map form) has_class) no_line t.1 id,
+      refl,
+      clock_is,
+      end_is,
+      spent_is,
+    )

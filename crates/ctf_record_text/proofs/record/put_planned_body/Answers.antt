@@ -1,0 +1,4 @@
+use Rattle.ctf_record_text.proofs.record.put_planned_body.Goals as goal
+
+pub returns-in-Some-clause-puts : goal.returns-in-Some-clause-puts
+returns-in-Some-clause-puts c = c.in-Some.ensures.puts c.args.scopes.now

@@ -1,0 +1,51 @@
+-- What calls make of an event record: its values, or its text.
+use Rattle.std.specs.Prelude.{◌≡◌, ℕ, ◌<◌, ◌⊎◌, List, ◌++◌, take, Option, Some, None, Result, Ok, Err, option_map, codes}
+use Rattle.std.specs.List.{flat_map}
+use Rattle.ctf_class.specs.declared.class.Class.{Class}
+use Rattle.ctf_class.specs.declared.trace.EventClass.{EventClass}
+use Rattle.ctf_class.specs.Streams.{StreamClass}
+use Rattle.ctf_decode.specs.Known.{Known}
+use Rattle.ctf_decode.specs.Views.{form}
+use Rattle.ctf_record_text.specs.Texts.{values_text}
+use Rattle.ctf_record_text.specs.declared.record.LineRecord.{LineRecord}
+use Rattle.ctf_packet.specs.Classes.{Classes}
+use Rattle.ctf_packet.specs.Records.{Body, Recorded, bodied}
+use Rattle.ctf_packet.specs.Scopes.{Values, Stood, scope_at, input_of, value_in, fault_in_record}
+use Rattle.ctf_packet.specs.Views.{values_of, packet_values, recorded_of}
+use Rattle.ctf_packet.specs.declared.fault.StreamFault.{StreamFault}
+use Rattle.ctf_packet.specs.declared.fault.StreamFault.TheVariants as faults
+use Rattle.ctf_packet.specs.declared.record.EventRecord.{EventRecord}
+use Rattle.ctf_packet.specs.declared.record.Head.{Head}
+use Rattle.ctf_format.specs.Around.{SharesPacket}
+use Rattle.ctf_format.specs.Lines.{scope_texts}
+use Rattle.ctf_format.specs.declared.standing.Standing.{Standing}
+
+-- Whatever is in the scopes of the event record, with these values of the packet: this scope's value stands from a place
+-- on, and its text and a comma follow a text.
+abbrev pub PutsScope : Known → Option Class → List ℕ → ℕ → Standing → List ℕ → Standing → List ℕ → Type 0
+PutsScope known class bytes content from before to after =
+    (values : Values) → SharesPacket known (value_in values) → (s : Stood) × (scope_at fault_in_record (option_map form class) (input_of bytes content values) from.place from.spent ≡ Ok s)
+    × (to.place ≡ s.end) × (to.spent ≡ s.spent) × (after ≡ before ++ flat_map (λ text. text ++ codes ", ") (scope_texts class s.value))
+
+-- the scopes behind the header stand there, with these values of the packet, and the text is that of the event record
+abbrev pub PutsBody : Known → StreamClass → EventClass → List ℕ → List ℕ → ℕ → ℕ → ℕ → ℕ → List ℕ → Type 0
+PutsBody known stream event part bytes content place spent end text =
+    (values : Values) → SharesPacket known (value_in values) → (b : Body) × (bodied (option_map form stream.event_context) (option_map form event.context) (form event.fields) bytes content values place spent ≡ Ok b)
+    × (end ≡ b.end) × (packet_values b.values ≡ packet_values values) × (text ≡ values_text part stream event b.values)
+
+-- the event record that stands there has its values in the scopes, or its text in the line
+abbrev pub Made : StreamClass → Result (Recorded Classes) StreamFault → List ℕ → Known → List ℕ → EventRecord → Option ℕ → Type 0
+Made stream stands part known line r None = stands ≡ Ok (recorded_of stream (values_of known) r)
+Made stream stands part known line r (Some end) =
+    (values : Values) × (stands ≡ Ok (recorded_of stream values r)) × (packet_values values ≡ packet_values (values_of known)) × (take end line ≡ values_text part stream r.event.now values)
+
+-- the same, or the fault of the record, or memory ran out
+abbrev pub Makes : StreamClass → Result (Recorded Classes) StreamFault → List ℕ → Known → List ℕ → Result LineRecord StreamFault → Type 0
+Makes stream stands part known line (Ok r) = Made stream stands part known line r.record r.text
+Makes stream stands part known line (Err f) = (stands ≡ Err f) ⊎ (f ≡ faults.NoMemory)
+
+-- The values of the scopes behind a header are there, and the record ends further on than at its place; or the first fault
+-- of these scopes; or the record has no bits; or memory ran out.
+abbrev pub MakesValues : StreamClass → Head → Result Body StreamFault → ℕ → Known → Result EventRecord StreamFault → Type 0
+MakesValues stream head body place known (Ok r) = (body ≡ Ok (record { values = values_of known; end = r.end })) × (r ≡ record { event = head.event; clock = head.clock; end = r.end }) × (place < r.end)
+MakesValues stream head body place known (Err f) = (body ≡ Err f) ⊎ (((b : Body) × (body ≡ Ok b) × (b.end ≡ place) × (f ≡ faults.EmptyEvent)) ⊎ (f ≡ faults.NoMemory))

@@ -1,0 +1,513 @@
+//! Headers of event records that are told where they stand, without their values.
+
+ghost use Rattle.std.specs.Prelude.{◌≡◌, ℕ, List, None, ◌<◌, ◌≤◌, ◌+◌, ◌*◌, ◌^◌, [], ◌∷◌, Some, length, IfSome, option_copied};
+ghost use Rattle.std.specs.Int.{next_multiple_of};
+ghost use Rattle.ctf_class.specs.Records.{IsPlanOf, scopes_of};
+ghost use Rattle.ctf_clock.specs.declared.moment.Shift.{Shift};
+ghost use Rattle.ctf_decode.specs.Input.{bits_of};
+ghost use Rattle.ctf_decode.specs.Views.{form, val};
+ghost use Rattle.ctf_record_text.specs.Headers.{Tells, TellsMember, TellsMembers, TellsNumber, TellsIn, TellsHead, PlansRecords, StandsAsTag, begun, set_by};
+ghost use Rattle.ctf_record_text.specs.Shorts.{IsShortOf, begins_telling};
+ghost use Rattle.ctf_packet.specs.Classes.{event_form, stream_form};
+ghost use Rattle.ctf_packet.specs.Moved.{moved_in};
+ghost use Rattle.ctf_packet.specs.Records.{event_named};
+
+use crate::short::{SHORT_VALUES, ShortHeader, tell_short};
+use ctf_bits::{sint_within, uint_within};
+use ctf_class::{Align, Class, Integer, Kind, Member, PlannedEvent, RecordPlan};
+use ctf_clock::{Moment, Timeline};
+use ctf_decode::{MOST_VALUES, Value, chosen_by_first, named_id};
+use ctf_packet::{Head, OpenPacket, moved_by_integer, planned_named};
+
+/// How far a header was told.
+#[derive(Clone, Copy)]
+struct Telling {
+    /// The last number of a member named `id`.
+    id: Option<i128>,
+    clock: Moment,
+    /// In bits from the packet's first one.
+    place: u64,
+    /// How many values were begun.
+    spent: u64,
+}
+
+/// The number of a tag, and where it ends, in bits from the packet's first one.
+#[derive(Clone, Copy)]
+struct Tag {
+    number: i128,
+    place: u64,
+}
+
+/// Where an integer begins and ends, in bits from the packet's first one.
+#[derive(Clone, Copy)]
+struct Bits {
+    begin: u64,
+    end: u64,
+}
+
+/// A header that was told, and how many values were begun for it.
+#[derive(Clone, Copy)]
+pub(crate) struct ToldHead<'a> {
+    pub(crate) head: Head<'a>,
+    pub(crate) spent: u64,
+}
+
+/// A header that was told, with the plan of the records of its event class.
+#[derive(Clone, Copy)]
+pub(crate) struct PlannedHead<'a> {
+    pub(crate) told: ToldHead<'a>,
+    pub(crate) plan: &'a RecordPlan,
+}
+
+/// The header of the event record at a place of a packet, in bits from its first one, whose clock came so far (CTF
+/// 1.8.3, section 6.1), told by what was looked at of its class. `None` where that does not hold for it, and where it has a
+/// fault.
+#[inline(always)]
+pub(crate) fn told_short<'a>(
+    packet: &OpenPacket<'a>,
+    short: &ShortHeader,
+    bytes: &[u8],
+    clock: Option<Moment>,
+    place: u64,
+) -> Option<PlannedHead<'a>>
+    requires start { place ≤ packet.now.content }
+    requires content { packet.now.content ≤ 2 ^ 62 }
+    requires held { packet.now.content ≤ 8 * length bytes.now }
+    requires short { IsShortOf packet.now.stream.now (Some short.now) }
+    ensures tells { IfSome result (λ p. TellsIn packet.now bytes.now clock place p.told) }
+    ensures plan { IfSome result (PlansRecords packet.now) }
+    ensures within { IfSome result (λ p. p.told.head.end ≤ packet.now.content) }
+    ensures few { IfSome result (λ p. p.told.spent ≤ MOST_VALUES) }
+{
+    let line = packet.timeline.as_ref()?;
+    let to = tell_short(line, short, bytes, packet.content, clock?, place)?;
+    let planned = packet.stream.planned_event(to.id)?;
+    let head = Head {
+        event: planned.event,
+        clock: Some(to.clock),
+        end: to.place,
+    };
+    Some(PlannedHead {
+        told: ToldHead {
+            head,
+            spent: SHORT_VALUES,
+        },
+        plan: planned.plan,
+    })
+}
+
+/// The header of the event record at a place of a packet, in bits from its first one, whose clock came so far (CTF
+/// 1.8.3, section 6.1). Only structures of integers are told, and those of an enumeration and a variant on it whose
+/// option is such a structure; and records without a header. `None` where the class is another one, and where the header
+/// has a fault.
+#[inline(always)]
+pub(crate) fn told_by_class<'a>(
+    packet: &OpenPacket<'a>,
+    bytes: &[u8],
+    clock: Option<Moment>,
+    place: u64,
+) -> Option<PlannedHead<'a>>
+    requires start { place ≤ packet.now.content }
+    requires content { packet.now.content ≤ 2 ^ 62 }
+    requires held { packet.now.content ≤ 8 * length bytes.now }
+    ensures tells { IfSome result (λ p. TellsIn packet.now bytes.now clock place p.told) }
+    ensures plan { IfSome result (PlansRecords packet.now) }
+    ensures within { IfSome result (λ p. p.told.head.end ≤ packet.now.content) }
+    ensures few { IfSome result (λ p. p.told.spent ≤ MOST_VALUES) }
+{
+    let stream = packet.stream;
+    let Some(class) = stream.event_header() else {
+        return told_bare(packet, clock, place);
+    };
+    match &packet.timeline {
+        Some(line) => told_timed(packet, class, line, bytes, clock?, place),
+        None => told_untimed(packet, class, bytes, clock, place),
+    }
+}
+
+/// The header of this class, where the packet has a clock.
+#[inline(always)]
+fn told_timed<'a>(
+    packet: &OpenPacket<'a>,
+    class: &Class,
+    line: &Timeline,
+    bytes: &[u8],
+    clock: Moment,
+    place: u64,
+) -> Option<PlannedHead<'a>>
+    requires start { place ≤ packet.now.content }
+    requires content { packet.now.content ≤ 2 ^ 62 }
+    requires held { packet.now.content ≤ 8 * length bytes.now }
+    requires class { packet.now.stream.now.event_header ≡ Some class.now }
+    requires line { packet.now.timeline ≡ Some line.now }
+    ensures tells { IfSome result (λ p. TellsIn packet.now bytes.now (Some clock) place p.told) }
+    ensures plan { IfSome result (PlansRecords packet.now) }
+    ensures within { IfSome result (λ p. p.told.head.end ≤ packet.now.content) }
+    ensures few { IfSome result (λ p. p.told.spent ≤ MOST_VALUES) }
+{
+    let from = begins_at(clock, place);
+    let to = tell_header(Some(line), class, bytes, packet.content, from)?;
+    let planned = planned_named(packet.stream, to.id)?;
+    Some(head_of(planned, to, Some(to.clock)))
+}
+
+/// The header of this class, where the packet has no clock.
+#[inline(always)]
+fn told_untimed<'a>(
+    packet: &OpenPacket<'a>,
+    class: &Class,
+    bytes: &[u8],
+    clock: Option<Moment>,
+    place: u64,
+) -> Option<PlannedHead<'a>>
+    requires start { place ≤ packet.now.content }
+    requires content { packet.now.content ≤ 2 ^ 62 }
+    requires held { packet.now.content ≤ 8 * length bytes.now }
+    requires class { packet.now.stream.now.event_header ≡ Some class.now }
+    requires line { packet.now.timeline ≡ None }
+    ensures tells { IfSome result (λ p. TellsIn packet.now bytes.now clock place p.told) }
+    ensures plan { IfSome result (PlansRecords packet.now) }
+    ensures within { IfSome result (λ p. p.told.head.end ≤ packet.now.content) }
+    ensures few { IfSome result (λ p. p.told.spent ≤ MOST_VALUES) }
+{
+    let from = begins_at(Moment { cycles: 0, time: 0 }, place);
+    let to = tell_header(None, class, bytes, packet.content, from)?;
+    let planned = planned_named(packet.stream, to.id)?;
+    Some(head_of(planned, to, None))
+}
+
+/// Nothing of a header at this place is told yet, where the clock came so far.
+#[inline(always)]
+fn begins_at(clock: Moment, place: u64) -> Telling
+    ensures { result ≡ begins_telling clock place }
+{
+    Telling {
+        id: None,
+        clock,
+        place,
+        spent: 0,
+    }
+}
+
+/// The header that was told, of an event class, with the clock behind it.
+#[inline(always)]
+fn head_of<'a>(planned: PlannedEvent<'a>, to: Telling, clock: Option<Moment>) -> PlannedHead<'a>
+    ensures event { result.told.head.event ≡ planned.entry.event }
+    ensures clock { result.told.head.clock ≡ clock }
+    ensures end { result.told.head.end ≡ to.place }
+    ensures spent { result.told.spent ≡ to.spent }
+    ensures plan { result.plan ≡ planned.entry.plan }
+{
+    let head = Head {
+        event: planned.event,
+        clock,
+        end: to.place,
+    };
+    PlannedHead {
+        told: ToldHead {
+            head,
+            spent: to.spent,
+        },
+        plan: planned.plan,
+    }
+}
+
+/// The header of an event record of a stream whose event records have none: it is of the only event class.
+#[inline(always)]
+fn told_bare<'a>(
+    packet: &OpenPacket<'a>,
+    clock: Option<Moment>,
+    place: u64,
+) -> Option<PlannedHead<'a>>
+    requires bare { packet.now.stream.now.event_header ≡ None }
+    ensures tells { (bytes : List ℕ) (content : ℕ) →
+        IfSome result (λ p. (shift : Shift) →
+        packet.now.timeline ≡ (stream_form shift packet.now.stream.now).line →
+        TellsHead packet.now.stream.now (stream_form shift packet.now.stream.now) bytes content
+        clock place p.told) }
+    ensures plan { IfSome result (PlansRecords packet.now) }
+    ensures end { IfSome result (λ p. p.told.head.end ≡ place) }
+    ensures spent { IfSome result (λ p. p.told.spent ≡ 0) }
+{
+    let planned = planned_named(packet.stream, None)?;
+    let clock = match &packet.timeline {
+        Some(_line) => clock,
+        None => None,
+    };
+    let head = Head {
+        event: planned.event,
+        clock,
+        end: place,
+    };
+    Some(PlannedHead {
+        told: ToldHead { head, spent: 0 },
+        plan: planned.plan,
+    })
+}
+
+/// Tells the structure of a header.
+#[inline(always)]
+fn tell_header(
+    line: Option<&Timeline>,
+    class: &Class,
+    bytes: &[u8],
+    content: u64,
+    from: Telling,
+) -> Option<Telling>
+    requires content { content ≤ 2 ^ 62 }
+    requires held { content ≤ 8 * length bytes.now }
+    requires start { from.place ≤ content }
+    ensures tells { IfSome result
+        (Tells (option_copied line.entry) (form class.now) bytes.now content from) }
+    ensures within { IfSome result (λ to. (to.place ≤ content) × (to.spent ≤ MOST_VALUES)) }
+{
+    let Kind::Structure { members } = &class.kind else {
+        return None;
+    };
+    let members = members.as_slice();
+    let at = begin(class.align, content, from)?;
+    if let [tag, variant] = members {
+        if let Some(to) = tell_pair(line, tag, variant, bytes, content, at) {
+            return Some(to);
+        }
+    }
+    tell_integers(line, members, bytes, content, at)
+}
+
+/// Tells a structure of integers.
+#[inline(always)]
+fn tell_structure(
+    line: Option<&Timeline>,
+    class: &Class,
+    bytes: &[u8],
+    content: u64,
+    from: Telling,
+) -> Option<Telling>
+    requires content { content ≤ 2 ^ 62 }
+    requires held { content ≤ 8 * length bytes.now }
+    requires start { from.place ≤ content }
+    ensures tells { IfSome result
+        (Tells (option_copied line.entry) (form class.now) bytes.now content from) }
+    ensures within { IfSome result (λ to. (to.place ≤ content) × (to.spent ≤ MOST_VALUES)) }
+{
+    let Kind::Structure { members } = &class.kind else {
+        return None;
+    };
+    let at = begin(class.align, content, from)?;
+    tell_integers(line, members.as_slice(), bytes, content, at)
+}
+
+/// Begins a structure of this alignment.
+#[inline(always)]
+fn begin(align: Align, content: u64, from: Telling) -> Option<Telling>
+    requires content { content ≤ 2 ^ 62 }
+    requires start { from.place ≤ content }
+    ensures begins { IfSome result (λ at. at ≡ begun align from) }
+    ensures few { IfSome result (λ at. at.spent ≤ MOST_VALUES) }
+    ensures within { IfSome result (λ at. at.place ≤ content) }
+{
+    if from.spent >= MOST_VALUES {
+        return None;
+    }
+    let place = align.up(from.place);
+    if place > content {
+        return None;
+    }
+    Some(Telling {
+        id: from.id,
+        clock: from.clock,
+        place,
+        spent: from.spent + 1,
+    })
+}
+
+/// Tells an enumeration and a variant on it.
+#[inline(always)]
+fn tell_pair(
+    line: Option<&Timeline>,
+    tag: &Member,
+    variant: &Member,
+    bytes: &[u8],
+    content: u64,
+    from: Telling,
+) -> Option<Telling>
+    requires content { content ≤ 2 ^ 62 }
+    requires held { content ≤ 8 * length bytes.now }
+    requires start { from.place ≤ content }
+    requires few { from.spent ≤ MOST_VALUES }
+    ensures tells { IfSome result
+        (TellsMembers (option_copied line.entry) (tag.now ∷ variant.now ∷ []) bytes.now content
+        from) }
+    ensures within { IfSome result (λ to. (to.place ≤ content) × (to.spent ≤ MOST_VALUES)) }
+{
+    let Kind::Enumeration { container, labels } = &tag.class.kind else {
+        return None;
+    };
+    let Kind::Variant {
+        tag: route,
+        choices,
+        options,
+    } = &variant.class.kind
+    else {
+        return None;
+    };
+    if from.spent + 1 >= MOST_VALUES {
+        return None;
+    }
+    let read = tag_at(container, tag.class.align, bytes, content, from.place)?;
+    let i = chosen_by_first(route, choices, read.number)?;
+    let options = options.as_slice();
+    if i >= options.len() {
+        return None;
+    }
+    let mut id = from.id;
+    let value = Value::Label(read.number);
+    named_id(tag, &value, &mut id);
+    let at = Telling {
+        id,
+        clock: from.clock,
+        place: read.place,
+        spent: from.spent + 2,
+    };
+    tell_structure(line, &options[i].class, bytes, content, at)
+}
+
+/// Reads a tag.
+#[inline(always)]
+fn tag_at(container: &Integer, align: Align, bytes: &[u8], content: u64, place: u64) -> Option<Tag>
+    requires content { content ≤ 2 ^ 62 }
+    requires held { content ≤ 8 * length bytes.now }
+    requires start { place ≤ content }
+    ensures stands { IfSome result (StandsAsTag align container.now bytes.now content place) }
+    ensures within { IfSome result (λ tag. tag.place ≤ content) }
+{
+    let bits = bits_at(container, align, content, place)?;
+    let size = container.size.bits();
+    let number = if container.is_signed {
+        i128::from(sint_within(bytes, bits.begin, size, container.order))
+    } else {
+        i128::from(uint_within(bytes, bits.begin, size, container.order))
+    };
+    Some(Tag {
+        number,
+        place: bits.end,
+    })
+}
+
+/// The bits of an integer that could begin at a place, if they lie within the content.
+#[inline(always)]
+fn bits_at(integer: &Integer, align: Align, content: u64, place: u64) -> Option<Bits>
+    requires content { content ≤ 2 ^ 62 }
+    requires start { place ≤ content }
+    ensures begin { IfSome result (λ bits. bits.begin ≡ next_multiple_of place align) }
+    ensures end { IfSome result
+        (λ bits. bits.end ≡ next_multiple_of place align + bits_of integer.now) }
+    ensures within { IfSome result (λ bits. bits.end ≤ content) }
+{
+    let begin = align.up(place);
+    let end = begin + u64::from(integer.size.bits());
+    if end > content {
+        return None;
+    }
+    Some(Bits { begin, end })
+}
+
+/// Tells members that are integers.
+#[inline(always)]
+fn tell_integers(
+    line: Option<&Timeline>,
+    members: &[Member],
+    bytes: &[u8],
+    content: u64,
+    from: Telling,
+) -> Option<Telling>
+    requires content { content ≤ 2 ^ 62 }
+    requires held { content ≤ 8 * length bytes.now }
+    requires start { from.place ≤ content }
+    requires few { from.spent ≤ MOST_VALUES }
+    ensures tells { IfSome result
+        (TellsMembers (option_copied line.entry) members.now bytes.now content from) }
+    ensures within { IfSome result (λ to. (to.place ≤ content) × (to.spent ≤ MOST_VALUES)) }
+{
+    let mut at = from;
+    for member in members {
+        at = tell_integer(line, member, bytes, content, at)?;
+    }
+    Some(at)
+}
+
+/// Tells a member, if it is an integer.
+#[inline(always)]
+fn tell_integer(
+    line: Option<&Timeline>,
+    member: &Member,
+    bytes: &[u8],
+    content: u64,
+    from: Telling,
+) -> Option<Telling>
+    requires content { content ≤ 2 ^ 62 }
+    requires held { content ≤ 8 * length bytes.now }
+    requires start { from.place ≤ content }
+    ensures tells { IfSome result
+        (TellsMember (option_copied line.entry) member.now bytes.now content from) }
+    ensures within { IfSome result (λ to. (to.place ≤ content) × (to.spent ≤ MOST_VALUES)) }
+{
+    let Kind::Integer(integer) = &member.class.kind else {
+        return None;
+    };
+    if from.spent >= MOST_VALUES {
+        return None;
+    }
+    let bits = bits_at(integer, member.class.align, content, from.place)?;
+    let size = integer.size.bits();
+    if integer.is_signed {
+        let value = Value::Signed(sint_within(bytes, bits.begin, size, integer.order));
+        tell_number(line, member, integer, &value, from, bits.end)
+    } else {
+        let value = Value::Unsigned(uint_within(bytes, bits.begin, size, integer.order));
+        tell_number(line, member, integer, &value, from, bits.end)
+    }
+}
+
+/// Tells the value of a member that is this integer and ends at a place.
+#[inline(always)]
+fn tell_number(
+    line: Option<&Timeline>,
+    member: &Member,
+    integer: &Integer,
+    value: &Value,
+    from: Telling,
+    place: u64,
+) -> Option<Telling>
+    requires few { from.spent < MOST_VALUES }
+    ensures tells { IfSome result
+        (TellsNumber (option_copied line.entry) member.now integer.now (val value.now) from) }
+    ensures reached { IfSome result (λ to. (to.place ≡ place) × (to.spent ≡ from.spent + 1)) }
+{
+    let mut id = from.id;
+    named_id(member, value, &mut id);
+    let clock = clock_behind(line, integer, value, from.clock)?;
+    Some(Telling {
+        id,
+        clock,
+        place,
+        spent: from.spent + 1,
+    })
+}
+
+/// The moment behind an integer of this value, where there is a clock that it may set.
+#[inline(always)]
+fn clock_behind(
+    line: Option<&Timeline>,
+    integer: &Integer,
+    value: &Value,
+    clock: Moment,
+) -> Option<Moment>
+    ensures { result ≡ set_by (option_copied line.entry) clock
+        (moved_in integer.now (val value.now)) }
+{
+    match line {
+        Some(line) => moved_by_integer(line, integer, value, clock),
+        None => Some(clock),
+    }
+}

@@ -1,5 +1,0 @@
-use Rattle.ctf_stamp.proofs.Putting.{put_both}
-use Rattle.ctf_stamp.proofs.digits.put_fraction.Goals as goal
-
-pub returns : goal.returns
-returns c = put_both c.put_byte-at.ensures c.put_nine.ensures

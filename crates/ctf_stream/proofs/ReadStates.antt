@@ -1,0 +1,94 @@
+-- Steps of a read state.
+use Rattle.std.proofs.Common.{◌≡◌, ℕ, Bool, true, false, List, [], ◌∷◌, Option, Some, None, Ok, inl, inr, refl, sym, ap, subst, ◌∙◌}
+use Rattle.ctf_bits.specs.declared.source.Ending.{Ending}
+use Rattle.ctf_clock.specs.declared.moment.Moment.{Moment}
+use Rattle.ctf_clock.specs.declared.moment.Shift.{Shift}
+use Rattle.ctf_decode.specs.Known.{Known}
+use Rattle.ctf_packet.specs.Classes.{Classes, trace_form}
+use Rattle.ctf_packet.specs.Scopes.{Values}
+use Rattle.ctf_packet.specs.Packets as packets
+use Rattle.ctf_packet.specs.Items.{Run, stops, before, from_bytes}
+use Rattle.ctf_packet.specs.Views.{values_of, packet_values, opened_of}
+use Rattle.ctf_packet.specs.declared.fault.StreamFault.{StreamFault}
+use Rattle.ctf_packet.specs.declared.reached.Reached.{Reached}
+use Rattle.ctf_stream.specs.Coming.{opened_in, left_in, item_in, TakesItem}
+use Rattle.ctf_fetch.specs.Fetching.{OrNoMemory, behind_packet}
+use Rattle.ctf_stream.specs.Reader.{behind_ahead, with_ahead}
+use Rattle.ctf_stream.specs.Standing.{item_at}
+use Rattle.ctf_stream.specs.ReadState.{trace_of, coming_at, Inside, StandsAt, coming_of, StepsWithin, Enters, Advances}
+use Rattle.ctf_stream.specs.declared.read_state.ReadState.{ReadState}
+use Rattle.ctf_fetch.specs.declared.cut.PacketStart.{PacketStart}
+use Rattle.ctf_stream.specs.declared.packet.Packet.{Packet}
+use Rattle.ctf_stream.specs.declared.packet.Front.{Front}
+
+module _ (cut : PacketStart) (ending : Ending) (left : List ℕ) (bytes : List ℕ) where
+  abbrev pub follows : Known → Packet → Option Moment → Run Classes
+  follows known p = behind_packet (trace_of cut) ending (opened_in cut.shift known p.opened) left
+
+  same_follows : (known after : Known) (p q : Packet) → q.opened ≡ p.opened → packet_values (values_of after) ≡ packet_values (values_of known) → follows known p ≡ follows after q
+  same_follows known after p q same values =
+      ap (λ v. behind_packet (trace_of cut) ending (opened_of cut.shift v p.opened) left) (sym values) ∙ ap (λ o. behind_packet (trace_of cut) ending (opened_in cut.shift after o) left) (sym same)
+
+  -- the packet at hand as it stands
+  pub inside : (taken : ℕ) (held : Option Packet) (p : Packet) → held ≡ Some p → StandsAt cut bytes taken held → Inside cut bytes taken p
+  inside taken held p is stands = subst (StandsAt cut bytes taken) is stands
+
+  -- an item of the packet at hand
+  pub takes_item : (held : Option Packet) (known after : Known) (given : List ℕ) (p q : Packet) (found : Option Front) (front : Front) → held ≡ Some p → q.opened ≡ p.opened → packet_values (values_of after) ≡ packet_values (values_of known) → given ≡ bytes → found ≡ Some front
+      → TakesItem cut.shift (follows known p) (left_in cut.shift known given (follows known p) p) q after given (Ok found)
+      → coming_at cut ending left known bytes held ≡ before (item_in cut.shift after bytes q front ∷ []) (coming_at cut ending left after bytes (Some q))
+  takes_item held known after given p q found front is same values bytes_are item takes =
+      let taken = subst (λ b. TakesItem cut.shift (follows known p) (left_in cut.shift known b (follows known p) p) q after b (Ok (Some front))) bytes_are
+      (subst (λ o. TakesItem cut.shift (follows known p) (left_in cut.shift known given (follows known p) p) q after given (Ok o)) item takes) in
+      ap (coming_at cut ending left known bytes) is ∙ taken ∙ ap (λ f. before (item_in cut.shift after bytes q front ∷ []) (left_in cut.shift after bytes f q)) (same_follows known after p q same values)
+
+  -- the packet at hand is over
+  pub is_over : (next : PacketStart) (held : Option Packet) (known after : Known) (given : List ℕ) (p q : Packet) (found : Option Front) (reached : Reached) → held ≡ Some p → q.opened ≡ p.opened → given ≡ bytes → found ≡ None
+      → TakesItem cut.shift (follows known p) (left_in cut.shift known given (follows known p) p) q after given (Ok found)
+      → ((shift : Shift) (values : Values) → reached ≡ packets.reached_behind (opened_of shift values q.opened) q.clock)
+      → next.trace ≡ cut.trace → next.shift ≡ cut.shift → next.reached ≡ Some reached → next.at ≡ p.opened.end
+      → coming_at cut ending left known bytes held ≡ from_bytes (trace_of next) ending next.reached next.at left
+  is_over next held known after given p q found reached is same bytes_are over takes behind trace shift was at =
+      let taken : left_in cut.shift known bytes (follows known p) p ≡ follows known p q.clock =
+      subst (λ b. left_in cut.shift known b (follows known p) p ≡ follows known p q.clock) bytes_are
+      (subst (λ o. TakesItem cut.shift (follows known p) (left_in cut.shift known given (follows known p) p) q after given (Ok o)) over takes) in
+      let said : packets.reached_behind (opened_in cut.shift known p.opened) q.clock ≡ reached = ap (λ o. packets.reached_behind (opened_in cut.shift known o) q.clock) (sym same) ∙ sym (behind cut.shift (packet_values (values_of known))) in
+      let forms : trace_of cut ≡ trace_of next = (λ i. trace_form (sym shift i) ((sym trace i).now)) in
+      ap (coming_at cut ending left known bytes) is ∙ taken
+      ∙ ap (λ r. from_bytes (trace_of cut) ending (Some r) p.opened.end left) said
+      ∙ ap (λ r. from_bytes (trace_of cut) ending r p.opened.end left) (sym was)
+      ∙ ap (λ n. from_bytes (trace_of cut) ending next.reached n left) (sym at)
+      ∙ ap (λ t. from_bytes t ending next.reached next.at left) forms
+
+-- an item behind steps that left what is to come
+pub advanced : (old middle new : Run Classes) (cut : PacketStart) (known : Known) (bytes : List ℕ) (packet : Option Packet) (left : List ℕ) (found : Option Front) (front : Front) → old ≡ middle → found ≡ Some front
+    → StepsWithin middle new cut known bytes packet (Ok found) → Advances old new cut known bytes packet left (Ok (Some front))
+advanced old middle new cut known bytes (Some p) left found front same is steps = same ∙ subst (λ o. StepsWithin middle new cut known bytes (Some p) (Ok o)) is steps
+advanced old middle new cut known bytes None left found front same is steps = absurd (subst (λ o. StepsWithin middle new cut known bytes None (Ok o)) is steps)
+
+-- what comes behind an item is what its read state comes to
+pub behind_item : (c : ReadState) (packet : Option Packet) (front : Front) (at : ℕ) (run : Run Classes) → behind_ahead (item_at c packet front) at run ≡ run
+behind_item c (Some p) front at run = refl
+behind_item c None front at run = refl
+
+-- the item that was found stands in front, and what is to come begins with it
+pub comes : (old new : Run Classes) (c : ReadState) (packet : Option Packet) (left : List ℕ) (front : Front) (at : ℕ) → Advances old new c.cut c.scopes c.buffer packet left (Ok (Some front))
+    → with_ahead (item_at c packet front) (behind_ahead (item_at c packet front) at new) ≡ old
+comes old new c (Some p) left front at goes = sym goes
+comes old new c None left front at goes = absurd goes
+
+-- nothing was left of the packet at hand
+pub stepped : (old middle new : Run Classes) (cut : PacketStart) (known : Known) (bytes : List ℕ) (packet : Option Packet) (found : Option Front) → old ≡ middle → found ≡ None → StepsWithin middle new cut known bytes packet (Ok found) → (old ≡ new) × (packet ≡ None)
+stepped old middle new cut known bytes packet found same is steps =
+    let took = subst (λ o. StepsWithin middle new cut known bytes packet (Ok o)) is steps in (same ∙ took.0, took.1)
+
+pub at_fault : (old middle : Run Classes) (at : ℕ) (fault : StreamFault) → old ≡ middle → OrNoMemory (λ f. middle ≡ stops (Some f) at) fault → OrNoMemory (λ f. old ≡ stops (Some f) at) fault
+at_fault old middle at fault same told = elim told [ inl refused ↦ inl refused | inr is ↦ inr (same ∙ is) ]
+
+pub entered : (old ending : Ending) (left after : List ℕ) (middle next : ReadState) (found : Bool) → old ≡ ending → found ≡ true → Enters (coming_of old left middle) (coming_of old after next) next.cut after (Ok found) → coming_of ending left middle ≡ coming_of ending after next
+entered old ending left after middle next found is test enters =
+    subst (λ e. coming_of e left middle ≡ coming_of e after next) is (subst (λ b. Enters (coming_of old left middle) (coming_of old after next) next.cut after (Ok b)) test enters)
+
+pub ended : (old ending : Ending) (left after : List ℕ) (middle next : ReadState) (found : Bool) → old ≡ ending → found ≡ false → Enters (coming_of old left middle) (coming_of old after next) next.cut after (Ok found) → (coming_of ending left middle ≡ stops None next.cut.at) × (after ≡ [])
+ended old ending left after middle next found is test enters =
+    subst (λ e. (coming_of e left middle ≡ stops None next.cut.at) × (after ≡ [])) is (subst (λ b. Enters (coming_of old left middle) (coming_of old after next) next.cut after (Ok b)) test enters)

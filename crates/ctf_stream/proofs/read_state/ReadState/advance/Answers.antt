@@ -1,0 +1,58 @@
+use Rattle.std.proofs.Common.{rules, ◌≡◌, ◌+◌, length, Some, ap, subst, ◌∙◌}
+use Rattle.ctf_packet.specs.Items.{stops}
+use Rattle.ctf_fetch.specs.Fetching.{OrNoMemory}
+use Rattle.ctf_stream.specs.ReadState.{coming_of}
+use Rattle.ctf_stream.proofs.ReadStates.{advanced, stepped, at_fault, entered, ended}
+use Rattle.ctf_stream.proofs.read_state.ReadState.advance.Goals as goal
+
+pub returns-in-Ok-Some-clause-advances : goal.returns-in-Ok-Some-clause-advances
+returns-in-Ok-Some-clause-advances g c = λ tells.
+    let ending = g.S.Source.ending c.args.source.now in
+    let left = g.S.Source.left c.loop-fault.source in
+    let new = c.step_within.new.self in
+    advanced _ (coming_of ending left c.loop-fault.self) (coming_of ending left new) new.cut new.scopes new.buffer new.packet left c.in-Ok-Some.field-0 c.in-Ok-Some.front (c.loop-fault.invariant.coming tells) c.in-Ok-Some.field-0-is
+    (c.in-Ok-Some.ensures.steps ending left)
+
+pub returns-in-Err-enter-clause-advances : goal.returns-in-Err-enter-clause-advances
+returns-in-Err-enter-clause-advances g c = λ tells.
+    let ending = g.S.Source.ending c.args.source.now in
+    let left = g.S.Source.left c.loop-fault.source in
+    let middle = c.step_within.new.self in
+    let before = c.loop-fault.invariant in
+    let steps = stepped _ (coming_of ending left c.loop-fault.self) (coming_of ending left middle) middle.cut middle.scopes middle.buffer middle.packet c.in-Ok-None.field-0 (before.coming tells) c.in-Ok-None.field-0-is (c.in-Ok-None.ensures.steps ending left) in
+    at_fault _ (coming_of ending left middle) c.enter.new.self.cut.at c.in-Err-enter.fault steps.0
+    (subst (λ e. OrNoMemory (λ f. coming_of e left middle ≡ stops (Some f) c.enter.new.self.cut.at) c.in-Err-enter.fault) (before.ending tells) (c.in-Err-enter.ensures.enters (before.tells tells)))
+
+pub loop-fault-preserved : goal.loop-fault-preserved
+loop-fault-preserved g c =
+    let ending = g.S.Source.ending c.args.source.now in
+    let left = g.S.Source.left c.loop-fault.source in
+    let middle = c.step_within.new.self in
+    let new = c.enter.new.self in
+    let after = g.S.Source.left c.enter.new.source in
+    let before = c.loop-fault.invariant in
+    record {
+      tells = λ h. c.enter.ensures.tells (before.tells h);
+      ending = λ h. c.enter.ensures.same_end (before.tells h) ∙ before.ending h;
+      coming = (λ h.
+          let steps = stepped _ (coming_of ending left c.loop-fault.self) (coming_of ending left middle) middle.cut middle.scopes middle.buffer middle.packet c.in-Ok-None.field-0 (before.coming h) c.in-Ok-None.field-0-is (c.in-Ok-None.ensures.steps ending left) in
+          steps.0 ∙ entered (g.S.Source.ending c.loop-fault.source) ending left after middle new c.in-Ok-true.field-0 (before.ending h) c.in-Ok-true.field-0-test (c.in-Ok-true.ensures.enters (before.tells h)));
+      counted = (λ h. c.enter.ensures.counted (before.tells h) ∙ ap (λ n. n + length left) c.step_within.ensures.taken ∙ before.counted h);
+      forward = search rules;
+      trace = search rules;
+      stands = search rules;
+      part = search rules;
+      writes = search rules;
+      room = search rules;
+    }
+
+pub returns-in-Ok-false-clause-advances : goal.returns-in-Ok-false-clause-advances
+returns-in-Ok-false-clause-advances g c = λ tells.
+    let ending = g.S.Source.ending c.args.source.now in
+    let left = g.S.Source.left c.loop-fault.source in
+    let middle = c.step_within.new.self in
+    let new = c.enter.new.self in
+    let before = c.loop-fault.invariant in
+    let steps = stepped _ (coming_of ending left c.loop-fault.self) (coming_of ending left middle) middle.cut middle.scopes middle.buffer middle.packet c.in-Ok-None.field-0 (before.coming tells) c.in-Ok-None.field-0-is (c.in-Ok-None.ensures.steps ending left) in
+    let over = ended (g.S.Source.ending c.loop-fault.source) ending left (g.S.Source.left c.enter.new.source) middle new c.in-Ok-false.field-0 (before.ending tells) c.in-Ok-false.field-0-test (c.in-Ok-false.ensures.enters (before.tells tells)) in
+    (steps.0 ∙ over.0, over.1)

@@ -1,0 +1,110 @@
+-- How far a stream was read.
+use Rattle.std.specs.Prelude.{◌≡◌, ℕ, ◌+◌, ◌-◌, ◌*◌, ◌^◌, ◌≤◌, ◌<◌, Bool, true, false, List, [], ◌∷◌, Option, IsSome, Some, None, Result, Ok, Err}
+use Rattle.ctf_bits.specs.declared.source.Ending.{Ending}
+use Rattle.ctf_decode.specs.Known.{Known}
+use Rattle.ctf_record_text.specs.Shorts.{IsShortOf}
+use Rattle.ctf_packet.specs.Classes.{Classes, TraceForm, trace_form}
+use Rattle.ctf_packet.specs.Items.{Run, stops, before, from_bytes}
+use Rattle.ctf_packet.specs.Scopes.{Values}
+use Rattle.ctf_packet.specs.Views.{values_of, packet_values}
+use Rattle.ctf_packet.specs.declared.fault.StreamFault.{StreamFault}
+use Rattle.ctf_stream.specs.Coming.{opened_in, left_in, item_in, room_in, HoldsFront}
+use Rattle.ctf_fetch.specs.Fetching.{OrNoMemory, most_taken, behind_packet, FetchedAt}
+use Rattle.ctf_fetch.specs.declared.cut.PacketStart.{PacketStart}
+use Rattle.ctf_stream.specs.declared.packet.Packet.{Packet}
+use Rattle.ctf_stream.specs.declared.packet.Front.{Front}
+use Rattle.ctf_stream.specs.declared.read_state.ReadState.{ReadState}
+use Rattle.ctf_format.specs.Lines.{packet_part}
+
+abbrev pub trace_of : PacketStart → TraceForm Classes
+trace_of cut = trace_form cut.shift cut.trace.now
+
+-- what is to come at a cut point, or within the packet that begins there
+abbrev pub coming_at : PacketStart → Ending → List ℕ → Known → List ℕ → Option Packet → Run Classes
+coming_at cut ending left known bytes None = from_bytes (trace_of cut) ending cut.reached cut.at left
+coming_at cut ending left known bytes (Some p) =
+    left_in cut.shift known bytes (behind_packet (trace_of cut) ending (opened_in cut.shift known p.opened) left) p
+
+-- what is to come, where so much is left of the stream
+abbrev pub coming_of : Ending → List ℕ → ReadState → Run Classes
+coming_of ending left c = coming_at c.cut ending left c.scopes c.buffer c.packet
+
+-- between two packets nothing is held, and no byte was taken beyond
+pub record Between (cut : PacketStart) (bytes : List ℕ) (taken : ℕ) : Type 0 where
+  pub empty : bytes ≡ []
+  pub here : taken ≡ cut.at
+  pub near : cut.at ≤ 2 ^ 60 + 2 ^ 28
+
+-- within a packet it is held, no byte was taken behind it, and the class of its event headers was looked at
+pub record Inside (cut : PacketStart) (bytes : List ℕ) (taken : ℕ) (p : Packet) : Type 0 where
+  pub fetched : FetchedAt cut.at bytes cut.shift p.opened
+  pub here : taken ≡ p.opened.end
+  pub near : cut.at ≤ 2 ^ 60
+  pub place : p.place ≤ p.opened.content
+  pub looked : IsShortOf p.opened.stream.now p.short
+
+abbrev pub StandsAt : PacketStart → List ℕ → ℕ → Option Packet → Type 0
+StandsAt cut bytes taken None = Between cut bytes taken
+StandsAt cut bytes taken (Some p) = Inside cut bytes taken p
+
+abbrev pub Stands : ReadState → Type 0
+Stands c = StandsAt c.cut c.buffer c.taken c.packet
+
+-- the text that the lines of a packet share, of one with these values
+abbrev pub IsPartOf : Values → List ℕ → Option Packet → Type 0
+IsPartOf values text None = Unit {0}
+IsPartOf values text (Some p) = text ≡ packet_part p.opened.stream.now.packet_context values.packet_context
+
+-- that of the packet at hand was made
+abbrev pub HasPart : ReadState → Type 0
+HasPart c = IsPartOf (packet_values (values_of c.scopes)) c.part c.packet
+
+-- the text of the event record in front was written, where that has no values
+abbrev pub HoldsIn : ReadState → Option Packet → Front → Type 0
+HoldsIn c (Some p) front = HoldsFront c.writes c.cut.shift c.scopes c.buffer c.part c.line.items p front
+HoldsIn c None front = Unit {0}
+
+abbrev pub HoldsFound : ReadState → Option Front → Type 0
+HoldsFound c (Some front) = HoldsIn c c.packet front
+HoldsFound c None = Unit {0}
+
+abbrev pub room_within : Option Packet → ℕ
+room_within None = 0
+room_within (Some p) = room_in p
+
+-- How many items may still come, at the most: a byte has at most eight event records, and a packet has two items more.
+abbrev pub room_of : ReadState → ℕ
+room_of c = 11 * (most_taken - c.taken) + room_within c.packet
+
+-- the items of the packet at hand give the next one, and the rest is to come; or they are over, and what is to come
+-- stays; or a fault stands in the packet
+abbrev pub StepsWithin : Run Classes → Run Classes → PacketStart → Known → List ℕ → Option Packet → Result (Option Front) StreamFault → Type 0
+StepsWithin old new cut known bytes (Some p) (Ok (Some front)) = old ≡ before (item_in cut.shift known bytes p front ∷ []) new
+StepsWithin old new cut known bytes None (Ok (Some front)) = ⊥
+StepsWithin old new cut known bytes packet (Ok None) = (old ≡ new) × (packet ≡ None)
+StepsWithin old new cut known bytes packet (Err fault) = OrNoMemory (λ f. old ≡ stops (Some f) cut.at) fault
+
+-- the next packet is at hand, and what is to come stays; or the stream ends; or a fault stands at the cut point
+abbrev pub Enters : Run Classes → Run Classes → PacketStart → List ℕ → Result Bool StreamFault
+    → Type 0
+Enters old new cut left (Ok true) = old ≡ new
+Enters old new cut left (Ok false) = (old ≡ stops None cut.at) × (left ≡ [])
+Enters old new cut left (Err fault) = OrNoMemory (λ f. old ≡ stops (Some f) cut.at) fault
+
+-- a packet that was found takes room
+abbrev pub EntersRoom : ℕ → ℕ → Result Bool StreamFault → Type 0
+EntersRoom old new (Ok true) = new < old
+EntersRoom old new (Ok false) = new ≤ old
+EntersRoom old new (Err fault) = Unit {0}
+
+-- the next item, and the rest is to come; or the end; or a fault
+abbrev pub Advances : Run Classes → Run Classes → PacketStart → Known → List ℕ → Option Packet → List ℕ → Result (Option Front) StreamFault → Type 0
+Advances old new cut known bytes (Some p) left (Ok (Some front)) = old ≡ before (item_in cut.shift known bytes p front ∷ []) new
+Advances old new cut known bytes None left (Ok (Some front)) = ⊥
+Advances old new cut known bytes packet left (Ok None) = (old ≡ stops None cut.at) × (left ≡ [])
+Advances old new cut known bytes packet left (Err fault) = OrNoMemory (λ f. old ≡ stops (Some f) cut.at) fault
+
+-- an item is one of the packet at hand, and no packet is at hand at the end
+abbrev pub IsOfPacket : Option Packet → Option Front → Type 0
+IsOfPacket packet (Some front) = IsSome packet
+IsOfPacket packet None = packet ≡ None

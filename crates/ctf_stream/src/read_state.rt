@@ -1,0 +1,356 @@
+//! How far a stream was read.
+
+ghost use Rattle.std.specs.Prelude.{◌≡◌, ◌+◌, ◌<◌, ◌≤◌, List, [], false, Some, None, Ok, ℕ, length, IsTrue, IsSome, IfSome, IfNone, IfOk, OnOk, OnErr};
+ghost use Rattle.ctf_bits.specs.declared.source.Ending.{Ending};
+ghost use Rattle.ctf_clock.specs.declared.moment.Shift.{Shift};
+ghost use Rattle.ctf_packet.specs.Packets as packets;
+ghost use Rattle.ctf_packet.specs.Scopes.{Values};
+ghost use Rattle.ctf_packet.specs.Views.{opened_of};
+ghost use Rattle.ctf_stream.specs.Coming.{TakesRoom};
+ghost use Rattle.ctf_stream.specs.Shown.{Tells, IsMadeTold, IsAsked};
+ghost use Rattle.ctf_stream.specs.Standing.{item_at};
+ghost use Rattle.ctf_fetch.specs.Fetching.{longest_bytes, most_taken};
+ghost use Rattle.ctf_stream.specs.ReadState.{coming_of, Stands, room_of, StepsWithin, Enters, EntersRoom, Advances, IsOfPacket, HasPart, HoldsIn, HoldsFound};
+
+use crate::item::{CurrentItem, Event, EventText, Gap, Item};
+use crate::packet::{Front, Packet};
+use crate::part::PacketPart;
+use ctf_bits::Source;
+use ctf_class::{HasId, Scope};
+use ctf_decode::Scopes;
+use ctf_fetch::{Buffer, PacketStart};
+use ctf_packet::{OpenPacket, Reached, Scratch, StreamFault};
+use ctf_record_text::{Attempt, short_header};
+use std::alloc::Global;
+
+/// How far a stream was read.
+#[derive(Drop)]
+pub(crate) struct ReadState<'a> {
+    /// Where the packet at hand begins, or the next one.
+    pub(crate) cut: PacketStart<'a>,
+    pub(crate) packet: Option<Packet<'a>>,
+    /// The bytes of the packet at hand.
+    pub(crate) buffer: Buffer,
+    /// The values of the packet at hand, and of the event record in front, if one stands there.
+    pub(crate) scopes: Scopes,
+    /// What the lines of its event records share.
+    pub(crate) part: PacketPart,
+    /// Memory for the next event records.
+    pub(crate) scratch: Scratch,
+    /// Whether event records are read as texts, where they can.
+    pub(crate) writes: bool,
+    /// The text of the event record in front, if it was read as that. Behind it stand any bytes.
+    pub(crate) line: Vec<u8>,
+    /// How many bytes were taken from the source.
+    pub(crate) taken: u64,
+}
+
+impl<'a> ReadState<'a> {
+    /// A stream of which nothing was read, from a cut point on.
+    pub(crate) fn new(alloc: Global, cut: PacketStart<'a>) -> ReadState<'a>
+        ensures cut { result.cut ≡ cut.entry }
+        ensures packet { result.packet ≡ None }
+        ensures buffer { result.buffer ≡ [] }
+        ensures taken { result.taken ≡ cut.entry.at }
+        ensures writes { result.writes ≡ false }
+    {
+        ReadState {
+            cut,
+            packet: None,
+            buffer: Buffer::new(alloc),
+            scopes: Scopes::new(),
+            part: PacketPart::new(alloc),
+            scratch: Scratch::new(alloc),
+            writes: false,
+            line: Vec::new(alloc),
+            taken: cut.at,
+        }
+    }
+
+    /// Gives the memory back, and holds nothing.
+    #[cold]
+    #[inline(never)]
+    pub(crate) fn release(&mut self, alloc: Global)
+        ensures cut { self.new.cut ≡ self.old.cut }
+        ensures packet { self.new.packet ≡ None }
+        ensures buffer { self.new.buffer ≡ [] }
+        ensures taken { self.new.taken ≡ self.old.taken }
+        ensures writes { self.new.writes ≡ self.old.writes }
+    {
+        self.packet = None;
+        self.buffer = Buffer::new(alloc);
+        self.scopes = Scopes::new();
+        self.part = PacketPart::new(alloc);
+        self.scratch = Scratch::new(alloc);
+        self.line = Vec::new(alloc);
+    }
+
+    /// The next item, if it is an event record of the packet at hand that can be shown without its values, where texts are
+    /// asked for. `None` elsewhere: then only the line is another one, and `attempt` tells `advance` what was tried.
+    #[inline(always)]
+    pub(crate) fn next_written(
+        &mut self,
+        alloc: Global,
+        by_class: bool,
+        attempt: &mut Attempt,
+    ) -> Option<Front<'a>>
+        requires stands { Stands self.old }
+        requires part { HasPart self.old }
+        ensures advances { (ending : Ending) (left : List ℕ) →
+            IfSome result (λ front.
+            Advances (coming_of ending left self.old) (coming_of ending left self.new) self.new.cut
+            self.new.scopes self.new.buffer self.new.packet left (Ok (Some front))) }
+        ensures stands { Stands self.new }
+        ensures part { HasPart self.new }
+        ensures taken { self.new.taken ≡ self.old.taken }
+        ensures room { IfSome result (λ _. room_of self.new < room_of self.old) }
+        ensures found { IfSome result (λ _. IsSome self.new.packet) }
+        ensures holds { IfSome result (HoldsIn self.new self.new.packet) }
+        ensures writes { self.new.writes ≡ self.old.writes }
+        ensures cut { self.new.cut ≡ self.old.cut }
+        ensures buffer { self.new.buffer ≡ self.old.buffer }
+        ensures none { IfNone result (self.new ≡ record self.old { line = self.new.line }) }
+    {
+        let packet = match &mut self.packet {
+            None => return None,
+            Some(packet) => packet,
+        };
+        packet.next_written(
+            alloc,
+            self.buffer.as_slice(),
+            &self.scopes,
+            self.writes,
+            self.part.as_slice(),
+            by_class,
+            &mut self.line,
+            attempt,
+        )
+    }
+
+    /// The next item, out of a source. `None` where the stream ends. `attempt` tells what `next_written` tried before.
+    ///
+    /// An error is the fault of the stream behind the items before, or `NoMemory`.
+    #[inline(never)]
+    pub(crate) fn advance<S: Source>(
+        &mut self,
+        alloc: Global,
+        source: &mut S,
+        attempt: Attempt,
+    ) -> Result<Option<Front<'a>>, StreamFault>
+        requires stands { Stands self.old }
+        requires part { HasPart self.old }
+        ensures tells { IsTrue (S.tells source.old) → IsTrue (S.tells source.new) }
+        ensures same_end { IsTrue (S.tells source.old) → S.ending source.new ≡ S.ending source.old }
+        ensures advances { let ending = S.ending source.old in
+            IsTrue (S.tells source.old) →
+            Advances (coming_of ending (S.left source.old) self.old)
+            (coming_of ending (S.left source.new) self.new) self.new.cut self.new.scopes
+            self.new.buffer self.new.packet (S.left source.new) result }
+        ensures counted { IsTrue (S.tells source.old) →
+            self.new.taken + length (S.left source.new) ≡
+            self.old.taken + length (S.left source.old) }
+        ensures stands { OnOk result (Stands self.new) }
+        ensures part { OnOk result (HasPart self.new) }
+        ensures found { IfOk result (IsOfPacket self.new.packet) }
+        ensures holds { IfOk result (HoldsFound self.new) }
+        ensures writes { self.new.writes ≡ self.old.writes }
+        ensures trace { self.new.cut.trace ≡ self.old.cut.trace }
+        ensures room { TakesRoom (room_of self.old) (room_of self.new) result }
+        ensures forward { self.old.taken ≤ self.new.taken }
+        ensures behind { OnErr result (self.new.cut.at ≤ self.new.taken) }
+        ensures near { OnErr result (self.new.taken ≤ self.new.cut.at + longest_bytes + 1) }
+        ensures most { OnErr result (self.new.taken ≤ most_taken) }
+    {
+        let mut attempt = attempt;
+        loop {
+            match self.step_within(alloc, attempt) {
+                Err(fault) => return Err(fault),
+                Ok(Some(front)) => return Ok(Some(front)),
+                Ok(None) => {}
+            }
+            match self.enter(alloc, source) {
+                Err(fault) => return Err(fault),
+                Ok(false) => return Ok(None),
+                Ok(true) => {}
+            }
+            attempt = Attempt::Open;
+        }
+    }
+
+    /// Fetches the next packet. Whether there is one. It is kept out of the way from one event record to the next.
+    #[inline(never)]
+    fn enter<S: Source>(&mut self, alloc: Global, source: &mut S) -> Result<bool, StreamFault>
+        requires between { self.old.packet ≡ None }
+        requires stands { Stands self.old }
+        ensures tells { IsTrue (S.tells source.old) → IsTrue (S.tells source.new) }
+        ensures same_end { IsTrue (S.tells source.old) → S.ending source.new ≡ S.ending source.old }
+        ensures enters { let ending = S.ending source.old in
+            IsTrue (S.tells source.old) →
+            Enters (coming_of ending (S.left source.old) self.old)
+            (coming_of ending (S.left source.new) self.new) self.new.cut
+            (S.left source.new) result }
+        ensures counted { IsTrue (S.tells source.old) →
+            self.new.taken + length (S.left source.new) ≡
+            self.old.taken + length (S.left source.old) }
+        ensures stands { OnOk result (Stands self.new) }
+        ensures part { OnOk result (HasPart self.new) }
+        ensures none { IfOk result (λ found. found ≡ false → self.new.packet ≡ None) }
+        ensures room { EntersRoom (room_of self.old) (room_of self.new) result }
+        ensures writes { self.new.writes ≡ self.old.writes }
+        ensures cut { self.new.cut ≡ self.old.cut }
+        ensures behind { self.old.taken ≤ self.new.taken }
+        ensures near { self.new.taken ≤ self.old.taken + longest_bytes + 1 }
+        ensures most { OnErr result (self.new.taken ≤ most_taken) }
+    {
+        let fetched = self
+            .cut
+            .fetch(alloc, source, &mut self.buffer, &mut self.scopes);
+        self.taken += self.buffer.len() as u64;
+        match fetched {
+            Err(fault) => Err(fault),
+            Ok(None) => Ok(false),
+            Ok(Some(opened)) => {
+                let context = self.scopes.get(Scope::PacketContext);
+                match self.part.make(opened.stream.packet_context(), context) {
+                    Err(_) => return Err(StreamFault::NoMemory),
+                    Ok(()) => {}
+                }
+                self.packet = Some(Packet {
+                    short: short_header(opened.stream),
+                    lost: opened.lost,
+                    dropped: opened.dropped,
+                    clock: opened.clock,
+                    place: opened.first,
+                    opened,
+                });
+                Ok(true)
+            }
+        }
+    }
+
+    /// The next item of the packet at hand. `None` where there is none, and the packet is left then.
+    fn step_within(
+        &mut self,
+        alloc: Global,
+        attempt: Attempt,
+    ) -> Result<Option<Front<'a>>, StreamFault>
+        requires stands { Stands self.old }
+        requires part { HasPart self.old }
+        ensures steps { (ending : Ending) (left : List ℕ) →
+            StepsWithin (coming_of ending left self.old) (coming_of ending left self.new)
+            self.new.cut self.new.scopes self.new.buffer self.new.packet result }
+        ensures stands { OnOk result (Stands self.new) }
+        ensures part { OnOk result (HasPart self.new) }
+        ensures taken { self.new.taken ≡ self.old.taken }
+        ensures room { TakesRoom (room_of self.old) (room_of self.new) result }
+        ensures cut { OnErr result (self.new.cut ≡ self.old.cut) }
+        ensures found { IfOk result (IsOfPacket self.new.packet) }
+        ensures holds { IfOk result (HoldsFound self.new) }
+        ensures writes { self.new.writes ≡ self.old.writes }
+        ensures trace { self.new.cut.trace ≡ self.old.cut.trace }
+    {
+        let packet = match &mut self.packet {
+            None => return Ok(None),
+            Some(packet) => packet,
+        };
+        match packet.next(
+            alloc,
+            self.buffer.as_slice(),
+            self.writes,
+            self.part.as_slice(),
+            attempt,
+            &mut self.scratch,
+            &mut self.scopes,
+            &mut self.line,
+        ) {
+            Err(fault) => Err(fault),
+            Ok(Some(front)) => Ok(Some(front)),
+            Ok(None) => {
+                let reached = reached_behind(packet);
+                self.leave(reached);
+                Ok(None)
+            }
+        }
+    }
+
+    /// The item in front, of the packet at hand. `name` is the stream's.
+    pub(crate) fn current_item<'r>(
+        &'r self,
+        front: &'r Front<'a>,
+        name: &'r str,
+    ) -> Option<CurrentItem<'r>>
+        requires part { HasPart self.now }
+        requires holds { HoldsIn self.now self.now.packet front.now }
+        ensures tells { Tells self.now.cut.trace.now name.now
+            (item_at self.now self.now.packet front.now) result }
+        ensures made { IfSome result IsMadeTold }
+        ensures asked { IfSome result (IsAsked self.now.writes) }
+    {
+        let packet = match &self.packet {
+            None => return None,
+            Some(packet) => packet,
+        };
+        let opened = &packet.opened;
+        match front {
+            Front::Event(record) => Some(CurrentItem::Item(Item::Event(Event {
+                trace: self.cut.trace,
+                stream: opened.stream,
+                class: record.event,
+                moment: record.clock,
+                scopes: &self.scopes,
+                part: Some(self.part.as_slice()),
+            }))),
+            Front::Written(written) => Some(CurrentItem::Text(EventText {
+                moment: written.event.clock,
+                text: &self.line[..written.end],
+            })),
+            Front::Discarded(count) => Some(CurrentItem::Item(Item::Discarded(Gap {
+                count: *count,
+                moment: opened.clock,
+                from: opened.before,
+                to: opened.until,
+                name,
+            }))),
+            Front::Lost(count) => Some(CurrentItem::Item(Item::Lost(Gap {
+                count: *count,
+                moment: opened.clock,
+                from: opened.before,
+                to: opened.clock,
+                name,
+            }))),
+        }
+    }
+
+    /// Leaves the packet at hand behind.
+    #[inline(never)]
+    fn leave(&mut self, reached: Reached)
+        ensures packet { self.new.packet ≡ None }
+        ensures trace { self.new.cut.trace ≡ self.old.cut.trace }
+        ensures shift { self.new.cut.shift ≡ self.old.cut.shift }
+        ensures reached { self.new.cut.reached ≡ Some reached }
+        ensures at { self.new.cut.at ≡ self.old.taken }
+        ensures empty { self.new.buffer ≡ [] }
+        ensures scopes { self.new.scopes ≡ self.old.scopes }
+        ensures taken { self.new.taken ≡ self.old.taken }
+        ensures writes { self.new.writes ≡ self.old.writes }
+    {
+        self.packet = None;
+        self.cut.reached = Some(reached);
+        self.cut.at = self.taken;
+        self.buffer.clear();
+    }
+}
+
+/// What a stream has come to behind a packet.
+fn reached_behind(packet: &Packet<'_>) -> Reached
+    ensures { (shift : Shift) (values : Values) →
+        result ≡ packets.reached_behind (opened_of shift values packet.now.opened)
+        packet.now.clock }
+{
+    Reached {
+        stream: packet.opened.stream.id(),
+        clock: packet.clock,
+        discarded: packet.opened.discarded,
+        number: packet.opened.number,
+    }
+}

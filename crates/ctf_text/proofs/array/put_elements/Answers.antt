@@ -1,8 +1,0 @@
-use Rattle.std.proofs.Common.{◌<◌, take, rules, arith}
-use Rattle.ctf_text.proofs.ArrayLemmas.{closed}
-use Rattle.ctf_text.proofs.array.put_elements.Goals as goal
-
-pub returns-clause-puts : goal.returns-clause-puts
-returns-clause-puts c =
-    let some : 0 < c.args.count = search (rules, arith) in
-    closed c.args.align c.args.integer.now c.args.count c.args.packet.now.bytes.now c.args.packet.now.end c.args.begin c.in_ok-ends.ends.place (take c.args.at c.args.buffer.now.items) (take c.in_ok-ends.ends.text c.put_row.new.buffer.items) (take c.in-Ok-put_end.text c.put_end.new.buffer.items) some c.in-Ok-put_end.ensures.text c.in_ok-ends.ensures.puts

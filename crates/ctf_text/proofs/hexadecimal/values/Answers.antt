@@ -1,5 +1,0 @@
-use Rattle.ctf_text.proofs.HexadecimalLemmas.{lanes_same}
-use Rattle.ctf_text.proofs.hexadecimal.values.Goals as goal
-
-pub returns : goal.returns
-returns c = lanes_same c.args.number

@@ -1,0 +1,39 @@
+//! Which items are wanted, by their times.
+
+ghost use Rattle.std.specs.Prelude.{◌≡◌};
+ghost use Rattle.ctf_timestamp.specs.Trims.{verdict_of};
+
+/// The items between two times are wanted. Both are in nanoseconds since the epoch, and both are kept.
+#[derive(Clone, Copy)]
+pub struct Trim {
+    pub begin: Option<i64>,
+    pub end: Option<i64>,
+}
+
+/// Where an item stands to what is wanted.
+#[derive(Clone, Copy)]
+pub enum Verdict {
+    Before,
+    Within,
+    After,
+}
+
+impl Trim {
+    /// Where an item of this time stands, in nanoseconds since the epoch. An item without a time is within;
+    /// a time above the end is after it, also where it is below the beginning. No memory is taken.
+    pub fn judge(&self, time: Option<i64>) -> Verdict
+        ensures { result ≡ verdict_of self.now time }
+    {
+        let Some(time) = time else {
+            return Verdict::Within;
+        };
+        match self.end {
+            Some(end) if time > end => return Verdict::After,
+            _ => {}
+        }
+        match self.begin {
+            Some(begin) if time < begin => Verdict::Before,
+            _ => Verdict::Within,
+        }
+    }
+}

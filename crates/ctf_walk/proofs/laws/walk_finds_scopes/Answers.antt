@@ -1,5 +1,0 @@
-use Rattle.ctf_walk.proofs.Text as text
-use Rattle.ctf_walk.proofs.laws.walk_finds_scopes.Goals as goal
-
-pub returns : goal.returns
-returns c = text.walk_finds_scopes
