@@ -1,6 +1,6 @@
 -- What folders hold, and what reading them gives (own).
-use Rattle.std.specs.Prelude.{ℕ, Bool, List, Option, Some, None}
-use Rattle.ctf_bits.specs.declared.source.Ending.{Ending}
+use Rattle.std.specs.Prelude.{ℕ, List, Option, Some, None}
+pub use Rattle.ctf_session.specs.Inputs.{given_by}
 use Rattle.ctf_session.specs.Inputs.{Given}
 use Rattle.ctf_cli.specs.declared.folders.FolderFault.{FolderFault}
 use Rattle.ctf_cli.specs.declared.folders.FolderFault.TheVariants.{Unreadable, NoMemory}
@@ -23,10 +23,6 @@ pub record Files : Type 0 where
 abbrev pub IsFault : Type 0 → FolderFault → Type 0
 IsFault blocked Unreadable = blocked
 IsFault blocked NoMemory = Unit {0}
-
--- what a source gives, by what is known of it
-abbrev pub given_by : {S : Type 0} → (S → Bool) → (S → List ℕ) → (S → Ending) → S → Given
-given_by tells left ending s = record { tells = tells s; bytes = left s; ending = ending s }
 
 -- an open stream, or none
 abbrev pub found_of : {S : Type 0} → (S → Given) → Option S → Found

@@ -5,6 +5,7 @@ use Rattle.std.specs.Int.{next_multiple_of}
 use Rattle.std.proofs.lemmas.List.{get_or-set_same, get_or-set_other}
 use Rattle.ctf_class.specs.declared.route.Length.{Length}
 use Rattle.ctf_class.specs.declared.route.Length.TheVariants.{Fixed, Field}
+use Rattle.ctf_class.specs.declared.route.Origin.{Origin}
 use Rattle.ctf_class.specs.declared.route.Origin.TheVariants.{Enclosing, Earlier}
 use Rattle.ctf_class.specs.declared.route.Route.{Route}
 use Rattle.ctf_class.specs.declared.route.Scope.{Scope}
@@ -15,19 +16,20 @@ use Rattle.ctf_decode.specs.Forms.{Form, align_of}
 use Rattle.ctf_decode.specs.Input.{Input, Env}
 use Rattle.ctf_decode.specs.Known.{Known}
 use Rattle.ctf_decode.specs.Routes.{chosen, found, found_from, inside, length_of, number_of, option_at, tag_of}
-use Rattle.ctf_decode.specs.Values.{Val, down}
+use Rattle.ctf_decode.specs.Values.{Val, down, group, nth, vals_of}
 use Rattle.ctf_decode.specs.Views as views
 use Rattle.ctf_decode.specs.declared.place.Frame as frames
 use Rattle.ctf_decode.specs.declared.place.Frame.TheVariants as frame
 use Rattle.ctf_decode.specs.Walk.{and_then, as_list, begin, open_at, repeat, walk}
-use Rattle.ctf_format.specs.Around.{Agrees, ChoosesIn, CountsIn, Finds, MembersAre, PutsIn, Sees, SharesPacket, WritesIn, sight}
-use Rattle.ctf_format.specs.Standing.{Before, Counts, ValueIs, Writes, among}
+use Rattle.ctf_format.specs.Around.{Agrees, ChoosesIn, CountsIn, Finds, Keeps, MembersAre, PutsIn, ScopeIs, ScopesAre, Sees, SharesPacket, Sight, WritesIn, known_in, packet_of, sight}
+use Rattle.ctf_format.specs.Standing.{Before, Counts, ValueIs, Writes}
 use Rattle.ctf_format.specs.Texts.{Shown}
 use Rattle.ctf_format.specs.declared.around.Around as around
+use Rattle.ctf_format.specs.declared.around.Around.{Around}
 use Rattle.ctf_format.specs.declared.around.Around.TheVariants as arounds
 use Rattle.ctf_format.specs.declared.around.Members.{Members}
+use Rattle.ctf_format.specs.declared.around.ScopeInput.{ScopeInput}
 use Rattle.ctf_format.specs.declared.around.Seen.{Seen}
-use Rattle.ctf_format.specs.declared.content.Content.{Content}
 use Rattle.ctf_format.specs.declared.standing.Last.{Last}
 use Rattle.ctf_format.specs.declared.standing.Last.TheVariants as lasts
 use Rattle.ctf_format.specs.declared.standing.Next.{Next}
@@ -72,102 +74,128 @@ one_more m count last vs v counted eight is are = (length-append vs (v ∷ []) �
         (last_or_earlier j (length vs) count counted within)
 
 -- What is known of a number is right of what is found.
-pub counts_found : (l : Last) (n : ℕ) (seen : Seen) (route : Route) (out : ℕ) → route.origin ≡ Enclosing out → l ≡ lasts.Unsigned n
-    → ((earlier : Scope → Option Val) (env : Env) → Sees seen earlier env → Finds l (found_from (Enclosing out) route.steps earlier env)) → CountsIn seen (Field route) n
-unfolding found
-counts_found l n seen route out origin is finds earlier env sees =
-    ap (λ o. number_of (found_from o route.steps earlier env)) origin ∙ ap number_of (subst (λ x. Finds x (found_from (Enclosing out) route.steps earlier env)) is (finds earlier env sees))
+pub counts_found : (l : Last) (n : ℕ) (seen : Seen) (route : Route) → l ≡ lasts.Unsigned n
+    → ((earlier : Scope → Option Val) (env : Env) → Sees seen earlier env → Finds l (found route earlier env)) → CountsIn seen (Field route) n
+counts_found l n seen route is finds earlier env sees = ap number_of (subst (λ x. Finds x (found route earlier env)) is (finds earlier env sees))
 
-pub chooses_found : (l : Last) (z : ℤ) (i : ℕ) (seen : Seen) (route : Route) (choices : List Choice) (out : ℕ) → route.origin ≡ Enclosing out → l ≡ lasts.Label z → Some i ≡ chosen choices z
-    → ((earlier : Scope → Option Val) (env : Env) → Sees seen earlier env → Finds l (found_from (Enclosing out) route.steps earlier env)) → ChoosesIn seen route choices i
+pub chooses_found : (l : Last) (z : ℤ) (i : ℕ) (seen : Seen) (route : Route) (choices : List Choice) → l ≡ lasts.Label z → Some i ≡ chosen choices z
+    → ((earlier : Scope → Option Val) (env : Env) → Sees seen earlier env → Finds l (found route earlier env)) → ChoosesIn seen route choices i
+chooses_found l z i seen route choices is chooses finds earlier env sees =
+    ap (λ o. option_and_then (chosen choices) (tag_of o)) (subst (λ x. Finds x (found route earlier env)) is (finds earlier env sees)) ∙ sym chooses
+
+-- What a route finds is found where it begins.
+pub finds_there : (l : Last) (route : Route) (origin : Origin) (steps : List ℕ) (earlier : Scope → Option Val) (env : Env) → route.origin ≡ origin → steps ≡ route.steps → Finds l (found_from origin steps earlier env) → Finds l (found route earlier env)
 unfolding found
-chooses_found l z i seen route choices out origin is chooses finds earlier env sees =
-    ap (λ o. option_and_then (chosen choices) (tag_of (found_from o route.steps earlier env))) origin
-    ∙ ap (λ o. option_and_then (chosen choices) (tag_of o)) (subst (λ x. Finds x (found_from (Enclosing out) route.steps earlier env)) is (finds earlier env sees)) ∙ sym chooses
+finds_there l route origin steps earlier env begins is finds = subst (λ o. Finds l (found_from o route.steps earlier env)) (sym begins) (subst (λ s. Finds l (found_from origin s earlier env)) is finds)
 
 -- without a structure around it a value has no members before it
 pub env-Top : views.env frame.Top ≡ []
 env-Top = search (rules, frames.the_lemmas)
 
 -- The packet's values are those that are known.
-same_packet : (known : Known) (scope : Scope) (earlier : Scope → Option Val) → (scope ≡ PacketHeader) ⊎ (scope ≡ PacketContext) → SharesPacket known earlier → earlier scope ≡ views.earlier known scope
-same_packet known scope earlier (inl is) shares = ap earlier is ∙ shares.0 ∙ ap (views.earlier known) (sym is)
-same_packet known scope earlier (inr is) shares = ap earlier is ∙ shares.1 ∙ ap (views.earlier known) (sym is)
+scopes_of : (seen : Seen) (earlier : Scope → Option Val) (env : Env) → Sees seen earlier env → ScopesAre (known_in (sight seen.around.now).input) earlier
+scopes_of seen earlier [] sees = absurd sees
+scopes_of seen earlier (vs ∷ env) sees = sees.1.0
 
-shares_of : (seen : Seen) (earlier : Scope → Option Val) (env : Env) → Sees seen earlier env → SharesPacket (sight seen.around.now).known earlier
-shares_of seen earlier [] sees = absurd sees
-shares_of seen earlier (vs ∷ env) sees = sees.1.0
-
-found_in_packet : (known : Known) (route : Route) (scope : Scope) (earlier : Scope → Option Val) (env : Env) → route.origin ≡ Earlier scope → (scope ≡ PacketHeader) ⊎ (scope ≡ PacketContext) → SharesPacket known earlier
-    → found route earlier env ≡ found route (views.earlier known) []
+found_at : (known : Known) (route : Route) (scope : Scope) (earlier : Scope → Option Val) (env : Env) → route.origin ≡ Earlier scope → earlier scope ≡ views.earlier known scope → found route earlier env ≡ found route (views.earlier known) []
 unfolding found
-found_in_packet known route scope earlier env origin of_packet shares =
-    ap (λ o. found_from o route.steps earlier env) origin ∙ ap (option_and_then (down route.steps)) (same_packet known scope earlier of_packet shares) ∙ ap (λ o. found_from o route.steps (views.earlier known) []) (sym origin)
+found_at known route scope earlier env origin same =
+    ap (λ o. found_from o route.steps earlier env) origin ∙ ap (option_and_then (down route.steps)) same ∙ ap (λ o. found_from o route.steps (views.earlier known) []) (sym origin)
 
-pub counts_in_packet : (seen : Seen) (known : Known) (route : Route) (scope : Scope) → known ≡ (sight seen.around.now).known → route.origin ≡ Earlier scope → (scope ≡ PacketHeader) ⊎ (scope ≡ PacketContext)
-    → CountsIn seen (Field route) (length_of (Field route) (views.earlier known) [])
-counts_in_packet seen known route scope is origin of_packet earlier env sees =
-    ap number_of (found_in_packet known route scope earlier env origin of_packet (subst (λ k. SharesPacket k earlier) (sym is) (shares_of seen earlier env sees)))
+found_in_packet : (known : Known) (route : Route) (earlier : Scope → Option Val) (env : Env) → (route.origin ≡ Earlier PacketHeader) ⊎ (route.origin ≡ Earlier PacketContext) → SharesPacket known earlier → found route earlier env ≡ found route (views.earlier known) []
+found_in_packet known route earlier env (inl origin) shares = found_at known route PacketHeader earlier env origin shares.0
+found_in_packet known route earlier env (inr origin) shares = found_at known route PacketContext earlier env origin shares.1
 
-pub chooses_in_packet : (seen : Seen) (known : Known) (route : Route) (choices : List Choice) (scope : Scope) (i : ℕ) → known ≡ (sight seen.around.now).known → route.origin ≡ Earlier scope → (scope ≡ PacketHeader) ⊎ (scope ≡ PacketContext)
-    → Some i ≡ option_at route choices (views.earlier known) [] → ChoosesIn seen route choices i
-chooses_in_packet seen known route choices scope i is origin of_packet chooses earlier env sees =
-    ap (λ o. option_and_then (chosen choices) (tag_of o)) (found_in_packet known route scope earlier env origin of_packet (subst (λ k. SharesPacket k earlier) (sym is) (shares_of seen earlier env sees))) ∙ sym chooses
+shares_of : (seen : Seen) (input : ScopeInput) (earlier : Scope → Option Val) (env : Env) → input ≡ (sight seen.around.now).input → Sees seen earlier env → SharesPacket input.scopes.now earlier
+shares_of seen input earlier env is sees = subst (λ (i : ScopeInput). SharesPacket i.scopes.now earlier) (sym is) (scopes_of seen earlier env sees).0
+
+pub counts_in_packet : (seen : Seen) (input : ScopeInput) (route : Route) → input ≡ (sight seen.around.now).input → (route.origin ≡ Earlier PacketHeader) ⊎ (route.origin ≡ Earlier PacketContext)
+    → CountsIn seen (Field route) (length_of (Field route) (views.earlier input.scopes.now) [])
+counts_in_packet seen input route is origin earlier env sees = ap number_of (found_in_packet input.scopes.now route earlier env origin (shares_of seen input earlier env is sees))
+
+pub chooses_in_packet : (seen : Seen) (input : ScopeInput) (route : Route) (choices : List Choice) (i : ℕ) → input ≡ (sight seen.around.now).input → (route.origin ≡ Earlier PacketHeader) ⊎ (route.origin ≡ Earlier PacketContext)
+    → Some i ≡ option_at route choices (views.earlier input.scopes.now) [] → ChoosesIn seen route choices i
+chooses_in_packet seen input route choices i is origin chooses earlier env sees =
+    ap (λ o. option_and_then (chosen choices) (tag_of o)) (found_in_packet input.scopes.now route earlier env origin (shares_of seen input earlier env is sees)) ∙ sym chooses
+
+-- the member of a context that one step leads to
+pub in_scope : (index : ℕ) (steps : List ℕ) (l : Last) (value : Option Val) → steps ≡ index ∷ [] → Finds l (option_and_then (down (index ∷ [])) value) → Finds l (option_and_then (down steps) value)
+in_scope index steps l value is finds = subst (λ s. Finds l (option_and_then (down s) value)) (sym is) finds
+
+-- What is found in the scopes before is what is known of them.
+pub scope_finds : (seen : Seen) (input : ScopeInput) (l : Last) (scope : Scope) (steps : List ℕ) → input ≡ (sight seen.around.now).input
+    → ((earlier : Scope → Option Val) → ScopesAre (known_in input) earlier → Finds l (option_and_then (down steps) (earlier scope)))
+    → (earlier : Scope → Option Val) (env : Env) → Sees seen earlier env → Finds l (found_from (Earlier scope) steps earlier env)
+scope_finds seen input l scope steps is finds earlier env sees = finds earlier (subst (λ i. ScopesAre (known_in i) earlier) (sym is) (scopes_of seen earlier env sees))
 
 -- Whatever is seen around it, what stands behind any members stands in a structure.
-pub writes_any : (r : Option Next) (k : Form) (shown : Shown) (packet : Content) (place : ℕ) (line items : List ℕ) (seen : Seen) → ((before : Before) → Writes r before k shown packet place line items) → WritesIn r seen k shown packet place line items
-writes_any None k shown packet place line items seen writes = tt
-writes_any (Some n) k shown packet place line items seen writes = within
+pub writes_any : (r : Option Next) (k : Form) (shown : Shown) (place : ℕ) (line items : List ℕ) (seen : Seen) → ((before : Before) → Writes r before k shown seen.packet.now place line items) → WritesIn r seen k shown place line items
+writes_any None k shown place line items seen writes = tt
+writes_any (Some n) k shown place line items seen writes = within
   where
-    within : PutsIn seen k shown packet.bytes.now packet.end place line n (take n.text items)
+    within : PutsIn seen k shown place line n (take n.text items)
     within spent room earlier [] sees = absurd sees
     within spent room earlier (vs ∷ env) sees = writes (record { index = length vs; last = lasts.Unknown }) spent room earlier env vs refl tt
 
 -- a text and an array whose length is known there
-pub writes_counted : (r : Option Next) (many : Length) (count : ℕ) (to : Length → Form) (shown : Shown) (packet : Content) (place : ℕ) (line items : List ℕ) (seen : Seen) → CountsIn seen many count
+pub writes_counted : (r : Option Next) (many : Length) (count : ℕ) (to : Length → Form) (shown : Shown) (place : ℕ) (line items : List ℕ) (seen : Seen) → CountsIn seen many count
     → ((c : Input) (e : Env) (p s : ℕ) → length_of many c.earlier e ≡ count → walk (to many) c e p s ≡ walk (to (Fixed count)) c e p s)
-    → ((before : Before) (l : Length) → Counts l before count → Writes r before (to l) shown packet place line items) → WritesIn r seen (to many) shown packet place line items
-writes_counted None many count to shown packet place line items seen counts same writes = tt
-writes_counted (Some n) many count to shown packet place line items seen counts same writes = within
+    → ((before : Before) (l : Length) → Counts l before count → Writes r before (to l) shown seen.packet.now place line items) → WritesIn r seen (to many) shown place line items
+writes_counted None many count to shown place line items seen counts same writes = tt
+writes_counted (Some n) many count to shown place line items seen counts same writes = within
   where
-    within : PutsIn seen (to many) shown packet.bytes.now packet.end place line n (take n.text items)
+    within : PutsIn seen (to many) shown place line n (take n.text items)
     within spent room earlier [] sees = absurd sees
     within spent room earlier (vs ∷ env) sees =
         let p = writes (record { index = length vs; last = lasts.Unknown }) (Fixed count) (λ ea en ws counted last. refl) spent room earlier env vs refl tt in
-        (p.0, same (among packet.bytes.now packet.end earlier) (vs ∷ env) place spent (counts earlier (vs ∷ env) sees) ∙ p.1, p.2, p.3)
+        (p.0, same (packet_of seen earlier) (vs ∷ env) place spent (counts earlier (vs ∷ env) sees) ∙ p.1, p.2, p.3)
 
 pub counted_array : (a : ℕ) (k : Form) (many : Length) (n : ℕ) (c : Input) (e : Env) (p s : ℕ) → length_of many c.earlier e ≡ n → walk (forms.array a many k) c e p s ≡ walk (forms.array a (Fixed n) k) c e p s
 counted_array a k many n c e p s is =
     let b = next_multiple_of p (align_of k) in ap (λ m. begin c s (open_at c b (and_then (repeat (walk k c e) m [] b (s + 1)) as_list))) is
 
-sight-Within : (seen : Seen) → sight (arounds.Within seen.members seen.around) ≡ record { known = (sight seen.around.now).known; frames = seen.members.now ∷ (sight seen.around.now).frames }
-sight-Within seen = search (rules, around.the_lemmas)
+sight-Within : (members : Bor Members) (outer : Bor Around) → sight (arounds.Within members outer) ≡ record { input = (sight outer.now).input; frames = members.now ∷ (sight outer.now).frames }
+sight-Within members outer = search (rules, around.the_lemmas)
 
-sight-Scopes : (scopes : Bor Known) → sight (arounds.Scopes scopes) ≡ record { known = scopes.now; frames = [] }
-sight-Scopes scopes = search (rules, around.the_lemmas)
+sight-Scopes : (input : Bor ScopeInput) → sight (arounds.Scopes input) ≡ record { input = input.now; frames = [] }
+sight-Scopes input = search (rules, around.the_lemmas)
 
--- Around a scope there are only the packet's values.
-pub agrees_top : (scopes : Bor Known) (earlier : Scope → Option Val) (env : Env) → SharesPacket scopes.now earlier → Agrees (sight (arounds.Scopes scopes)) earlier env
-agrees_top scopes earlier env shares = subst (λ s. Agrees s earlier env) (sym (sight-Scopes scopes)) (shares, tt)
+-- Around a scope there are only the scopes before.
+pub agrees_top : (input : Bor ScopeInput) (earlier : Scope → Option Val) (env : Env) → ScopesAre (known_in input.now) earlier → Agrees (sight (arounds.Scopes input)) earlier env
+agrees_top input earlier env are = subst (λ s. Agrees s earlier env) (sym (sight-Scopes input)) (are, tt)
 
 -- A structure among what is seen has its members, and what is around it, around its own members.
-pub agrees_within : (seen : Seen) (earlier : Scope → Option Val) (env : Env) → Sees seen earlier env → Agrees (sight (arounds.Within seen.members seen.around)) earlier env
-agrees_within seen earlier [] sees = absurd sees
-agrees_within seen earlier (vs ∷ env) sees = subst (λ s. Agrees s earlier (vs ∷ env)) (sym (sight-Within seen)) (sees.1.0, (sees.0, sees.1.1))
+pub agrees_within : (seen : Seen) (members : Bor Members) (outer : Bor Around) → members.now ≡ seen.members.now → outer.now ≡ seen.around.now → (earlier : Scope → Option Val) (env : Env) → Sees seen earlier env → Agrees (sight (arounds.Within members outer)) earlier env
+agrees_within seen members outer same around earlier [] sees = absurd sees
+agrees_within seen members outer same around earlier (vs ∷ env) sees =
+    let inner : Agrees (record { input = (sight outer.now).input; frames = members.now ∷ (sight outer.now).frames }) earlier (vs ∷ env) =
+    subst (λ (a : Around). Agrees (record { input = (sight a).input; frames = members.now ∷ (sight a).frames }) earlier (vs ∷ env)) (sym around)
+    (subst (λ m. Agrees (record { input = (sight seen.around.now).input; frames = m ∷ (sight seen.around.now).frames }) earlier (vs ∷ env)) (sym same) (sees.1.0, (sees.0, sees.1.1))) in
+    subst (λ s. Agrees s earlier (vs ∷ env)) (sym (sight-Within members outer)) inner
+
+-- What is found among the members further out is found where one structure lies between.
+by_env : (s : Sight) (m : Members) (out index : ℕ) (l : Last) (env : Env) (earlier : Scope → Option Val) → (out ≡ 0 → ⊥) → ((env : Env) → Agrees s earlier env → Finds l (option_and_then (λ (vs : List Val). slice_get vs index) (slice_get env (out - 1))))
+    → Agrees (record { input = s.input; frames = m ∷ s.frames }) earlier env → Finds l (option_and_then (λ (vs : List Val). slice_get vs index) (slice_get env out))
+by_env s m zero index l env earlier some finds agrees = absurd (some refl)
+by_env s m (suc n) index l [] earlier some finds agrees = absurd agrees.1
+by_env s m (suc n) index l (vs ∷ env) earlier some finds agrees =
+    let one : suc n - 1 ≡ n = omega arith in
+    subst (λ k. Finds l (option_and_then (λ (ws : List Val). slice_get ws index) (slice_get env k))) one (finds env (agrees.0, agrees.1.1))
 
 -- What is found further out is found around the structure.
-pub further_out : (seen : Seen) (out index : ℕ) (l : Last) → (out ≡ 0 → ⊥)
-    → ((earlier : Scope → Option Val) (env : Env) → Agrees (sight seen.around.now) earlier env → Finds l (option_and_then (λ (vs : List Val). slice_get vs index) (slice_get env (out - 1))))
-    → (earlier : Scope → Option Val) (env : Env) → Agrees (sight (arounds.Within seen.members seen.around)) earlier env → Finds l (option_and_then (λ (vs : List Val). slice_get vs index) (slice_get env out))
-further_out seen out index l some finds earlier env agrees = by_env out env some finds (subst (λ s. Agrees s earlier env) (sight-Within seen) agrees)
+pub further_out : (members : Bor Members) (outer : Bor Around) (out index : ℕ) (l : Last) → (out ≡ 0 → ⊥)
+    → ((earlier : Scope → Option Val) (env : Env) → Agrees (sight outer.now) earlier env → Finds l (option_and_then (λ (vs : List Val). slice_get vs index) (slice_get env (out - 1))))
+    → (earlier : Scope → Option Val) (env : Env) → Agrees (sight (arounds.Within members outer)) earlier env → Finds l (option_and_then (λ (vs : List Val). slice_get vs index) (slice_get env out))
+further_out members outer out index l some finds earlier env agrees = by_env (sight outer.now) members.now out index l env earlier some (finds earlier) (subst (λ s. Agrees s earlier env) (sight-Within members outer) agrees)
+
+-- What is found in the innermost structure is found there.
+pub here_around : (members : Bor Members) (outer : Bor Around) (out index : ℕ) (l : Last) → out ≡ 0 → ((member : ℕ → Option Val) → Keeps members.now member → Finds l (member index))
+    → (earlier : Scope → Option Val) (env : Env) → Agrees (sight (arounds.Within members outer)) earlier env → Finds l (option_and_then (λ (vs : List Val). slice_get vs index) (slice_get env out))
+here_around members outer out index l none finds earlier env agrees = first env (subst (λ s. Agrees s earlier env) (sight-Within members outer) agrees)
   where
-    by_env : (n : ℕ) (e : Env) → (n ≡ 0 → ⊥) → ((earlier : Scope → Option Val) (env : Env) → Agrees (sight seen.around.now) earlier env → Finds l (option_and_then (λ (vs : List Val). slice_get vs index) (slice_get env (n - 1))))
-        → Agrees (record { known = (sight seen.around.now).known; frames = seen.members.now ∷ (sight seen.around.now).frames }) earlier e → Finds l (option_and_then (λ (vs : List Val). slice_get vs index) (slice_get e n))
-    by_env zero e some finds agrees = absurd (some refl)
-    by_env (suc n) [] some finds agrees = absurd agrees.1
-    by_env (suc n) (vs ∷ e) some finds agrees =
-        let one : suc n - 1 ≡ n = omega arith in
-        subst (λ k. Finds l (option_and_then (λ (ws : List Val). slice_get ws index) (slice_get e k))) one (finds earlier e (agrees.0, agrees.1.1))
+    first : (e : Env) → Agrees (record { input = (sight outer.now).input; frames = members.now ∷ (sight outer.now).frames }) earlier e → Finds l (option_and_then (λ (vs : List Val). slice_get vs index) (slice_get e out))
+    first [] agrees = absurd agrees.1
+    first (vs ∷ e) agrees = subst (λ k. Finds l (option_and_then (λ (ws : List Val). slice_get ws index) (slice_get (vs ∷ e) k))) (sym none) (finds (slice_get vs) agrees.1.0.1)
 
 -- the member that one step leads to
 one_step : (found : Option Val) → option_and_then (down []) found ≡ found
@@ -179,29 +207,43 @@ member_in steps index l None is finds = finds
 member_in steps index l (Some vs) is finds = subst (Finds l) (sym (one_step (slice_get vs index)) ∙ ap (λ ss. inside ss vs) (sym is)) finds
 
 -- the number of a member of the innermost structure, and of one further out
-pub member_here : (seen : Seen) (index : ℕ) (steps : List ℕ) (l : Last) → steps ≡ index ∷ [] → ((vs : List Val) → MembersAre seen.members.now vs → Finds l (slice_get vs index))
+pub member_here : (seen : Seen) (index : ℕ) (steps : List ℕ) (l : Last) → steps ≡ index ∷ [] → ((member : ℕ → Option Val) → Keeps seen.members.now member → Finds l (member index))
     → (earlier : Scope → Option Val) (env : Env) → Sees seen earlier env → Finds l (found_from (Enclosing 0) steps earlier env)
 member_here seen index steps l is finds earlier [] sees = absurd sees
-member_here seen index steps l is finds earlier (vs ∷ env) sees = member_in steps index l (Some vs) is (finds vs sees.0)
+member_here seen index steps l is finds earlier (vs ∷ env) sees = member_in steps index l (Some vs) is (finds (slice_get vs) sees.0.1)
 
 pub member_further : (seen : Seen) (out index : ℕ) (steps : List ℕ) (l : Last) → (out ≡ 0 → ⊥) → steps ≡ index ∷ []
     → ((earlier : Scope → Option Val) (env : Env) → Agrees (sight seen.around.now) earlier env → Finds l (option_and_then (λ (vs : List Val). slice_get vs index) (slice_get env (out - 1))))
     → (earlier : Scope → Option Val) (env : Env) → Sees seen earlier env → Finds l (found_from (Enclosing out) steps earlier env)
-member_further seen out index steps l some is finds earlier env sees =
-    member_in steps index l (slice_get env out) is (further_out seen out index l some finds earlier env (agrees_within seen earlier env sees))
+member_further seen out index steps l some is finds earlier [] sees = absurd sees
+member_further seen out index steps l some is finds earlier (vs ∷ env) sees =
+    member_in steps index l (slice_get (vs ∷ env) out) is (by_env (sight seen.around.now) seen.members.now out index l (vs ∷ env) earlier some (finds earlier) (sees.1.0, (sees.0, sees.1.1)))
 
 -- a length and a tag, if their number is known
-pub counts_if : (o : Option ℕ) (l : Last) (seen : Seen) (many : Length) (route : Route) (out : ℕ) → many ≡ Field route → route.origin ≡ Enclosing out → IfSome o (λ n. l ≡ lasts.Unsigned n)
-    → ((earlier : Scope → Option Val) (env : Env) → Sees seen earlier env → Finds l (found_from (Enclosing out) route.steps earlier env)) → IfSome o (CountsIn seen many)
-counts_if None l seen many route out is origin known finds = tt
-counts_if (Some n) l seen many route out is origin known finds = subst (λ m. CountsIn seen m n) (sym is) (counts_found l n seen route out origin known finds)
+pub counts_if : (o : Option ℕ) (l : Last) (seen : Seen) (many : Length) (route : Route) → many ≡ Field route → IfSome o (λ n. l ≡ lasts.Unsigned n)
+    → ((earlier : Scope → Option Val) (env : Env) → Sees seen earlier env → Finds l (found route earlier env)) → IfSome o (CountsIn seen many)
+counts_if None l seen many route is known finds = tt
+counts_if (Some n) l seen many route is known finds = subst (λ m. CountsIn seen m n) (sym is) (counts_found l n seen route known finds)
 
-pub chooses_if : (o : Option ℕ) (l : Last) (z : ℤ) (seen : Seen) (route : Route) (choices : List Choice) (out : ℕ) → o ≡ chosen choices z → route.origin ≡ Enclosing out → l ≡ lasts.Label z
-    → ((earlier : Scope → Option Val) (env : Env) → Sees seen earlier env → Finds l (found_from (Enclosing out) route.steps earlier env)) → IfSome o (ChoosesIn seen route choices)
-chooses_if None l z seen route choices out is origin known finds = tt
-chooses_if (Some i) l z seen route choices out is origin known finds = chooses_found l z i seen route choices out origin known is finds
+pub chooses_if : (o : Option ℕ) (l : Last) (z : ℤ) (seen : Seen) (route : Route) (choices : List Choice) → o ≡ chosen choices z → l ≡ lasts.Label z
+    → ((earlier : Scope → Option Val) (env : Env) → Sees seen earlier env → Finds l (found route earlier env)) → IfSome o (ChoosesIn seen route choices)
+chooses_if None l z seen route choices is known finds = tt
+chooses_if (Some i) l z seen route choices is known finds = chooses_found l z i seen route choices known is finds
 
-pub chooses_if_in_packet : (o : Option ℕ) (seen : Seen) (known : Known) (route : Route) (choices : List Choice) (scope : Scope) → known ≡ (sight seen.around.now).known → route.origin ≡ Earlier scope → (scope ≡ PacketHeader) ⊎ (scope ≡ PacketContext)
-    → o ≡ option_at route choices (views.earlier known) [] → IfSome o (ChoosesIn seen route choices)
-chooses_if_in_packet None seen known route choices scope is origin of_packet chooses = tt
-chooses_if_in_packet (Some i) seen known route choices scope is origin of_packet chooses = chooses_in_packet seen known route choices scope i is origin of_packet chooses
+pub chooses_if_in_packet : (o : Option ℕ) (seen : Seen) (input : ScopeInput) (route : Route) (choices : List Choice) → input ≡ (sight seen.around.now).input → (route.origin ≡ Earlier PacketHeader) ⊎ (route.origin ≡ Earlier PacketContext)
+    → o ≡ option_at route choices (views.earlier input.scopes.now) [] → IfSome o (ChoosesIn seen route choices)
+chooses_if_in_packet None seen input route choices is origin chooses = tt
+chooses_if_in_packet (Some i) seen input route choices is origin chooses = chooses_in_packet seen input route choices i is origin chooses
+
+-- members that are those of a structure are those of its value
+nth_is : (vs : List Val) (i : ℕ) → option_and_then (down []) (nth (vals_of vs) i) ≡ slice_get vs i
+nth_is [] i = refl
+nth_is (v ∷ vs) zero = refl
+nth_is (v ∷ vs) (suc i) = nth_is vs i
+
+pub scope_is : (m : Members) (vs : List Val) → MembersAre m vs → ScopeIs m (Some (group (vals_of vs)))
+scope_is m vs are j within near = subst (Finds (get_or m.numbers (j % 8) lasts.Unknown)) (sym (nth_is vs j)) (are.1 j within near)
+
+-- Of no members nothing is known.
+pub none_known : (m : Members) (value : Option Val) → MembersAre m [] → ScopeIs m value
+none_known m value are j within near = absurd (omega (arith, are.0, within))

@@ -33,12 +33,12 @@ use Rattle.ctf_decode.proofs.Steps.{row_ok, choice_ok}
 use Rattle.ctf_decode.proofs.Views.{shape-Array, shape-Enumeration, shape-Variant}
 use Rattle.ctf_format.specs.Labels.{labelled_text}
 use Rattle.ctf_format.specs.Rows.{row, enclosed}
-use Rattle.ctf_format.specs.Around.{ChoosesIn, CountsIn, PutsIn, PutsItems, PutsMembers, Sees, WritesIn}
+use Rattle.ctf_format.specs.Around.{ChoosesIn, CountsIn, PutsIn, PutsItems, PutsMembers, Sees, WritesIn, packet_of}
 use Rattle.ctf_format.specs.Standing.{Before, among, ValueIs, known_of, mark_at, PutsOne, PutsNext, StandsAsNumber, Counts, Writes, structure_text, array_text}
 use Rattle.ctf_format.specs.declared.around.Seen.{Seen}
 use Rattle.ctf_format.specs.Texts.{Shown, Part, value_text, kind_text, part_text, member_part, element_text, element_texts, integer_text, enumeration_text, string_text, chosen_text}
 use Rattle.ctf_format.specs.declared.content.Content.{Content}
-use Rattle.ctf_format.specs.declared.standing.Ends.{Ends}
+use Rattle.ctf_format.specs.declared.standing.Position.{Position}
 use Rattle.ctf_format.specs.declared.standing.Last.{Last}
 use Rattle.ctf_format.specs.declared.standing.Last.TheVariants as lasts
 use Rattle.ctf_format.specs.declared.standing.MembersEnd.{MembersEnd}
@@ -81,13 +81,13 @@ pub writes_as : (r : Option Next) (before : Before) (k l : Form) (shown told : S
 writes_as r before k l shown told packet place line items forms_are texts_are writes = subst (λ t. Writes r before l t packet place line items) texts_are (subst (λ f. Writes r before f shown packet place line items) forms_are writes)
 
 -- A value that was written among what is seen around it is that of the class that it is of.
-pub writes_in_as : (r : Option Next) (seen : Seen) (k l : Form) (shown told : Shown) (packet : Content) (place : ℕ) (line items : List ℕ) → k ≡ l → shown ≡ told → WritesIn r seen k shown packet place line items → WritesIn r seen l told packet place line items
-writes_in_as r seen k l shown told packet place line items forms_are texts_are writes = subst (λ t. WritesIn r seen l t packet place line items) texts_are (subst (λ f. WritesIn r seen f shown packet place line items) forms_are writes)
+pub writes_in_as : (r : Option Next) (seen : Seen) (k l : Form) (shown told : Shown) (place : ℕ) (line items : List ℕ) → k ≡ l → shown ≡ told → WritesIn r seen k shown place line items → WritesIn r seen l told place line items
+writes_in_as r seen k l shown told place line items forms_are texts_are writes = subst (λ t. WritesIn r seen l t place line items) texts_are (subst (λ f. WritesIn r seen f shown place line items) forms_are writes)
 
 -- and it stands behind what is printed before it
-pub writes_behind : (r : Option Next) (seen : Seen) (k : Form) (shown told : Shown) (packet : Content) (place : ℕ) (from line items lead : List ℕ) → line ≡ from ++ lead → ((v : Val) → told v ≡ lead ++ shown v) → WritesIn r seen k shown packet place line items → WritesIn r seen k told packet place from items
-writes_behind None seen k shown told packet place from line items lead wrote is writes = tt
-writes_behind (Some n) seen k shown told packet place from line items lead wrote is writes = λ spent room earlier env sees.
+pub writes_behind : (r : Option Next) (seen : Seen) (k : Form) (shown told : Shown) (place : ℕ) (from line items lead : List ℕ) → line ≡ from ++ lead → ((v : Val) → told v ≡ lead ++ shown v) → WritesIn r seen k shown place line items → WritesIn r seen k told place from items
+writes_behind None seen k shown told place from line items lead wrote is writes = tt
+writes_behind (Some n) seen k shown told place from line items lead wrote is writes = λ spent room earlier env sees.
     let p = writes spent room earlier env sees in
     (p.0, p.1, p.2 ∙ ap (λ xs. xs ++ shown p.0) wrote ∙ append_assoc from lead (shown p.0) ∙ ap (λ xs. from ++ xs) (sym (is p.0)), p.3)
 
@@ -106,7 +106,7 @@ forget before k shown packet content place line n after puts spent room earlier 
     (p.0, p.1, p.2, tt)
 
 -- one value alone, of which nothing is known
-pub writes_one : (before : Before) (k : Form) (shown : Shown) (packet : Content) (ends : Ends) (line items : List ℕ) (place : ℕ) → PutsOne k shown packet.bytes.now packet.end place ends.place line (take ends.text items)
+pub writes_one : (before : Before) (k : Form) (shown : Shown) (packet : Content) (ends : Position) (line items : List ℕ) (place : ℕ) → PutsOne k shown packet.bytes.now packet.end place ends.place line (take ends.text items)
     → Writes (Some (record { place = ends.place; text = ends.text; more = 0; last = lasts.Unknown })) before k shown packet place line items
 writes_one before k shown packet ends line items place puts = puts_next before k shown packet.bytes.now packet.end place ends.place ends.text line (take ends.text items) puts
 
@@ -142,7 +142,7 @@ writes_label before a i ls packet place end text z last line items ending within
 pub counted_text : (a : ℕ) (many : Length) (n : ℕ) (c : Input) (e : Env) (p s : ℕ) → length_of many c.earlier e ≡ n → walk (forms.text a many) c e p s ≡ walk (forms.text a (Fixed n)) c e p s
 counted_text a many n c e p s is = let b = next_multiple_of p 8 in ap (λ m. begin c s (leaf c (b + 8 * m) s (text_in c b m))) is
 
-pub writes_text : (before : Before) (a : ℕ) (many : Length) (n : ℕ) (packet : Content) (place : ℕ) (ends : Ends) (line items : List ℕ) → Counts many before n
+pub writes_text : (before : Before) (a : ℕ) (many : Length) (n : ℕ) (packet : Content) (place : ℕ) (ends : Position) (line items : List ℕ) → Counts many before n
     → ((b : ℕ) → PutsOne (forms.text b (Fixed n)) string_text packet.bytes.now packet.end place ends.place line (take ends.text items))
     → Writes (Some (record { place = ends.place; text = ends.text; more = 0; last = lasts.Unknown })) before (forms.text a many) string_text packet place line items
 writes_text before a many n packet place ends line items counts puts spent room earlier env vs counted last =
@@ -154,25 +154,25 @@ writes_text before a many n packet place ends line items counts puts spent room 
     (p.0, same ∙ p.1, p.2, p.3)
 
 -- a structure
-pub writes_structure : (seen : Seen) (Where : (Scope → Option Val) → Env → Type 0) (a : ℕ) (ms : List Member) (packet : Content) (place start more : ℕ) (end : MembersEnd) (line items : List ℕ) → start ≡ next_multiple_of place a → start ≤ packet.end → more ≡ length ms + end.more
-    → ((earlier : Scope → Option Val) (env : Env) → Sees seen earlier env → Where earlier env) → PutsMembers (enclosed 123 125) Where ms packet.bytes.now packet.end start line end (take end.text items)
-    → WritesIn (Some (record { place = end.place; text = end.text; more = more; last = lasts.Unknown })) seen (forms.structure a (parts_of (map views.member_part ms))) (structure_text ms) packet place line items
-writes_structure seen Where a ms packet place start more end line items starts within counted sees_where puts spent room earlier env sees =
-    let c = among packet.bytes.now packet.end earlier in
+pub writes_structure : (seen : Seen) (Where : (Scope → Option Val) → Env → Type 0) (Are : List Val → Type 0) (a : ℕ) (ms : List Member) (place start more : ℕ) (end : MembersEnd) (line items : List ℕ) → start ≡ next_multiple_of place a → start ≤ seen.packet.now.end → more ≡ length ms + end.more
+    → ((earlier : Scope → Option Val) (env : Env) → Sees seen earlier env → Where earlier env) → PutsMembers (enclosed 123 125) Where Are ms seen.packet.now.bytes.now seen.packet.now.end start line end (take end.text items)
+    → WritesIn (Some (record { place = end.place; text = end.text; more = more; last = lasts.Unknown })) seen (forms.structure a (parts_of (map views.member_part ms))) (structure_text ms) place line items
+writes_structure seen Where Are a ms place start more end line items starts within counted sees_where puts spent room earlier env sees =
+    let c = packet_of seen earlier in
     let p = puts (spent + 1) (omega (arith, counted, room)) earlier env (sees_where earlier env sees) in
     let parts = parts_of (map views.member_part ms) in
     let rest = λ (b : ℕ). and_then (walk_members parts c env [] b (spent + 1)) as_group in
-    let opened : open_at c start (rest start) ≡ rest start = ap (λ b. cond b (Err (past start)) (rest start)) (le-ltb packet.end start within) in
+    let opened : open_at c start (rest start) ≡ rest start = ap (λ b. cond b (Err (past start)) (rest start)) (le-ltb seen.packet.now.end start within) in
     let total : spent + 1 + length ms + end.more ≡ spent + 1 + more = omega (arith, counted) in
     let walked = ap (λ b. begin c spent (open_at c b (rest b))) (sym starts) ∙ begins c spent (open_at c start (rest start)) (omega (arith, room)) ∙ opened ∙ ap (λ r. and_then r as_group) p.1 ∙ ap (λ n. Ok (group (vals_of p.0), end.place, n)) total in
     (group (vals_of p.0), walked, p.3, tt)
 
 -- an option of a variant
-pub writes_option : (seen : Seen) (a : ℕ) (tag : Route) (choices : List Choice) (ms : List Member) (i : ℕ) (m : Member) (packet : Content) (place more text : ℕ) (next : Next) (line inner items : List ℕ) → i < length ms → m ≡ get_or ms i m → ChoosesIn seen tag choices i → more ≡ 1 + next.more
-    → PutsIn seen (form m.class) (λ v. 123 ∷ 32 ∷ part_text (member_part m) v) packet.bytes.now packet.end place line next inner → take text items ≡ inner ++ (32 ∷ 125 ∷ [])
-    → WritesIn (Some (record { place = next.place; text = text; more = more; last = lasts.Unknown })) seen (forms.variant a tag choices (parts_of (map views.member_part ms))) (λ v. chosen_text (map member_part ms) (choice_in v)) packet place line items
-writes_option seen a tag choices ms i m packet place more text next line inner items within is chooses counted puts closes spent room earlier env sees =
-    let c = among packet.bytes.now packet.end earlier in
+pub writes_option : (seen : Seen) (a : ℕ) (tag : Route) (choices : List Choice) (ms : List Member) (i : ℕ) (m : Member) (place more text : ℕ) (next : Next) (line inner items : List ℕ) → i < length ms → m ≡ get_or ms i m → ChoosesIn seen tag choices i → more ≡ 1 + next.more
+    → PutsIn seen (form m.class) (λ v. 123 ∷ 32 ∷ part_text (member_part m) v) place line next inner → take text items ≡ inner ++ (32 ∷ 125 ∷ [])
+    → WritesIn (Some (record { place = next.place; text = text; more = more; last = lasts.Unknown })) seen (forms.variant a tag choices (parts_of (map views.member_part ms))) (λ v. chosen_text (map member_part ms) (choice_in v)) place line items
+writes_option seen a tag choices ms i m place more text next line inner items within is chooses counted puts closes spent room earlier env sees =
+    let c = packet_of seen earlier in
     let p = puts (spent + 1) (omega (arith, counted, room)) earlier env sees in
     let parts = parts_of (map views.member_part ms) in
     let rest = λ (k : ℕ). and_then (walk_option parts k c env place (spent + 1)) (as_choice k) in
@@ -182,24 +182,24 @@ writes_option seen a tag choices ms i m packet place more text next line inner i
 
 -- As many elements as an index tells were written, with so many values in them, and the others stand behind them: so the loop
 -- over elements goes.
-abbrev pub Going : Seen → Form → Shown → ℕ → Content → ℕ → ℕ → ℕ → ℕ → List ℕ → List ℕ → Type 0
-Going seen k shown count packet place i at more line now =
+abbrev pub Going : Seen → Form → Shown → ℕ → ℕ → ℕ → ℕ → ℕ → List ℕ → List ℕ → Type 0
+Going seen k shown count place i at more line now =
     (spent : ℕ) → spent + count + more ≤ MOST_VALUES → (earlier : Scope → Option Val) (env : Env) → Sees seen earlier env
     → (ws : List Val)
-    × (repeat (walk k (among packet.bytes.now packet.end earlier) env) (count - i) ws at (spent + i + more) ≡ repeat (walk k (among packet.bytes.now packet.end earlier) env) count [] place spent)
+    × (repeat (walk k (packet_of seen earlier) env) (count - i) ws at (spent + i + more) ≡ repeat (walk k (packet_of seen earlier) env) count [] place spent)
     × (length ws ≡ i) × (now ≡ line ++ row 91 (element_texts shown 0 (vals_of ws)))
 
-module _ (seen : Seen) (k : Form) (shown : Shown) (count : ℕ) (packet : Content) (place : ℕ) (line : List ℕ) where
-  pub going_begins : Going seen k shown count packet place 0 place 0 line line
+module _ (seen : Seen) (k : Form) (shown : Shown) (count place : ℕ) (line : List ℕ) where
+  pub going_begins : Going seen k shown count place 0 place 0 line line
   going_begins spent room earlier env sees =
       let s : spent + 0 + 0 ≡ spent = omega arith in
       let all : count - 0 ≡ count = omega arith in
-      ([], (λ j. repeat (walk k (among packet.bytes.now packet.end earlier) env) (all j) [] place (s j)), refl, sym (append-nil line))
+      ([], (λ j. repeat (walk k (packet_of seen earlier) env) (all j) [] place (s j)), refl, sym (append-nil line))
 
-  pub going_on : (i at more lead : ℕ) (now : List ℕ) (next : Next) (after : List ℕ) → i < count → lead ≡ mark_at 91 i → Going seen k shown count packet place i at more line now
-      → PutsIn seen k (λ v. lead ∷ 32 ∷ element_text shown i v) packet.bytes.now packet.end at now next after → Going seen k shown count packet place (i + 1) next.place (more + next.more) line after
+  pub going_on : (i at more lead : ℕ) (now : List ℕ) (next : Next) (after : List ℕ) → i < count → lead ≡ mark_at 91 i → Going seen k shown count place i at more line now
+      → PutsIn seen k (λ v. lead ∷ 32 ∷ element_text shown i v) at now next after → Going seen k shown count place (i + 1) next.place (more + next.more) line after
   going_on i at more lead now next after within marked going puts spent room earlier env sees =
-      let c = among packet.bytes.now packet.end earlier in
+      let c = packet_of seen earlier in
       let f = walk k c env in
       let g = going spent (omega (arith, room)) earlier env sees in
       let ws = g.0 in
@@ -218,38 +218,38 @@ module _ (seen : Seen) (k : Form) (shown : Shown) (count : ℕ) (packet : Conten
       in
       (ws ++ p.0 ∷ [], walked, longer, wrote)
 
-  pub going_ends : (at more text : ℕ) (now : List ℕ) → Going seen k shown count packet place count at more line now → PutsItems (row 91) seen k shown count packet place line (record { place = at; text = text; more = more }) now
+  pub going_ends : (at more text : ℕ) (now : List ℕ) → Going seen k shown count place count at more line now → PutsItems (row 91) seen k shown count place line (record { place = at; text = text; more = more }) now
   going_ends at more text now going spent room earlier env sees =
       let g = going spent room earlier env sees in
       let over : count - count ≡ 0 = omega arith in
-      (g.0, sym g.1 ∙ ap (λ n. repeat (walk k (among packet.bytes.now packet.end earlier) env) n g.0 at (spent + count + more)) over, g.2, g.3)
+      (g.0, sym g.1 ∙ ap (λ n. repeat (walk k (packet_of seen earlier) env) n g.0 at (spent + count + more)) over, g.2, g.3)
 
   closed_row : (ws : List Val) → 0 < length ws → row 91 (element_texts shown 0 (vals_of ws)) ++ (32 ∷ 93 ∷ []) ≡ enclosed 91 93 (element_texts shown 0 (vals_of ws))
   closed_row [] some = absurd (omega (arith, some))
   closed_row (v ∷ ws) some = refl
 
   -- the mark behind the elements
-  pub closed : (end : MembersEnd) (text : ℕ) (now after : List ℕ) → 0 < count → after ≡ now ++ (32 ∷ 93 ∷ []) → PutsItems (row 91) seen k shown count packet place line end now → PutsItems (enclosed 91 93) seen k shown count packet place line (record { place = end.place; text = text; more = end.more }) after
+  pub closed : (end : MembersEnd) (text : ℕ) (now after : List ℕ) → 0 < count → after ≡ now ++ (32 ∷ 93 ∷ []) → PutsItems (row 91) seen k shown count place line end now → PutsItems (enclosed 91 93) seen k shown count place line (record { place = end.place; text = text; more = end.more }) after
   closed end text now after some added puts spent room earlier env sees =
       let p = puts spent room earlier env sees in
       let all = element_texts shown 0 (vals_of p.0) in
       (p.0, p.1, p.2, added ∙ ap (λ xs. xs ++ (32 ∷ 93 ∷ [])) p.3 ∙ append_assoc line (row 91 all) (32 ∷ 93 ∷ []) ∙ ap (λ xs. line ++ xs) (closed_row p.0 (omega (arith, some, p.2))))
 
 -- no elements
-pub no_items : (seen : Seen) (k : Form) (shown : Shown) (count : ℕ) (packet : Content) (place text : ℕ) (line after : List ℕ) → count ≡ 0 → after ≡ line ++ (91 ∷ 32 ∷ 93 ∷ []) → PutsItems (enclosed 91 93) seen k shown count packet place line (record { place = place; text = text; more = 0 }) after
-no_items seen k shown count packet place text line after none wrote = subst (λ n. PutsItems (enclosed 91 93) seen k shown n packet place line (record { place = place; text = text; more = 0 }) after) (sym none)
+pub no_items : (seen : Seen) (k : Form) (shown : Shown) (count place text : ℕ) (line after : List ℕ) → count ≡ 0 → after ≡ line ++ (91 ∷ 32 ∷ 93 ∷ []) → PutsItems (enclosed 91 93) seen k shown count place line (record { place = place; text = text; more = 0 }) after
+no_items seen k shown count place text line after none wrote = subst (λ n. PutsItems (enclosed 91 93) seen k shown n place line (record { place = place; text = text; more = 0 }) after) (sym none)
     (λ spent room earlier env sees. (let s : spent ≡ spent + 0 + 0 = omega arith in ([], ap (λ n. Ok ([], place, n)) s, refl, wrote)))
 
 -- the elements are the value of an array
-pub writes_items : (seen : Seen) (a : ℕ) (many : Length) (k : Class) (packet : Content) (place start count more : ℕ) (end : MembersEnd) (line items : List ℕ) → start ≡ next_multiple_of place k.align → start ≤ packet.end → CountsIn seen many count → more ≡ count + end.more
-    → PutsItems (enclosed 91 93) seen (form k) (value_text k) count packet start line end (take end.text items)
-    → WritesIn (Some (record { place = end.place; text = end.text; more = more; last = lasts.Unknown })) seen (forms.array a many (form k)) (array_text (value_text k)) packet place line items
-writes_items seen a many k packet place start count more end line items starts within counts counted puts spent room earlier env sees =
-    let c = among packet.bytes.now packet.end earlier in
+pub writes_items : (seen : Seen) (a : ℕ) (many : Length) (k : Class) (place start count more : ℕ) (end : MembersEnd) (line items : List ℕ) → start ≡ next_multiple_of place k.align → start ≤ seen.packet.now.end → CountsIn seen many count → more ≡ count + end.more
+    → PutsItems (enclosed 91 93) seen (form k) (value_text k) count start line end (take end.text items)
+    → WritesIn (Some (record { place = end.place; text = end.text; more = more; last = lasts.Unknown })) seen (forms.array a many (form k)) (array_text (value_text k)) place line items
+writes_items seen a many k place start count more end line items starts within counts counted puts spent room earlier env sees =
+    let c = packet_of seen earlier in
     let p = puts (spent + 1) (omega (arith, counted, room)) earlier env sees in
     let inner = form k in
     let rest = λ (b n : ℕ). and_then (repeat (walk inner c env) n [] b (spent + 1)) as_list in
-    let opened : open_at c start (rest start count) ≡ rest start count = ap (λ b. cond b (Err (past start)) (rest start count)) (le-ltb packet.end start within) in
+    let opened : open_at c start (rest start count) ≡ rest start count = ap (λ b. cond b (Err (past start)) (rest start count)) (le-ltb seen.packet.now.end start within) in
     let total : spent + 1 + count + end.more ≡ spent + 1 + more = omega (arith, counted) in
     let begun : next_multiple_of place (forms.align_of inner) ≡ start = ap (next_multiple_of place) (align-is k) ∙ sym starts in
     let walked =

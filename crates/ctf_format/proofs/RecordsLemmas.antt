@@ -1,6 +1,6 @@
 -- Event records that are written by their plan are shown as their classes say.
 use Rattle.std.proofs.Common.{◌≡◌, ℕ, zero, suc, ◌+◌, ◌-◌, ◌*◌, ◌%◌, ◌<◌, ◌≤◌, false, ℤ, pos, negsuc, List, [], ◌∷◌, ◌++◌, drop, length, get_or, Option, Some, None, IfSome, codes, refl, sym, ap, subst, ◌∙◌, arith, append_assoc, append-nil}
-use Rattle.std.specs.Prelude.{if◌then◌else◌}
+use Rattle.std.specs.Prelude.{⊤, if◌then◌else◌}
 use Rattle.std.specs.Int.{next_multiple_of}
 use Rattle.ctf_bits.specs.Number.{number, signed_number}
 use Rattle.ctf_bits.specs.declared.number.Order.TheVariants.{Le}
@@ -267,8 +267,8 @@ scope_puts k s opens packet content spent from to is aligned some puts = by_memb
         let counted : 1 + length ms ≡ length all = omega arith in
         let ends : MembersEnd = record { place = to.place; text = 0; more = going.0 } in
         let rows = going_ends anywhere all packet content begin opened to.place going.0 0 (LastIs (known to.last)) to.line (subst (λ i. Going anywhere all packet content begin i to.place going.0 (LastIs (known to.last)) opened to.line) counted going.2) in
-        let whole = closed anywhere all packet content begin 0 ends opened to.line (to.line ++ (32 ∷ 125 ∷ [])) (omega arith) refl rows in
-        (going.0, going.1, λ few earlier env. puts_structure anywhere k all packet content from.place begin spent ends (spent + 1 + length all + going.0) opened (to.line ++ (32 ∷ 125 ∷ [])) is (ap (next_multiple_of from.place) (sym aligned)) field.0 refl few whole earlier env tt)
+        let whole = closed anywhere (LastIs (known to.last)) all packet content begin 0 ends opened to.line (to.line ++ (32 ∷ 125 ∷ [])) (omega arith) refl rows in
+        (going.0, going.1, λ few earlier env. (let p = puts_structure anywhere (LastIs (known to.last)) (λ v. ⊤) (λ vs are. tt) k all packet content from.place begin spent ends (spent + 1 + length all + going.0) opened (to.line ++ (32 ∷ 125 ∷ [])) is (ap (next_multiple_of from.place) (sym aligned)) field.0 refl few whole earlier env tt in (p.0, p.1, p.2)))
 
 -- the fields of structures, and the brace behind them, are their values
 pub scopes_puts : (ks : List Class) (ss : List Scoped) (opens packet : List ℕ) (content spent : ℕ) (from to : Reached) → 0 < length ks → AreScoped ks ss → PutsFields (all_slots opens ss) packet content from to

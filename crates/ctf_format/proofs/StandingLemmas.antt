@@ -32,7 +32,7 @@ use Rattle.ctf_format.specs.Numbers.{number_text}
 use Rattle.ctf_format.specs.Rows.{row, enclosed}
 use Rattle.ctf_format.specs.Standing.{Before, among, PutsOne, ValueIs, LastIs, known, mark_at, PutsNext, StandsAsNumber}
 use Rattle.ctf_format.specs.Texts.{Shown, Part, value_text, kind_text, part_text, member_part, member_texts, integer_text, string_text}
-use Rattle.ctf_format.specs.declared.standing.Ends.{Ends}
+use Rattle.ctf_format.specs.declared.standing.Position.{Position}
 use Rattle.ctf_format.specs.declared.standing.Last.{Last}
 use Rattle.ctf_format.specs.declared.standing.Last.TheVariants as lasts
 use Rattle.ctf_format.specs.declared.standing.MembersEnd.{MembersEnd}
@@ -232,12 +232,12 @@ module _ (Where : (Scope → Option Val) → Env → Type 0) (ms : List Member) 
       let longer : length (vs ++ p.0 ∷ []) ≡ i + 1 = length-append vs (p.0 ∷ []) ∙ ap (λ n. n + 1) g.2 in
       (vs ++ p.0 ∷ [], walked, longer, texts_on i m vs p.0 lead line after within is g.2 marked g.3 p.2, become vs p.0 g.2 g.4 p.3)
 
-  pub going_ends : (at more text : ℕ) (Are : List Val → Type 0) (line : List ℕ) → Going Where ms packet content place (length ms) at more Are before line → PutsMembers (row 123) Where ms packet content place before (record { place = at; text = text; more = more }) line
+  pub going_ends : (at more text : ℕ) (Are : List Val → Type 0) (line : List ℕ) → Going Where ms packet content place (length ms) at more Are before line → PutsMembers (row 123) Where Are ms packet content place before (record { place = at; text = text; more = more }) line
   going_ends at more text Are line going spent room earlier env is_there =
       let c = among packet content earlier in
       let g = going spent room earlier env is_there in
       let over = ap (λ ns. walk_members (parts_of (map views.member_part ns)) c env g.0 at (spent + length ms + more)) (drop-all ms (length ms) (omega arith)) in
-      (g.0, sym g.1 ∙ over, g.2, g.3 ∙ ap (λ ns. before ++ row 123 (member_texts (map member_part ns) (vals_of g.0))) (take-length ms))
+      (g.0, sym g.1 ∙ over, g.2, g.3 ∙ ap (λ ns. before ++ row 123 (member_texts (map member_part ns) (vals_of g.0))) (take-length ms), g.4)
 
 pub mark_next : (first i : ℕ) → 44 ≡ mark_at first (i + 1)
 mark_next first i = let n : suc i ≡ i + 1 = omega arith in ap (mark_at first) n
@@ -279,7 +279,7 @@ pub as_one : (k l : Form) (shown told : Shown) (packet : List ℕ) (content plac
 as_one k l shown told packet content place end before line after forms_are texts_are same puts =
     subst (λ xs. PutsOne l told packet content place end before xs) same (subst (λ t. PutsOne l t packet content place end before line) texts_are (subst (λ f. PutsOne f shown packet content place end before line) forms_are puts))
 
-pub as_class : (r : Option Ends) (k l : Form) (shown told : Shown) (packet : List ℕ) (content place : ℕ) (before line : List ℕ) → k ≡ l → shown ≡ told
+pub as_class : (r : Option Position) (k l : Form) (shown told : Shown) (packet : List ℕ) (content place : ℕ) (before line : List ℕ) → k ≡ l → shown ≡ told
     → IfSome r (λ e. PutsOne k shown packet content place e.place before (take e.text line)) → IfSome r (λ e. PutsOne l told packet content place e.place before (take e.text line))
 as_class (Some e) k l shown told packet content place before line forms_are texts_are puts = as_one k l shown told packet content place e.place before (take e.text line) (take e.text line) forms_are texts_are refl puts
 as_class None k l shown told packet content place before line forms_are texts_are puts = tt
@@ -291,7 +291,7 @@ same_front text at n line items long room near =
     let short : text ≤ length line = omega (arith, within, long) in
     sym (take-append-le text line (drop (length line) items) short) ∙ sym (take-take text n (line ++ drop (length line) items) within)
 
-pub as_every : (r : Option Ends) (P : ℕ → Ends → Type 0) (a : ℕ) → IfSome r (λ e. (b : ℕ) → P b e) → IfSome r (P a)
+pub as_every : (r : Option Position) (P : ℕ → Position → Type 0) (a : ℕ) → IfSome r (λ e. (b : ℕ) → P b e) → IfSome r (P a)
 as_every (Some e) P a puts = puts a
 as_every None P a puts = tt
 
@@ -313,19 +313,19 @@ closed_row (p ∷ parts) [] some same = absurd (omega (arith, same))
 closed_row (p ∷ parts) (v ∷ vs) some same = refl
 
 -- the mark behind the members
-pub closed : (Where : (Scope → Option Val) → Env → Type 0) (ms : List Member) (packet : List ℕ) (content place text : ℕ) (end : MembersEnd) (before line after : List ℕ) → 0 < length ms → after ≡ line ++ (32 ∷ 125 ∷ []) → PutsMembers (row 123) Where ms packet content place before end line → PutsMembers (enclosed 123 125) Where ms packet content place before (record { place = end.place; text = text; more = end.more }) after
-closed Where ms packet content place text end before line after some added puts spent room earlier env is_there =
+pub closed : (Where : (Scope → Option Val) → Env → Type 0) (Are : List Val → Type 0) (ms : List Member) (packet : List ℕ) (content place text : ℕ) (end : MembersEnd) (before line after : List ℕ) → 0 < length ms → after ≡ line ++ (32 ∷ 125 ∷ []) → PutsMembers (row 123) Where Are ms packet content place before end line → PutsMembers (enclosed 123 125) Where Are ms packet content place before (record { place = end.place; text = text; more = end.more }) after
+closed Where Are ms packet content place text end before line after some added puts spent room earlier env is_there =
     let p = puts spent room earlier env is_there in
     let parts = map member_part ms in
     let counted = length-map ms member_part in
     let texts = member_texts parts (vals_of p.0) in
-    (p.0, p.1, p.2, added ∙ ap (λ xs. xs ++ (32 ∷ 125 ∷ [])) p.3 ∙ append_assoc before (row 123 texts) (32 ∷ 125 ∷ []) ∙ ap (λ xs. before ++ xs) (closed_row parts p.0 (omega (arith, some, counted)) (p.2 ∙ sym counted)))
+    (p.0, p.1, p.2, added ∙ ap (λ xs. xs ++ (32 ∷ 125 ∷ [])) p.3 ∙ append_assoc before (row 123 texts) (32 ∷ 125 ∷ []) ∙ ap (λ xs. before ++ xs) (closed_row parts p.0 (omega (arith, some, counted)) (p.2 ∙ sym counted)), p.4)
 
 -- the members of a structure are its value
-pub puts_structure : (Where : (Scope → Option Val) → Env → Type 0) (k : Class) (ms : List Member) (packet : List ℕ) (content place start spent : ℕ) (end : MembersEnd) (total : ℕ) (before after : List ℕ) → k.kind ≡ kind.Structure ms → start ≡ next_multiple_of place k.align → start ≤ content → total ≡ spent + 1 + length ms + end.more → total ≤ MOST_VALUES
-    → PutsMembers (enclosed 123 125) Where ms packet content start before end after
-    → (earlier : Scope → Option Val) (env : Env) → Where earlier env → (v : Val) × (walk (form k) (among packet content earlier) env place spent ≡ Ok (v, end.place, total)) × (after ≡ before ++ value_text k v)
-puts_structure Where k ms packet content place start spent end total before after is starts within counted room puts earlier env is_there =
+pub puts_structure : (Where : (Scope → Option Val) → Env → Type 0) (Are : List Val → Type 0) (Is : Option Val → Type 0) → ((vs : List Val) → Are vs → Is (Some (group (vals_of vs)))) → (k : Class) (ms : List Member) (packet : List ℕ) (content place start spent : ℕ) (end : MembersEnd) (total : ℕ) (before after : List ℕ) → k.kind ≡ kind.Structure ms → start ≡ next_multiple_of place k.align → start ≤ content → total ≡ spent + 1 + length ms + end.more → total ≤ MOST_VALUES
+    → PutsMembers (enclosed 123 125) Where Are ms packet content start before end after
+    → (earlier : Scope → Option Val) (env : Env) → Where earlier env → (v : Val) × (walk (form k) (among packet content earlier) env place spent ≡ Ok (v, end.place, total)) × (after ≡ before ++ value_text k v) × Is (Some v)
+puts_structure Where Are Is known k ms packet content place start spent end total before after is starts within counted room puts earlier env is_there =
     let c = among packet content earlier in
     let p = puts (spent + 1) (omega (arith, counted, room)) earlier env is_there in
     let parts = parts_of (map views.member_part ms) in
@@ -336,7 +336,7 @@ puts_structure Where k ms packet content place start spent end total before afte
     ∙ begins c spent (open_at c start (and_then (walk_members parts c env [] start (spent + 1)) as_group)) (omega (arith, counted, room))
     ∙ opened ∙ ap (λ r. and_then r as_group) p.1 ∙ ap (λ n. Ok (group (vals_of p.0), end.place, n)) (sym counted)
     in
-    (group (vals_of p.0), walked, p.3 ∙ ap (λ xs. before ++ xs) (text_structure k ms p.0 is))
+    (group (vals_of p.0), walked, p.3 ∙ ap (λ xs. before ++ xs) (text_structure k ms p.0 is), known p.0 p.4)
 
 -- one value alone, behind the members of a structure
 pub puts_next : (before : Before) (k : Form) (shown : Shown) (packet : List ℕ) (content place end text : ℕ) (line after : List ℕ) → PutsOne k shown packet content place end line after

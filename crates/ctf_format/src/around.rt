@@ -1,16 +1,17 @@
 //! What is around a value: the members before it in each structure, and the scopes before. Lengths and tags are found there.
 
-ghost use Rattle.std.specs.Prelude.{◌≡◌, ◌<◌, ◌^◌, ◌⊎◌, ◌++◌, List, [], ◌∷◌, Option, IfSome, IsTrue, length, option_and_then, slice_get};
-ghost use Rattle.ctf_class.specs.declared.route.Origin.TheVariants.{Enclosing};
+ghost use Rattle.std.specs.Prelude.{◌≡◌, ◌<◌, ◌^◌, ◌⊎◌, ◌++◌, ℕ, List, [], ◌∷◌, Option, IfSome, IsTrue, length, option_and_then, slice_get};
+ghost use Rattle.ctf_class.specs.declared.route.Origin.TheVariants.{Enclosing, Earlier};
 ghost use Rattle.ctf_class.specs.declared.route.Scope.{Scope as ClassScope};
 ghost use Rattle.ctf_class.specs.declared.route.Scope.TheVariants.{PacketHeader, PacketContext};
 ghost use Rattle.ctf_decode.specs.Input.{Env};
-ghost use Rattle.ctf_decode.specs.Routes.{found_from};
-ghost use Rattle.ctf_decode.specs.Values.{Val};
-ghost use Rattle.ctf_format.specs.Around.{Agrees, ChoosesIn, CountsIn, Finds, MembersAre, Sees, sight};
+ghost use Rattle.ctf_decode.specs.Routes.{found, found_from};
+ghost use Rattle.ctf_decode.specs.Values.{Val, down};
+ghost use Rattle.ctf_format.specs.Around.{Agrees, ChoosesIn, CountsIn, Finds, Keeps, MembersAre, ScopesAre, Sees, known_in, sight};
 ghost use Rattle.ctf_format.specs.Standing.{ValueIs};
 ghost use Rattle.ctf_format.specs.declared.standing.Last.TheVariants as lasts;
 
+use crate::content::Content;
 use crate::standing::Last;
 use ctf_class::{Choices, Length, Origin, Route, Scope};
 use ctf_decode::{Frame, Scopes, length_at, option_at};
@@ -18,39 +19,68 @@ use ctf_decode::{Frame, Scopes, length_at, option_at};
 /// How many of the members before a value are kept.
 const KEPT: usize = 8;
 
-/// The members before a value in its structure: how many there are, and the numbers of the last eight, each at its index
+/// Members of a structure, one after the other: how many there are, and the numbers of the last eight, each at its index
 /// modulo eight.
 #[derive(Clone, Copy)]
-pub(crate) struct Members {
+pub struct Members {
     count: usize,
     numbers: [Last; KEPT],
+}
+
+/// What a scope of an event record is read from (CTF 1.8.3, section 7.3.2): a packet, and what lengths and tags find in the
+/// scopes before it.
+#[derive(Clone, Copy)]
+pub struct ScopeInput<'a> {
+    pub content: &'a Content<'a>,
+    /// The values of the packet's header and context are in these.
+    pub scopes: &'a Scopes,
+    /// The last members of the stream's context of event records.
+    pub stream_context: &'a Members,
+    /// The last members of the event's own context.
+    pub event_context: &'a Members,
 }
 
 /// What is around a structure.
 #[derive(Drop)]
 pub(crate) enum Around<'a> {
-    /// Scopes that were decoded before, of which the packet's are looked at.
-    Scopes(&'a Scopes),
+    /// The scopes before.
+    Scopes(&'a ScopeInput<'a>),
     /// Members of a structure, and what is around that.
     Within(&'a Members, &'a Around<'a>),
 }
 
-/// What is around a value: the members before it in its structure, and what is around that.
+/// A packet, and what is around a structure in it.
+#[derive(Clone, Copy)]
+pub(crate) struct Outside<'a> {
+    pub(crate) packet: &'a Content<'a>,
+    pub(crate) around: &'a Around<'a>,
+}
+
+/// What is around a value in a packet: the members before it in its structure, and what is around that.
 #[derive(Clone, Copy)]
 pub(crate) struct Seen<'a> {
+    pub(crate) packet: &'a Content<'a>,
     pub(crate) members: &'a Members,
     pub(crate) around: &'a Around<'a>,
 }
 
 impl Members {
     /// No members.
-    pub(crate) fn none() -> Members
+    pub fn none() -> Members
         ensures { MembersAre result [] }
     {
         Members {
             count: 0,
             numbers: [Last::Unknown; KEPT],
         }
+    }
+
+    /// Forgets all members.
+    #[inline(always)]
+    pub fn clear(&mut self)
+        ensures { MembersAre self.new [] }
+    {
+        self.count = 0;
     }
 
     /// One member more, of this number, after so many.
@@ -66,7 +96,7 @@ impl Members {
 
     /// The number of the member at an index, if it is kept.
     fn number(&self, index: usize) -> Last
-        ensures { (vs : List Val) → MembersAre self.now vs → Finds result (slice_get vs index) }
+        ensures { (member : ℕ → Option Val) → Keeps self.now member → Finds result (member index) }
     {
         if index < self.count && self.count - index <= KEPT {
             self.numbers[index % KEPT]
@@ -82,16 +112,13 @@ pub(crate) fn count_of(length: &Length, seen: &Seen<'_>) -> Option<u64>
 {
     match length {
         Length::Fixed(count) => Some(*count),
-        Length::Field(route) => match route.origin {
-            Origin::Enclosing(out) => unsigned(member_at(seen, out, route.steps.as_slice())),
-            Origin::Earlier(scope) => {
-                if is_of_packet(scope) {
-                    Some(length_at(length, scopes_of(seen.around), &Frame::Top))
-                } else {
-                    None
-                }
+        Length::Field(route) => {
+            if is_in_packet(route.origin) {
+                Some(length_at(length, input_of(seen.around).scopes, &Frame::Top))
+            } else {
+                unsigned(number_at(route, seen))
             }
-        },
+        }
     }
 }
 
@@ -99,18 +126,22 @@ pub(crate) fn count_of(length: &Length, seen: &Seen<'_>) -> Option<u64>
 pub(crate) fn option_of(tag: &Route, choices: &Choices, seen: &Seen<'_>) -> Option<usize>
     ensures { IfSome result (ChoosesIn seen.now tag.now choices.now) }
 {
-    match tag.origin {
-        Origin::Enclosing(out) => {
-            let number = label(member_at(seen, out, tag.steps.as_slice()))?;
-            choices.option(i128::from(number))
-        }
-        Origin::Earlier(scope) => {
-            if is_of_packet(scope) {
-                option_at(tag, choices, scopes_of(seen.around), &Frame::Top)
-            } else {
-                None
-            }
-        }
+    if is_in_packet(tag.origin) {
+        return option_at(tag, choices, input_of(seen.around).scopes, &Frame::Top);
+    }
+    let number = label(number_at(tag, seen))?;
+    choices.option(i128::from(number))
+}
+
+/// The number of the member that a route leads to, if it is kept.
+fn number_at(route: &Route, seen: &Seen<'_>) -> Last
+    ensures { (earlier : ClassScope → Option Val) (env : Env) → Sees seen.now earlier env →
+        Finds result (found route.now earlier env) }
+{
+    let steps = route.steps.as_slice();
+    match route.origin {
+        Origin::Enclosing(out) => member_at(seen, out, steps),
+        Origin::Earlier(scope) => scope_member(input_of(seen.around), scope, steps),
     }
 }
 
@@ -126,6 +157,24 @@ fn member_at(seen: &Seen<'_>, out: u32, steps: &[u32]) -> Last
         seen.members.number(index)
     } else {
         number_around(seen.around, out - 1, index)
+    }
+}
+
+/// The number of the member that these steps lead to in a context of the event record.
+fn scope_member(input: &ScopeInput<'_>, scope: Scope, steps: &[u32]) -> Last
+    ensures { (earlier : ClassScope → Option Val) → ScopesAre (known_in input.now) earlier →
+        Finds result (option_and_then (down steps.now) (earlier scope)) }
+{
+    let Some(index) = only_step(steps) else {
+        return Last::Unknown;
+    };
+    match scope {
+        Scope::PacketHeader => Last::Unknown,
+        Scope::PacketContext => Last::Unknown,
+        Scope::EventHeader => Last::Unknown,
+        Scope::StreamEventContext => input.stream_context.number(index),
+        Scope::EventContext => input.event_context.number(index),
+        Scope::EventFields => Last::Unknown,
     }
 }
 
@@ -157,27 +206,28 @@ fn number_around(around: &Around<'_>, out: u32, index: usize) -> Last
     }
 }
 
-/// The scopes that were decoded before.
-fn scopes_of<'a>(around: &'a Around<'a>) -> &'a Scopes
-    ensures { result.now ≡ (sight around.now).known }
+/// What the scope is read from that this is around.
+fn input_of<'a>(around: &'a Around<'a>) -> &'a ScopeInput<'a>
+    ensures { result.now ≡ (sight around.now).input }
 {
     match around {
-        Around::Scopes(scopes) => scopes,
-        Around::Within(_, outer) => scopes_of(outer),
+        Around::Scopes(input) => input,
+        Around::Within(_, outer) => input_of(outer),
     }
 }
 
-/// Whether a scope is the packet's.
-fn is_of_packet(scope: Scope) -> bool
-    ensures { IsTrue result → (scope ≡ PacketHeader) ⊎ (scope ≡ PacketContext) }
+/// Whether a route begins in the packet's header or context.
+fn is_in_packet(origin: Origin) -> bool
+    ensures { IsTrue result → (origin ≡ Earlier PacketHeader) ⊎ (origin ≡ Earlier PacketContext) }
 {
-    match scope {
-        Scope::PacketHeader => true,
-        Scope::PacketContext => true,
-        Scope::EventHeader => false,
-        Scope::StreamEventContext => false,
-        Scope::EventContext => false,
-        Scope::EventFields => false,
+    match origin {
+        Origin::Enclosing(_) => false,
+        Origin::Earlier(Scope::PacketHeader) => true,
+        Origin::Earlier(Scope::PacketContext) => true,
+        Origin::Earlier(Scope::EventHeader) => false,
+        Origin::Earlier(Scope::StreamEventContext) => false,
+        Origin::Earlier(Scope::EventContext) => false,
+        Origin::Earlier(Scope::EventFields) => false,
     }
 }
 

@@ -11,7 +11,7 @@ ghost use Rattle.ctf_format.specs.Texts as texts;
 use crate::content::Content;
 use crate::element::put_index;
 use crate::mark::{put_end, put_nothing};
-use crate::standing::{Ends, Last, Next, put_integer};
+use crate::standing::{Last, Next, Position, put_integer};
 use ctf_class::{Align, Integer};
 use ctf_decode::MOST_VALUES;
 
@@ -72,7 +72,7 @@ fn put_elements(
     begin: u64,
     buffer: &mut Vec<u8>,
     at: usize,
-) -> Option<Ends>
+) -> Option<Position>
     requires start { begin ≤ packet.now.end }
     requires index { at ≤ vec_len buffer.old }
     ensures puts { IfSome result
@@ -85,13 +85,13 @@ fn put_elements(
         let Ok(text) = put_nothing(b'[', b']', buffer, at) else {
             return None;
         };
-        return Some(Ends { place: begin, text });
+        return Some(Position { place: begin, text });
     }
     let ends = put_row(integer, align, count, packet, begin, buffer, at)?;
     let Ok(text) = put_end(b']', buffer, ends.text) else {
         return None;
     };
-    Some(Ends {
+    Some(Position {
         place: ends.place,
         text,
     })
@@ -106,7 +106,7 @@ fn put_row(
     begin: u64,
     buffer: &mut Vec<u8>,
     at: usize,
-) -> Option<Ends>
+) -> Option<Position>
     requires start { begin ≤ packet.now.end }
     requires index { at ≤ vec_len buffer.old }
     ensures puts { IfSome result
@@ -124,7 +124,7 @@ fn put_row(
         text = ends.text;
         lead = b',';
     }
-    Some(Ends { place, text })
+    Some(Position { place, text })
 }
 
 /// Writes an integer that is an element, behind a mark.
@@ -138,7 +138,7 @@ fn put_element(
     place: u64,
     buffer: &mut Vec<u8>,
     at: usize,
-) -> Option<Ends>
+) -> Option<Position>
     requires start { place ≤ packet.now.end }
     requires index { at ≤ vec_len buffer.old }
     ensures puts { IfSome result
@@ -153,7 +153,7 @@ fn put_element(
         return None;
     };
     let ends = put_integer(integer, align, packet, place, buffer.as_mut_slice(), begin)?;
-    Some(Ends {
+    Some(Position {
         place: ends.place,
         text: ends.text,
     })

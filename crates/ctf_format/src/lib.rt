@@ -26,6 +26,7 @@ mod value;
 mod whole;
 mod window;
 
+pub use around::{Members, ScopeInput};
 pub use by_class::put_standing;
 pub use content::Content;
 pub use ctf_class::escaped;

@@ -62,9 +62,9 @@ pub(crate) struct MembersEnd {
     pub(crate) more: u64,
 }
 
-/// Where a value ends, in bits from the packet's first one, and the index behind its text.
+/// A place in bits from the packet's first one, and an index in a buffer, in bytes: where a value and its text begin, or end.
 #[derive(Clone, Copy)]
-pub(crate) struct Ends {
+pub(crate) struct Position {
     pub(crate) place: u64,
     pub(crate) text: usize,
 }
@@ -151,7 +151,7 @@ pub(crate) fn put_string(
     place: u64,
     buffer: &mut Vec<u8>,
     at: usize,
-) -> Option<Ends>
+) -> Option<Position>
     requires start { place ≤ packet.now.end }
     requires index { at ≤ vec_len buffer.old }
     ensures puts { let content = packet.now in let before = take at buffer.old.items in
@@ -166,7 +166,7 @@ pub(crate) fn put_string(
     }
     let bytes = bytes_from(packet.bytes, packet.end, begin);
     if let Some(count) = count_short(bytes, buffer.len() - at) {
-        return Some(Ends {
+        return Some(Position {
             place: begin + 8 * (count as u64 + 1),
             text: put_short(bytes, count, buffer, at),
         });
@@ -176,7 +176,7 @@ pub(crate) fn put_string(
 
 /// Writes the string that these bytes, which begin at this place, begin with. It stands out of the way of short ones.
 #[inline(never)]
-fn put_longer_string(bytes: &[u8], begin: u64, buffer: &mut Vec<u8>, at: usize) -> Option<Ends>
+fn put_longer_string(bytes: &[u8], begin: u64, buffer: &mut Vec<u8>, at: usize) -> Option<Position>
     requires bounded { begin + 8 * length bytes.now ≤ 2 ^ 62 }
     requires index { at ≤ vec_len buffer.old }
     ensures puts { let before = take at buffer.old.items in IfSome result (λ e.
@@ -189,14 +189,14 @@ fn put_longer_string(bytes: &[u8], begin: u64, buffer: &mut Vec<u8>, at: usize) 
     if let Some(count) = count_longer(bytes, buffer.len() - at) {
         let place = begin + 8 * (count as u64 + 1);
         let text = put_longer(bytes, count, buffer, at);
-        return Some(Ends { place, text });
+        return Some(Position { place, text });
     }
     put_long_string(bytes, begin, buffer, at)
 }
 
 /// Writes the string of any length that these bytes, which begin at this place, begin with. Mostly nothing of it is escaped.
 #[inline(never)]
-fn put_long_string(bytes: &[u8], begin: u64, buffer: &mut Vec<u8>, at: usize) -> Option<Ends>
+fn put_long_string(bytes: &[u8], begin: u64, buffer: &mut Vec<u8>, at: usize) -> Option<Position>
     requires bounded { begin + 8 * length bytes.now ≤ 2 ^ 62 }
     requires index { at ≤ vec_len buffer.old }
     ensures puts { let before = take at buffer.old.items in IfSome result (λ e.
@@ -211,13 +211,13 @@ fn put_long_string(bytes: &[u8], begin: u64, buffer: &mut Vec<u8>, at: usize) ->
         let Ok(text) = put_long(bytes, count, buffer, at) else {
             return None;
         };
-        return Some(Ends { place, text });
+        return Some(Position { place, text });
     }
     let count = first_zero(bytes)?;
     let Ok(text) = put_quoted(&bytes[..count], buffer, at) else {
         return None;
     };
-    Some(Ends {
+    Some(Position {
         place: begin + 8 * (count as u64 + 1),
         text,
     })
@@ -231,7 +231,7 @@ pub(crate) fn put_fixed_text(
     place: u64,
     buffer: &mut Vec<u8>,
     at: usize,
-) -> Option<Ends>
+) -> Option<Position>
     requires start { place ≤ packet.now.end }
     requires index { at ≤ vec_len buffer.old }
     ensures puts { let content = packet.now in let before = take at buffer.old.items in
@@ -249,7 +249,7 @@ pub(crate) fn put_fixed_text(
     }
     let bytes = bytes_at(packet.bytes, begin, count);
     if let Some(short) = count_short(bytes, buffer.len() - at) {
-        return Some(Ends {
+        return Some(Position {
             place: begin + 8 * count,
             text: put_short(bytes, short, buffer, at),
         });
@@ -257,7 +257,7 @@ pub(crate) fn put_fixed_text(
     let Ok(text) = put_longer_text(bytes, buffer, at) else {
         return None;
     };
-    Some(Ends {
+    Some(Position {
         place: begin + 8 * count,
         text,
     })

@@ -11,3 +11,4 @@ pub mod Gives
 pub mod Views
 pub mod Telling
 pub mod Laws
+pub mod Places

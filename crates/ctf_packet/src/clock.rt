@@ -17,17 +17,17 @@ use ctf_decode::Value;
 ///
 /// F9 exactly where the time at that start has more than 64 bits.
 pub fn clock_before(
-    line: Option<&Timeline>,
+    timeline: Option<&Timeline>,
     reached: Option<&Reached>,
 ) -> Result<Option<Moment>, StreamFault>
-    ensures { result ≡ packets.clock_before (option_copied line.entry)
+    ensures { result ≡ packets.clock_before (option_copied timeline.entry)
         (option_copied reached.entry) }
 {
-    match line {
+    match timeline {
         None => Ok(None),
-        Some(line) => match reached {
+        Some(timeline) => match reached {
             Some(reached) => Ok(reached.clock),
-            None => match line.moment(0) {
+            None => match timeline.moment(0) {
                 Some(start) => Ok(Some(start)),
                 None => Err(StreamFault::ClockRefused),
             },
@@ -39,32 +39,32 @@ pub fn clock_before(
 ///
 /// F9 exactly where one of them is refused.
 pub fn clock_behind(
-    line: Option<&Timeline>,
+    timeline: Option<&Timeline>,
     clock: Option<Moment>,
     class: Option<&Class>,
     value: Option<&Value>,
 ) -> Result<Option<Moment>, StreamFault>
-    ensures { result ≡ packets.clock_behind (option_copied line.entry) clock
+    ensures { result ≡ packets.clock_behind (option_copied timeline.entry) clock
         (packets.moves (option_map form (option_copied class.entry))
         (option_map val (option_copied value.entry))) }
 {
-    match line {
+    match timeline {
         None => Ok(None),
-        Some(line) => match clock {
+        Some(timeline) => match clock {
             None => Ok(None),
-            Some(clock) => set(line, clock, class, value),
+            Some(clock) => set(timeline, clock, class, value),
         },
     }
 }
 
 /// The clock behind a scope, where there is one.
 fn set(
-    line: &Timeline,
+    timeline: &Timeline,
     clock: Moment,
     class: Option<&Class>,
     value: Option<&Value>,
 ) -> Result<Option<Moment>, StreamFault>
-    ensures { result ≡ packets.clock_behind (Some line.now) (Some clock)
+    ensures { result ≡ packets.clock_behind (Some timeline.now) (Some clock)
         (packets.moves (option_map form (option_copied class.entry))
         (option_map val (option_copied value.entry))) }
 {
@@ -72,7 +72,7 @@ fn set(
         None => Ok(Some(clock)),
         Some(class) => match value {
             None => Ok(Some(clock)),
-            Some(value) => match moment_after(line, class, value, clock) {
+            Some(value) => match moment_after(timeline, class, value, clock) {
                 Some(next) => Ok(Some(next)),
                 None => Err(StreamFault::ClockRefused),
             },
@@ -83,19 +83,19 @@ fn set(
 /// The clock at a packet's end: `timestamp_end`, extended from the clock behind its context, or that clock
 /// where there is no such field or it is refused.
 pub fn clock_until(
-    line: Option<&Timeline>,
+    timeline: Option<&Timeline>,
     clock: Option<Moment>,
     end: Option<Field>,
 ) -> Option<Moment>
-    ensures { result ≡ packets.clock_until (option_copied line.entry) clock end }
+    ensures { result ≡ packets.clock_until (option_copied timeline.entry) clock end }
 {
-    match line {
+    match timeline {
         None => None,
-        Some(line) => match clock {
+        Some(timeline) => match clock {
             None => None,
             Some(clock) => match end {
                 None => Some(clock),
-                Some(field) => match line.advance(clock, field.width.bits(), field.number) {
+                Some(field) => match timeline.advance(clock, field.width.bits(), field.number) {
                     Some(until) => Some(until),
                     None => Some(clock),
                 },

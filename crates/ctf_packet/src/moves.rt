@@ -20,11 +20,17 @@ pub(crate) struct IdAndClock {
 
 /// The moment that is reached where the moving integers of a value set the clock, in the order in which
 /// they were decoded. `None` exactly where one of them is refused.
-pub fn moment_after(line: &Timeline, class: &Class, value: &Value, clock: Moment) -> Option<Moment>
-    ensures { result ≡ advanced_by line.now clock (moved.moved (form class.now) (val value.now)) }
+pub fn moment_after(
+    timeline: &Timeline,
+    class: &Class,
+    value: &Value,
+    clock: Moment,
+) -> Option<Moment>
+    ensures { result ≡
+        advanced_by timeline.now clock (moved.moved (form class.now) (val value.now)) }
 {
     let mut told = IdAndClock { id: None, clock };
-    if tell_scope(line, class, value, &mut told) {
+    if tell_scope(timeline, class, value, &mut told) {
         Some(told.clock)
     } else {
         None
@@ -37,55 +43,55 @@ pub fn moment_after(line: &Timeline, class: &Class, value: &Value, clock: Moment
 /// Few classes are told apart at once, here and in a structure: comparisons are foreseen better than a table of jumps.
 #[cycle(told)]
 #[inline(never)]
-fn tell(line: &Timeline, class: &Class, value: &Value, told: &mut IdAndClock) -> bool
-    ensures clock { Moves line.now (value_moves class.now value.now) told.old result told.new }
+fn tell(timeline: &Timeline, class: &Class, value: &Value, told: &mut IdAndClock) -> bool
+    ensures clock { Moves timeline.now (value_moves class.now value.now) told.old result told.new }
     ensures id { KeepsLast (value_ids class.now value.now) told.old result told.new }
 {
     if let Kind::Structure { members } = &class.kind {
-        return tell_members(line, members.as_slice(), members_in(value), told);
+        return tell_members(timeline, members.as_slice(), members_in(value), told);
     }
     if let Kind::Integer(integer) = &class.kind {
-        return set_by(line, integer, value, told);
+        return set_by(timeline, integer, value, told);
     }
-    tell_any(line, class, value, told)
+    tell_any(timeline, class, value, told)
 }
 
 /// Sets the clock by the integers of a scope, and keeps its last `id`. Mostly it is a structure, which takes no call.
 #[inline(always)]
 pub(crate) fn tell_scope(
-    line: &Timeline,
+    timeline: &Timeline,
     class: &Class,
     value: &Value,
     told: &mut IdAndClock,
 ) -> bool
-    ensures clock { Moves line.now (value_moves class.now value.now) told.old result told.new }
+    ensures clock { Moves timeline.now (value_moves class.now value.now) told.old result told.new }
     ensures id { KeepsLast (value_ids class.now value.now) told.old result told.new }
 {
     if let Kind::Structure { members } = &class.kind {
-        return tell_members(line, members.as_slice(), members_in(value), told);
+        return tell_members(timeline, members.as_slice(), members_in(value), told);
     }
-    tell(line, class, value, told)
+    tell(timeline, class, value, told)
 }
 
 /// Sets the clock by the integers of a value that is seldom a structure or an integer, and keeps its last `id`.
 #[cycle(told)]
 #[inline(never)]
-fn tell_any(line: &Timeline, class: &Class, value: &Value, told: &mut IdAndClock) -> bool
-    ensures clock { Moves line.now (value_moves class.now value.now) told.old result told.new }
+fn tell_any(timeline: &Timeline, class: &Class, value: &Value, told: &mut IdAndClock) -> bool
+    ensures clock { Moves timeline.now (value_moves class.now value.now) told.old result told.new }
     ensures id { KeepsLast (value_ids class.now value.now) told.old result told.new }
 {
     match &class.kind {
-        Kind::Integer(integer) => set_by(line, integer, value, told),
+        Kind::Integer(integer) => set_by(timeline, integer, value, told),
         Kind::Structure { members } => {
-            tell_members(line, members.as_slice(), members_in(value), told)
+            tell_members(timeline, members.as_slice(), members_in(value), told)
         }
         Kind::Variant {
             tag,
             choices,
             options,
-        } => tell_option(line, options.as_slice(), value, told),
+        } => tell_option(timeline, options.as_slice(), value, told),
         Kind::Array { length, element } => {
-            tell_elements(line, element.get(), elements_in(value), told)
+            tell_elements(timeline, element.get(), elements_in(value), told)
         }
         Kind::Enumeration { container, labels } => true,
         Kind::String => true,
@@ -97,12 +103,13 @@ fn tell_any(line: &Timeline, class: &Class, value: &Value, told: &mut IdAndClock
 #[cycle(told)]
 #[inline(always)]
 fn tell_members(
-    line: &Timeline,
+    timeline: &Timeline,
     members: &[Member],
     values: &[Value],
     told: &mut IdAndClock,
 ) -> bool
-    ensures clock { Moves line.now (member_moves members.now values.now) told.old result told.new }
+    ensures clock { Moves timeline.now (member_moves members.now values.now) told.old result
+        told.new }
     ensures id { KeepsLast (member_ids members.now values.now) told.old result told.new }
 {
     for (i, member) in members.iter().enumerate() {
@@ -111,7 +118,7 @@ fn tell_members(
         }
         let value = &values[i];
         named_id(member, value, &mut told.id);
-        if !tell_member(line, &member.class, value, told) {
+        if !tell_member(timeline, &member.class, value, told) {
             return false;
         }
     }
@@ -121,12 +128,12 @@ fn tell_members(
 /// Sets the clock by the integers of one member, and keeps its last `id`. A variant goes to its option at once.
 #[cycle(told)]
 #[inline(always)]
-fn tell_member(line: &Timeline, class: &Class, value: &Value, told: &mut IdAndClock) -> bool
-    ensures clock { Moves line.now (value_moves class.now value.now) told.old result told.new }
+fn tell_member(timeline: &Timeline, class: &Class, value: &Value, told: &mut IdAndClock) -> bool
+    ensures clock { Moves timeline.now (value_moves class.now value.now) told.old result told.new }
     ensures id { KeepsLast (value_ids class.now value.now) told.old result told.new }
 {
     if let Kind::Integer(integer) = &class.kind {
-        return set_by(line, integer, value, told);
+        return set_by(timeline, integer, value, told);
     }
     if let Kind::Enumeration { container, labels } = &class.kind {
         return true;
@@ -137,19 +144,25 @@ fn tell_member(line: &Timeline, class: &Class, value: &Value, told: &mut IdAndCl
         options,
     } = &class.kind
     {
-        return tell_option(line, options.as_slice(), value, told);
+        return tell_option(timeline, options.as_slice(), value, told);
     }
-    tell(line, class, value, told)
+    tell(timeline, class, value, told)
 }
 
 /// Sets the clock by the integers of elements, and keeps their last `id`.
 #[cycle(told)]
-fn tell_elements(line: &Timeline, element: &Class, values: &[Value], told: &mut IdAndClock) -> bool
-    ensures clock { Moves line.now (element_moves element.now values.now) told.old result told.new }
+fn tell_elements(
+    timeline: &Timeline,
+    element: &Class,
+    values: &[Value],
+    told: &mut IdAndClock,
+) -> bool
+    ensures clock { Moves timeline.now (element_moves element.now values.now) told.old result
+        told.new }
     ensures id { KeepsLast (element_ids element.now values.now) told.old result told.new }
 {
     for value in values {
-        if !tell(line, element, value, told) {
+        if !tell(timeline, element, value, told) {
             return false;
         }
     }
@@ -159,13 +172,19 @@ fn tell_elements(line: &Timeline, element: &Class, values: &[Value], told: &mut 
 /// Sets the clock by the integers of the option that was chosen, and keeps its last `id`.
 #[cycle(told)]
 #[inline(always)]
-fn tell_option(line: &Timeline, options: &[Member], value: &Value, told: &mut IdAndClock) -> bool
-    ensures clock { Moves line.now (choice_moves options.now value.now) told.old result told.new }
+fn tell_option(
+    timeline: &Timeline,
+    options: &[Member],
+    value: &Value,
+    told: &mut IdAndClock,
+) -> bool
+    ensures clock { Moves timeline.now (choice_moves options.now value.now) told.old result
+        told.new }
     ensures id { KeepsLast (choice_ids options.now value.now) told.old result told.new }
 {
     match choice_in(value) {
         None => true,
-        Some((i, inner)) => tell_chosen(line, options, i, inner, told),
+        Some((i, inner)) => tell_chosen(timeline, options, i, inner, told),
     }
 }
 
@@ -173,28 +192,30 @@ fn tell_option(line: &Timeline, options: &[Member], value: &Value, told: &mut Id
 #[cycle(told)]
 #[inline(always)]
 fn tell_chosen(
-    line: &Timeline,
+    timeline: &Timeline,
     options: &[Member],
     i: usize,
     inner: &Value,
     told: &mut IdAndClock,
 ) -> bool
-    ensures clock { Moves line.now (option_moves options.now i inner.now) told.old result told.new }
+    ensures clock { Moves timeline.now (option_moves options.now i inner.now) told.old result
+        told.new }
     ensures id { KeepsLast (option_ids options.now i inner.now) told.old result told.new }
 {
     if i >= options.len() {
         return true;
     }
-    tell(line, &options[i].class, inner, told)
+    tell(timeline, &options[i].class, inner, told)
 }
 
 /// Sets the clock by an integer, if it is a moving one.
 #[inline(always)]
-fn set_by(line: &Timeline, integer: &Integer, value: &Value, told: &mut IdAndClock) -> bool
-    ensures clock { Moves line.now (integer_moves integer.now value.now) told.old result told.new }
+fn set_by(timeline: &Timeline, integer: &Integer, value: &Value, told: &mut IdAndClock) -> bool
+    ensures clock { Moves timeline.now (integer_moves integer.now value.now) told.old result
+        told.new }
     ensures id { told.new.id ≡ told.old.id }
 {
-    match moved_by_integer(line, integer, value, told.clock) {
+    match moved_by_integer(timeline, integer, value, told.clock) {
         Some(next) => {
             told.clock = next;
             true
@@ -207,39 +228,44 @@ fn set_by(line: &Timeline, integer: &Integer, value: &Value, told: &mut IdAndClo
 /// it is refused.
 #[inline(always)]
 pub fn moved_by_integer(
-    line: &Timeline,
+    timeline: &Timeline,
     integer: &Integer,
     value: &Value,
     clock: Moment,
 ) -> Option<Moment>
-    ensures { result ≡ advanced_by line.now clock (moved.moved_in integer.now (val value.now)) }
+    ensures { result ≡ advanced_by timeline.now clock (moved.moved_in integer.now (val value.now)) }
 {
     if !integer.is_moving {
         return Some(clock);
     }
     let width = integer.size.bits();
     if integer.is_signed {
-        moved_by_signed(line, width, value, clock)
+        moved_by_signed(timeline, width, value, clock)
     } else {
-        moved_by_unsigned(line, width, value, clock)
+        moved_by_unsigned(timeline, width, value, clock)
     }
 }
 
 #[inline(always)]
-fn moved_by_unsigned(line: &Timeline, width: u32, value: &Value, clock: Moment) -> Option<Moment>
-    ensures { result ≡ advanced_by line.now clock (moved.unsigned_pair width (val value.now)) }
+fn moved_by_unsigned(
+    timeline: &Timeline,
+    width: u32,
+    value: &Value,
+    clock: Moment,
+) -> Option<Moment>
+    ensures { result ≡ advanced_by timeline.now clock (moved.unsigned_pair width (val value.now)) }
 {
     if let Value::Unsigned(number) = value {
-        return line.advance(clock, width, *number);
+        return timeline.advance(clock, width, *number);
     }
     Some(clock)
 }
 
-fn moved_by_signed(line: &Timeline, width: u32, value: &Value, clock: Moment) -> Option<Moment>
-    ensures { result ≡ advanced_by line.now clock (moved.signed_pair width (val value.now)) }
+fn moved_by_signed(timeline: &Timeline, width: u32, value: &Value, clock: Moment) -> Option<Moment>
+    ensures { result ≡ advanced_by timeline.now clock (moved.signed_pair width (val value.now)) }
 {
     if let Value::Signed(number) = value {
-        return line.advance(clock, width, bits_of(*number));
+        return timeline.advance(clock, width, bits_of(*number));
     }
     Some(clock)
 }

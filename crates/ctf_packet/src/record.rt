@@ -5,13 +5,14 @@ ghost use Rattle.ctf_class.specs.Records.{IsPlanOf, scopes_of};
 ghost use Rattle.ctf_clock.specs.declared.moment.Shift.{Shift};
 ghost use Rattle.ctf_decode.specs.Known.{without_record};
 ghost use Rattle.ctf_decode.specs.Views.{form, val};
-ghost use Rattle.ctf_packet.specs.Classes.{stream_form, event_form};
+ghost use Rattle.ctf_packet.specs.Classes.{event_form};
 ghost use Rattle.ctf_packet.specs.Records as records;
-ghost use Rattle.ctf_packet.specs.Views.{values_of, packet_values, opened_of, recorded_of, PutsHead, PutsBody};
+ghost use Rattle.ctf_packet.specs.Places.{IsTimed, headed_at, record_there};
+ghost use Rattle.ctf_packet.specs.Views.{values_of, packet_values, recorded_of, PutsHead, PutsBody};
 ghost use Rattle.ctf_packet.specs.Gives.{OrRefused};
 
 use crate::fault::StreamFault;
-use crate::packet::OpenPacket;
+use crate::record_place::RecordPlace;
 use crate::scope::record_scope;
 use crate::scratch::Scratch;
 use crate::told::told_by;
@@ -144,41 +145,34 @@ pub fn put_body(
 #[tactic(auto, unfolding(crate::specs::Records::headed))]
 fn put_head<'a>(
     alloc: Global,
-    packet: &OpenPacket<'a>,
-    bytes: &[u8],
-    clock: Option<Moment>,
-    place: u64,
+    at: &RecordPlace<'_, 'a>,
     spare: &mut Value,
     scopes: &mut Scopes,
 ) -> Result<Head<'a>, StreamFault>
     requires spent { scopes.old.spent ≡ 0 }
-    requires start { place ≤ packet.now.content }
-    requires content { packet.now.content ≤ 2 ^ 62 }
-    requires held { packet.now.content ≤ 8 * length bytes.now }
-    ensures puts { (shift : Shift) →
-        packet.now.timeline ≡ (stream_form shift packet.now.stream.now).line →
-        PutsHead packet.now.stream.now (values_of scopes.old)
-        (records.headed (stream_form shift packet.now.stream.now) bytes.now packet.now.content
-        (values_of scopes.old) clock place) result scopes.new }
-    ensures within { IfOk result (λ head. head.end ≤ packet.now.content) }
-    ensures forward { IfOk result (λ head. place ≤ head.end) }
+    ensures puts { (shift : Shift) → IsTimed shift at.now.packet.now →
+        PutsHead at.now.packet.now.stream.now (values_of scopes.old)
+        (headed_at shift (values_of scopes.old) at.now) result scopes.new }
+    ensures within { IfOk result (λ head. head.end ≤ at.now.packet.now.content) }
+    ensures forward { IfOk result (λ head. at.now.place ≤ head.end) }
     ensures packet { OnOk result
         (packet_values (values_of scopes.new) ≡ packet_values (values_of scopes.old)) }
 {
+    let packet = at.packet;
     let stream = packet.stream;
     let class = stream.event_header();
     let end = record_scope(
         alloc,
         class,
-        bytes,
-        place,
+        at.bytes,
+        at.place,
         packet.content,
         Scope::EventHeader,
         spare,
         scopes,
     )?;
     let header = scopes.get(Scope::EventHeader);
-    match told_by(packet.timeline.as_ref(), clock, class, header) {
+    match told_by(packet.timeline.as_ref(), at.clock, class, header) {
         Err(fault) => Err(fault),
         Ok(told) => match event_named(stream, told.id) {
             Some(event) => Ok(Head {
@@ -199,85 +193,60 @@ fn leave_record(scratch: &mut Scratch, scopes: &mut Scopes)
     scopes.leave_record();
 }
 
-/// The header of the event record at a place of a packet, in bits from its first one, where `bytes` are the packet's
-/// and its clock came so far. The values of the packet's header and context are in `scopes`, and so is that of the header
-/// then, but of no other scope of an event record. The memory of `scratch` is used.
+/// The header of the event record at a place. The values of the packet's header and context are in `scopes`, and so is that
+/// of the header then, but of no other scope of an event record. The memory of `scratch` is used.
 ///
 /// An error is the first fault of the header: F6 to F9, F11, or `NoMemory`.
 #[inline(always)]
 pub fn next_head<'a>(
     alloc: Global,
-    packet: &OpenPacket<'a>,
-    bytes: &[u8],
-    clock: Option<Moment>,
-    place: u64,
+    at: &RecordPlace<'_, 'a>,
     scratch: &mut Scratch,
     scopes: &mut Scopes,
 ) -> Result<Head<'a>, StreamFault>
-    requires start { place ≤ packet.now.content }
-    requires content { packet.now.content ≤ 2 ^ 62 }
-    requires held { packet.now.content ≤ 8 * length bytes.now }
-    ensures puts { (shift : Shift) →
-        packet.now.timeline ≡ (stream_form shift packet.now.stream.now).line →
-        PutsHead packet.now.stream.now (packet_values (values_of scopes.old))
-        (records.headed (stream_form shift packet.now.stream.now) bytes.now packet.now.content
-        (packet_values (values_of scopes.old)) clock place) result scopes.new }
-    ensures within { IfOk result (λ head. head.end ≤ packet.now.content) }
-    ensures forward { IfOk result (λ head. place ≤ head.end) }
+    ensures puts { (shift : Shift) → IsTimed shift at.now.packet.now →
+        PutsHead at.now.packet.now.stream.now (packet_values (values_of scopes.old))
+        (headed_at shift (packet_values (values_of scopes.old)) at.now) result scopes.new }
+    ensures within { IfOk result (λ head. head.end ≤ at.now.packet.now.content) }
+    ensures forward { IfOk result (λ head. at.now.place ≤ head.end) }
     ensures packet { OnOk result
         (packet_values (values_of scopes.new) ≡ packet_values (values_of scopes.old)) }
 {
     leave_record(scratch, scopes);
-    put_head(
-        alloc,
-        packet,
-        bytes,
-        clock,
-        place,
-        &mut scratch.header,
-        scopes,
-    )
+    put_head(alloc, at, &mut scratch.header, scopes)
 }
 
-/// The event record at a place of a packet, in bits from its first one, where `bytes` are the packet's
-/// and its clock came so far. The values of the packet's header and context are in `scopes`, and so are
-/// those of the record then. The memory of `scratch` is used.
+/// The event record at a place. The values of the packet's header and context are in `scopes`, and so are those of the
+/// record then. The memory of `scratch` is used.
 ///
 /// An error is the first fault of the record: F6 to F11, or `NoMemory`.
 #[tactic(auto, unfolding(crate::specs::Records::record_at))]
 pub fn next_record<'a>(
     alloc: Global,
-    packet: &OpenPacket<'a>,
-    bytes: &[u8],
-    clock: Option<Moment>,
-    place: u64,
+    at: &RecordPlace<'_, 'a>,
     scratch: &mut Scratch,
     scopes: &mut Scopes,
 ) -> Result<EventRecord<'a>, StreamFault>
-    requires start { place ≤ packet.now.content }
-    requires content { packet.now.content ≤ 2 ^ 62 }
-    requires held { packet.now.content ≤ 8 * length bytes.now }
-    ensures records { (shift : Shift) →
-        packet.now.timeline ≡ (stream_form shift packet.now.stream.now).line →
-        OrRefused (recorded_of packet.now.stream.now (values_of scopes.new)) result
-        (records.record_at (opened_of shift (packet_values (values_of scopes.old)) packet.now)
-        bytes.now clock place) }
-    ensures within { IfOk result (λ r. r.end ≤ packet.now.content) }
-    ensures forward { IfOk result (λ r. place < r.end) }
+    ensures records { (shift : Shift) → IsTimed shift at.now.packet.now →
+        OrRefused (recorded_of at.now.packet.now.stream.now (values_of scopes.new)) result
+        (record_there shift (values_of scopes.old) at.now) }
+    ensures within { IfOk result (λ r. r.end ≤ at.now.packet.now.content) }
+    ensures forward { IfOk result (λ r. at.now.place < r.end) }
     ensures packet { OnOk result
         (packet_values (values_of scopes.new) ≡ packet_values (values_of scopes.old)) }
 {
-    let head = next_head(alloc, packet, bytes, clock, place, scratch, scopes)?;
-    let stream = packet.stream;
-    let content = packet.content;
+    let head = next_head(alloc, at, scratch, scopes)?;
+    let stream = at.packet.stream;
+    let content = at.packet.content;
+    let bytes = at.bytes;
     let event = head.event;
     let end = put_body(
         alloc, stream, event, bytes, head.end, content, scratch, scopes,
     )?;
-    if end == place {
+    if end == at.place {
         return Err(StreamFault::EmptyEvent);
     }
-    scratch.note(end - place, scopes.spent());
+    scratch.note(end - at.place, scopes.spent());
     Ok(EventRecord {
         event,
         clock: head.clock,

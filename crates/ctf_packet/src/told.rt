@@ -24,35 +24,35 @@ pub(crate) struct HeaderTold {
 ///
 /// F9 exactly where one of its moving integers is refused.
 pub(crate) fn told_by(
-    line: Option<&Timeline>,
+    timeline: Option<&Timeline>,
     clock: Option<Moment>,
     class: Option<&Class>,
     header: Option<&Value>,
 ) -> Result<HeaderTold, StreamFault>
-    ensures { TellsHeader (option_copied line.entry) clock
+    ensures { TellsHeader (option_copied timeline.entry) clock
         (option_map form (option_copied class.entry)) (option_map val (option_copied header.entry))
         result }
 {
     match class {
         None => Ok(HeaderTold {
             id: None,
-            clock: unchanged_clock(line, clock),
+            clock: unchanged_clock(timeline, clock),
         }),
         Some(class) => match header {
             None => Ok(HeaderTold {
                 id: None,
-                clock: unchanged_clock(line, clock),
+                clock: unchanged_clock(timeline, clock),
             }),
-            Some(header) => told_in(line, clock, class, header),
+            Some(header) => told_in(timeline, clock, class, header),
         },
     }
 }
 
 /// The clock behind a scope that does not set it.
-fn unchanged_clock(line: Option<&Timeline>, clock: Option<Moment>) -> Option<Moment>
-    ensures { packets.clock_behind (option_copied line.entry) clock [] ≡ Ok result }
+fn unchanged_clock(timeline: Option<&Timeline>, clock: Option<Moment>) -> Option<Moment>
+    ensures { packets.clock_behind (option_copied timeline.entry) clock [] ≡ Ok result }
 {
-    match line {
+    match timeline {
         None => None,
         Some(_line) => clock,
     }
@@ -60,41 +60,41 @@ fn unchanged_clock(line: Option<&Timeline>, clock: Option<Moment>) -> Option<Mom
 
 /// What a header that is there tells.
 fn told_in(
-    line: Option<&Timeline>,
+    timeline: Option<&Timeline>,
     clock: Option<Moment>,
     class: &Class,
     header: &Value,
 ) -> Result<HeaderTold, StreamFault>
-    ensures { TellsHeader (option_copied line.entry) clock (Some (form class.now))
+    ensures { TellsHeader (option_copied timeline.entry) clock (Some (form class.now))
         (Some (val header.now)) result }
 {
-    match line {
+    match timeline {
         None => Ok(HeaderTold {
             id: last_id(class, header),
             clock: None,
         }),
-        Some(line) => match clock {
+        Some(timeline) => match clock {
             None => Ok(HeaderTold {
                 id: last_id(class, header),
                 clock: None,
             }),
-            Some(clock) => told_on(line, clock, class, header),
+            Some(clock) => told_on(timeline, clock, class, header),
         },
     }
 }
 
 /// What a header tells that sets a clock.
 fn told_on(
-    line: &Timeline,
+    timeline: &Timeline,
     clock: Moment,
     class: &Class,
     header: &Value,
 ) -> Result<HeaderTold, StreamFault>
-    ensures { TellsHeader (Some line.now) (Some clock) (Some (form class.now))
+    ensures { TellsHeader (Some timeline.now) (Some clock) (Some (form class.now))
         (Some (val header.now)) result }
 {
     let mut told = IdAndClock { id: None, clock };
-    if tell_scope(line, class, header, &mut told) {
+    if tell_scope(timeline, class, header, &mut told) {
         Ok(HeaderTold {
             id: told.id,
             clock: Some(told.clock),

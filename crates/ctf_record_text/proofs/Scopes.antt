@@ -1,6 +1,7 @@
 -- The scopes behind the header of an event record, one after the other, and their texts.
 use Rattle.std.proofs.Common.{◌≡◌, ℕ, ◌<◌, List, [], ◌∷◌, ◌++◌, length, Option, Some, None, Result, Ok, codes, option_map, refl, sym, ap, ◌∙◌, append_assoc, append-nil, arith}
 use Rattle.std.specs.List.{flat_map}
+use Rattle.std.specs.Prelude.{⊤}
 use Rattle.ctf_class.specs.HostAndName.{heading_text}
 use Rattle.ctf_class.specs.Records.{and_scope, scopes_of}
 use Rattle.ctf_class.specs.declared.class.Class.{Class}
@@ -8,28 +9,33 @@ use Rattle.ctf_class.specs.declared.route.Scope.TheVariants.{StreamEventContext,
 use Rattle.ctf_class.specs.declared.trace.EventClass.{EventClass}
 use Rattle.ctf_class.specs.Streams.{StreamClass}
 use Rattle.ctf_decode.specs.Known.{Known}
+use Rattle.ctf_decode.specs.Values.{Val}
 use Rattle.ctf_decode.specs.Views.{form}
+use Rattle.ctf_decode.specs.Walk.{walk}
 use Rattle.ctf_record_text.specs.Making.{PutsScope, PutsBody}
 use Rattle.ctf_packet.specs.Records.{Body, bodied}
 use Rattle.ctf_packet.specs.Scopes.{◌>>=◌, Values, Stood, stood, scope_at, input_of, value_in, put, fault_in_record}
 use Rattle.ctf_packet.specs.declared.fault.StreamFault.{StreamFault}
-use Rattle.ctf_format.specs.Around.{PutsWith}
+use Rattle.ctf_format.specs.Around.{KnownScopes, MembersAre, PutsWith, ScopeIs, SharesPacket}
 use Rattle.ctf_format.specs.Lines.{if_shown, scope_texts}
 use Rattle.ctf_format.specs.Records.{PutsScopes}
-use Rattle.ctf_format.specs.Standing.{Puts}
+use Rattle.ctf_format.specs.Standing.{among}
 use Rattle.ctf_format.specs.Texts.{value_text}
+use Rattle.ctf_format.specs.declared.around.Members.{Members}
 use Rattle.ctf_format.specs.declared.standing.Standing.{Standing}
+use Rattle.ctf_format.proofs.AroundLemmas.{none_known}
 use Rattle.ctf_format.proofs.LinesLemmas.{followed, record_chain}
 
-pub puts_none : (known : Known) (bytes : List ℕ) (content : ℕ) (from : Standing) (before : List ℕ) → PutsScope known None bytes content from before from before
-puts_none known bytes content from before values shares =
-    (record { value = None; end = from.place; spent = from.spent }, refl, refl, refl, sym (append-nil before))
+pub puts_none : (known : KnownScopes) (members : Members) (bytes : List ℕ) (content : ℕ) (from : Standing) (before : List ℕ) → MembersAre members [] → PutsScope known members None bytes content from before from before
+puts_none known members bytes content from before none values are =
+    (record { value = None; end = from.place; spent = from.spent }, refl, refl, refl, sym (append-nil before), none_known members None none)
 
-pub puts_some : (known : Known) (k : Class) (bytes : List ℕ) (content : ℕ) (from to : Standing) (before text after : List ℕ) → PutsWith known (form k) (value_text k) bytes content from.place from.spent to.place to.spent before text → after ≡ text ++ codes ", " → PutsScope known (Some k) bytes content from before to after
-puts_some known k bytes content from to before text after puts added values shares =
-    let p = puts (value_in values) [] shares in
+pub puts_some : (known : KnownScopes) (members : Members) (k : Class) (bytes : List ℕ) (content : ℕ) (from to : Standing) (before text after : List ℕ) → PutsWith known members (form k) (value_text k) bytes content from.place from.spent to.place to.spent before text → after ≡ text ++ codes ", "
+    → PutsScope known members (Some k) bytes content from before to after
+puts_some known members k bytes content from to before text after puts added values are =
+    let p = puts (value_in values) [] are in
     let shown = value_text k p.0 in
-    (record { value = Some p.0; end = to.place; spent = to.spent }, ap (stood fault_in_record) p.1, refl, refl, added ∙ ap followed p.2 ∙ append_assoc before shown (codes ", ") ∙ ap (λ xs. before ++ xs) (sym (append-nil (followed shown))))
+    (record { value = Some p.0; end = to.place; spent = to.spent }, ap (stood fault_in_record) p.1, refl, refl, added ∙ ap followed p.2 ∙ append_assoc before shown (codes ", ") ∙ ap (λ xs. before ++ xs) (sym (append-nil (followed shown))), p.3)
 
 module _ (known : Known) (stream : StreamClass) (event : EventClass) (part bytes : List ℕ) (content : ℕ) where
   abbrev behind_own : Values → Stood → Result Body StreamFault
@@ -46,15 +52,24 @@ module _ (known : Known) (stream : StreamClass) (event : EventClass) (part bytes
   unfolding bodied
   opens values place spent = refl
 
-  pub puts_body : (from shared own : Standing) (place spent : ℕ) (front first second text : List ℕ) → front ≡ heading_text event.heading ++ flat_map followed (if_shown part)
-      → PutsScope known stream.event_context bytes content from front shared first → PutsScope known event.context bytes content shared first own second
-      → PutsWith known (form event.fields) (value_text event.fields) bytes content own.place own.spent place spent second text → PutsBody known stream event part bytes content from.place from.spent place text
-  puts_body from shared own place spent front first second text wrote has_shared has_own has_fields values shares =
+  -- The three scopes, each where those before it stand.
+  abbrev Stands : (Values → Type 0) → Option Class → Standing → List ℕ → Standing → List ℕ → (Option Val → Type 0) → Type 0
+  Stands Where class from before to after Is =
+      (values : Values) → Where values → (s : Stood) × (scope_at fault_in_record (option_map form class) (input_of bytes content values) from.place from.spent ≡ Ok s)
+      × (to.place ≡ s.end) × (to.spent ≡ s.spent) × (after ≡ before ++ flat_map followed (scope_texts class s.value)) × Is s.value
+
+  pub three_scopes : (Shared Own : Option Val → Type 0) (from shared own : Standing) (place spent : ℕ) (front first second text : List ℕ) → front ≡ heading_text event.heading ++ flat_map followed (if_shown part)
+      → Stands (λ v. SharesPacket known (value_in v)) stream.event_context from front shared first Shared
+      → Stands (λ v. SharesPacket known (value_in v) × Shared v.stream_event_context) event.context shared first own second Own
+      → ((values : Values) → SharesPacket known (value_in values) → Shared values.stream_event_context → Own values.event_context
+      → (v : Val) × (walk (form event.fields) (among bytes content (value_in values)) [] own.place own.spent ≡ Ok (v, place, spent)) × (text ≡ second ++ value_text event.fields v))
+      → PutsBody known stream event part bytes content from.place from.spent place text
+  three_scopes Shared Own from shared own place spent front first second text wrote has_shared has_own has_fields values shares =
       let a = has_shared values shares in
       let with_shared = put StreamEventContext a.0.value values in
-      let b = has_own with_shared shares in
+      let b = has_own with_shared (shares, a.5) in
       let with_own = put EventContext b.0.value with_shared in
-      let f = has_fields (value_in with_own) [] shares in
+      let f = has_fields with_own shares a.5 b.5 in
       let body : Body = record { values = put EventFields (Some f.0) with_own; end = place } in
       let at_own : scope_at fault_in_record (option_map form event.context) (input_of bytes content with_shared) a.0.end a.0.spent ≡ Ok b.0 =
       (λ i. scope_at fault_in_record (option_map form event.context) (input_of bytes content with_shared) (sym a.2 i) (sym a.3 i)) ∙ b.1
@@ -69,22 +84,38 @@ module _ (known : Known) (stream : StreamClass) (event : EventClass) (part bytes
       let chain = record_chain [] (heading_text event.heading) (value_text event.fields f.0) (heading_text event.heading) front first second (if_shown part) (scope_texts stream.event_context a.0.value) (scope_texts event.context b.0.value) refl wrote a.4 b.4 in
       (body, is, refl, refl, f.2 ∙ chain)
 
--- what stands whatever was decoded before stands with these values of the packet
-whatever : (known : Known) (k : Class) (bytes : List ℕ) (content place spent end total : ℕ) (before after : List ℕ) → Puts (form k) (value_text k) bytes content place spent end total before after
-    → PutsWith known (form k) (value_text k) bytes content place spent end total before after
-whatever known k bytes content place spent end total before after puts earlier env shares = puts earlier env
+-- The scopes behind a header, where each knows the members of those before it.
+pub puts_body : (known : Known) (none nothing first_members second_members last : Members) (stream : StreamClass) (event : EventClass) (part bytes : List ℕ) (content : ℕ) (from shared own : Standing) (place spent : ℕ) (front first second text : List ℕ) → MembersAre none [] → MembersAre nothing [] → front ≡ heading_text event.heading ++ flat_map followed (if_shown part)
+    → PutsScope (record { packet = known; stream_context = none; event_context = nothing }) first_members stream.event_context bytes content from front shared first
+    → PutsScope (record { packet = known; stream_context = first_members; event_context = nothing }) second_members event.context bytes content shared first own second
+    → PutsWith (record { packet = known; stream_context = first_members; event_context = second_members }) last (form event.fields) (value_text event.fields) bytes content own.place own.spent place spent second text
+    → PutsBody known stream event part bytes content from.place from.spent place text
+puts_body known none nothing first_members second_members last stream event part bytes content from shared own place spent front first second text no_members no_others wrote has_shared has_own has_fields =
+    three_scopes known stream event part bytes content (ScopeIs first_members) (ScopeIs second_members) from shared own place spent front first second text wrote
+    (λ values shares. has_shared values (shares, none_known none values.stream_event_context no_members, none_known nothing values.event_context no_others))
+    (λ values so_far. has_own values (so_far.0, so_far.1, none_known nothing values.event_context no_others))
+    (λ values shares stream_is event_is. (let f = has_fields (value_in values) [] (shares, stream_is, event_is) in (f.0, f.1, f.2)))
+
+-- a scope that stands whatever was decoded before
+abbrev StandsPlain : Option Class → List ℕ → ℕ → Standing → List ℕ → Standing → List ℕ → Type 0
+StandsPlain class bytes content from before to after =
+    (values : Values) → (s : Stood) × (scope_at fault_in_record (option_map form class) (input_of bytes content values) from.place from.spent ≡ Ok s)
+    × (to.place ≡ s.end) × (to.spent ≡ s.spent) × (after ≡ before ++ flat_map followed (scope_texts class s.value))
 
 -- scopes that were written one behind the other
-pub scope_step : (known : Known) (o : Option Class) (ks : List Class) (bytes : List ℕ) (content place spent end total : ℕ) (before after : List ℕ) → 0 < length ks → PutsScopes (and_scope o ks) bytes content place spent end total before after
-    → (to : Standing) × (text : List ℕ) × PutsScope known o bytes content (record { place = place; spent = spent; end = 0 }) before to text × PutsScopes ks bytes content to.place to.spent end total text after
-scope_step known None ks bytes content place spent end total before after some puts =
+pub scope_step : (o : Option Class) (ks : List Class) (bytes : List ℕ) (content place spent end total : ℕ) (before after : List ℕ) → 0 < length ks → PutsScopes (and_scope o ks) bytes content place spent end total before after
+    → (to : Standing) × (text : List ℕ) × StandsPlain o bytes content (record { place = place; spent = spent; end = 0 }) before to text × PutsScopes ks bytes content to.place to.spent end total text after
+scope_step None ks bytes content place spent end total before after some puts =
     let from : Standing = record { place = place; spent = spent; end = 0 } in
-    (from, before, puts_none known bytes content from before, puts)
-scope_step known (Some k) [] bytes content place spent end total before after some puts = absurd (omega (arith, some))
-scope_step known (Some k) (l ∷ ks) bytes content place spent end total before after some puts =
-    let from : Standing = record { place = place; spent = spent; end = 0 } in
+    (from, before, (λ values. (record { value = None; end = place; spent = spent }, refl, refl, refl, sym (append-nil before))), puts)
+scope_step (Some k) [] bytes content place spent end total before after some puts = absurd (omega (arith, some))
+scope_step (Some k) (l ∷ ks) bytes content place spent end total before after some puts =
     let to : Standing = record { place = puts.0; spent = puts.1; end = 0 } in
-    (to, puts.2 ++ codes ", ", puts_some known k bytes content from to before puts.2 (puts.2 ++ codes ", ") (whatever known k bytes content place spent puts.0 puts.1 before puts.2 puts.3) refl, puts.4)
+    let stands : StandsPlain (Some k) bytes content (record { place = place; spent = spent; end = 0 }) before to (puts.2 ++ codes ", ") = (λ values.
+    let p = puts.3 (value_in values) [] in
+    let shown = value_text k p.0 in
+    (record { value = Some p.0; end = puts.0; spent = puts.1 }, ap (stood fault_in_record) p.1, refl, refl, ap followed p.2 ∙ append_assoc before shown (codes ", ") ∙ ap (λ xs. before ++ xs) (sym (append-nil (followed shown))))) in
+    (to, puts.2 ++ codes ", ", stands, puts.4)
 
 pub some_scope : (o : Option Class) (k : Class) → 0 < length (and_scope o (k ∷ []))
 some_scope None k = omega arith
@@ -94,10 +125,17 @@ pub some_scopes : (shared own : Option Class) (k : Class) → 0 < length (scopes
 some_scopes None own k = some_scope own k
 some_scopes (Some l) own k = omega arith
 
+-- Of members nothing need be known.
+abbrev Anything : Option Val → Type 0
+Anything value = ⊤
+
 pub planned_body : (known : Known) (stream : StreamClass) (event : EventClass) (part bytes : List ℕ) (content place spent end total : ℕ) (front text : List ℕ) → front ≡ heading_text event.heading ++ flat_map followed (if_shown part)
     → PutsScopes (scopes_of stream.event_context event.context event.fields) bytes content place spent end total front text → PutsBody known stream event part bytes content place spent end text
 planned_body known stream event part bytes content place spent end total front text wrote puts =
     let from : Standing = record { place = place; spent = spent; end = 0 } in
-    let a = scope_step known stream.event_context (and_scope event.context (event.fields ∷ [])) bytes content place spent end total front text (some_scope event.context event.fields) puts in
-    let b = scope_step known event.context (event.fields ∷ []) bytes content a.0.place a.0.spent end total a.1 text (omega arith) a.3 in
-    puts_body known stream event part bytes content from a.0 b.0 end total front a.1 b.1 text wrote a.2 b.2 (whatever known event.fields bytes content b.0.place b.0.spent end total b.1 text b.3)
+    let a = scope_step stream.event_context (and_scope event.context (event.fields ∷ [])) bytes content place spent end total front text (some_scope event.context event.fields) puts in
+    let b = scope_step event.context (event.fields ∷ []) bytes content a.0.place a.0.spent end total a.1 text (omega arith) a.3 in
+    three_scopes known stream event part bytes content Anything Anything from a.0 b.0 end total front a.1 b.1 text wrote
+    (λ values shares. (let s = a.2 values in (s.0, s.1, s.2, s.3, s.4, tt)))
+    (λ values so_far. (let s = b.2 values in (s.0, s.1, s.2, s.3, s.4, tt)))
+    (λ values shares stream_is event_is. b.3 (value_in values) [])

@@ -24,7 +24,9 @@ use Rattle.ctf_record_text.specs.declared.header.ToldHead.{ToldHead}
 use Rattle.ctf_packet.specs.Classes.{Classes, StreamForm, event_form, stream_form}
 use Rattle.ctf_packet.specs.Moved.{moved, member_moved, moved_in}
 use Rattle.ctf_packet.specs.Records.{Headed, headed}
+use Rattle.ctf_packet.specs.Places.{IsTimed}
 use Rattle.ctf_packet.specs.declared.packet.OpenPacket.{OpenPacket}
+use Rattle.ctf_packet.specs.declared.record_place.RecordPlace.{RecordPlace}
 use Rattle.ctf_packet.specs.Scopes.{Values}
 use Rattle.ctf_format.specs.Standing.{among}
 
@@ -78,11 +80,11 @@ TellsHead class stream bytes content clock place told =
     (values : Values)
     → (h : Headed Classes) × (headed stream bytes content values clock place ≡ Ok h) × (event_form class told.head.event.now ≡ h.event) × (told.head.clock ≡ h.clock) × (told.head.end ≡ h.header.end) × (told.spent ≡ h.header.spent)
 
--- the same of a packet, whose clock is that of its stream
-abbrev pub TellsIn : OpenPacket → List ℕ → Option Moment → ℕ → ToldHead → Type 0
-TellsIn packet bytes clock place told =
-    let class = packet.stream.now in
-    (shift : Shift) → packet.timeline ≡ (stream_form shift class).line → TellsHead class (stream_form shift class) bytes packet.content clock place told
+-- the same where a record begins, whose packet has the clock of its stream
+abbrev pub TellsAt : RecordPlace → ToldHead → Type 0
+TellsAt at told =
+    let class = at.packet.now.stream.now in
+    (shift : Shift) → IsTimed shift at.packet.now → TellsHead class (stream_form shift class) at.bytes.now at.packet.now.content at.clock at.place told
 
 -- the plan is that of the records of the class that a header names
 abbrev pub PlansRecords : OpenPacket → PlannedHead → Type 0

@@ -7,6 +7,7 @@ use Rattle.ctf_class.specs.Streams.{StreamClass}
 use Rattle.ctf_decode.specs.Known.{Known}
 use Rattle.ctf_decode.specs.Views.{form}
 use Rattle.ctf_record_text.specs.Texts.{values_text}
+use Rattle.ctf_record_text.specs.declared.header.ToldHead.{ToldHead}
 use Rattle.ctf_record_text.specs.declared.record.LineRecord.{LineRecord}
 use Rattle.ctf_packet.specs.Classes.{Classes}
 use Rattle.ctf_packet.specs.Records.{Body, Recorded, bodied}
@@ -14,24 +15,31 @@ use Rattle.ctf_packet.specs.Scopes.{Values, Stood, scope_at, input_of, value_in,
 use Rattle.ctf_packet.specs.Views.{values_of, packet_values, recorded_of}
 use Rattle.ctf_packet.specs.declared.fault.StreamFault.{StreamFault}
 use Rattle.ctf_packet.specs.declared.fault.StreamFault.TheVariants as faults
+use Rattle.ctf_packet.specs.declared.record_place.RecordPlace.{RecordPlace}
 use Rattle.ctf_packet.specs.declared.record.EventRecord.{EventRecord}
 use Rattle.ctf_packet.specs.declared.record.Head.{Head}
-use Rattle.ctf_format.specs.Around.{SharesPacket}
+use Rattle.ctf_format.specs.Around.{KnownScopes, ScopeIs, ScopesAre, SharesPacket}
 use Rattle.ctf_format.specs.Lines.{scope_texts}
+use Rattle.ctf_format.specs.declared.around.Members.{Members}
 use Rattle.ctf_format.specs.declared.standing.Standing.{Standing}
 
--- Whatever is in the scopes of the event record, with these values of the packet: this scope's value stands from a place
--- on, and its text and a comma follow a text.
-abbrev pub PutsScope : Known → Option Class → List ℕ → ℕ → Standing → List ℕ → Standing → List ℕ → Type 0
-PutsScope known class bytes content from before to after =
-    (values : Values) → SharesPacket known (value_in values) → (s : Stood) × (scope_at fault_in_record (option_map form class) (input_of bytes content values) from.place from.spent ≡ Ok s)
-    × (to.place ≡ s.end) × (to.spent ≡ s.spent) × (after ≡ before ++ flat_map (λ text. text ++ codes ", ") (scope_texts class s.value))
+-- Whatever is in the scopes of the event record, with so much known of those before: this scope's value stands from a place
+-- on, has members of the numbers that are kept, and its text and a comma follow a text.
+abbrev pub PutsScope : KnownScopes → Members → Option Class → List ℕ → ℕ → Standing → List ℕ → Standing → List ℕ → Type 0
+PutsScope known members class bytes content from before to after =
+    (values : Values) → ScopesAre known (value_in values) → (s : Stood) × (scope_at fault_in_record (option_map form class) (input_of bytes content values) from.place from.spent ≡ Ok s)
+    × (to.place ≡ s.end) × (to.spent ≡ s.spent) × (after ≡ before ++ flat_map (λ text. text ++ codes ", ") (scope_texts class s.value)) × ScopeIs members s.value
 
 -- the scopes behind the header stand there, with these values of the packet, and the text is that of the event record
 abbrev pub PutsBody : Known → StreamClass → EventClass → List ℕ → List ℕ → ℕ → ℕ → ℕ → ℕ → List ℕ → Type 0
 PutsBody known stream event part bytes content place spent end text =
     (values : Values) → SharesPacket known (value_in values) → (b : Body) × (bodied (option_map form stream.event_context) (option_map form event.context) (form event.fields) bytes content values place spent ≡ Ok b)
     × (end ≡ b.end) × (packet_values b.values ≡ packet_values values) × (text ≡ values_text part stream event b.values)
+
+-- the same behind a header that was told where the record begins
+abbrev pub PutsRecord : Known → RecordPlace → ToldHead → List ℕ → ℕ → List ℕ → Type 0
+PutsRecord known at told part end text =
+    PutsBody known at.packet.now.stream.now told.head.event.now part at.bytes.now at.packet.now.content told.head.end told.spent end text
 
 -- the event record that stands there has its values in the scopes, or its text in the line
 abbrev pub Made : StreamClass → Result (Recorded Classes) StreamFault → List ℕ → Known → List ℕ → EventRecord → Option ℕ → Type 0

@@ -3,21 +3,18 @@
 ghost use Rattle.std.specs.Prelude.{◌≡◌, ℕ, List, None, ◌<◌, ◌≤◌, ◌+◌, ◌*◌, ◌^◌, [], ◌∷◌, Some, length, IfSome, option_copied};
 ghost use Rattle.std.specs.Int.{next_multiple_of};
 ghost use Rattle.ctf_class.specs.Records.{IsPlanOf, scopes_of};
-ghost use Rattle.ctf_clock.specs.declared.moment.Shift.{Shift};
 ghost use Rattle.ctf_decode.specs.Input.{bits_of};
 ghost use Rattle.ctf_decode.specs.Views.{form, val};
-ghost use Rattle.ctf_record_text.specs.Headers.{Tells, TellsMember, TellsMembers, TellsNumber, TellsIn, TellsHead, PlansRecords, StandsAsTag, begun, set_by};
+ghost use Rattle.ctf_record_text.specs.Headers.{Tells, TellsMember, TellsMembers, TellsNumber, TellsAt, PlansRecords, StandsAsTag, begun, set_by};
 ghost use Rattle.ctf_record_text.specs.Shorts.{IsShortOf, begins_telling};
-ghost use Rattle.ctf_packet.specs.Classes.{event_form, stream_form};
 ghost use Rattle.ctf_packet.specs.Moved.{moved_in};
-ghost use Rattle.ctf_packet.specs.Records.{event_named};
 
 use crate::short::{SHORT_VALUES, ShortHeader, tell_short};
 use ctf_bits::{sint_within, uint_within};
 use ctf_class::{Align, Class, Integer, Kind, Member, PlannedEvent, RecordPlan};
 use ctf_clock::{Moment, Timeline};
 use ctf_decode::{MOST_VALUES, Value, chosen_by_first, named_id};
-use ctf_packet::{Head, OpenPacket, moved_by_integer, planned_named};
+use ctf_packet::{Head, RecordPlace, moved_by_integer, planned_named};
 
 /// How far a header was told.
 #[derive(Clone, Copy)]
@@ -59,28 +56,45 @@ pub(crate) struct PlannedHead<'a> {
     pub(crate) plan: &'a RecordPlan,
 }
 
-/// The header of the event record at a place of a packet, in bits from its first one, whose clock came so far (CTF
-/// 1.8.3, section 6.1), told by what was looked at of its class. `None` where that does not hold for it, and where it has a
-/// fault.
+/// The header of the event record at a place (CTF 1.8.3, section 6.1), told by what was looked at of its class, or by its class
+/// where that is not given. `None` where it can't be told so, and where it has a fault.
 #[inline(always)]
-pub(crate) fn told_short<'a>(
-    packet: &OpenPacket<'a>,
-    short: &ShortHeader,
-    bytes: &[u8],
-    clock: Option<Moment>,
-    place: u64,
+pub(crate) fn told_head<'a>(
+    at: &RecordPlace<'_, 'a>,
+    short: Option<&ShortHeader>,
 ) -> Option<PlannedHead<'a>>
-    requires start { place ≤ packet.now.content }
-    requires content { packet.now.content ≤ 2 ^ 62 }
-    requires held { packet.now.content ≤ 8 * length bytes.now }
-    requires short { IsShortOf packet.now.stream.now (Some short.now) }
-    ensures tells { IfSome result (λ p. TellsIn packet.now bytes.now clock place p.told) }
-    ensures plan { IfSome result (PlansRecords packet.now) }
-    ensures within { IfSome result (λ p. p.told.head.end ≤ packet.now.content) }
+    requires short { IsShortOf at.now.packet.now.stream.now (option_copied short) }
+    ensures tells { IfSome result (λ p. TellsAt at.now p.told) }
+    ensures plan { IfSome result (PlansRecords at.now.packet.now) }
+    ensures within { IfSome result (λ p. p.told.head.end ≤ at.now.packet.now.content) }
     ensures few { IfSome result (λ p. p.told.spent ≤ MOST_VALUES) }
 {
-    let line = packet.timeline.as_ref()?;
-    let to = tell_short(line, short, bytes, packet.content, clock?, place)?;
+    match short {
+        Some(short) => told_short(at, short),
+        None => told_by_class(at),
+    }
+}
+
+/// The header of the event record at a place (CTF 1.8.3, section 6.1), told by what was looked at of its class. `None` where
+/// that does not hold for it, and where it has a fault.
+#[inline(always)]
+fn told_short<'a>(at: &RecordPlace<'_, 'a>, short: &ShortHeader) -> Option<PlannedHead<'a>>
+    requires short { IsShortOf at.now.packet.now.stream.now (Some short.now) }
+    ensures tells { IfSome result (λ p. TellsAt at.now p.told) }
+    ensures plan { IfSome result (PlansRecords at.now.packet.now) }
+    ensures within { IfSome result (λ p. p.told.head.end ≤ at.now.packet.now.content) }
+    ensures few { IfSome result (λ p. p.told.spent ≤ MOST_VALUES) }
+{
+    let packet = at.packet;
+    let timeline = packet.timeline.as_ref()?;
+    let to = tell_short(
+        timeline,
+        short,
+        at.bytes,
+        packet.content,
+        at.clock?,
+        at.place,
+    )?;
     let planned = packet.stream.planned_event(to.id)?;
     let head = Head {
         event: planned.event,
@@ -96,83 +110,58 @@ pub(crate) fn told_short<'a>(
     })
 }
 
-/// The header of the event record at a place of a packet, in bits from its first one, whose clock came so far (CTF
-/// 1.8.3, section 6.1). Only structures of integers are told, and those of an enumeration and a variant on it whose
-/// option is such a structure; and records without a header. `None` where the class is another one, and where the header
-/// has a fault.
+/// The header of the event record at a place (CTF 1.8.3, section 6.1). Only structures of integers are told, and those of an
+/// enumeration and a variant on it whose option is such a structure; and records without a header. `None` where the class is
+/// another one, and where the header has a fault.
 #[inline(always)]
-pub(crate) fn told_by_class<'a>(
-    packet: &OpenPacket<'a>,
-    bytes: &[u8],
-    clock: Option<Moment>,
-    place: u64,
-) -> Option<PlannedHead<'a>>
-    requires start { place ≤ packet.now.content }
-    requires content { packet.now.content ≤ 2 ^ 62 }
-    requires held { packet.now.content ≤ 8 * length bytes.now }
-    ensures tells { IfSome result (λ p. TellsIn packet.now bytes.now clock place p.told) }
-    ensures plan { IfSome result (PlansRecords packet.now) }
-    ensures within { IfSome result (λ p. p.told.head.end ≤ packet.now.content) }
+pub(crate) fn told_by_class<'a>(at: &RecordPlace<'_, 'a>) -> Option<PlannedHead<'a>>
+    ensures tells { IfSome result (λ p. TellsAt at.now p.told) }
+    ensures plan { IfSome result (PlansRecords at.now.packet.now) }
+    ensures within { IfSome result (λ p. p.told.head.end ≤ at.now.packet.now.content) }
     ensures few { IfSome result (λ p. p.told.spent ≤ MOST_VALUES) }
 {
-    let stream = packet.stream;
-    let Some(class) = stream.event_header() else {
-        return told_bare(packet, clock, place);
+    let Some(class) = at.packet.stream.event_header() else {
+        return told_bare(at);
     };
-    match &packet.timeline {
-        Some(line) => told_timed(packet, class, line, bytes, clock?, place),
-        None => told_untimed(packet, class, bytes, clock, place),
+    match &at.packet.timeline {
+        Some(timeline) => told_timed(at, class, timeline),
+        None => told_untimed(at, class),
     }
 }
 
 /// The header of this class, where the packet has a clock.
 #[inline(always)]
 fn told_timed<'a>(
-    packet: &OpenPacket<'a>,
+    at: &RecordPlace<'_, 'a>,
     class: &Class,
-    line: &Timeline,
-    bytes: &[u8],
-    clock: Moment,
-    place: u64,
+    timeline: &Timeline,
 ) -> Option<PlannedHead<'a>>
-    requires start { place ≤ packet.now.content }
-    requires content { packet.now.content ≤ 2 ^ 62 }
-    requires held { packet.now.content ≤ 8 * length bytes.now }
-    requires class { packet.now.stream.now.event_header ≡ Some class.now }
-    requires line { packet.now.timeline ≡ Some line.now }
-    ensures tells { IfSome result (λ p. TellsIn packet.now bytes.now (Some clock) place p.told) }
-    ensures plan { IfSome result (PlansRecords packet.now) }
-    ensures within { IfSome result (λ p. p.told.head.end ≤ packet.now.content) }
+    requires class { at.now.packet.now.stream.now.event_header ≡ Some class.now }
+    requires timeline { at.now.packet.now.timeline ≡ Some timeline.now }
+    ensures tells { IfSome result (λ p. TellsAt at.now p.told) }
+    ensures plan { IfSome result (PlansRecords at.now.packet.now) }
+    ensures within { IfSome result (λ p. p.told.head.end ≤ at.now.packet.now.content) }
     ensures few { IfSome result (λ p. p.told.spent ≤ MOST_VALUES) }
 {
-    let from = begins_at(clock, place);
-    let to = tell_header(Some(line), class, bytes, packet.content, from)?;
-    let planned = planned_named(packet.stream, to.id)?;
+    let from = begins_at(at.clock?, at.place);
+    let to = tell_header(Some(timeline), class, at.bytes, at.packet.content, from)?;
+    let planned = planned_named(at.packet.stream, to.id)?;
     Some(head_of(planned, to, Some(to.clock)))
 }
 
 /// The header of this class, where the packet has no clock.
 #[inline(always)]
-fn told_untimed<'a>(
-    packet: &OpenPacket<'a>,
-    class: &Class,
-    bytes: &[u8],
-    clock: Option<Moment>,
-    place: u64,
-) -> Option<PlannedHead<'a>>
-    requires start { place ≤ packet.now.content }
-    requires content { packet.now.content ≤ 2 ^ 62 }
-    requires held { packet.now.content ≤ 8 * length bytes.now }
-    requires class { packet.now.stream.now.event_header ≡ Some class.now }
-    requires line { packet.now.timeline ≡ None }
-    ensures tells { IfSome result (λ p. TellsIn packet.now bytes.now clock place p.told) }
-    ensures plan { IfSome result (PlansRecords packet.now) }
-    ensures within { IfSome result (λ p. p.told.head.end ≤ packet.now.content) }
+fn told_untimed<'a>(at: &RecordPlace<'_, 'a>, class: &Class) -> Option<PlannedHead<'a>>
+    requires class { at.now.packet.now.stream.now.event_header ≡ Some class.now }
+    requires timeline { at.now.packet.now.timeline ≡ None }
+    ensures tells { IfSome result (λ p. TellsAt at.now p.told) }
+    ensures plan { IfSome result (PlansRecords at.now.packet.now) }
+    ensures within { IfSome result (λ p. p.told.head.end ≤ at.now.packet.now.content) }
     ensures few { IfSome result (λ p. p.told.spent ≤ MOST_VALUES) }
 {
-    let from = begins_at(Moment { cycles: 0, time: 0 }, place);
-    let to = tell_header(None, class, bytes, packet.content, from)?;
-    let planned = planned_named(packet.stream, to.id)?;
+    let from = begins_at(Moment { cycles: 0, time: 0 }, at.place);
+    let to = tell_header(None, class, at.bytes, at.packet.content, from)?;
+    let planned = planned_named(at.packet.stream, to.id)?;
     Some(head_of(planned, to, None))
 }
 
@@ -214,30 +203,22 @@ fn head_of<'a>(planned: PlannedEvent<'a>, to: Telling, clock: Option<Moment>) ->
 
 /// The header of an event record of a stream whose event records have none: it is of the only event class.
 #[inline(always)]
-fn told_bare<'a>(
-    packet: &OpenPacket<'a>,
-    clock: Option<Moment>,
-    place: u64,
-) -> Option<PlannedHead<'a>>
-    requires bare { packet.now.stream.now.event_header ≡ None }
-    ensures tells { (bytes : List ℕ) (content : ℕ) →
-        IfSome result (λ p. (shift : Shift) →
-        packet.now.timeline ≡ (stream_form shift packet.now.stream.now).line →
-        TellsHead packet.now.stream.now (stream_form shift packet.now.stream.now) bytes content
-        clock place p.told) }
-    ensures plan { IfSome result (PlansRecords packet.now) }
-    ensures end { IfSome result (λ p. p.told.head.end ≡ place) }
-    ensures spent { IfSome result (λ p. p.told.spent ≡ 0) }
+fn told_bare<'a>(at: &RecordPlace<'_, 'a>) -> Option<PlannedHead<'a>>
+    requires bare { at.now.packet.now.stream.now.event_header ≡ None }
+    ensures tells { IfSome result (λ p. TellsAt at.now p.told) }
+    ensures plan { IfSome result (PlansRecords at.now.packet.now) }
+    ensures within { IfSome result (λ p. p.told.head.end ≤ at.now.packet.now.content) }
+    ensures few { IfSome result (λ p. p.told.spent ≤ MOST_VALUES) }
 {
-    let planned = planned_named(packet.stream, None)?;
-    let clock = match &packet.timeline {
-        Some(_line) => clock,
+    let planned = planned_named(at.packet.stream, None)?;
+    let clock = match &at.packet.timeline {
+        Some(_timeline) => at.clock,
         None => None,
     };
     let head = Head {
         event: planned.event,
         clock,
-        end: place,
+        end: at.place,
     };
     Some(PlannedHead {
         told: ToldHead { head, spent: 0 },
@@ -248,7 +229,7 @@ fn told_bare<'a>(
 /// Tells the structure of a header.
 #[inline(always)]
 fn tell_header(
-    line: Option<&Timeline>,
+    timeline: Option<&Timeline>,
     class: &Class,
     bytes: &[u8],
     content: u64,
@@ -258,7 +239,7 @@ fn tell_header(
     requires held { content ≤ 8 * length bytes.now }
     requires start { from.place ≤ content }
     ensures tells { IfSome result
-        (Tells (option_copied line.entry) (form class.now) bytes.now content from) }
+        (Tells (option_copied timeline.entry) (form class.now) bytes.now content from) }
     ensures within { IfSome result (λ to. (to.place ≤ content) × (to.spent ≤ MOST_VALUES)) }
 {
     let Kind::Structure { members } = &class.kind else {
@@ -267,17 +248,17 @@ fn tell_header(
     let members = members.as_slice();
     let at = begin(class.align, content, from)?;
     if let [tag, variant] = members {
-        if let Some(to) = tell_pair(line, tag, variant, bytes, content, at) {
+        if let Some(to) = tell_pair(timeline, tag, variant, bytes, content, at) {
             return Some(to);
         }
     }
-    tell_integers(line, members, bytes, content, at)
+    tell_integers(timeline, members, bytes, content, at)
 }
 
 /// Tells a structure of integers.
 #[inline(always)]
 fn tell_structure(
-    line: Option<&Timeline>,
+    timeline: Option<&Timeline>,
     class: &Class,
     bytes: &[u8],
     content: u64,
@@ -287,14 +268,14 @@ fn tell_structure(
     requires held { content ≤ 8 * length bytes.now }
     requires start { from.place ≤ content }
     ensures tells { IfSome result
-        (Tells (option_copied line.entry) (form class.now) bytes.now content from) }
+        (Tells (option_copied timeline.entry) (form class.now) bytes.now content from) }
     ensures within { IfSome result (λ to. (to.place ≤ content) × (to.spent ≤ MOST_VALUES)) }
 {
     let Kind::Structure { members } = &class.kind else {
         return None;
     };
     let at = begin(class.align, content, from)?;
-    tell_integers(line, members.as_slice(), bytes, content, at)
+    tell_integers(timeline, members.as_slice(), bytes, content, at)
 }
 
 /// Begins a structure of this alignment.
@@ -324,7 +305,7 @@ fn begin(align: Align, content: u64, from: Telling) -> Option<Telling>
 /// Tells an enumeration and a variant on it.
 #[inline(always)]
 fn tell_pair(
-    line: Option<&Timeline>,
+    timeline: Option<&Timeline>,
     tag: &Member,
     variant: &Member,
     bytes: &[u8],
@@ -336,7 +317,7 @@ fn tell_pair(
     requires start { from.place ≤ content }
     requires few { from.spent ≤ MOST_VALUES }
     ensures tells { IfSome result
-        (TellsMembers (option_copied line.entry) (tag.now ∷ variant.now ∷ []) bytes.now content
+        (TellsMembers (option_copied timeline.entry) (tag.now ∷ variant.now ∷ []) bytes.now content
         from) }
     ensures within { IfSome result (λ to. (to.place ≤ content) × (to.spent ≤ MOST_VALUES)) }
 {
@@ -369,7 +350,7 @@ fn tell_pair(
         place: read.place,
         spent: from.spent + 2,
     };
-    tell_structure(line, &options[i].class, bytes, content, at)
+    tell_structure(timeline, &options[i].class, bytes, content, at)
 }
 
 /// Reads a tag.
@@ -415,7 +396,7 @@ fn bits_at(integer: &Integer, align: Align, content: u64, place: u64) -> Option<
 /// Tells members that are integers.
 #[inline(always)]
 fn tell_integers(
-    line: Option<&Timeline>,
+    timeline: Option<&Timeline>,
     members: &[Member],
     bytes: &[u8],
     content: u64,
@@ -426,12 +407,12 @@ fn tell_integers(
     requires start { from.place ≤ content }
     requires few { from.spent ≤ MOST_VALUES }
     ensures tells { IfSome result
-        (TellsMembers (option_copied line.entry) members.now bytes.now content from) }
+        (TellsMembers (option_copied timeline.entry) members.now bytes.now content from) }
     ensures within { IfSome result (λ to. (to.place ≤ content) × (to.spent ≤ MOST_VALUES)) }
 {
     let mut at = from;
     for member in members {
-        at = tell_integer(line, member, bytes, content, at)?;
+        at = tell_integer(timeline, member, bytes, content, at)?;
     }
     Some(at)
 }
@@ -439,7 +420,7 @@ fn tell_integers(
 /// Tells a member, if it is an integer.
 #[inline(always)]
 fn tell_integer(
-    line: Option<&Timeline>,
+    timeline: Option<&Timeline>,
     member: &Member,
     bytes: &[u8],
     content: u64,
@@ -449,7 +430,7 @@ fn tell_integer(
     requires held { content ≤ 8 * length bytes.now }
     requires start { from.place ≤ content }
     ensures tells { IfSome result
-        (TellsMember (option_copied line.entry) member.now bytes.now content from) }
+        (TellsMember (option_copied timeline.entry) member.now bytes.now content from) }
     ensures within { IfSome result (λ to. (to.place ≤ content) × (to.spent ≤ MOST_VALUES)) }
 {
     let Kind::Integer(integer) = &member.class.kind else {
@@ -462,17 +443,17 @@ fn tell_integer(
     let size = integer.size.bits();
     if integer.is_signed {
         let value = Value::Signed(sint_within(bytes, bits.begin, size, integer.order));
-        tell_number(line, member, integer, &value, from, bits.end)
+        tell_number(timeline, member, integer, &value, from, bits.end)
     } else {
         let value = Value::Unsigned(uint_within(bytes, bits.begin, size, integer.order));
-        tell_number(line, member, integer, &value, from, bits.end)
+        tell_number(timeline, member, integer, &value, from, bits.end)
     }
 }
 
 /// Tells the value of a member that is this integer and ends at a place.
 #[inline(always)]
 fn tell_number(
-    line: Option<&Timeline>,
+    timeline: Option<&Timeline>,
     member: &Member,
     integer: &Integer,
     value: &Value,
@@ -481,12 +462,12 @@ fn tell_number(
 ) -> Option<Telling>
     requires few { from.spent < MOST_VALUES }
     ensures tells { IfSome result
-        (TellsNumber (option_copied line.entry) member.now integer.now (val value.now) from) }
+        (TellsNumber (option_copied timeline.entry) member.now integer.now (val value.now) from) }
     ensures reached { IfSome result (λ to. (to.place ≡ place) × (to.spent ≡ from.spent + 1)) }
 {
     let mut id = from.id;
     named_id(member, value, &mut id);
-    let clock = clock_behind(line, integer, value, from.clock)?;
+    let clock = clock_behind(timeline, integer, value, from.clock)?;
     Some(Telling {
         id,
         clock,
@@ -498,16 +479,16 @@ fn tell_number(
 /// The moment behind an integer of this value, where there is a clock that it may set.
 #[inline(always)]
 fn clock_behind(
-    line: Option<&Timeline>,
+    timeline: Option<&Timeline>,
     integer: &Integer,
     value: &Value,
     clock: Moment,
 ) -> Option<Moment>
-    ensures { result ≡ set_by (option_copied line.entry) clock
+    ensures { result ≡ set_by (option_copied timeline.entry) clock
         (moved_in integer.now (val value.now)) }
 {
-    match line {
-        Some(line) => moved_by_integer(line, integer, value, clock),
+    match timeline {
+        Some(timeline) => moved_by_integer(timeline, integer, value, clock),
         None => Some(clock),
     }
 }

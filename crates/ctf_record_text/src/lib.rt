@@ -5,5 +5,5 @@ mod header;
 mod record;
 mod short;
 
-pub use record::{Attempt, LineRecord, next_line, written_line};
+pub use record::{LineBuffer, LineRecord, next_line, written_line};
 pub use short::{ShortHeader, short_header};

@@ -238,7 +238,7 @@ fn is_id(name: &[u8]) -> bool
 /// its tag is none of these numbers, where it has a fault, and where it ends in the last eight bytes of the content.
 #[inline(always)]
 pub(crate) fn tell_short(
-    line: &Timeline,
+    timeline: &Timeline,
     short: &ShortHeader,
     bytes: &[u8],
     content: u64,
@@ -251,7 +251,7 @@ pub(crate) fn tell_short(
     requires near { EndsNear short.now }
     requires read { AreWindows short.now }
     ensures tells { IfSome result (λ to. (class : Class) → IsShort short.now class →
-        Tells (Some line.now) (form class) bytes.now content (begins_telling clock place)
+        Tells (Some timeline.now) (form class) bytes.now content (begins_telling clock place)
         (short_telling to)) }
     ensures within { IfSome result (λ to. to.place ≤ content) }
 {
@@ -266,7 +266,7 @@ pub(crate) fn tell_short(
         return None;
     }
     let number = short.stamp_window.number(bytes, first)?;
-    let clock = line.advance(clock, short.stamp.size.bits(), number)?;
+    let clock = timeline.advance(clock, short.stamp.size.bits(), number)?;
     Some(ShortTelling {
         id,
         clock,

@@ -1,5 +1,6 @@
 -- Steps of a read state.
 use Rattle.std.proofs.Common.{◌≡◌, ℕ, Bool, true, false, List, [], ◌∷◌, Option, Some, None, Ok, inl, inr, refl, sym, ap, subst, ◌∙◌}
+use Rattle.std.specs.Prelude.{IfNone}
 use Rattle.ctf_bits.specs.declared.source.Ending.{Ending}
 use Rattle.ctf_clock.specs.declared.moment.Moment.{Moment}
 use Rattle.ctf_clock.specs.declared.moment.Shift.{Shift}
@@ -65,6 +66,16 @@ pub advanced : (old middle new : Run Classes) (cut : PacketStart) (known : Known
     → StepsWithin middle new cut known bytes packet (Ok found) → Advances old new cut known bytes packet left (Ok (Some front))
 advanced old middle new cut known bytes (Some p) left found front same is steps = same ∙ subst (λ o. StepsWithin middle new cut known bytes (Some p) (Ok o)) is steps
 advanced old middle new cut known bytes None left found front same is steps = absurd (subst (λ o. StepsWithin middle new cut known bytes None (Ok o)) is steps)
+
+-- the same where the steps behind them give the item
+pub also_before : (old middle new : Run Classes) (cut : PacketStart) (known : Known) (bytes : List ℕ) (packet : Option Packet) (left : List ℕ) (front : Front) → old ≡ middle → Advances middle new cut known bytes packet left (Ok (Some front)) → Advances old new cut known bytes packet left (Ok (Some front))
+also_before old middle new cut known bytes (Some p) left front same goes = same ∙ goes
+also_before old middle new cut known bytes None left front same goes = absurd goes
+
+-- what holds where nothing was written
+pub if_none : (written : Option Front) (P : Type 0) → written ≡ None → IfNone written P → P
+if_none None P is holds = holds
+if_none (Some front) P is holds = absurd (cc)
 
 -- what comes behind an item is what its read state comes to
 pub behind_item : (c : ReadState) (packet : Option Packet) (front : Front) (at : ℕ) (run : Run Classes) → behind_ahead (item_at c packet front) at run ≡ run

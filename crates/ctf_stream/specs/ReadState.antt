@@ -61,7 +61,7 @@ HasPart c = IsPartOf (packet_values (values_of c.scopes)) c.part c.packet
 
 -- the text of the event record in front was written, where that has no values
 abbrev pub HoldsIn : ReadState → Option Packet → Front → Type 0
-HoldsIn c (Some p) front = HoldsFront c.writes c.cut.shift c.scopes c.buffer c.part c.line.items p front
+HoldsIn c (Some p) front = HoldsFront c.writes c.cut.shift c.scopes c.buffer c.part c.line.bytes.items p front
 HoldsIn c None front = Unit {0}
 
 abbrev pub HoldsFound : ReadState → Option Front → Type 0

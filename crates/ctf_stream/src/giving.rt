@@ -1,11 +1,10 @@
 //! Items that are given away.
 
-ghost use Rattle.std.specs.Prelude.{◌≡◌, ◌≤◌, ◌*◌, ◌^◌, None, Ok, IsSome, length, IfOk, OnOk};
+ghost use Rattle.std.specs.Prelude.{◌≡◌, None, Ok, IsSome, length, IfOk, OnOk};
 ghost use Rattle.ctf_decode.specs.Known.{value_at, without_value};
 ghost use Rattle.ctf_clock.specs.declared.moment.Shift.{Shift};
-ghost use Rattle.ctf_packet.specs.Classes.{stream_form};
-ghost use Rattle.ctf_packet.specs.Records.{record_at};
-ghost use Rattle.ctf_packet.specs.Views.{values_of, packet_values, opened_of, recorded_of};
+ghost use Rattle.ctf_packet.specs.Places.{IsTimed, record_there};
+ghost use Rattle.ctf_packet.specs.Views.{values_of, packet_values, recorded_of};
 ghost use Rattle.ctf_stream.specs.ReadState.{Stands, HoldsIn};
 ghost use Rattle.ctf_stream.specs.Owned.{item_of, IsOf, with_scope};
 ghost use Rattle.ctf_stream.specs.Reader.{item};
@@ -13,12 +12,12 @@ ghost use Rattle.ctf_stream.specs.Standing.{item_at};
 
 use crate::copy::copy;
 use crate::owned::{OwnedEvent, OwnedGap, OwnedItem};
-use crate::packet::{Front, WrittenRecord};
+use crate::packet::Front;
 use crate::read_state::ReadState;
 use ctf_class::Scope;
 use ctf_decode::Scopes;
 use ctf_list::{NoMemory, Text};
-use ctf_packet::{EventRecord, OpenPacket, Scratch, next_record};
+use ctf_packet::{EventRecord, RecordPlace, Scratch, next_record};
 use std::alloc::Global;
 
 impl<'a> ReadState<'a> {
@@ -58,10 +57,13 @@ impl<'a> ReadState<'a> {
                 scopes: take_values(alloc, &mut self.scopes)?,
             })),
             Front::Written(written) => {
-                let bytes = self.buffer.as_slice();
-                let scratch = &mut self.scratch;
-                let scopes = &mut self.scopes;
-                let record = read_again(alloc, opened, bytes, written, scratch, scopes)?;
+                let at = RecordPlace {
+                    packet: opened,
+                    bytes: self.buffer.as_slice(),
+                    clock: written.before,
+                    place: written.begin,
+                };
+                let record = read_again(alloc, &at, &mut self.scratch, &mut self.scopes)?;
                 Ok(OwnedItem::Event(OwnedEvent {
                     trace: self.cut.trace,
                     stream: opened.stream,
@@ -91,33 +93,17 @@ impl<'a> ReadState<'a> {
 /// Reads an event record once more, for its values.
 fn read_again<'a>(
     alloc: Global,
-    packet: &OpenPacket<'a>,
-    bytes: &[u8],
-    written: &WrittenRecord<'a>,
+    at: &RecordPlace<'_, 'a>,
     scratch: &mut Scratch,
     scopes: &mut Scopes,
 ) -> Result<EventRecord<'a>, NoMemory>
-    requires start { written.now.begin ≤ packet.now.content }
-    requires content { packet.now.content ≤ 2 ^ 62 }
-    requires held { packet.now.content ≤ 8 * length bytes.now }
-    ensures records { (shift : Shift) →
-        packet.now.timeline ≡ (stream_form shift packet.now.stream.now).line →
-        IfOk result (λ r.
-        record_at (opened_of shift (packet_values (values_of scopes.old)) packet.now) bytes.now
-        written.now.before written.now.begin ≡
-        Ok (recorded_of packet.now.stream.now (values_of scopes.new) r)) }
+    ensures records { (shift : Shift) → IsTimed shift at.now.packet.now →
+        IfOk result (λ r. record_there shift (values_of scopes.old) at.now ≡
+        Ok (recorded_of at.now.packet.now.stream.now (values_of scopes.new) r)) }
     ensures packet { OnOk result (packet_values (values_of scopes.new) ≡
         packet_values (values_of scopes.old)) }
 {
-    match next_record(
-        alloc,
-        packet,
-        bytes,
-        written.before,
-        written.begin,
-        scratch,
-        scopes,
-    ) {
+    match next_record(alloc, at, scratch, scopes) {
         Ok(record) => Ok(record),
         Err(_) => Err(NoMemory),
     }

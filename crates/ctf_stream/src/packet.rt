@@ -1,20 +1,21 @@
 //! The packet at hand.
 
-ghost use Rattle.std.specs.Prelude.{◌≡◌, ◌<◌, ◌≤◌, ◌*◌, ◌^◌, Option, Some, Ok, OnOk, IfOk, IfSome, IfNone, IsTrue, length};
+ghost use Rattle.std.specs.Prelude.{◌≡◌, ◌<◌, ◌≤◌, Option, Some, Ok, OnOk, IfOk, IfSome, IfNone, IsTrue, length, option_copied};
+ghost use Rattle.ctf_class.specs.Streams.{StreamClass};
 ghost use Rattle.ctf_clock.specs.declared.moment.Moment.{Moment};
 ghost use Rattle.ctf_clock.specs.declared.moment.Shift.{Shift};
 ghost use Rattle.ctf_record_text.specs.Making.{Makes};
 ghost use Rattle.ctf_record_text.specs.Shorts.{IsShortOf};
 ghost use Rattle.ctf_packet.specs.Classes.{Classes, stream_form};
 ghost use Rattle.ctf_packet.specs.Items.{Run};
-ghost use Rattle.ctf_packet.specs.Records.{record_at};
-ghost use Rattle.ctf_packet.specs.Views.{values_of, packet_values, opened_of};
+ghost use Rattle.ctf_packet.specs.Places.{IsTimed, record_there};
+ghost use Rattle.ctf_packet.specs.Views.{values_of, packet_values};
 ghost use Rattle.ctf_stream.specs.Coming.{front_in, left_in, room_in, HoldsFront, Within, TakesItem, TakesRoom};
 
 use ctf_clock::Moment;
 use ctf_decode::Scopes;
-use ctf_packet::{EventRecord, OpenPacket, Scratch, StreamFault, next_record};
-use ctf_record_text::{Attempt, LineRecord, ShortHeader, next_line, written_line};
+use ctf_packet::{EventRecord, OpenPacket, RecordPlace, Scratch, StreamFault, next_record};
+use ctf_record_text::{LineBuffer, LineRecord, ShortHeader, next_line, written_line};
 use std::alloc::Global;
 
 /// A packet whose items are told one after the other.
@@ -59,11 +60,11 @@ pub(crate) struct WrittenRecord<'a> {
 }
 
 impl<'a> Packet<'a> {
-    /// The next item, if `writes` asks for texts, and it is an event record that can be shown without its values: its text
-    /// is at the front of `line` then. `scopes` has the values of the packet, and `part` is the text that the lines of the packet
-    /// share. Mostly that is the next item, so it is apart from `next`.
+    /// The next item, if `writes` asks for texts, and it is an event record that can be shown without its values: its text is
+    /// at the front of `line` then. `scopes` has the values of the packet, and `part` is the text that the lines of the packet
+    /// share. Mostly that is the next item, so it is apart from `next`. Its header is told as a short one, or `by_class`.
     ///
-    /// `None` elsewhere: the packet is as it was then, the line is any line, and `attempt` tells `next` what was tried.
+    /// `None` elsewhere: the packet is as it was then, and the line is any line.
     #[inline(always)]
     pub(crate) fn next_written(
         &mut self,
@@ -73,8 +74,7 @@ impl<'a> Packet<'a> {
         writes: bool,
         part: &[u8],
         by_class: bool,
-        line: &mut Vec<u8>,
-        attempt: &mut Attempt,
+        line: &mut LineBuffer,
     ) -> Option<Front<'a>>
         requires within { Within bytes.now self.old }
         requires looked { IsShortOf self.old.opened.stream.now self.old.short }
@@ -85,7 +85,7 @@ impl<'a> Packet<'a> {
             scopes.now bytes.now (Ok (Some front))) }
         ensures written { (shift : Shift) →
             self.old.opened.timeline ≡ (stream_form shift self.old.opened.stream.now).line →
-            IfSome result (HoldsFront writes shift scopes.now bytes.now part.now line.new.items
+            IfSome result (HoldsFront writes shift scopes.now bytes.now part.now line.new.bytes.items
             self.new) }
         ensures room { IfSome result (λ _. room_in self.new < room_in self.old) }
         ensures opened { self.new.opened ≡ self.old.opened }
@@ -93,7 +93,7 @@ impl<'a> Packet<'a> {
         ensures place { self.new.place ≤ self.new.opened.content }
         ensures none { IfNone result (self.new ≡ self.old) }
     {
-        if !writes {
+        if !writes || (self.short.is_none() && !by_class) {
             return None;
         }
         if self.lost.is_some() || self.dropped.is_some() || self.place >= self.opened.content {
@@ -101,19 +101,14 @@ impl<'a> Packet<'a> {
         }
         let before = self.clock;
         let begin = self.place;
-        let made = written_line(
-            alloc,
-            &self.opened,
-            part,
+        let at = RecordPlace {
+            packet: &self.opened,
             bytes,
-            scopes,
-            before,
-            begin,
-            self.short.as_ref(),
-            by_class,
-            line,
-            attempt,
-        )?;
+            clock: before,
+            place: begin,
+        };
+        let short = short_unless(&self.short, by_class);
+        let made = written_line(alloc, &at, part, scopes, short, line)?;
         self.clock = made.record.clock;
         self.place = made.record.end;
         Some(front_of(made, before, begin))
@@ -121,8 +116,7 @@ impl<'a> Packet<'a> {
 
     /// The next item, out of the packet's bytes; `None` behind the last one. `scopes` has the values of the
     /// packet, and of an event record then, unless `writes` asks for its text and this could be written at the front of
-    /// `line`; `part` is the text that the lines of the packet share. `attempt` tells what `next_written` tried before. The
-    /// memory of `scratch` is used.
+    /// `line`; `part` is the text that the lines of the packet share. The memory of `scratch` is used.
     ///
     /// An error is the fault of the next event record: F6 to F11, or `NoMemory`.
     pub(crate) fn next(
@@ -131,10 +125,9 @@ impl<'a> Packet<'a> {
         bytes: &[u8],
         writes: bool,
         part: &[u8],
-        attempt: Attempt,
         scratch: &mut Scratch,
         scopes: &mut Scopes,
-        line: &mut Vec<u8>,
+        line: &mut LineBuffer,
     ) -> Result<Option<Front<'a>>, StreamFault>
         requires { Within bytes.now self.old }
         ensures takes { (shift : Shift) (follows : Option Moment → Run Classes) →
@@ -144,7 +137,7 @@ impl<'a> Packet<'a> {
         ensures written { (shift : Shift) →
             self.old.opened.timeline ≡ (stream_form shift self.old.opened.stream.now).line →
             IfOk result (λ front.
-            IfSome front (HoldsFront writes shift scopes.new bytes.now part.now line.new.items
+            IfSome front (HoldsFront writes shift scopes.new bytes.now part.now line.new.bytes.items
             self.new)) }
         ensures room { TakesRoom (room_in self.old) (room_in self.new) result }
         ensures opened { self.new.opened ≡ self.old.opened }
@@ -166,65 +159,56 @@ impl<'a> Packet<'a> {
         }
         let before = self.clock;
         let begin = self.place;
-        let made = event_at(
-            alloc,
-            &self.opened,
+        let at = RecordPlace {
+            packet: &self.opened,
             bytes,
-            before,
-            begin,
-            writes,
-            part,
-            attempt,
-            scratch,
-            scopes,
-            line,
-        )?;
+            clock: before,
+            place: begin,
+        };
+        let made = event_at(alloc, &at, writes, part, scratch, scopes, line)?;
         self.clock = made.record.clock;
         self.place = made.record.end;
         Ok(Some(front_of(made, before, begin)))
     }
 }
 
-/// The event record at a place of a packet, in bits from its first one, where its clock came so far: with its text, where
-/// that is asked for and can be written, or with its values.
+/// The event record at a place: with its text, where that is asked for and can be written, or with its values.
 ///
 /// An error is the fault of the record: F6 to F11, or `NoMemory`.
 #[inline(always)]
 fn event_at<'a>(
     alloc: Global,
-    packet: &OpenPacket<'a>,
-    bytes: &[u8],
-    clock: Option<Moment>,
-    place: u64,
+    at: &RecordPlace<'_, 'a>,
     writes: bool,
     part: &[u8],
-    attempt: Attempt,
     scratch: &mut Scratch,
     scopes: &mut Scopes,
-    line: &mut Vec<u8>,
+    line: &mut LineBuffer,
 ) -> Result<LineRecord<'a>, StreamFault>
-    requires start { place ≤ packet.now.content }
-    requires content { packet.now.content ≤ 2 ^ 62 }
-    requires held { packet.now.content ≤ 8 * length bytes.now }
-    ensures makes { (shift : Shift) →
-        packet.now.timeline ≡ (stream_form shift packet.now.stream.now).line →
-        Makes packet.now.stream.now
-        (record_at (opened_of shift (packet_values (values_of scopes.old)) packet.now) bytes.now
-        clock place) part.now scopes.new line.new.items result }
-    ensures within { IfOk result (λ r. r.record.end ≤ packet.now.content) }
-    ensures forward { IfOk result (λ r. place < r.record.end) }
+    ensures makes { (shift : Shift) → IsTimed shift at.now.packet.now →
+        Makes at.now.packet.now.stream.now (record_there shift (values_of scopes.old) at.now)
+        part.now scopes.new line.new.bytes.items result }
+    ensures within { IfOk result (λ r. r.record.end ≤ at.now.packet.now.content) }
+    ensures forward { IfOk result (λ r. at.now.place < r.record.end) }
     ensures packet { OnOk result (packet_values (values_of scopes.new) ≡
         packet_values (values_of scopes.old)) }
     ensures text { IfOk result
-        (λ r. IfSome r.text (λ end. (end ≤ length line.new.items) × IsTrue writes)) }
+        (λ r. IfSome r.text (λ end. (end ≤ length line.new.bytes.items) × IsTrue writes)) }
 {
     if writes {
-        return next_line(
-            alloc, packet, part, bytes, clock, place, attempt, scratch, scopes, line,
-        );
+        return next_line(alloc, at, part, scratch, scopes, line);
     }
-    let record = next_record(alloc, packet, bytes, clock, place, scratch, scopes)?;
+    let record = next_record(alloc, at, scratch, scopes)?;
     Ok(LineRecord { record, text: None })
+}
+
+/// What was looked at of a class of headers, unless they are told by their class.
+#[inline(always)]
+fn short_unless(short: &Option<ShortHeader>, by_class: bool) -> Option<&ShortHeader>
+    ensures { (stream : StreamClass) → IsShortOf stream short.now →
+        IsShortOf stream (option_copied result) }
+{
+    if by_class { None } else { short.as_ref() }
 }
 
 /// An event record in front, which was read from a place on, where its packet's clock came so far.

@@ -20,7 +20,7 @@ use ctf_class::{HasId, Scope};
 use ctf_decode::Scopes;
 use ctf_fetch::{Buffer, PacketStart};
 use ctf_packet::{OpenPacket, Reached, Scratch, StreamFault};
-use ctf_record_text::{Attempt, short_header};
+use ctf_record_text::{LineBuffer, short_header};
 use std::alloc::Global;
 
 /// How far a stream was read.
@@ -39,8 +39,8 @@ pub(crate) struct ReadState<'a> {
     pub(crate) scratch: Scratch,
     /// Whether event records are read as texts, where they can.
     pub(crate) writes: bool,
-    /// The text of the event record in front, if it was read as that. Behind it stand any bytes.
-    pub(crate) line: Vec<u8>,
+    /// The text of the event record in front, if it was read as that.
+    pub(crate) line: LineBuffer,
     /// How many bytes were taken from the source.
     pub(crate) taken: u64,
 }
@@ -62,7 +62,7 @@ impl<'a> ReadState<'a> {
             part: PacketPart::new(alloc),
             scratch: Scratch::new(alloc),
             writes: false,
-            line: Vec::new(alloc),
+            line: LineBuffer::new(alloc),
             taken: cut.at,
         }
     }
@@ -82,18 +82,13 @@ impl<'a> ReadState<'a> {
         self.scopes = Scopes::new();
         self.part = PacketPart::new(alloc);
         self.scratch = Scratch::new(alloc);
-        self.line = Vec::new(alloc);
+        self.line = LineBuffer::new(alloc);
     }
 
     /// The next item, if it is an event record of the packet at hand that can be shown without its values, where texts are
-    /// asked for. `None` elsewhere: then only the line is another one, and `attempt` tells `advance` what was tried.
+    /// asked for: by a short header, or `by_class`. `None` elsewhere: then only the line is another one.
     #[inline(always)]
-    pub(crate) fn next_written(
-        &mut self,
-        alloc: Global,
-        by_class: bool,
-        attempt: &mut Attempt,
-    ) -> Option<Front<'a>>
+    pub(crate) fn next_written(&mut self, alloc: Global, by_class: bool) -> Option<Front<'a>>
         requires stands { Stands self.old }
         requires part { HasPart self.old }
         ensures advances { (ending : Ending) (left : List ℕ) →
@@ -123,11 +118,10 @@ impl<'a> ReadState<'a> {
             self.part.as_slice(),
             by_class,
             &mut self.line,
-            attempt,
         )
     }
 
-    /// The next item, out of a source. `None` where the stream ends. `attempt` tells what `next_written` tried before.
+    /// The next item, out of a source, where `next_written` gave none `by_class`. `None` where the stream ends.
     ///
     /// An error is the fault of the stream behind the items before, or `NoMemory`.
     #[inline(never)]
@@ -135,7 +129,6 @@ impl<'a> ReadState<'a> {
         &mut self,
         alloc: Global,
         source: &mut S,
-        attempt: Attempt,
     ) -> Result<Option<Front<'a>>, StreamFault>
         requires stands { Stands self.old }
         requires part { HasPart self.old }
@@ -161,9 +154,8 @@ impl<'a> ReadState<'a> {
         ensures near { OnErr result (self.new.taken ≤ self.new.cut.at + longest_bytes + 1) }
         ensures most { OnErr result (self.new.taken ≤ most_taken) }
     {
-        let mut attempt = attempt;
         loop {
-            match self.step_within(alloc, attempt) {
+            match self.step_within(alloc) {
                 Err(fault) => return Err(fault),
                 Ok(Some(front)) => return Ok(Some(front)),
                 Ok(None) => {}
@@ -173,7 +165,9 @@ impl<'a> ReadState<'a> {
                 Ok(false) => return Ok(None),
                 Ok(true) => {}
             }
-            attempt = Attempt::Open;
+            if let Some(front) = self.next_written(alloc, true) {
+                return Ok(Some(front));
+            }
         }
     }
 
@@ -229,11 +223,7 @@ impl<'a> ReadState<'a> {
     }
 
     /// The next item of the packet at hand. `None` where there is none, and the packet is left then.
-    fn step_within(
-        &mut self,
-        alloc: Global,
-        attempt: Attempt,
-    ) -> Result<Option<Front<'a>>, StreamFault>
+    fn step_within(&mut self, alloc: Global) -> Result<Option<Front<'a>>, StreamFault>
         requires stands { Stands self.old }
         requires part { HasPart self.old }
         ensures steps { (ending : Ending) (left : List ℕ) →
@@ -258,7 +248,6 @@ impl<'a> ReadState<'a> {
             self.buffer.as_slice(),
             self.writes,
             self.part.as_slice(),
-            attempt,
             &mut self.scratch,
             &mut self.scopes,
             &mut self.line,
@@ -302,7 +291,7 @@ impl<'a> ReadState<'a> {
             }))),
             Front::Written(written) => Some(CurrentItem::Text(EventText {
                 moment: written.event.clock,
-                text: &self.line[..written.end],
+                text: &self.line.bytes[..written.end],
             })),
             Front::Discarded(count) => Some(CurrentItem::Item(Item::Discarded(Gap {
                 count: *count,

@@ -18,7 +18,6 @@ use ctf_decode::Scopes;
 use ctf_fetch::PacketStart;
 use ctf_list::Text;
 use ctf_packet::StreamFault;
-use ctf_record_text::Attempt;
 use std::alloc::Global;
 use std::marker::Model;
 
@@ -148,11 +147,7 @@ impl<'a, S: Source + Drop> StreamReader<'a, S> {
             Head::Item(_) => {}
             Head::Start => {}
         }
-        let mut attempt = Attempt::Open;
-        if let Some(front) = self
-            .read_state
-            .next_written(self.alloc, false, &mut attempt)
-        {
+        if let Some(front) = self.read_state.next_written(self.alloc, false) {
             self.head = Head::Item(front);
             return;
         }
@@ -177,15 +172,11 @@ impl<'a, S: Source + Drop> StreamReader<'a, S> {
         ensures on_line { IsOnLine self.new }
         ensures all_taken { IsTrue self.old.tells → IsAllTaken self.new.ahead self.new.left }
     {
-        let mut attempt = Attempt::Open;
-        if let Some(front) = self.read_state.next_written(self.alloc, true, &mut attempt) {
+        if let Some(front) = self.read_state.next_written(self.alloc, true) {
             self.head = Head::Item(front);
             return;
         }
-        match self
-            .read_state
-            .advance(self.alloc, &mut self.source, attempt)
-        {
+        match self.read_state.advance(self.alloc, &mut self.source) {
             Ok(Some(front)) => self.head = Head::Item(front),
             Ok(None) => {
                 self.read_state.release(self.alloc);

@@ -10,7 +10,7 @@ use crate::value::place::Place;
 use crate::value::words::values_of;
 use ctf_class::{Class, RecordPlan, Scope, StreamClass};
 use ctf_decode::Scopes;
-use ctf_format::{Content, Standing, put_planned_record, put_standing};
+use ctf_format::{Content, Members, ScopeInput, Standing, put_planned_record, put_standing};
 
 /// What stands in a line, and behind its fifth byte what stood there.
 pub const LINE: &[u8] = b"[12] and what was there";
@@ -20,9 +20,16 @@ pub fn put_place(row: &mut Row<'_>, class: &Class, place: Place<'_>) {
     if let Ok(line) = Vec::from_slice(row.alloc, LINE) {
         let mut line = line;
         let scopes = scopes_of(row);
-        let packet = content_of(place);
-        let from = begin_of(place);
-        let standing = put_standing(class, &packet, &scopes, from, &mut line);
+        let content = content_of(place);
+        let none = Members::none();
+        let input = ScopeInput {
+            content: &content,
+            scopes: &scopes,
+            stream_context: &none,
+            event_context: &none,
+        };
+        let mut last = Members::none();
+        let standing = put_standing(class, &input, begin_of(place), &mut last, &mut line);
         put_text(row, &line, standing);
     }
 }

@@ -10,18 +10,18 @@ use Rattle.ctf_format.proofs.by_class.+standing.Given as goal
 
 abbrev pub invariant-put_members-loop-i : goal.invariant-put_members-loop-i
 invariant-put_members-loop-i l = record {
-  within : l.place ≤ l.packet.end;
-  held : l.text ≤ vec_len l.buffer;
+  within : l.at.place ≤ l.outside.packet.now.end;
+  held : l.at.text ≤ vec_len l.buffer;
   few : l.more ≤ MOST_VALUES;
   marked : l.lead ≡ mark_at 123 l.i;
-  going : members.Going (Agrees (sight l.around)) l.members l.packet.bytes.now l.packet.end l.begin l.i l.place l.more (MembersAre l.before) (take l.at l.fn.buffer.items) (take l.text l.buffer.items);
+  going : members.Going (Agrees (sight l.outside.around.now)) l.members l.outside.packet.now.bytes.now l.outside.packet.now.end l.fn.from.place l.i l.at.place l.more (MembersAre l.before) (take l.fn.from.text l.fn.buffer.items) (take l.at.text l.buffer.items);
 }
 
 abbrev pub invariant-put_row-loop-i : goal.invariant-put_row-loop-i
 invariant-put_row-loop-i l = record {
-  within : l.place ≤ l.packet.end;
-  held : l.text ≤ vec_len l.buffer;
+  within : l.at.place ≤ l.seen.packet.now.end;
+  held : l.at.text ≤ vec_len l.buffer;
   few : l.more ≤ MOST_VALUES;
   marked : l.lead ≡ mark_at 91 l.i;
-  going : items.Going l.seen (form l.element) (value_text l.element) l.count l.packet l.begin l.i l.place l.more (take l.at l.fn.buffer.items) (take l.text l.buffer.items);
+  going : items.Going l.seen (form l.element) (value_text l.element) l.count l.fn.from.place l.i l.at.place l.more (take l.fn.from.text l.fn.buffer.items) (take l.at.text l.buffer.items);
 }

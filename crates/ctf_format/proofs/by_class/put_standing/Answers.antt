@@ -1,9 +1,9 @@
 use Rattle.std.proofs.Common.{◌≡◌, ◌+◌, ◌≤◌, length, take, sym, ap, ◌∙◌, arith, rules}
 use Rattle.ctf_class.specs.declared.class.Kind as kind
 use Rattle.ctf_decode.specs.declared.scopes.TheConstants.{MOST_VALUES}
-use Rattle.ctf_format.specs.Around.{Agrees, sight}
+use Rattle.ctf_format.specs.Around.{Agrees, MembersAre, ScopeIs, sight}
 use Rattle.ctf_format.specs.declared.around.Around.TheVariants as arounds
-use Rattle.ctf_format.proofs.AroundLemmas.{agrees_top}
+use Rattle.ctf_format.proofs.AroundLemmas.{agrees_top, scope_is}
 use Rattle.ctf_format.proofs.StandingLemmas.{puts_structure}
 use Rattle.ctf_format.proofs.by_class.put_standing.Goals as goal
 
@@ -15,4 +15,6 @@ returns-clause-puts c =
     let total = c.args.from.spent + 1 + length ms + ends.more in
     let room : total ≤ MOST_VALUES = search (rules, arith) in
     let counted : total ≡ c.args.from.spent + 1 + length ms + ends.more = search (rules, arith) in
-    λ earlier env shares. puts_structure (Agrees (sight (arounds.Scopes c.args.scopes))) c.args.class.now ms c.args.packet.now.bytes.now c.args.packet.now.end c.args.from.place c.in_ok-begin.begin c.args.from.spent ends total (take c.args.from.end c.args.buffer.now.items) (take ends.text c.put_enclosed.new.buffer.items) is c.in_ok-begin.ensures.begin c.in_ok-begin.ensures.within counted room c.in_ok-ends.ensures.puts earlier env (agrees_top c.args.scopes earlier env shares)
+    let members = c.put_enclosed.new.before in
+    let packet = c.args.input.now.content.now in
+    λ earlier env are. puts_structure (Agrees (sight (arounds.Scopes c.args.input))) (MembersAre members) (ScopeIs members) (scope_is members) c.args.class.now ms packet.bytes.now packet.end c.args.from.place c.in_ok-place.place c.args.from.spent ends total (take c.args.from.end c.args.buffer.now.items) (take ends.text c.put_enclosed.new.buffer.items) is c.in_ok-place.ensures.begin c.in_ok-place.ensures.within counted room c.in_ok-ends.ensures.puts earlier env (agrees_top c.args.input earlier env are)

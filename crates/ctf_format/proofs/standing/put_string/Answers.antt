@@ -4,7 +4,7 @@ use Rattle.ctf_class.specs.Names.{label_text}
 use Rattle.ctf_decode.specs.Forms as forms
 use Rattle.ctf_format.specs.Standing.{PutsOne}
 use Rattle.ctf_format.specs.Texts.{string_text}
-use Rattle.ctf_format.specs.declared.standing.Ends.{Ends}
+use Rattle.ctf_format.specs.declared.standing.Position.{Position}
 use Rattle.ctf_format.proofs.StandingLemmas.{puts_string}
 use Rattle.ctf_format.proofs.standing.put_string.Goals as goal
 
@@ -16,7 +16,7 @@ module _ (packet bytes : List ℕ) (content place begin : ℕ) (before : List �
       puts_string packet content place end n before after (ap (position (λ x. nat_eq x 0)) (sym left) ∙ first) (ending ∙ ap (λ m. m + 8 * (n + 1)) starts) (wrote ∙ ap (λ xs. before ++ label_text (take n xs)) left)
 
   -- the same of one that was looked for
-  puts_found : (r : Option Ends) (line : List ℕ) → IfSome r (λ e. (n : ℕ) × (position (λ x. nat_eq x 0) bytes ≡ Some n) × (e.place ≡ begin + 8 * (n + 1)) × (take e.text line ≡ before ++ label_text (take n bytes)))
+  puts_found : (r : Option Position) (line : List ℕ) → IfSome r (λ e. (n : ℕ) × (position (λ x. nat_eq x 0) bytes ≡ Some n) × (e.place ≡ begin + 8 * (n + 1)) × (take e.text line ≡ before ++ label_text (take n bytes)))
       → IfSome r (λ e. (a : ℕ) → PutsOne (forms.string a) string_text packet content place e.place before (take e.text line))
   puts_found (Some e) line found = puts_bytes found.0 e.place (take e.text line) found.1 found.2 found.3
   puts_found None line found = tt

@@ -7,5 +7,5 @@ abbrev pub invariant-loop-member : goal.invariant-loop-member
 invariant-loop-member l = record {
   within : l.at.place ≤ l.content;
   few : l.at.spent ≤ MOST_VALUES;
-  going : Going (option_copied l.line) l.members l.bytes l.content l.fn.from l.member-index l.at;
+  going : Going (option_copied l.timeline) l.members l.bytes l.content l.fn.from l.member-index l.at;
 }

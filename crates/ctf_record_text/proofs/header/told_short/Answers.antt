@@ -10,13 +10,13 @@ use Rattle.ctf_record_text.proofs.header.told_short.Goals as goal
 
 pub returns-clause-tells : goal.returns-clause-tells
 returns-clause-tells c = λ shift has_line.
-    let stream = c.args.packet.now.stream.now in
-    let clock = c.in_ok-clock.field-0 in
+    let stream = c.args.at.now.packet.now.stream.now in
+    let clock = c.in_ok-at.field-0 in
     let to = c.in_ok-to.to in
     let is = c.requires.short in
     let told : ToldHead = record { head = record { event = c.in_ok-planned.planned.event; clock = Some to.clock; end = to.place }; spent = 5 } in
     let low : pos 0 ≤ℤ pos to.id = grind (arith, ints) in
     let high : pos to.id ≤ℤ pos 18446744073709551615 = grind (arith, ints) in
     let named = sym (ap (option_map (event_form stream)) (sym c.in_ok-planned.ensures.event) ∙ number_told stream (pos to.id) (pos to.id) refl low high) in
-    subst (λ o. TellsHead stream (stream_form shift stream) c.args.bytes.now c.args.packet.now.content o c.args.place told) (sym c.in_ok-clock.was)
-    (tells_head stream shift is.0 c.in_ok-line.line.now clock c.args.bytes.now c.args.packet.now.content c.args.place (begins_telling clock c.args.place) (short_telling to) told is.1 (sym has_line ∙ sym c.in_ok-line.ensures.value) refl (c.in_ok-to.ensures.tells is.0 is.2) named refl refl refl)
+    subst (λ o. TellsHead stream (stream_form shift stream) c.args.at.now.bytes.now c.args.at.now.packet.now.content o c.args.at.now.place told) (sym c.in_ok-at.was)
+    (tells_head stream shift is.0 c.in_ok-timeline.timeline.now clock c.args.at.now.bytes.now c.args.at.now.packet.now.content c.args.at.now.place (begins_telling clock c.args.at.now.place) (short_telling to) told is.1 (sym has_line ∙ sym c.in_ok-timeline.ensures.value) refl (c.in_ok-to.ensures.tells is.0 is.2) named refl refl refl)

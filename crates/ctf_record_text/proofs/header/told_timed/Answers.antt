@@ -1,12 +1,16 @@
-use Rattle.std.proofs.Common.{Some, sym, ap, ◌∙◌}
-use Rattle.ctf_packet.specs.Classes.{event_form}
+use Rattle.std.proofs.Common.{Some, sym, subst, ap, ◌∙◌}
+use Rattle.ctf_record_text.specs.Headers.{TellsHead}
+use Rattle.ctf_packet.specs.Classes.{event_form, stream_form}
 use Rattle.ctf_record_text.proofs.Heading.{tells_head}
 use Rattle.ctf_record_text.proofs.header.told_timed.Goals as goal
 
 pub returns-clause-tells : goal.returns-clause-tells
 returns-clause-tells c = λ shift has_line.
-    let class = c.args.packet.now.stream.now in
+    let at = c.args.at.now in
+    let class = at.packet.now.stream.now in
+    let clock = c.in_ok-at.field-0 in
     let to = c.in_ok-to.to in
     let h = c.head_of.ensures in
     let named = c.in_ok-planned.ensures.event ∙ ap (λ e. Some (event_form class e.now)) (sym h.event) in
-    tells_head class shift c.args.class.now c.args.line.now c.args.clock c.args.bytes.now c.args.packet.now.content c.args.place c.begins_at-from.result to c.head_of.result.told c.requires.class (sym has_line ∙ c.requires.line) c.begins_at-from.ensures c.in_ok-to.ensures.tells named h.clock h.end h.spent
+    subst (λ o. TellsHead class (stream_form shift class) at.bytes.now at.packet.now.content o at.place c.head_of.result.told) (sym c.in_ok-at.was)
+    (tells_head class shift c.args.class.now c.args.timeline.now clock at.bytes.now at.packet.now.content at.place c.begins_at-from.result to c.head_of.result.told c.requires.class (sym has_line ∙ c.requires.timeline) c.begins_at-from.ensures c.in_ok-to.ensures.tells named h.clock h.end h.spent)

@@ -5,16 +5,16 @@ use Rattle.ctf_record_text.proofs.record.put_by_plan.Goals as goal
 
 pub put_planned_record-requires-clause-plan : goal.put_planned_record-requires-clause-plan
 put_planned_record-requires-clause-plan c =
-    let stream = c.args.packet.now.stream.now in
-    let event = c.args.told.head.event.now in
+    let stream = c.args.at.now.packet.now.stream.now in
+    let event = c.args.planned.told.head.event.now in
     (scopes_of stream.event_context event.context event.fields, c.requires.plan)
 
 pub returns-clause-puts : goal.returns-clause-puts
 returns-clause-puts c = λ known.
-    let stream = c.args.packet.now.stream.now in
-    let event = c.args.told.head.event.now in
+    let stream = c.args.at.now.packet.now.stream.now in
+    let event = c.args.planned.told.head.event.now in
     let all = c.in_ok-all.all in
     let front = take c.in-Ok.front c.put_front.new.buffer.items in
     let text = take all.end c.put_planned_record.new.buffer.items in
-    planned_body known stream event c.args.part.now c.args.bytes.now c.args.packet.now.content c.args.told.head.end c.args.told.spent all.place all.spent front text c.in-Ok.ensures.text
+    planned_body known stream event c.args.part.now c.args.at.now.bytes.now c.args.at.now.packet.now.content c.args.planned.told.head.end c.args.planned.told.spent all.place all.spent front text c.in-Ok.ensures.text
     (c.in_ok-all.ensures.puts (scopes_of stream.event_context event.context event.fields) (some_scopes stream.event_context event.context event.fields) c.requires.plan)

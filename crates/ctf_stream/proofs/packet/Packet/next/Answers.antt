@@ -11,7 +11,7 @@ returns-clause-takes c = λ shift follows line.
     let bytes = c.args.bytes.now in
     let made = c.in_ok-made.made in
     let rest = left_in shift after bytes follows (record p { clock = made.record.clock; place = made.record.end }) in
-    took_made shift p c.args.scopes.now after bytes c.in_ok-made.ensures.packet made.record follows c.args.part.now c.event_at.new.line.items made.text (search rules) (search rules) (search rules) (c.in_ok-made.ensures.makes shift line)
+    took_made shift p c.args.scopes.now after bytes c.in_ok-made.ensures.packet made.record follows c.args.part.now c.event_at.new.line.bytes.items made.text (search rules) (search rules) (search rules) (c.in_ok-made.ensures.makes shift line)
     ∙ ap (λ f. before (item_in shift after bytes p f ∷ []) rest) (sym c.front_of.ensures)
 
 pub returns-in_err-made-clause-takes : goal.returns-in_err-made-clause-takes

@@ -1,8 +1,8 @@
-use Rattle.std.proofs.Common.{rules, ◌≡◌, ◌+◌, length, Some, ap, subst, ◌∙◌}
+use Rattle.std.proofs.Common.{rules, ◌≡◌, Some, ap, subst, sym, ◌∙◌}
 use Rattle.ctf_packet.specs.Items.{stops}
 use Rattle.ctf_fetch.specs.Fetching.{OrNoMemory}
 use Rattle.ctf_stream.specs.ReadState.{coming_of}
-use Rattle.ctf_stream.proofs.ReadStates.{advanced, stepped, at_fault, entered, ended}
+use Rattle.ctf_stream.proofs.ReadStates.{advanced, also_before, if_none, stepped, at_fault, entered, ended}
 use Rattle.ctf_stream.proofs.read_state.ReadState.advance.Goals as goal
 
 pub returns-in-Ok-Some-clause-advances : goal.returns-in-Ok-Some-clause-advances
@@ -23,6 +23,19 @@ returns-in-Err-enter-clause-advances g c = λ tells.
     at_fault _ (coming_of ending left middle) c.enter.new.self.cut.at c.in-Err-enter.fault steps.0
     (subst (λ e. OrNoMemory (λ f. coming_of e left middle ≡ stops (Some f) c.enter.new.self.cut.at) c.in-Err-enter.fault) (before.ending tells) (c.in-Err-enter.ensures.enters (before.tells tells)))
 
+pub returns-in-Some-clause-advances : goal.returns-in-Some-clause-advances
+returns-in-Some-clause-advances g c = λ tells.
+    let ending = g.S.Source.ending c.args.source.now in
+    let left = g.S.Source.left c.loop-fault.source in
+    let middle = c.step_within.new.self in
+    let entered_at = c.enter.new.self in
+    let after = g.S.Source.left c.enter.new.source in
+    let new = c.next_written.new.self in
+    let before = c.loop-fault.invariant in
+    let steps = stepped _ (coming_of ending left c.loop-fault.self) (coming_of ending left middle) middle.cut middle.scopes middle.buffer middle.packet c.in-Ok-None.field-0 (before.coming tells) c.in-Ok-None.field-0-is (c.in-Ok-None.ensures.steps ending left) in
+    let enters = entered (g.S.Source.ending c.loop-fault.source) ending left after middle entered_at c.in-Ok-true.field-0 (before.ending tells) c.in-Ok-true.field-0-test (c.in-Ok-true.ensures.enters (before.tells tells)) in
+    also_before _ (coming_of ending after entered_at) (coming_of ending after new) new.cut new.scopes new.buffer new.packet after c.in-Some.front (steps.0 ∙ enters) (c.in-Some.ensures.advances ending after)
+
 pub loop-fault-preserved : goal.loop-fault-preserved
 loop-fault-preserved g c =
     let ending = g.S.Source.ending c.args.source.now in
@@ -36,8 +49,8 @@ loop-fault-preserved g c =
       ending = λ h. c.enter.ensures.same_end (before.tells h) ∙ before.ending h;
       coming = (λ h.
           let steps = stepped _ (coming_of ending left c.loop-fault.self) (coming_of ending left middle) middle.cut middle.scopes middle.buffer middle.packet c.in-Ok-None.field-0 (before.coming h) c.in-Ok-None.field-0-is (c.in-Ok-None.ensures.steps ending left) in
-          steps.0 ∙ entered (g.S.Source.ending c.loop-fault.source) ending left after middle new c.in-Ok-true.field-0 (before.ending h) c.in-Ok-true.field-0-test (c.in-Ok-true.ensures.enters (before.tells h)));
-      counted = (λ h. c.enter.ensures.counted (before.tells h) ∙ ap (λ n. n + length left) c.step_within.ensures.taken ∙ before.counted h);
+          steps.0 ∙ entered (g.S.Source.ending c.loop-fault.source) ending left after middle new c.in-Ok-true.field-0 (before.ending h) c.in-Ok-true.field-0-test (c.in-Ok-true.ensures.enters (before.tells h)) ∙ ap (coming_of ending after) (sym (if_none c.next_written.result _ c.in_default.is c.next_written.ensures.none)));
+      counted = (λ h. search rules);
       forward = search rules;
       trace = search rules;
       stands = search rules;

@@ -8,7 +8,7 @@ pub returns-clause-holds : goal.returns-clause-holds
 returns-clause-holds c =
     let old = c.args.self.now in
     let shift = old.cut.shift in
-    let line = c.next_written.new.line.items in
+    let line = c.next_written.new.line.bytes.items in
     let new = c.next_written.new.self in
     let front = c.next_written.result in
     let stands = inside old.cut Clean [] old.buffer old.taken old.packet c.in-Some.packet c.in-Some.is c.requires.stands in
