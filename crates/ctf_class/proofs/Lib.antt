@@ -7,5 +7,6 @@ pub mod NamesLemmas
 pub mod PlacesLemmas
 pub mod RanksLemmas
 pub mod RecordsLemmas
+pub mod RoleLemmas
 pub mod StreamsLemmas
 pub mod WordsLemmas

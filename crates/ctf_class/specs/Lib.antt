@@ -13,6 +13,7 @@ pub mod NameRanks
 pub mod Names
 pub mod Places
 pub mod Records
+pub mod RoleNames
 pub mod SameNames
 pub mod Streams
 pub mod Words

@@ -5,3 +5,4 @@ mod Composites
 mod Opening
 mod Sizing
 mod Fetched
+mod Fronts

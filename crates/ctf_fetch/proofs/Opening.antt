@@ -53,12 +53,12 @@ there_is bytes known =
     λ i. record { packet = bytes; content = min (8 * length bytes) longest; earlier = λ scope. same_value known scope i; limit = MOST_VALUES }
 
 -- what was asked for and is there is what stands
-abbrev stood_or : Stood → Result Stood (Want Classes) → Stood
+abbrev pub stood_or : Stood → Result Stood (Want Classes) → Stood
 stood_or d (Ok x) = x
 stood_or d (Err want) = d
 
 -- and it was found
-asked_found : (step : Step Val) (s : Stood) (q : ℕ) → asked {C = Classes} step ≡ Ok s → q ≡ s.end → (x : Val × ℕ × ℕ) × (step ≡ Ok x) × (x.1 ≡ q)
+pub asked_found : (step : Step Val) (s : Stood) (q : ℕ) → asked {C = Classes} step ≡ Ok s → q ≡ s.end → (x : Val × ℕ × ℕ) × (step ≡ Ok x) × (x.1 ≡ q)
 asked_found (Ok x) s q e same = (x, refl, ap (λ r. (stood_or s r).end) e ∙ sym same)
 asked_found (Err f) s q e same = absurd (cc)
 
@@ -90,7 +90,7 @@ module _ (next : NextScope) (k : Form) (is : form_of next.class ≡ Some k) (kno
       at_ok (form_of next.class) k (front (bytes ++ more) (values_of known)) next.scope (values_of known) next.end known.spent q h.0 after is at_place h.2
 
   -- a value that was asked for is the one that is found
-  put_found : (q : ℕ) (after : Known) → PutsAsked next.scope (values_of known) (scope_asked next bytes known) q after
+  pub put_found : (q : ℕ) (after : Known) → PutsAsked next.scope (values_of known) (scope_asked next bytes known) q after
       → (x : Val × ℕ × ℕ) × (walk k (there bytes known) [] next.end known.spent ≡ Ok x) × (x.1 ≡ q)
   put_found q after h =
       let asks = ap (λ (o : Option Form). asked_at {C = Classes} o (front bytes (values_of known)) next.end known.spent) (sym is) ∙ h.1 in

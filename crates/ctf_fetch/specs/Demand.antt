@@ -1,11 +1,13 @@
 -- What is decoded while the bytes of a packet come.
-use Rattle.std.specs.Prelude.{◌≡◌, ℕ, ◌+◌, ◌*◌, ◌<◌, ◌≤◌, min, max, List, [], ◌++◌, length, map, Option, Ok, Err}
+use Rattle.std.specs.Prelude.{◌≡◌, ℕ, ◌+◌, ◌*◌, ◌<◌, ◌≤◌, min, max, List, [], ◌++◌, length, map, Option, Some, Ok, Err}
 use Rattle.std.specs.Int.{next_multiple_of}
 use Rattle.ctf_bits.specs.declared.source.Ending.{Ending}
 use Rattle.ctf_class.specs.declared.class.Class.{Class}
 use Rattle.ctf_class.specs.declared.class.Member.{Member}
+use Rattle.ctf_class.specs.declared.trace.TraceClass.{TraceClass}
+use Rattle.ctf_clock.specs.declared.moment.Shift.{Shift}
 use Rattle.ctf_decode.specs.Values.{Val}
-use Rattle.ctf_decode.specs.Forms.{parts_of}
+use Rattle.ctf_decode.specs.Forms.{Form, parts_of}
 use Rattle.ctf_decode.specs.Input.{Input, Env}
 use Rattle.ctf_decode.specs.Stands.{Stands, StandsRow, StandsMembers}
 use Rattle.ctf_decode.specs.Breaks.{Fault}
@@ -14,8 +16,11 @@ use Rattle.ctf_decode.specs.Views.{form, member_part, val, env, input_in}
 use Rattle.ctf_decode.specs.Walk.{Step, and_then, begin, open_at, repeat, with_option, as_group, as_list, as_choice, string_at, walk, walk_members, walk_option}
 use Rattle.ctf_decode.specs.declared.decoding.Decoded.{Decoded}
 use Rattle.ctf_decode.specs.declared.scopes.TheConstants.{MOST_VALUES}
-use Rattle.ctf_packet.specs.Scopes.{longest, fault_in_front}
+use Rattle.ctf_packet.specs.Classes.{Classes, StreamForm, trace_form}
+use Rattle.ctf_packet.specs.Packets.{stream_named}
+use Rattle.ctf_packet.specs.Scopes.{Stood, longest, fault_in_front}
 use Rattle.ctf_packet.specs.declared.fault.StreamFault.{StreamFault}
+use Rattle.ctf_packet_demand.specs.Wants.{asked_at}
 use Rattle.ctf_fetch.specs.declared.demand.Place.{Place}
 
 -- the first bytes of a packet, as far as one may reach, and the values of the scopes before
@@ -95,6 +100,22 @@ abbrev pub ElementsTake : Class → ℕ → ℕ → Type 0
 ElementsTake element count n =
     (c : Input) (e : Env) (done : List Val) (p : ℕ) (vs : List Val) (q : ℕ)
     → StandsRow (Stands (form element) c e) count done p vs q → p + n ≤ q
+
+-- a scope of this class, or of none, takes so many bits at least
+abbrev pub ScopeTakes : Option Form → ℕ → Type 0
+ScopeTakes k n = (c : Input) (p s : ℕ) (x : Stood) → asked_at {C = Classes} k c p s ≡ Ok x → p + n ≤ x.end
+
+-- so does the context of each packet of a trace
+abbrev pub ContextTakes : TraceClass → ℕ → Type 0
+ContextTakes trace n =
+    (shift : Shift) (id : Option ℕ) (stream : StreamForm Classes) → stream_named (trace_form shift trace).streams id ≡ Some stream → ScopeTakes stream.packet_context n
+
+-- the header and the context of each packet of a trace take so many bytes at least
+abbrev pub FrontTakes : TraceClass → ℕ → Type 0
+FrontTakes trace bytes =
+    (shift : Shift) (id : Option ℕ) (stream : StreamForm Classes) → stream_named (trace_form shift trace).streams id ≡ Some stream
+    → (c d : Input) (s t : ℕ) (x y : Stood) → asked_at {C = Classes} (trace_form shift trace).packet_header c 0 s ≡ Ok x
+    → asked_at {C = Classes} stream.packet_context d x.end t ≡ Ok y → 8 * bytes ≤ y.end
 
 -- whatever bytes are there, a value of this class at a place takes so many bits at least
 abbrev pub TakesAt : Class → Place → ℕ → Type 0

@@ -1,6 +1,6 @@
 //! Packets out of a source.
 
-ghost use Rattle.std.specs.Prelude.{◌≡◌, ◌+◌, ◌*◌, ◌/◌, ◌^◌, ◌≤◌, ◌<◌, [], ◌++◌, min, length, take, None, true, IsTrue, ◌⊎◌, Err, IfOk, IfErr, IfSome, OnOk};
+ghost use Rattle.std.specs.Prelude.{◌≡◌, ◌+◌, ◌*◌, ◌/◌, ◌^◌, ◌≤◌, ◌<◌, [], ◌++◌, min, max, length, take, Some, None, true, IsTrue, ◌⊎◌, Err, IfOk, IfErr, IfSome, OnOk};
 ghost use Rattle.ctf_decode.specs.Known.{nothing_known};
 ghost use Rattle.ctf_packet.specs.Classes.{trace_form};
 ghost use Rattle.ctf_packet.specs.Packets.{open_at, are_possible};
@@ -9,9 +9,12 @@ ghost use Rattle.ctf_packet.specs.Gives.{Fitting};
 ghost use Rattle.ctf_packet.specs.Views.{values_of, packet_values};
 ghost use Rattle.ctf_packet_demand.specs.Wants as wants;
 ghost use Rattle.ctf_fetch.specs.Fetching.{longest_bytes, OrNoMemory, Fetches, FetchedAt, FetchesAt};
+ghost use Rattle.ctf_packet.specs.declared.fault.StreamFault.TheVariants.{NoMemory};
+ghost use Rattle.ctf_fetch.specs.Demand.{FrontTakes};
 ghost use Rattle.ctf_fetch.specs.Openings.{want_of, FitsOpening, TakesWhole, TakesRest, TakesSized, Opens};
 
 use crate::buffer::{Buffer, Filled};
+use crate::least::least_front;
 use crate::scope::{NextScope, scope_on_demand};
 use ctf_bits::{Ending, Source};
 use ctf_class::{Scope, TraceClass};
@@ -40,6 +43,11 @@ pub struct PacketStart<'a> {
     pub reached: Option<Reached>,
     /// In bytes of the stream.
     pub at: u64,
+    /// How many bytes the header and the context of a packet take at least, which are asked for at once; 0 before the
+    /// first packet, since a stream may be empty.
+    least: usize,
+    ghost takes: { FrontTakes trace.now least },
+    ghost bounded: { least ≤ longest_bytes },
 }
 
 /// A packet whose header and context were decoded.
@@ -95,11 +103,41 @@ fn fill_rest<S: Source>(source: &mut S, buffer: &mut Buffer) -> Result<Ending, S
 }
 
 impl<'a> PacketStart<'a> {
+    /// The beginning of a stream.
+    pub fn new(trace: &'a TraceClass, shift: Shift) -> PacketStart<'a>
+        ensures trace { result.trace ≡ trace.entry }
+        ensures shift { result.shift ≡ shift }
+        ensures reached { result.reached ≡ None }
+        ensures at { result.at ≡ 0 }
+    {
+        PacketStart {
+            trace,
+            shift,
+            reached: None,
+            at: 0,
+            least: 0,
+        }
+    }
+
+    /// Goes on to where the packet ends that begins here: to what the stream came to by it, at a byte of the stream.
+    pub fn go_on(&mut self, reached: Reached, at: u64)
+        ensures trace { self.new.trace ≡ self.old.trace }
+        ensures shift { self.new.shift ≡ self.old.shift }
+        ensures reached { self.new.reached ≡ Some reached }
+        ensures at { self.new.at ≡ at }
+    {
+        if self.reached.is_none() {
+            self.least = least_front(self.trace);
+        }
+        self.reached = Some(reached);
+        self.at = at;
+    }
+
     /// The packet that begins here, out of a source (CTF 1.8.3, section 5); its bytes are in `buffer` then, and the values
     /// of its header and context in `scopes`. `None` where the stream ends here.
     ///
-    /// It takes one byte, then those that the header and the context ask for, then the rest of the packet: 2^28 bytes at
-    /// the most, and one more of a stream whose rest is longer. An error is the first fault of the packet before its event
+    /// It takes those bytes that each header and context ask for, one at least, then those that this header and this context
+    /// ask for, then the rest of the packet: 2^28 bytes at the most, and one more of a stream whose rest is longer. An error is the first fault of the packet before its event
     /// records: F1 to F5, F8, F9, F11, F13 or F14; or `NoMemory`. The bytes that were taken are in `buffer` then too.
     pub fn fetch<S: Source>(
         &self,
@@ -126,10 +164,10 @@ impl<'a> PacketStart<'a> {
         ensures few { length buffer.new ≤ longest_bytes + 1 }
         ensures last { 2 ^ 60 < self.now.at → length buffer.new ≤ 1 }
     {
-        match buffer.fill(source, 1)? {
-            Filled::Ended(Ending::Clean) => return Ok(None),
-            Filled::Ended(Ending::Failed) => return Err(StreamFault::ReadFailed),
-            Filled::Whole => {}
+        match self.take_first(source, buffer)? {
+            Some(Ending::Clean) => return Ok(None),
+            Some(Ending::Failed) => return Err(StreamFault::ReadFailed),
+            None => {}
         }
         if self.at > LONGEST_STREAM {
             return Err(StreamFault::StreamTooLong);
@@ -140,7 +178,39 @@ impl<'a> PacketStart<'a> {
         }
     }
 
-    /// The packet whose first byte is there.
+    /// Takes the bytes that each header and context ask for, as far as the stream has them. How the stream ends, where it has
+    /// no byte more.
+    fn take_first<S: Source>(
+        &self,
+        source: &mut S,
+        buffer: &mut Buffer,
+    ) -> Result<Option<Ending>, StreamFault>
+        requires empty { buffer.old ≡ [] }
+        ensures tells { IsTrue (S.tells source.old) → IsTrue (S.tells source.new) }
+        ensures same_end { IsTrue (S.tells source.old) → S.ending source.new ≡ S.ending source.old }
+        ensures kept { IsTrue (S.tells source.old) →
+            buffer.new ++ S.left source.new ≡ buffer.old ++ S.left source.old }
+        ensures ended { IsTrue (S.tells source.old) →
+            IfOk result (λ ended.
+            IfSome ended (λ e. (e ≡ S.ending source.old) × (S.left source.new ≡ []))) }
+        ensures nothing { IfOk result (λ ended. IfSome ended (λ _. buffer.new ≡ [])) }
+        ensures some { IfOk result (λ ended. ended ≡ None → 0 < length buffer.new) }
+        ensures few { length buffer.new ≤ max 1 self.now.least }
+        ensures last { 2 ^ 60 < self.now.at → length buffer.new ≤ 1 }
+        ensures refused { IfErr result (λ fault. fault ≡ NoMemory) }
+    {
+        let count = if self.at > LONGEST_STREAM {
+            1
+        } else {
+            self.least.max(1)
+        };
+        match buffer.fill(source, count)? {
+            Filled::Ended(ending) if buffer.len() == 0 => Ok(Some(ending)),
+            _ => Ok(None),
+        }
+    }
+
+    /// The packet of which the first byte is there, and no byte that not each header and context ask for.
     fn open<S: Source>(
         &self,
         alloc: Global,
@@ -149,7 +219,8 @@ impl<'a> PacketStart<'a> {
         scopes: &mut Scopes,
     ) -> Result<OpenPacket<'a>, StreamFault>
         requires at { self.now.at ≤ 2 ^ 60 }
-        requires one { length buffer.old ≡ 1 }
+        requires some { 0 < length buffer.old }
+        requires few { length buffer.old ≤ max 1 self.now.least }
         ensures tells { IsTrue (S.tells source.old) → IsTrue (S.tells source.new) }
         ensures same_end { IsTrue (S.tells source.old) → S.ending source.new ≡ S.ending source.old }
         ensures kept { IsTrue (S.tells source.old) →
@@ -183,7 +254,8 @@ impl<'a> PacketStart<'a> {
         buffer: &mut Buffer,
         scopes: &mut Scopes,
     ) -> Result<Opening<'a>, StreamFault>
-        requires one { length buffer.old ≡ 1 }
+        requires some { 0 < length buffer.old }
+        requires few { length buffer.old ≤ max 1 self.now.least }
         ensures tells { IsTrue (S.tells source.old) → IsTrue (S.tells source.new) }
         ensures same_end { IsTrue (S.tells source.old) → S.ending source.new ≡ S.ending source.old }
         ensures kept { IsTrue (S.tells source.old) →

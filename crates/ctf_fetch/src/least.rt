@@ -1,17 +1,57 @@
 //! How many bits a value takes at least, where that is known before its bytes come.
 
-ghost use Rattle.std.specs.Prelude.{◌≡◌, ◌↔◌, ◌≤◌, max, IfSome, IsTrue};
+ghost use Rattle.std.specs.Prelude.{◌≡◌, ◌↔◌, ◌≤◌, max, option_map, option_copied, IfSome, IsTrue};
+ghost use Rattle.ctf_decode.specs.Views.{form};
 ghost use Rattle.ctf_packet.specs.Scopes.{longest};
-ghost use Rattle.ctf_fetch.specs.Demand.{TakesAtLeast, MembersTake, ElementsTake, TakesAt, EndsAtLeast};
+ghost use Rattle.ctf_fetch.specs.Demand.{TakesAtLeast, MembersTake, ElementsTake, TakesAt, EndsAtLeast, ScopeTakes, ContextTakes, FrontTakes};
+ghost use Rattle.ctf_fetch.specs.Fetching.{longest_bytes};
 
 use crate::demand::Place;
-use ctf_class::{Align, Class, Kind, Length, Member, Width};
+use ctf_class::{Align, Class, Kind, Length, Member, TraceClass, Width};
 use ctf_decode::length_at;
 use ctf_packet::LONGEST_PACKET;
 
 /// How deep the parts of a class may lie in one another. Where its size is not known, its parts are asked about by themselves:
 /// so each is looked at a few times, however deep it lies.
 const DEEPEST: u32 = 4;
+
+/// How many bytes the header and the context of each packet of a trace take at least. What the context takes is known where
+/// the trace has one stream class, of which each packet is then.
+pub(crate) fn least_front(trace: &TraceClass) -> usize
+    ensures takes { FrontTakes trace.now result }
+    ensures bounded { result ≤ longest_bytes }
+{
+    let header = bits_of_scope(trace.packet_header());
+    let context = bits_of_context(trace);
+    ((header + context).min(LONGEST_PACKET) / 8) as usize
+}
+
+/// How many bits the context of each packet takes at least, as far as that is known.
+fn bits_of_context(trace: &TraceClass) -> u64
+    ensures takes { ContextTakes trace.now result }
+    ensures bounded { result ≤ longest }
+{
+    match trace.only() {
+        None => 0,
+        Some(stream) => bits_of_scope(stream.packet_context()),
+    }
+}
+
+/// How many bits a scope takes at least, as far as that is known.
+fn bits_of_scope(class: Option<&Class>) -> u64
+    ensures takes { ScopeTakes (option_map form (option_copied class.entry)) result }
+    ensures bounded { result ≤ longest }
+{
+    match class {
+        None => 0,
+        Some(class) => {
+            if class.depth > DEEPEST {
+                return 0;
+            }
+            least_bits(class).unwrap_or(0)
+        }
+    }
+}
 
 /// The bit at which a value at a place ends at least: it may end up to seven bits later.
 ///

@@ -1,6 +1,6 @@
 //! The header and the context of a packet, decoded while their bytes come.
 
-ghost use Rattle.std.specs.Prelude.{◌≡◌, ◌+◌, ◌*◌, ◌≤◌, ◌++◌, min, max, length, take, option_map, option_copied, IsTrue, IfOk, IfErr, Some, ℕ, List};
+ghost use Rattle.std.specs.Prelude.{◌≡◌, ◌+◌, ◌*◌, ◌≤◌, ◌++◌, min, max, length, take, option_map, option_copied, IsTrue, IfOk, IfErr, IfSome, IfNone, Some, ℕ, List};
 ghost use Rattle.ctf_packet.specs.Scopes.{longest};
 ghost use Rattle.ctf_packet.specs.Views.{values_of};
 ghost use Rattle.ctf_packet_demand.specs.Gives.{PutsAsked};
@@ -62,7 +62,40 @@ pub(crate) fn scope_on_demand<S: Source>(
             scopes.take(next.scope);
             Ok(next.end)
         }
-        Some(class) => class_on_demand(class, next, source, buffer, spare, scopes),
+        Some(class) => match scope_at_hand(class, next, buffer.as_slice(), spare, scopes) {
+            Some(end) => Ok(end),
+            None => class_on_demand(class, next, source, buffer, spare, scopes),
+        },
+    }
+}
+
+/// Puts the value of this class in its scope, if all of its bytes are there. The bit at which it ends. The memory of `spare`
+/// may be used for it, and any value may be in it then.
+fn scope_at_hand(
+    class: &Class,
+    next: &NextScope<'_>,
+    bytes: &[u8],
+    spare: &mut Value,
+    scopes: &mut Scopes,
+) -> Option<u64>
+    requires class { next.now.class ≡ Some class }
+    requires start { next.now.end ≤ min (8 * length bytes.now) longest }
+    ensures puts { (more : List ℕ) →
+        let asked = scope_asked next.now (bytes.now ++ more) scopes.old in
+        IfSome result (λ end. PutsAsked next.now.scope (values_of scopes.old) asked end scopes.new) }
+    ensures within { IfSome result (λ end. end ≤ min (8 * length bytes.now) longest) }
+    ensures forward { IfSome result (λ end. next.now.end ≤ end) }
+    ensures none { IfNone result (scopes.new ≡ scopes.old) }
+{
+    let content = front_content(bytes);
+    if content == next.end {
+        return None;
+    }
+    match scope_into(
+        next.alloc, class, bytes, next.end, content, next.scope, spare, scopes,
+    ) {
+        Ok(end) => Some(end),
+        Err(_) => None,
     }
 }
 
@@ -108,13 +141,9 @@ fn class_on_demand<S: Source>(
         return parts_on_demand(class, next, source, buffer, scopes);
     };
     fill_ahead(source, buffer, least)?;
-    let bytes = buffer.as_slice();
-    let content = front_content(bytes);
-    match scope_into(
-        next.alloc, class, bytes, next.end, content, next.scope, spare, scopes,
-    ) {
-        Ok(end) => Ok(end),
-        Err(_) => parts_on_demand(class, next, source, buffer, scopes),
+    match scope_at_hand(class, next, buffer.as_slice(), spare, scopes) {
+        Some(end) => Ok(end),
+        None => parts_on_demand(class, next, source, buffer, scopes),
     }
 }
 

@@ -8,7 +8,7 @@ ghost use Rattle.ctf_format.specs.Rows.{row};
 
 use crate::mark::put_end;
 use crate::value::put_member;
-use ctf_class::{Class, Kind, Member};
+use ctf_class::{Class, FieldName, Kind, Member, Role};
 use ctf_decode::{Value, members_in};
 use ctf_list::NoMemory;
 
@@ -97,7 +97,7 @@ fn put_shown(
         if i >= values.len() {
             return Ok(end);
         }
-        if is_of_packet(member.name.as_slice()) {
+        if is_of_packet(&member.name) {
             continue;
         }
         end = put_member(lead, member, &values[i], buffer, end)?;
@@ -107,13 +107,13 @@ fn put_shown(
 }
 
 /// Whether a member of this name says something of the packet alone.
-fn is_of_packet(name: &[u8]) -> bool
+fn is_of_packet(name: &FieldName) -> bool
     ensures { result ≡ lines.is_of_packet name.now }
 {
-    name == b"packet_size".as_slice()
-        || name == b"content_size".as_slice()
-        || name == b"timestamp_begin".as_slice()
-        || name == b"timestamp_end".as_slice()
-        || name == b"events_discarded".as_slice()
-        || name == b"packet_seq_num".as_slice()
+    name.gives(Role::PacketSize)
+        || name.gives(Role::ContentSize)
+        || name.gives(Role::TimestampBegin)
+        || name.gives(Role::TimestampEnd)
+        || name.gives(Role::EventsDiscarded)
+        || name.gives(Role::SequenceNumber)
 }

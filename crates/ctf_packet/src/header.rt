@@ -13,8 +13,8 @@ ghost use Rattle.ctf_packet.specs.Gives.{Exactly};
 use crate::fault::StreamFault;
 use crate::field::Field;
 use crate::reached::Reached;
-use crate::roles::{field_at_top, number_in, role};
-use ctf_class::{Class, HasId, Kind, Length, StreamClass, TraceClass};
+use crate::roles::{field_at_top, field_of_role, number_in};
+use ctf_class::{Class, HasId, Kind, Length, Role, StreamClass, TraceClass};
 use ctf_decode::{Value, elements_in};
 
 const MAGIC: u64 = 0xC1FC_1FC1;
@@ -33,7 +33,7 @@ pub fn stream_checked<'a>(
         (packets.stream_checked (trace_form shift trace.now) (option_copied reached.entry)
         (option_map val (option_copied header.entry))) }
 {
-    if !is_magic(role(trace.packet_header(), header, b"magic")) {
+    if !is_magic(field_of_role(trace.packet_header(), header, Role::Magic)) {
         return Err(StreamFault::WrongMagic);
     }
     if !is_of_trace(trace, header) {
@@ -64,7 +64,7 @@ fn is_of_trace(trace: &TraceClass, header: Option<&Value>) -> bool
 {
     match &trace.uuid {
         None => true,
-        Some(uuid) => match field_at_top(trace.packet_header(), header, b"uuid") {
+        Some(uuid) => match field_at_top(trace.packet_header(), header, Role::Uuid) {
             None => true,
             Some((class, value)) => has_octets(class, value, uuid),
         },
@@ -167,7 +167,7 @@ fn stream_of<'a>(
         packets.stream_of (trace_form shift trace.now) (option_copied reached.entry)
         (option_map val (option_copied header.entry)) }
 {
-    let number = number_in(role(trace.packet_header(), header, b"stream_id"));
+    let number = number_in(field_of_role(trace.packet_header(), header, Role::StreamId));
     match stream_named(trace, number) {
         None => None,
         Some(stream) => same_stream(reached, stream),

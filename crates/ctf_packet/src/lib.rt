@@ -27,7 +27,7 @@ pub use packet::{OpenPacket, packet_of_sizes};
 pub use reached::Reached;
 pub use record::{EventRecord, Head, event_named, next_head, next_record, planned_named, put_body};
 pub use record_place::RecordPlace;
-pub use roles::{number_in, role};
+pub use roles::{field_of_role, number_in};
 pub use scope::{cut_short, front_content, record_scope, scope_into};
 pub use scratch::Scratch;
 pub use sizes::{LONGEST_PACKET, Sizes, are_possible, sizes_checked, told_sizes};

@@ -11,9 +11,9 @@ ghost use Rattle.ctf_packet.specs.Gives.{Exactly, Placed};
 use crate::clock::{clock_before, clock_behind, clock_until, discarded_since, lost_since};
 use crate::fault::StreamFault;
 use crate::reached::Reached;
-use crate::roles::{number_of, role};
+use crate::roles::{field_of_role, number_of};
 use crate::sizes::{LONGEST_PACKET, Sizes};
-use ctf_class::StreamClass;
+use ctf_class::{Role, StreamClass};
 use ctf_clock::{Moment, Shift, Timeline};
 use ctf_decode::Value;
 
@@ -106,9 +106,9 @@ pub fn packet_of_sizes<'a>(
     let before = clock_before(timeline.as_ref(), reached)?;
     let class = stream.packet_context();
     let clock = clock_behind(timeline.as_ref(), before, class, context)?;
-    let end = role(class, context, b"timestamp_end");
-    let number = role(class, context, b"packet_seq_num");
-    let count = role(class, context, b"events_discarded");
+    let end = field_of_role(class, context, Role::TimestampEnd);
+    let number = field_of_role(class, context, Role::SequenceNumber);
+    let count = field_of_role(class, context, Role::EventsDiscarded);
     let until = clock_until(timeline.as_ref(), clock, end);
     let sequence = number_of(&number);
     let discarded = number_of(&count);

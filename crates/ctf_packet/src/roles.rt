@@ -1,6 +1,7 @@
 //! The fields of a packet's header and context that say something of the packet.
 
 ghost use Rattle.std.specs.Prelude.{◌≡◌, ℕ, map, option_map, option_copied};
+ghost use Rattle.ctf_class.specs.RoleNames.{role_name};
 ghost use Rattle.ctf_decode.specs.Values.{vals_of};
 ghost use Rattle.ctf_decode.specs.Forms as forms;
 ghost use Rattle.ctf_decode.specs.Forms.{parts_of};
@@ -8,17 +9,17 @@ ghost use Rattle.ctf_decode.specs.Views.{form, member_part, val};
 ghost use Rattle.ctf_packet.specs.Roles as roles;
 
 use crate::field::Field;
-use ctf_class::{Class, Integer, Kind, Length, Member};
+use ctf_class::{Class, Integer, Kind, Length, Member, Role};
 use ctf_decode::{Value, elements_in, members_in};
 
-/// The unsigned integer of a name at the top of a scope; `None` where there is no field of this name, or
+/// The unsigned integer of a role at the top of a scope; `None` where there is no field of its name, or
 /// one of another class.
 #[tactic(auto, unfolding(crate::specs::Roles::role))]
-pub fn role(class: Option<&Class>, value: Option<&Value>, name: &[u8]) -> Option<Field>
-    ensures { result ≡ roles.role name.now (option_map form (option_copied class.entry))
+pub fn field_of_role(class: Option<&Class>, value: Option<&Value>, role: Role) -> Option<Field>
+    ensures { result ≡ roles.role (role_name role) (option_map form (option_copied class.entry))
         (option_map val (option_copied value.entry)) }
 {
-    match field_at_top(class, value, name) {
+    match field_at_top(class, value, role) {
         None => None,
         Some((class, value)) => unsigned_field(class, value),
     }
@@ -44,31 +45,32 @@ pub(crate) fn number_of(field: &Option<Field>) -> Option<u64>
     }
 }
 
-/// The field of a name at the top of a scope.
+/// The field of a role at the top of a scope.
 pub fn field_at_top<'a>(
     class: Option<&'a Class>,
     value: Option<&'a Value>,
-    name: &[u8],
+    role: Role,
 ) -> Option<(&'a Class, &'a Value)>
-    ensures { option_map (λ f. (form f.0.now, val f.1.now)) result ≡ roles.field_at_top name.now
+    ensures { option_map (λ f. (form f.0.now, val f.1.now)) result ≡
+        roles.field_at_top (role_name role)
         (option_map form (option_copied class.entry)) (option_map val (option_copied value.entry)) }
 {
     match class {
         None => None,
         Some(class) => match value {
             None => None,
-            Some(value) => member_of(class, value, name),
+            Some(value) => member_of(class, value, role),
         },
     }
 }
 
-/// The member of a name of a structure.
-fn member_of<'a>(class: &'a Class, value: &'a Value, name: &[u8]) -> Option<(&'a Class, &'a Value)>
+/// The member of a role of a structure.
+fn member_of<'a>(class: &'a Class, value: &'a Value, role: Role) -> Option<(&'a Class, &'a Value)>
     ensures { option_map (λ f. (form f.0.now, val f.1.now)) result ≡
-        roles.member_of name.now (form class.now) (val value.now) }
+        roles.member_of (role_name role) (form class.now) (val value.now) }
 {
     match &class.kind {
-        Kind::Structure { members } => member_named(members.as_slice(), members_in(value), name),
+        Kind::Structure { members } => member_named(members.as_slice(), members_in(value), role),
         Kind::Integer(_) => None,
         Kind::Enumeration { container, labels } => None,
         Kind::String => None,
@@ -82,13 +84,14 @@ fn member_of<'a>(class: &'a Class, value: &'a Value, name: &[u8]) -> Option<(&'a
     }
 }
 
-/// The first member of a name.
+/// The first member of a role.
 fn member_named<'a>(
     members: &'a [Member],
     values: &'a [Value],
-    name: &[u8],
+    role: Role,
 ) -> Option<(&'a Class, &'a Value)>
-    ensures { option_map (λ f. (form f.0.now, val f.1.now)) result ≡ roles.member_named name.now
+    ensures { option_map (λ f. (form f.0.now, val f.1.now)) result ≡
+        roles.member_named (role_name role)
         (parts_of (map member_part members.now)) (vals_of (map val values.now)) }
 {
     for (i, member) in members.iter().enumerate() {
@@ -96,7 +99,7 @@ fn member_named<'a>(
             return None;
         }
         let value = &values[i];
-        if member.name.as_slice() == name {
+        if member.name.gives(role) {
             return Some((&member.class, value));
         }
     }

@@ -9,8 +9,9 @@ ghost use Rattle.ctf_packet_demand.specs.Wants as wants;
 ghost use Rattle.ctf_packet_demand.specs.Gives.{begun_of, Judged, EndsAt};
 
 use crate::want::{Begun, Want};
+use ctf_class::Role;
 use ctf_decode::Value;
-use ctf_packet::{StreamFault, number_in, role, told_sizes};
+use ctf_packet::{StreamFault, field_of_role, number_in, told_sizes};
 
 /// What a packet asks for whose context has this value (CTF 1.8.3, section 5.2).
 ///
@@ -27,8 +28,8 @@ pub fn judge_sizes<'a>(begun: Begun<'a>, context: Option<&Value>) -> Result<Want
     ensures first { IfOk result (EndsAt begun.entry.first) }
 {
     let class = begun.stream.packet_context();
-    let packet = number_in(role(class, context, b"packet_size"));
-    let content = number_in(role(class, context, b"content_size"));
+    let packet = number_in(field_of_role(class, context, Role::PacketSize));
+    let content = number_in(field_of_role(class, context, Role::ContentSize));
     match told_sizes(packet, content, begun.first) {
         Err(fault) => Err(fault),
         Ok(None) => Ok(Want::Rest(begun)),

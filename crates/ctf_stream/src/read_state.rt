@@ -324,8 +324,7 @@ impl<'a> ReadState<'a> {
         ensures writes { self.new.writes ≡ self.old.writes }
     {
         self.packet = None;
-        self.cut.reached = Some(reached);
-        self.cut.at = self.taken;
+        self.cut.go_on(reached, self.taken);
         self.buffer.clear();
     }
 }

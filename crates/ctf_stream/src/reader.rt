@@ -95,13 +95,7 @@ impl<'a, S: Source + Drop> StreamReader<'a, S> {
         ensures on_line { IsOnLine result }
         ensures writes { result.writes ≡ false }
     {
-        let cut = PacketStart {
-            trace,
-            shift,
-            reached: None,
-            at: 0,
-        };
-        let read_state = ReadState::new(alloc, cut);
+        let read_state = ReadState::new(alloc, PacketStart::new(trace, shift));
         StreamReader {
             alloc,
             name,

@@ -8,6 +8,7 @@ use Rattle.ctf_packet_demand.specs.Gives as front
 use Rattle.ctf_packet_demand.proofs.Beginning as beginning
 use Rattle.ctf_fetch.specs.Fetching.{OrNoMemory}
 use Rattle.ctf_fetch.proofs.Parts.{grown_all, grown_more}
+use Rattle.ctf_fetch.proofs.Fronts.{front_ends}
 use Rattle.ctf_fetch.proofs.Opening.{header_short, stream_refused, asked_refused, context_short, fits}
 use Rattle.ctf_fetch.proofs.cut.PacketStart.begin.Goals as goal
 
@@ -137,9 +138,10 @@ returns-clause-fits g c =
     let context = subst (λ b. beginning.Context trace cut.reached b s end known first after) (append-nil later) put_there in
     let asks = beginning.to_sized trace cut.reached later end first known after here s checked context in
     let told = asks ∙ (rw c.get-2.ensures at (c.in_ok-begun.ensures.judged cut.shift (values_of after))) ∙ ap (front.want_of cut.shift (values_of after)) c.in-Whole.is in
-    let one = c.requires.one in
+    let few = c.requires.few in
+    let takes = front_ends cut.trace.now cut.shift cut.reached cut.least later end first known after s cut.takes here checked context in
     let near = c.in_ok-end.ensures.near in
     let also = c.in_ok-first.ensures.near in
     let on = c.in_ok-first.ensures.forward in
     let ends : c.in-Whole.begun.first ≡ first = rw c.in-Whole.is at c.in_ok-begun.ensures.first in
-    fits trace cut.reached later (front.begun_of cut.shift (values_of after) c.in-Whole.begun) c.in-Whole.sizes 1 told (omega arith) (omega (arith, one, near, also, on, ends))
+    fits trace cut.reached later (front.begun_of cut.shift (values_of after) c.in-Whole.begun) c.in-Whole.sizes 1 told (omega arith) (omega (arith, few, takes, near, also, on, ends))

@@ -15,21 +15,18 @@ returns-in-Ok-clause-fetches g c = λ tells.
     let ending = g.S.Source.ending c.args.source.now in
     let packet = c.in-Ok.packet in
     let all = g.S.Source.left c.args.source.now in
-    let also = c.fill.ensures.tells tells in
+    let also = c.take_first.ensures.tells tells in
     let left = g.S.Source.left c.open.new.source in
     let opened = opened_of cut.shift (values_of c.open.new.scopes) packet in
-    let middle = c.fill.new.self ++ g.S.Source.left c.fill.new.source in
-    let from_start : middle ≡ all = c.fill.ensures.kept tells ∙ ap (λ l. l ++ all) c.requires.empty in
+    let middle = c.take_first.new.buffer ++ g.S.Source.left c.take_first.new.source in
+    let from_start : middle ≡ all = c.take_first.ensures.kept tells ∙ ap (λ l. l ++ all) c.requires.empty in
     let kept = c.open.ensures.kept also ∙ from_start in
     let found : open_at trace ending cut.reached cut.at all ≡ Ok opened =
-    ap (open_at trace ending cut.reached cut.at) (sym from_start) ∙ subst (λ e. open_at trace e cut.reached cut.at middle ≡ Ok opened) (c.fill.ensures.same_end tells) (c.in-Ok.ensures.opens also) in
+    ap (open_at trace ending cut.reached cut.at) (sym from_start) ∙ subst (λ e. open_at trace e cut.reached cut.at middle ≡ Ok opened) (c.take_first.ensures.same_end tells) (c.in-Ok.ensures.opens also) in
     let near : cut.at ≤ longest_stream = search rules in
     let at = c.in-Ok.ensures.at in
     let is = fetched trace ending cut.reached cut.at all c.open.new.buffer left opened at.some near kept found at.starts at.ends in
     is ∙ ap (λ v. from_packet (opened_of cut.shift v packet) c.open.new.buffer (behind_packet trace ending (opened_of cut.shift v packet) left)) (sym c.in-Ok.ensures.alone)
 
-pub returns-in-Ended-Failed-clause-fetches : goal.returns-in-Ended-Failed-clause-fetches
-returns-in-Ended-Failed-clause-fetches g c = grind (arith, common_steps)
-
-pub returns-in_err-fill-clause-last : goal.returns-in_err-fill-clause-last
-returns-in_err-fill-clause-last g c = grind (arith, common_steps)
+pub returns-in-Some-Failed-clause-fetches : goal.returns-in-Some-Failed-clause-fetches
+returns-in-Some-Failed-clause-fetches g c = grind (arith, common_steps)
