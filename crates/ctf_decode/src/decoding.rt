@@ -10,7 +10,7 @@ ghost use Rattle.ctf_decode.specs.Gives.{Told};
 ghost use Rattle.ctf_decode.specs.Decoding.{Decodes};
 
 use crate::fault::DecodeFault;
-use crate::place::{Cursor, Frame, Packet, Reached, Stopped};
+use crate::place::{Around, Cursor, Frame, Packet, Reached, Stopped};
 use crate::scopes::{MOST_VALUES, Scopes};
 use crate::value::Value;
 use crate::walk::{scope_into, value_into};
@@ -27,9 +27,9 @@ pub struct Decoded {
     pub spent: u64,
 }
 
-/// Makes the value of a class that stands at the bit `start` of a packet the value, whatever it was
-/// before; its memory is used again. `content` is where the packet's content ends, in bits. The value of
-/// each scope that the class may name is in `scopes`, and so is how many values were begun before.
+/// Makes the value of a class that is at the bit `start` of a packet the value, whatever it was before; its memory is used
+/// again. The value of each scope that the class may name is in the packet's scopes, and so is how many values were begun
+/// before.
 ///
 /// At an error the value is any value: F6 with the place that the content does not reach, F8, F11, or
 /// `NoMemory`.
@@ -37,36 +37,32 @@ pub struct Decoded {
 pub fn decode_into(
     alloc: Global,
     class: &Class,
-    packet: &[u8],
+    packet: &Packet<'_>,
     start: u64,
-    content: u64,
-    scopes: &Scopes,
     value: &mut Value,
 ) -> Result<Reached, DecodeFault>
-    requires start { start ≤ content }
-    requires content { content ≤ 2 ^ 62 }
-    requires held { content ≤ 8 * length packet.now }
+    requires start { start ≤ packet.now.content }
     ensures value { IfOk result
-        (λ r. Stands (form class.now) (input_in packet.now content scopes.now) [] start
-        (val value.new) r.end) }
-    ensures counted { IfOk result (λ r. r.spent ≡ scopes.now.spent + count (val value.new)) }
+        (λ r. Stands (form class.now) (input packet.now) [] start (val value.new) r.end) }
+    ensures counted { IfOk result (λ r. r.spent ≡
+        packet.now.scopes.now.spent + count (val value.new)) }
     ensures few { IfOk result (λ r. r.spent ≤ MOST_VALUES) }
-    ensures within { IfOk result (λ r. r.end ≤ content) }
+    ensures within { IfOk result (λ r. r.end ≤ packet.now.content) }
     ensures fault { IfErr result
-        (Told (Breaks (form class.now) (input_in packet.now content scopes.now) [] start
-        scopes.now.spent)) }
+        (Told (Breaks (form class.now) (input packet.now) [] start
+        packet.now.scopes.now.spent)) }
 {
-    let packet = Packet {
-        bytes: packet,
-        content,
-        scopes,
+    let around = Around {
+        alloc,
+        packet: *packet,
+        frame: &Frame::Top,
     };
     let mut at = Cursor {
         end: start,
-        spent: scopes.spent(),
+        spent: packet.scopes.spent(),
         fault: DecodeFault::NoMemory,
     };
-    match scope_into(alloc, class, &packet, &Frame::Top, &mut at, value) {
+    match scope_into(class, &around, &mut at, value) {
         Ok(()) => Ok(Reached {
             end: at.end,
             spent: at.spent,
@@ -102,7 +98,12 @@ pub fn decode(
         scopes.now.spent)) }
 {
     let mut value = Value::Unsigned(0);
-    let reached = decode_into(alloc, class, packet, start, content, scopes, &mut value)?;
+    let packet = Packet {
+        bytes: packet,
+        content,
+        scopes,
+    };
+    let reached = decode_into(alloc, class, &packet, start, &mut value)?;
     Ok(Decoded {
         value,
         end: reached.end,
@@ -128,13 +129,18 @@ pub fn decode_within(
     ensures within { IfOk result (λ d. d.end ≤ packet.now.content) }
     ensures few { IfOk result (λ d. d.spent ≤ MOST_VALUES) }
 {
+    let around = Around {
+        alloc,
+        packet: *packet,
+        frame: &*frame,
+    };
     let mut value = Value::Unsigned(0);
     let mut cursor = Cursor {
         end: at.end,
         spent: at.spent,
         fault: DecodeFault::NoMemory,
     };
-    match value_into(alloc, class, packet, frame, &mut cursor, &mut value) {
+    match value_into(class, &around, &mut cursor, &mut value) {
         Ok(()) => Ok(Decoded {
             value,
             end: cursor.end,

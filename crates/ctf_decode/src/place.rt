@@ -9,9 +9,10 @@ use crate::scopes::Scopes;
 use crate::value::Value;
 use ctf_bits::up;
 use ctf_class::Align;
+use std::alloc::Global;
 
 /// A packet's bytes, the place in bits where its content ends, and the values of earlier scopes.
-#[derive(Drop)]
+#[derive(Clone, Copy)]
 pub struct Packet<'a> {
     pub bytes: &'a [u8],
     pub content: u64,
@@ -25,6 +26,16 @@ pub struct Packet<'a> {
 pub enum Frame<'a> {
     Top,
     Within(&'a [Value], &'a Frame<'a>),
+}
+
+/// What is around a value that is decoded: the packet, and the earlier members of the structures.
+#[derive(Clone, Copy)]
+pub struct Around<'a> {
+    /// What the memory of the value is taken from.
+    pub alloc: Global,
+    /// A copy and no reference, as each integer asks for its fields.
+    pub packet: Packet<'a>,
+    pub frame: &'a Frame<'a>,
 }
 
 /// How far decoding has come.

@@ -10,67 +10,58 @@ ghost use Rattle.ctf_decode.specs.Gives.{Gives, GivesNext};
 use crate::fault::DecodeFault;
 use crate::find::{length_at, option_at};
 use crate::leaf::{enumeration_into, integer_into};
-use crate::place::{Cursor, Frame, Packet, Stopped, begin_at};
+use crate::place::{Around, Cursor, Frame, Stopped, begin_at};
 use crate::scopes::MOST_VALUES;
 use crate::text::{characters_into, string_into};
 use crate::value::Value;
 use ctf_class::{Align, Class, Kind, Member};
 use ctf_list::{Boxed, List};
-use std::alloc::{AllocError, Global};
+use std::alloc::AllocError;
 use std::mem;
 
 /// Makes the value of a class at a place the value.
 #[cycle(walk)]
 pub fn value_into(
-    alloc: Global,
     class: &Class,
-    packet: &Packet<'_>,
-    frame: &Frame<'_>,
+    around: &Around<'_>,
     at: &mut Cursor,
     value: &mut Value,
 ) -> Result<(), Stopped>
-    requires start { at.old.end ≤ packet.now.content }
+    requires start { at.old.end ≤ around.now.packet.content }
     ensures gives { Gives result at.new (val value.new)
-        (walk (form class.now) (input packet.now) (env frame.now) at.old.end at.old.spent) }
-    ensures within { IfOk result (λ _. (at.new.end ≤ packet.now.content) ×
+        (walk (form class.now) (input around.now.packet) (env around.now.frame.now)
+        at.old.end at.old.spent) }
+    ensures within { IfOk result (λ _. (at.new.end ≤ around.now.packet.content) ×
         (at.new.spent ≤ MOST_VALUES)) }
 {
     match &class.kind {
-        Kind::Integer(integer) => integer_into(integer, class.align, packet, at, value),
+        Kind::Integer(integer) => integer_into(integer, class.align, &around.packet, at, value),
         Kind::Enumeration { container, labels } => enumeration_into(
             container,
             class.align,
-            packet,
+            &around.packet,
             at,
             value,
         ),
-        Kind::String => string_into(alloc, packet, at, value),
+        Kind::String => string_into(around.alloc, &around.packet, at, value),
         Kind::Structure { members } => {
-            structure_into(
-                alloc,
-                class.align,
-                members.as_slice(),
-                packet,
-                frame,
-                at,
-                value,
-            )
+            structure_into(class.align, members.as_slice(), around, at, value)
         }
         Kind::Variant {
             tag,
             choices,
             options,
         } => {
-            let chosen = option_at(tag, choices, packet.scopes, frame);
-            choice_into(alloc, options.as_slice(), chosen, packet, frame, at, value)
+            let chosen = option_at(tag, choices, around.packet.scopes, around.frame);
+            choice_into(options.as_slice(), chosen, around, at, value)
         }
         Kind::Array { length, element } => {
-            let count = length_at(length, packet.scopes, frame);
-            array_into(alloc, element.get(), count, packet, frame, at, value)
+            let count = length_at(length, around.packet.scopes, around.frame);
+            array_into(element.get(), count, around, at, value)
         }
         Kind::Text { length } => {
-            let count = length_at(length, packet.scopes, frame);
-            characters_into(alloc, count, packet, at, value)
+            let count = length_at(length, around.packet.scopes, around.frame);
+            characters_into(around.alloc, count, &around.packet, at, value)
         }
     }
 }
@@ -78,83 +69,78 @@ pub fn value_into(
 /// Decodes the value of a scope in place of another. Mostly it is a structure, so that is looked at first.
 #[inline(always)]
 pub fn scope_into(
-    alloc: Global,
     class: &Class,
-    packet: &Packet<'_>,
-    frame: &Frame<'_>,
+    around: &Around<'_>,
     at: &mut Cursor,
     value: &mut Value,
 ) -> Result<(), Stopped>
-    requires start { at.old.end ≤ packet.now.content }
+    requires start { at.old.end ≤ around.now.packet.content }
     ensures gives { Gives result at.new (val value.new)
-        (walk (form class.now) (input packet.now) (env frame.now) at.old.end at.old.spent) }
-    ensures within { IfOk result (λ _. (at.new.end ≤ packet.now.content) ×
+        (walk (form class.now) (input around.now.packet) (env around.now.frame.now)
+        at.old.end at.old.spent) }
+    ensures within { IfOk result (λ _. (at.new.end ≤ around.now.packet.content) ×
         (at.new.spent ≤ MOST_VALUES)) }
 {
     if let Kind::Structure { members } = &class.kind {
         let members = members.as_slice();
-        return structure_into(alloc, class.align, members, packet, frame, at, value);
+        return structure_into(class.align, members, around, at, value);
     }
-    value_into(alloc, class, packet, frame, at, value)
+    value_into(class, around, at, value)
 }
 
 /// Makes the structure at a place the value.
 #[cycle(walk)]
 #[inline(always)]
 fn structure_into(
-    alloc: Global,
     align: Align,
     members: &[Member],
-    packet: &Packet<'_>,
-    frame: &Frame<'_>,
+    around: &Around<'_>,
     at: &mut Cursor,
     value: &mut Value,
 ) -> Result<(), Stopped>
-    requires start { at.old.end ≤ packet.now.content }
+    requires start { at.old.end ≤ around.now.packet.content }
     ensures gives { let b = next_multiple_of at.old.end align in
         Gives result at.new (val value.new)
-        (begin (input packet.now) at.old.spent (open_at (input packet.now) b (and_then
-        (walk_members (parts_of (map member_part members.now)) (input packet.now)
-        (env frame.now) [] b (at.old.spent + 1)) as_group))) }
-    ensures within { IfOk result (λ _. (at.new.end ≤ packet.now.content) ×
+        (begin (input around.now.packet) at.old.spent (open_at (input around.now.packet) b (and_then
+        (walk_members (parts_of (map member_part members.now)) (input around.now.packet)
+        (env around.now.frame.now) [] b (at.old.spent + 1)) as_group))) }
+    ensures within { IfOk result (λ _. (at.new.end ≤ around.now.packet.content) ×
         (at.new.spent ≤ MOST_VALUES)) }
 {
     if at.spent >= MOST_VALUES {
         return Err(at.stop_full());
     }
     let begin = begin_at(at.end, align);
-    if begin > packet.content {
+    if begin > around.packet.content {
         return Err(at.stop_beyond(begin));
     }
     at.end = begin;
     at.spent += 1;
     if let Value::Group(values) = value {
-        return members_into(alloc, members, packet, frame, at, values);
+        return members_into(members, around, at, values);
     }
-    new_group_into(alloc, members, packet, frame, at, value)
+    new_group_into(members, around, at, value)
 }
 
 /// Makes a structure of these members the value, of which no memory is used again.
 #[cycle(walk)]
 #[inline(never)]
 fn new_group_into(
-    alloc: Global,
     members: &[Member],
-    packet: &Packet<'_>,
-    frame: &Frame<'_>,
+    around: &Around<'_>,
     at: &mut Cursor,
     value: &mut Value,
 ) -> Result<(), Stopped>
-    requires start { at.old.end ≤ packet.now.content }
+    requires start { at.old.end ≤ around.now.packet.content }
     requires spent { at.old.spent ≤ MOST_VALUES }
     ensures gives { Gives result at.new (val value.new) (and_then
-        (walk_members (parts_of (map member_part members.now)) (input packet.now)
-        (env frame.now) [] at.old.end at.old.spent) as_group) }
-    ensures within { IfOk result (λ _. (at.new.end ≤ packet.now.content) ×
+        (walk_members (parts_of (map member_part members.now)) (input around.now.packet)
+        (env around.now.frame.now) [] at.old.end at.old.spent) as_group) }
+    ensures within { IfOk result (λ _. (at.new.end ≤ around.now.packet.content) ×
         (at.new.spent ≤ MOST_VALUES)) }
 {
-    let mut values = List::new(alloc);
-    members_into(alloc, members, packet, frame, at, &mut values)?;
+    let mut values = List::new(around.alloc);
+    members_into(members, around, at, &mut values)?;
     *value = Value::Group(values);
     Ok(())
 }
@@ -186,48 +172,44 @@ fn resize(values: &mut List<Value>, count: usize) -> Result<(), AllocError>
 /// Makes the members of a structure the values, each seeing those before it.
 #[cycle(walk)]
 fn members_into(
-    alloc: Global,
     members: &[Member],
-    packet: &Packet<'_>,
-    frame: &Frame<'_>,
+    around: &Around<'_>,
     at: &mut Cursor,
     values: &mut List<Value>,
 ) -> Result<(), Stopped>
-    requires start { at.old.end ≤ packet.now.content }
+    requires start { at.old.end ≤ around.now.packet.content }
     requires spent { at.old.spent ≤ MOST_VALUES }
     ensures gives { Gives result at.new (map val values.new)
-        (walk_members (parts_of (map member_part members.now)) (input packet.now)
-        (env frame.now) [] at.old.end at.old.spent) }
-    ensures within { IfOk result (λ _. (at.new.end ≤ packet.now.content) ×
+        (walk_members (parts_of (map member_part members.now)) (input around.now.packet)
+        (env around.now.frame.now) [] at.old.end at.old.spent) }
+    ensures within { IfOk result (λ _. (at.new.end ≤ around.now.packet.content) ×
         (at.new.spent ≤ MOST_VALUES)) }
 {
     let Ok(()) = with_room(values, members.len()) else {
         return Err(at.stop_refused());
     };
-    each_member_into(alloc, members, packet, frame, at, values.as_mut_slice())
+    each_member_into(members, around, at, values.as_mut_slice())
 }
 
 /// Makes the members of a structure the values, of which there are as many.
 #[cycle(walk)]
 fn each_member_into(
-    alloc: Global,
     members: &[Member],
-    packet: &Packet<'_>,
-    frame: &Frame<'_>,
+    around: &Around<'_>,
     at: &mut Cursor,
     values: &mut [Value],
 ) -> Result<(), Stopped>
-    requires start { at.old.end ≤ packet.now.content }
+    requires start { at.old.end ≤ around.now.packet.content }
     requires spent { at.old.spent ≤ MOST_VALUES }
     requires room { length values.old ≡ length members.now }
     ensures gives { Gives result at.new (map val values.new)
-        (walk_members (parts_of (map member_part members.now)) (input packet.now)
-        (env frame.now) [] at.old.end at.old.spent) }
-    ensures within { IfOk result (λ _. (at.new.end ≤ packet.now.content) ×
+        (walk_members (parts_of (map member_part members.now)) (input around.now.packet)
+        (env around.now.frame.now) [] at.old.end at.old.spent) }
+    ensures within { IfOk result (λ _. (at.new.end ≤ around.now.packet.content) ×
         (at.new.spent ≤ MOST_VALUES)) }
 {
     for (i, member) in members.iter().enumerate() {
-        member_into(alloc, &member.class, packet, frame, at, values, i)?;
+        member_into(&member.class, around, at, values, i)?;
     }
     Ok(())
 }
@@ -238,62 +220,58 @@ fn each_member_into(
 #[cycle(walk)]
 #[inline(always)]
 fn member_into(
-    alloc: Global,
     class: &Class,
-    packet: &Packet<'_>,
-    frame: &Frame<'_>,
+    around: &Around<'_>,
     at: &mut Cursor,
     values: &mut [Value],
     i: usize,
 ) -> Result<(), Stopped>
-    requires start { at.old.end ≤ packet.now.content }
+    requires start { at.old.end ≤ around.now.packet.content }
     requires room { i < length values.old }
     ensures gives { GivesNext result at.new (map val (take i values.old))
         (map val (take (i + 1) values.new))
-        (walk (form class.now) (input packet.now) (map val (take i values.old) ∷ env frame.now)
-        at.old.end at.old.spent) }
-    ensures within { IfOk result (λ _. (at.new.end ≤ packet.now.content) ×
+        (walk (form class.now) (input around.now.packet)
+        (map val (take i values.old) ∷ env around.now.frame.now) at.old.end at.old.spent) }
+    ensures within { IfOk result (λ _. (at.new.end ≤ around.now.packet.content) ×
         (at.new.spent ≤ MOST_VALUES)) }
 {
     if let Kind::Integer(integer) = &class.kind {
-        return integer_into(integer, class.align, packet, at, &mut values[i]);
+        return integer_into(integer, class.align, &around.packet, at, &mut values[i]);
     }
     if let Kind::String = &class.kind {
-        return string_into(alloc, packet, at, &mut values[i]);
+        return string_into(around.alloc, &around.packet, at, &mut values[i]);
     }
-    other_member_into(alloc, class, packet, frame, at, values, i)
+    other_member_into(class, around, at, values, i)
 }
 
 /// Decodes a member that is neither an integer nor a string in place of another value.
 #[cycle(walk)]
 #[inline(never)]
 fn other_member_into(
-    alloc: Global,
     class: &Class,
-    packet: &Packet<'_>,
-    frame: &Frame<'_>,
+    around: &Around<'_>,
     at: &mut Cursor,
     values: &mut [Value],
     i: usize,
 ) -> Result<(), Stopped>
-    requires start { at.old.end ≤ packet.now.content }
+    requires start { at.old.end ≤ around.now.packet.content }
     requires room { i < length values.old }
     ensures gives { GivesNext result at.new (map val (take i values.old))
         (map val (take (i + 1) values.new))
-        (walk (form class.now) (input packet.now) (map val (take i values.old) ∷ env frame.now)
-        at.old.end at.old.spent) }
-    ensures within { IfOk result (λ _. (at.new.end ≤ packet.now.content) ×
+        (walk (form class.now) (input around.now.packet)
+        (map val (take i values.old) ∷ env around.now.frame.now) at.old.end at.old.spent) }
+    ensures within { IfOk result (λ _. (at.new.end ≤ around.now.packet.content) ×
         (at.new.spent ≤ MOST_VALUES)) }
 {
     if let Kind::Text { length } = &class.kind {
-        let inner = Frame::Within(&values[..i], &*frame);
-        let count = length_at(length, packet.scopes, &inner);
-        return characters_into(alloc, count, packet, at, &mut values[i]);
+        let inner = Frame::Within(&values[..i], &*around.frame);
+        let count = length_at(length, around.packet.scopes, &inner);
+        return characters_into(around.alloc, count, &around.packet, at, &mut values[i]);
     }
     if let Kind::Enumeration { container, labels } = &class.kind {
-        return enumeration_into(container, class.align, packet, at, &mut values[i]);
+        return enumeration_into(container, class.align, &around.packet, at, &mut values[i]);
     }
-    inner_member_into(alloc, class, packet, frame, at, values, i)
+    inner_member_into(class, around, at, values, i)
 }
 
 /// Makes the next member of a structure the value at an index, where it may see those before it. It is
@@ -301,26 +279,29 @@ fn other_member_into(
 #[cycle(walk)]
 #[inline(never)]
 fn inner_member_into(
-    alloc: Global,
     class: &Class,
-    packet: &Packet<'_>,
-    frame: &Frame<'_>,
+    around: &Around<'_>,
     at: &mut Cursor,
     values: &mut [Value],
     i: usize,
 ) -> Result<(), Stopped>
-    requires start { at.old.end ≤ packet.now.content }
+    requires start { at.old.end ≤ around.now.packet.content }
     requires room { i < length values.old }
     ensures gives { GivesNext result at.new (map val (take i values.old))
         (map val (take (i + 1) values.new))
-        (walk (form class.now) (input packet.now) (map val (take i values.old) ∷ env frame.now)
-        at.old.end at.old.spent) }
-    ensures within { IfOk result (λ _. (at.new.end ≤ packet.now.content) ×
+        (walk (form class.now) (input around.now.packet)
+        (map val (take i values.old) ∷ env around.now.frame.now) at.old.end at.old.spent) }
+    ensures within { IfOk result (λ _. (at.new.end ≤ around.now.packet.content) ×
         (at.new.spent ≤ MOST_VALUES)) }
 {
     let mut value = mem::replace(&mut values[i], Value::Unsigned(0));
-    let inner = Frame::Within(&values[..i], &*frame);
-    value_into(alloc, class, packet, &inner, at, &mut value)?;
+    let frame = Frame::Within(&values[..i], &*around.frame);
+    let inner = Around {
+        alloc: around.alloc,
+        packet: around.packet,
+        frame: &frame,
+    };
+    value_into(class, &inner, at, &mut value)?;
     values[i] = value;
     Ok(())
 }
@@ -328,37 +309,35 @@ fn inner_member_into(
 /// Makes the array of so many elements at a place the value.
 #[cycle(walk)]
 fn array_into(
-    alloc: Global,
     element: &Class,
     count: u64,
-    packet: &Packet<'_>,
-    frame: &Frame<'_>,
+    around: &Around<'_>,
     at: &mut Cursor,
     value: &mut Value,
 ) -> Result<(), Stopped>
-    requires start { at.old.end ≤ packet.now.content }
+    requires start { at.old.end ≤ around.now.packet.content }
     ensures gives { let b = next_multiple_of at.old.end element.now.align in
         Gives result at.new (val value.new)
-        (begin (input packet.now) at.old.spent (open_at (input packet.now) b (and_then
-        (repeat (walk (form element.now) (input packet.now) (env frame.now)) count [] b
-        (at.old.spent + 1)) as_list))) }
-    ensures within { IfOk result (λ _. (at.new.end ≤ packet.now.content) ×
+        (begin (input around.now.packet) at.old.spent (open_at (input around.now.packet) b (and_then
+        (repeat (walk (form element.now) (input around.now.packet) (env around.now.frame.now))
+        count [] b (at.old.spent + 1)) as_list))) }
+    ensures within { IfOk result (λ _. (at.new.end ≤ around.now.packet.content) ×
         (at.new.spent ≤ MOST_VALUES)) }
 {
     if at.spent >= MOST_VALUES {
         return Err(at.stop_full());
     }
     let begin = begin_at(at.end, element.align);
-    if begin > packet.content {
+    if begin > around.packet.content {
         return Err(at.stop_beyond(begin));
     }
     at.end = begin;
     at.spent += 1;
-    let mut values = Vec::new(alloc);
+    let mut values = Vec::new(around.alloc);
     if let Value::List(old) = value {
-        values = mem::replace(old, List::new(alloc)).into_vec();
+        values = mem::replace(old, List::new(around.alloc)).into_vec();
     }
-    elements_into(alloc, element, count, packet, frame, at, &mut values)?;
+    elements_into(element, count, around, at, &mut values)?;
     *value = Value::List(List::from_vec(values));
     Ok(())
 }
@@ -366,24 +345,22 @@ fn array_into(
 /// Makes so many elements, one after another, the values.
 #[cycle(walk)]
 fn elements_into(
-    alloc: Global,
     element: &Class,
     count: u64,
-    packet: &Packet<'_>,
-    frame: &Frame<'_>,
+    around: &Around<'_>,
     at: &mut Cursor,
     values: &mut Vec<Value>,
 ) -> Result<(), Stopped>
-    requires start { at.old.end ≤ packet.now.content }
+    requires start { at.old.end ≤ around.now.packet.content }
     requires spent { at.old.spent ≤ MOST_VALUES }
     ensures gives { Gives result at.new (map val values.new.items)
-        (repeat (walk (form element.now) (input packet.now) (env frame.now)) count [] at.old.end
-        at.old.spent) }
-    ensures within { IfOk result (λ _. (at.new.end ≤ packet.now.content) ×
+        (repeat (walk (form element.now) (input around.now.packet) (env around.now.frame.now))
+        count [] at.old.end at.old.spent) }
+    ensures within { IfOk result (λ _. (at.new.end ≤ around.now.packet.content) ×
         (at.new.spent ≤ MOST_VALUES)) }
 {
     for i in 0..count {
-        element_into(alloc, element, packet, frame, at, values, i as usize)?;
+        element_into(element, around, at, values, i as usize)?;
     }
     values.truncate(count as usize);
     Ok(())
@@ -392,20 +369,19 @@ fn elements_into(
 /// Makes the next element the value at an index, those before it being there.
 #[cycle(walk)]
 fn element_into(
-    alloc: Global,
     element: &Class,
-    packet: &Packet<'_>,
-    frame: &Frame<'_>,
+    around: &Around<'_>,
     at: &mut Cursor,
     values: &mut Vec<Value>,
     i: usize,
 ) -> Result<(), Stopped>
-    requires start { at.old.end ≤ packet.now.content }
+    requires start { at.old.end ≤ around.now.packet.content }
     requires room { i ≤ length values.old.items }
     ensures gives { GivesNext result at.new (map val (take i values.old.items))
         (map val (take (i + 1) values.new.items))
-        (walk (form element.now) (input packet.now) (env frame.now) at.old.end at.old.spent) }
-    ensures within { IfOk result (λ _. (at.new.end ≤ packet.now.content) ×
+        (walk (form element.now) (input around.now.packet) (env around.now.frame.now)
+        at.old.end at.old.spent) }
+    ensures within { IfOk result (λ _. (at.new.end ≤ around.now.packet.content) ×
         (at.new.spent ≤ MOST_VALUES) × (i < length values.new.items)) }
 {
     if i == values.len() {
@@ -414,28 +390,26 @@ fn element_into(
         };
     }
     if let Kind::Integer(integer) = &element.kind {
-        return integer_into(integer, element.align, packet, at, &mut values[i]);
+        return integer_into(integer, element.align, &around.packet, at, &mut values[i]);
     }
-    value_into(alloc, element, packet, frame, at, &mut values[i])
+    value_into(element, around, at, &mut values[i])
 }
 
 /// Makes the chosen option of a variant the value.
 #[cycle(walk)]
 fn choice_into(
-    alloc: Global,
     options: &[Member],
     chosen: Option<usize>,
-    packet: &Packet<'_>,
-    frame: &Frame<'_>,
+    around: &Around<'_>,
     at: &mut Cursor,
     value: &mut Value,
 ) -> Result<(), Stopped>
-    requires start { at.old.end ≤ packet.now.content }
+    requires start { at.old.end ≤ around.now.packet.content }
     ensures gives { Gives result at.new (val value.new)
-        (begin (input packet.now) at.old.spent (with_option chosen (λ i. and_then
-        (walk_option (parts_of (map member_part options.now)) i (input packet.now)
-        (env frame.now) at.old.end (at.old.spent + 1)) (as_choice i)))) }
-    ensures within { IfOk result (λ _. (at.new.end ≤ packet.now.content) ×
+        (begin (input around.now.packet) at.old.spent (with_option chosen (λ i. and_then
+        (walk_option (parts_of (map member_part options.now)) i (input around.now.packet)
+        (env around.now.frame.now) at.old.end (at.old.spent + 1)) (as_choice i)))) }
+    ensures within { IfOk result (λ _. (at.new.end ≤ around.now.packet.content) ×
         (at.new.spent ≤ MOST_VALUES)) }
 {
     if at.spent >= MOST_VALUES {
@@ -445,25 +419,23 @@ fn choice_into(
         return Err(at.stop_unchosen());
     };
     at.spent += 1;
-    option_into(alloc, options, i, packet, frame, at, value)
+    option_into(options, i, around, at, value)
 }
 
 /// Makes an option of a variant the value.
 #[cycle(walk)]
 fn option_into(
-    alloc: Global,
     options: &[Member],
     i: usize,
-    packet: &Packet<'_>,
-    frame: &Frame<'_>,
+    around: &Around<'_>,
     at: &mut Cursor,
     value: &mut Value,
 ) -> Result<(), Stopped>
-    requires start { at.old.end ≤ packet.now.content }
+    requires start { at.old.end ≤ around.now.packet.content }
     ensures gives { Gives result at.new (val value.new) (and_then
-        (walk_option (parts_of (map member_part options.now)) i (input packet.now)
-        (env frame.now) at.old.end at.old.spent) (as_choice i)) }
-    ensures within { IfOk result (λ _. (at.new.end ≤ packet.now.content) ×
+        (walk_option (parts_of (map member_part options.now)) i (input around.now.packet)
+        (env around.now.frame.now) at.old.end at.old.spent) (as_choice i)) }
+    ensures within { IfOk result (λ _. (at.new.end ≤ around.now.packet.content) ×
         (at.new.spent ≤ MOST_VALUES)) }
 {
     if i >= options.len() {
@@ -472,33 +444,31 @@ fn option_into(
     let class = &options[i].class;
     if let Value::Choice(option, inner) = value {
         *option = i;
-        return value_into(alloc, class, packet, frame, at, inner.get_mut());
+        return value_into(class, around, at, inner.get_mut());
     }
-    new_choice_into(alloc, class, i, packet, frame, at, value)
+    new_choice_into(class, i, around, at, value)
 }
 
 /// Makes option i of a variant the value, of which no memory is used again.
 #[cycle(walk)]
 #[inline(never)]
 fn new_choice_into(
-    alloc: Global,
     class: &Class,
     i: usize,
-    packet: &Packet<'_>,
-    frame: &Frame<'_>,
+    around: &Around<'_>,
     at: &mut Cursor,
     value: &mut Value,
 ) -> Result<(), Stopped>
-    requires start { at.old.end ≤ packet.now.content }
+    requires start { at.old.end ≤ around.now.packet.content }
     ensures gives { Gives result at.new (val value.new)
-        (and_then (walk (form class.now) (input packet.now) (env frame.now) at.old.end at.old.spent)
-        (as_choice i)) }
-    ensures within { IfOk result (λ _. (at.new.end ≤ packet.now.content) ×
+        (and_then (walk (form class.now) (input around.now.packet) (env around.now.frame.now)
+        at.old.end at.old.spent) (as_choice i)) }
+    ensures within { IfOk result (λ _. (at.new.end ≤ around.now.packet.content) ×
         (at.new.spent ≤ MOST_VALUES)) }
 {
     let mut inner = Value::Unsigned(0);
-    value_into(alloc, class, packet, frame, at, &mut inner)?;
-    let Ok(inner) = Boxed::new(alloc, inner) else {
+    value_into(class, around, at, &mut inner)?;
+    let Ok(inner) = Boxed::new(around.alloc, inner) else {
         return Err(at.stop_refused());
     };
     *value = Value::Choice(i, inner);

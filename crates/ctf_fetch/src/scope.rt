@@ -14,7 +14,7 @@ use crate::least::least_end;
 use ctf_bits::Source;
 use ctf_class::{Class, Scope};
 use ctf_decode::{Frame, Scopes, Value};
-use ctf_packet::{StreamFault, front_content, scope_into};
+use ctf_packet::{ScopePlace, StreamFault, front_content, scope_into};
 use std::alloc::Global;
 
 /// The scope of a packet that comes next: its class, if it has one, and the bit at which the scope before ends.
@@ -91,9 +91,13 @@ fn scope_at_hand(
     if content == next.end {
         return None;
     }
-    match scope_into(
-        next.alloc, class, bytes, next.end, content, next.scope, spare, scopes,
-    ) {
+    let at = ScopePlace {
+        scope: next.scope,
+        bytes,
+        content,
+        place: next.end,
+    };
+    match scope_into(next.alloc, class, &at, spare, scopes) {
         Ok(end) => Some(end),
         Err(_) => None,
     }

@@ -28,6 +28,6 @@ pub use reached::Reached;
 pub use record::{EventRecord, Head, event_named, next_head, next_record, planned_named, put_body};
 pub use record_place::RecordPlace;
 pub use roles::{field_of_role, number_in};
-pub use scope::{cut_short, front_content, record_scope, scope_into};
+pub use scope::{ScopePlace, cut_short, front_content, record_scope, scope_into};
 pub use scratch::Scratch;
 pub use sizes::{LONGEST_PACKET, Sizes, are_possible, sizes_checked, told_sizes};

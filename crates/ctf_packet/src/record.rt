@@ -13,7 +13,7 @@ ghost use Rattle.ctf_packet.specs.Gives.{OrRefused};
 
 use crate::fault::StreamFault;
 use crate::record_place::RecordPlace;
-use crate::scope::record_scope;
+use crate::scope::{ScopePlace, record_scope};
 use crate::scratch::Scratch;
 use crate::told::told_by;
 use ctf_class::{EventClass, PlannedEvent, Scope, StreamClass};
@@ -76,69 +76,71 @@ pub fn planned_named(stream: &StreamClass, id: Option<i128>) -> Option<PlannedEv
     }
 }
 
-/// The scopes of an event record behind its header: the contexts and the fields, from a place of a packet on, whose
-/// content ends at the bit `content` (CTF 1.8.3, section 6.2). The place where the last one ends, in bits from the packet's
-/// first one. Their values are in `scopes` then, and the memory of `scratch` is used.
+/// The scopes after the header of the event record at a place: the contexts and the fields (CTF 1.8.3, section 6.2). The place
+/// where the last one ends, in bits from the packet's first one. Their values are in `scopes` then, and the memory of `scratch`
+/// is used.
 ///
 /// An error is the first fault of these scopes: F6, F8, F11, or `NoMemory`.
 #[tactic(auto, unfolding(crate::specs::Records::bodied))]
 pub fn put_body(
     alloc: Global,
-    stream: &StreamClass,
-    event: &EventClass,
-    bytes: &[u8],
-    place: u64,
-    content: u64,
+    at: &RecordPlace<'_, '_>,
+    head: &Head<'_>,
     scratch: &mut Scratch,
     scopes: &mut Scopes,
 ) -> Result<u64, StreamFault>
-    requires start { place ≤ content }
-    requires content { content ≤ 2 ^ 62 }
-    requires held { content ≤ 8 * length bytes.now }
-    ensures puts { PutsBody (records.bodied (option_map form stream.now.event_context)
-        (option_map form event.now.context) (form event.now.fields) bytes.now content
-        (values_of scopes.old) place scopes.old.spent) result scopes.new }
-    ensures within { IfOk result (λ end. end ≤ content) }
-    ensures forward { IfOk result (λ end. place ≤ end) }
+    requires start { head.now.end ≤ at.now.packet.now.content }
+    ensures puts { let stream = at.now.packet.now.stream.now in let event = head.now.event.now in
+        PutsBody (records.bodied (option_map form stream.event_context)
+        (option_map form event.context) (form event.fields) at.now.bytes.now
+        at.now.packet.now.content (values_of scopes.old) head.now.end scopes.old.spent)
+        result scopes.new }
+    ensures within { IfOk result (λ end. end ≤ at.now.packet.now.content) }
+    ensures forward { IfOk result (λ end. head.now.end ≤ end) }
     ensures packet { OnOk result
         (packet_values (values_of scopes.new) ≡ packet_values (values_of scopes.old)) }
 {
-    let Ok(at) = scratch.room_for(event.id) else {
+    let event = head.event;
+    let Ok(i) = scratch.room_for(event.id) else {
         return Err(StreamFault::NoMemory);
     };
-    let stream_context = stream.event_context();
+    let stream_context = at.packet.stream.event_context();
+    let first = ScopePlace {
+        scope: Scope::StreamEventContext,
+        bytes: at.bytes,
+        content: at.packet.content,
+        place: head.end,
+    };
     let end = record_scope(
         alloc,
         stream_context,
-        bytes,
-        place,
-        content,
-        Scope::StreamEventContext,
+        &first,
         &mut scratch.stream_context,
         scopes,
     )?;
     let event_context = event.context();
+    let second = ScopePlace {
+        scope: Scope::EventContext,
+        bytes: at.bytes,
+        content: at.packet.content,
+        place: end,
+    };
+    let body = &mut scratch.bodies[i];
     let end = record_scope(
         alloc,
         event_context,
-        bytes,
-        end,
-        content,
-        Scope::EventContext,
-        &mut scratch.bodies[at].event_context,
+        &second,
+        &mut body.event_context,
         scopes,
     )?;
     let fields = event.fields();
-    record_scope(
-        alloc,
-        Some(fields),
-        bytes,
-        end,
-        content,
-        Scope::EventFields,
-        &mut scratch.bodies[at].fields,
-        scopes,
-    )
+    let third = ScopePlace {
+        scope: Scope::EventFields,
+        bytes: at.bytes,
+        content: at.packet.content,
+        place: end,
+    };
+    record_scope(alloc, Some(fields), &third, &mut body.fields, scopes)
 }
 
 /// Puts the header of an event record. Its class, and the clock behind it.
@@ -161,16 +163,13 @@ fn put_head<'a>(
     let packet = at.packet;
     let stream = packet.stream;
     let class = stream.event_header();
-    let end = record_scope(
-        alloc,
-        class,
-        at.bytes,
-        at.place,
-        packet.content,
-        Scope::EventHeader,
-        spare,
-        scopes,
-    )?;
+    let place = ScopePlace {
+        scope: Scope::EventHeader,
+        bytes: at.bytes,
+        content: packet.content,
+        place: at.place,
+    };
+    let end = record_scope(alloc, class, &place, spare, scopes)?;
     let header = scopes.get(Scope::EventHeader);
     match told_by(packet.timeline.as_ref(), at.clock, class, header) {
         Err(fault) => Err(fault),
@@ -236,19 +235,13 @@ pub fn next_record<'a>(
         (packet_values (values_of scopes.new) ≡ packet_values (values_of scopes.old)) }
 {
     let head = next_head(alloc, at, scratch, scopes)?;
-    let stream = at.packet.stream;
-    let content = at.packet.content;
-    let bytes = at.bytes;
-    let event = head.event;
-    let end = put_body(
-        alloc, stream, event, bytes, head.end, content, scratch, scopes,
-    )?;
+    let end = put_body(alloc, at, &head, scratch, scopes)?;
     if end == at.place {
         return Err(StreamFault::EmptyEvent);
     }
     scratch.note(end - at.place, scopes.spent());
     Ok(EventRecord {
-        event,
+        event: head.event,
         clock: head.clock,
         end,
     })

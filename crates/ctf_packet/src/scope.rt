@@ -11,36 +11,50 @@ use crate::fault::StreamFault;
 use crate::sizes::LONGEST_PACKET;
 use ctf_bits::Ending;
 use ctf_class::{Class, Scope};
-use ctf_decode::{DecodeFault, MOST_VALUES, Scopes, Value, decode_into};
+use ctf_decode::{DecodeFault, MOST_VALUES, Packet, Scopes, Value, decode_into};
 use std::alloc::Global;
 
-/// Puts the value of a class that stands at a bit of some bytes, whose content ends at the bit `content`,
-/// in its scope. The place where it ends. The memory of `spare` is used for it, and any value may be in it
-/// then.
+/// Where the value of a scope begins in a packet (CTF 1.8.3, section 7.3.2).
+#[derive(Clone, Copy)]
+pub struct ScopePlace<'a> {
+    pub scope: Scope,
+    /// The packet's bytes.
+    pub bytes: &'a [u8],
+    /// Where the packet's content ends, in bits from its first one.
+    pub content: u64,
+    /// In bits from the packet's first one.
+    pub place: u64,
+    ghost start: { place ≤ content },
+    ghost bounded: { content ≤ 2 ^ 62 },
+    ghost held: { content ≤ 8 * length bytes.now },
+}
+
+/// Puts the value of a class that is at a place in the scope there. The place where it ends, in bits from the packet's first
+/// one. The memory of `spare` is used for it, and any value may be in it then.
 #[inline(always)]
 pub fn scope_into(
     alloc: Global,
     class: &Class,
-    bytes: &[u8],
-    place: u64,
-    content: u64,
-    scope: Scope,
+    at: &ScopePlace<'_>,
     spare: &mut Value,
     scopes: &mut Scopes,
 ) -> Result<u64, DecodeFault>
-    requires start { place ≤ content }
-    requires content { content ≤ 2 ^ 62 }
-    requires held { content ≤ 8 * length bytes.now }
     ensures puts { let before = values_of scopes.old in
-        PutsValue scope before (walk (form class.now) (values.input_of bytes.now content before) []
-        place scopes.old.spent) result scopes.new }
-    ensures within { IfOk result (λ end. end ≤ content) }
-    ensures forward { IfOk result (λ end. place ≤ end) }
+        PutsValue at.now.scope before (walk (form class.now)
+        (values.input_of at.now.bytes.now at.now.content before) [] at.now.place scopes.old.spent)
+        result scopes.new }
+    ensures within { IfOk result (λ end. end ≤ at.now.content) }
+    ensures forward { IfOk result (λ end. at.now.place ≤ end) }
     ensures kept { OnErr result (scopes.new ≡ scopes.old) }
 {
-    match decode_into(alloc, class, bytes, place, content, scopes, spare) {
+    let packet = Packet {
+        bytes: at.bytes,
+        content: at.content,
+        scopes: &*scopes,
+    };
+    match decode_into(alloc, class, &packet, at.place, spare) {
         Ok(reached) => {
-            scopes.exchange(scope, spare);
+            scopes.exchange(at.scope, spare);
             scopes.set_spent(reached.spent);
             Ok(reached.end)
         }
@@ -83,39 +97,32 @@ fn fault_in_record(fault: DecodeFault) -> StreamFault
     }
 }
 
-/// Puts the value of a scope of an event record in it. The place where it ends. The memory of `spare` is
-/// used for it, and any value may be in it then.
+/// Puts the value of a scope of an event record that is at a place in the scope there. The place where it ends, in bits from
+/// the packet's first one. The memory of `spare` is used for it, and any value may be in it then.
 #[inline(always)]
 pub fn record_scope(
     alloc: Global,
     class: Option<&Class>,
-    bytes: &[u8],
-    place: u64,
-    content: u64,
-    scope: Scope,
+    at: &ScopePlace<'_>,
     spare: &mut Value,
     scopes: &mut Scopes,
 ) -> Result<u64, StreamFault>
-    requires start { place ≤ content }
-    requires content { content ≤ 2 ^ 62 }
-    requires held { content ≤ 8 * length bytes.now }
     ensures puts { let before = values_of scopes.old in
-        PutsScope scope before (values.scope_at values.fault_in_record
-        (option_map form (option_copied class.entry)) (values.input_of bytes.now content before)
-        place scopes.old.spent) result scopes.new }
-    ensures within { IfOk result (λ end. end ≤ content) }
-    ensures forward { IfOk result (λ end. place ≤ end) }
+        PutsScope at.now.scope before (values.scope_at values.fault_in_record
+        (option_map form (option_copied class.entry))
+        (values.input_of at.now.bytes.now at.now.content before) at.now.place scopes.old.spent)
+        result scopes.new }
+    ensures within { IfOk result (λ end. end ≤ at.now.content) }
+    ensures forward { IfOk result (λ end. at.now.place ≤ end) }
 {
     match class {
         None => {
-            scopes.leave(scope, spare);
-            Ok(place)
+            scopes.leave(at.scope, spare);
+            Ok(at.place)
         }
-        Some(class) => {
-            match scope_into(alloc, class, bytes, place, content, scope, spare, scopes) {
-                Ok(end) => Ok(end),
-                Err(fault) => Err(fault_in_record(fault)),
-            }
-        }
+        Some(class) => match scope_into(alloc, class, at, spare, scopes) {
+            Ok(end) => Ok(end),
+            Err(fault) => Err(fault_in_record(fault)),
+        },
     }
 }

@@ -173,13 +173,8 @@ fn read_values<'a>(
     ensures packet { OnOk result
         (packet_values (values_of scopes.new) ≡ packet_values (values_of scopes.old)) }
 {
-    let stream = at.packet.stream;
     let event = head.event;
-    let content = at.packet.content;
-    let bytes = at.bytes;
-    let end = put_body(
-        alloc, stream, event, bytes, head.end, content, scratch, scopes,
-    )?;
+    let end = put_body(alloc, at, &head, scratch, scopes)?;
     if end == at.place {
         return Err(StreamFault::EmptyEvent);
     }

@@ -5,7 +5,8 @@ use crate::value::place::Place;
 use crate::value::words::put_value;
 use ctf_class::Class;
 use ctf_decode::{
-    DecodeFault, Decoded, Front, MOST_VALUES, Scopes, Value, decode, decode_front, decode_into,
+    DecodeFault, Decoded, Front, MOST_VALUES, Packet, Scopes, Value, decode, decode_front,
+    decode_into,
 };
 
 /// Puts what is decoded at a place.
@@ -41,8 +42,13 @@ fn put_into(row: &mut Row<'_>, class: &Class, place: Place<'_>, scopes: &Scopes)
         start,
         content,
     } = place;
+    let packet = Packet {
+        bytes,
+        content,
+        scopes,
+    };
     let mut value = Value::Signed(1);
-    match decode_into(row.alloc, class, bytes, start, content, scopes, &mut value) {
+    match decode_into(row.alloc, class, &packet, start, &mut value) {
         Ok(reached) => {
             put_value(row, &value);
             put_reached(row, reached.end, reached.spent);

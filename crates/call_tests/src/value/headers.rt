@@ -4,7 +4,7 @@ use crate::row::{Row, bytes_of_digits};
 use crate::value::decoding::put_fault;
 use crate::value::place::Place;
 use ctf_class::Class;
-use ctf_decode::{Scopes, Value, decode_into, last_id, moving, moving_into};
+use ctf_decode::{Packet, Scopes, Value, decode_into, last_id, moving, moving_into};
 use ctf_list::NoMemory;
 use std::alloc::Global;
 
@@ -50,7 +50,12 @@ fn put_place(row: &mut Row<'_>, class: &Class, place: Place<'_>, making: &mut Ma
         content,
     } = place;
     let Making { scopes, value } = making;
-    match decode_into(row.alloc, class, bytes, start, content, scopes, value) {
+    let packet = Packet {
+        bytes,
+        content,
+        scopes: &*scopes,
+    };
+    match decode_into(row.alloc, class, &packet, start, value) {
         Err(fault) => put_fault(row, fault),
         Ok(reached) => {
             put_read(row, class, value);

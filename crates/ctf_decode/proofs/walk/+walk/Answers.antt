@@ -12,7 +12,7 @@ pub elements_into-returns-in_err-element_into-clause-gives : goal.elements_into-
 elements_into-returns-in_err-element_into-clause-gives t c =
     let r = err_from_is_err_and c.from_residual.result c.from_residual.ensures.1 in
     let d = c.element_into.new.at.fault in
-    let f = row_fail (walk (form c.args.element.now) (input c.args.packet.now) (env c.args.frame.now)) c.args.count c.loop-i.i c.loop-i-test.true (map val (take c.loop-i.i c.loop-i.values.items)) c.loop-i.at.end c.loop-i.at.spent d c.in_err-element_into.ensures.gives in
+    let f = row_fail (walk (form c.args.element.now) (input c.args.around.now.packet) (env c.args.around.now.frame.now)) c.args.count c.loop-i.i c.loop-i-test.true (map val (take c.loop-i.i c.loop-i.values.items)) c.loop-i.at.end c.loop-i.at.spent d c.in_err-element_into.ensures.gives in
     rw (r.1) (subst (Fails d) c.loop-i.invariant.walked f)
 
 pub elements_into-loop-i-preserved : goal.elements_into-loop-i-preserved
@@ -20,27 +20,27 @@ elements_into-loop-i-preserved t c = record {
   room = omega (arith, c.in_ok-element_into.ensures.within.2);
   walked =
       let g = c.in_ok-element_into.ensures.gives in
-      row_ok (walk (form c.args.element.now) (input c.args.packet.now) (env c.args.frame.now)) c.args.count c.loop-i.i c.loop-i-test.true (map val (take c.loop-i.i c.loop-i.values.items)) c.loop-i.at.end c.loop-i.at.spent g.0 c.element_into.new.at.end c.element_into.new.at.spent (map val (take (c.loop-i.i + 1) c.element_into.new.values.items)) g.1 g.2 ∙ c.loop-i.invariant.walked;
+      row_ok (walk (form c.args.element.now) (input c.args.around.now.packet) (env c.args.around.now.frame.now)) c.args.count c.loop-i.i c.loop-i-test.true (map val (take c.loop-i.i c.loop-i.values.items)) c.loop-i.at.end c.loop-i.at.spent g.0 c.element_into.new.at.end c.element_into.new.at.spent (map val (take (c.loop-i.i + 1) c.element_into.new.values.items)) g.1 g.2 ∙ c.loop-i.invariant.walked;
   within = c.in_ok-element_into.ensures.within.0;
   few = c.in_ok-element_into.ensures.within.1;
 }
 
 pub option_into-returns-then-i-options-clause-gives : goal.option_into-returns-then-i-options-clause-gives
 option_into-returns-then-i-options-clause-gives t c =
-    rw (c.stop_unchosen.ensures) (ap (λ r. and_then r (as_choice c.args.i)) (option_past (input c.args.packet.now) (env c.args.frame.now) c.args.options.now c.args.i c.args.at.now.end c.args.at.now.spent c.if-i-options.true))
+    rw (c.stop_unchosen.ensures) (ap (λ r. and_then r (as_choice c.args.i)) (option_past (input c.args.around.now.packet) (env c.args.around.now.frame.now) c.args.options.now c.args.i c.args.at.now.end c.args.at.now.spent c.if-i-options.true))
 
 pub option_into-returns-in-Choice-clause-gives : goal.option_into-returns-in-Choice-clause-gives
 option_into-returns-in-Choice-clause-gives t c =
     let m = rw (← c.index-options-i.is) at c.value_into.ensures.gives in
-    let g = choice_gives (input c.args.packet.now) (env c.args.frame.now) c.args.options.now c.args.i c.index-options-i.result c.if-i-options.false c.index-options-i.is c.args.at.now.end c.args.at.now.spent c.value_into.result c.value_into.new.at (val c.value_into.new.value) m in
+    let g = choice_gives (input c.args.around.now.packet) (env c.args.around.now.frame.now) c.args.options.now c.args.i c.index-options-i.result c.if-i-options.false c.index-options-i.is c.args.at.now.end c.args.at.now.spent c.value_into.result c.value_into.new.at (val c.value_into.new.value) m in
     rw (val-Choice c.args.i c.value_into.new.value) g
 
 pub option_into-returns-clause-gives : goal.option_into-returns-clause-gives
 option_into-returns-clause-gives t c =
     let m = rw (← c.index-options-i.is) at c.new_choice_into.ensures.gives in
-    subst (Gives c.new_choice_into.result c.new_choice_into.new.at (val c.new_choice_into.new.value)) (choice_as (input c.args.packet.now) (env c.args.frame.now) c.args.options.now c.args.i c.index-options-i.result c.if-i-options.false c.index-options-i.is c.args.at.now.end c.args.at.now.spent) m
+    subst (Gives c.new_choice_into.result c.new_choice_into.new.at (val c.new_choice_into.new.value)) (choice_as (input c.args.around.now.packet) (env c.args.around.now.frame.now) c.args.options.now c.args.i c.index-options-i.result c.if-i-options.false c.index-options-i.is c.args.at.now.end c.args.at.now.spent) m
 
 pub value_into-returns-in-Array-clause-gives : goal.value_into-returns-in-Array-clause-gives
 value_into-returns-in-Array-clause-gives t c =
     let g = rw (c.get.ensures, c.length_at-count.ensures) at c.array_into.ensures.gives in
-    subst (Gives c.array_into.result c.array_into.new.at (val c.array_into.new.value)) (walk-array (input c.args.packet.now) (env c.args.frame.now) c.args.at.now.end c.args.at.now.spent c.args.class.now c.in-Array.element c.in-Array.length c.in-Array.is) g
+    subst (Gives c.array_into.result c.array_into.new.at (val c.array_into.new.value)) (walk-array (input c.args.around.now.packet) (env c.args.around.now.frame.now) c.args.at.now.end c.args.at.now.spent c.args.class.now c.in-Array.element c.in-Array.length c.in-Array.is) g

@@ -8,15 +8,15 @@ use Rattle.ctf_decode.proofs.walk.+walk.Given as goal
 abbrev pub invariant-each_member_into-loop-i : goal.invariant-each_member_into-loop-i
 invariant-each_member_into-loop-i l = record {
   kept : length l.values ≡ length l.members;
-  walked : walk_members (parts_of (map member_part (drop l.i l.members))) (input l.packet) (env l.frame) (map val (take l.i l.values)) l.at.end l.at.spent ≡ walk_members (parts_of (map member_part l.members)) (input l.packet) (env l.frame) [] l.initial.at.end l.initial.at.spent;
-  within : l.at.end ≤ l.packet.content;
+  walked : walk_members (parts_of (map member_part (drop l.i l.members))) (input l.around.packet) (env l.around.frame.now) (map val (take l.i l.values)) l.at.end l.at.spent ≡ walk_members (parts_of (map member_part l.members)) (input l.around.packet) (env l.around.frame.now) [] l.initial.at.end l.initial.at.spent;
+  within : l.at.end ≤ l.around.packet.content;
   few : l.at.spent ≤ MOST_VALUES;
 }
 
 abbrev pub invariant-elements_into-loop-i : goal.invariant-elements_into-loop-i
 invariant-elements_into-loop-i l = record {
   room : l.i ≤ length l.values.items;
-  walked : repeat (walk (form l.element) (input l.packet) (env l.frame)) (l.count - l.i) (map val (take l.i l.values.items)) l.at.end l.at.spent ≡ repeat (walk (form l.element) (input l.packet) (env l.frame)) l.count [] l.initial.at.end l.initial.at.spent;
-  within : l.at.end ≤ l.packet.content;
+  walked : repeat (walk (form l.element) (input l.around.packet) (env l.around.frame.now)) (l.count - l.i) (map val (take l.i l.values.items)) l.at.end l.at.spent ≡ repeat (walk (form l.element) (input l.around.packet) (env l.around.frame.now)) l.count [] l.initial.at.end l.initial.at.spent;
+  within : l.at.end ≤ l.around.packet.content;
   few : l.at.spent ≤ MOST_VALUES;
 }

@@ -8,16 +8,16 @@ use Rattle.ctf_packet.proofs.scope.record_scope.Goals as goal
 pub returns-in-None-clause-puts : goal.returns-in-None-clause-puts
 returns-in-None-clause-puts c =
     let before = values_of c.args.scopes.now in
-    at_none values.fault_in_record (form_of c.args.class) (values.input_of c.args.bytes.now c.args.content before) c.args.scope c.args.scopes.now c.leave.new.self c.args.place (ap form_of c.in-None.is) c.leave.ensures
+    at_none values.fault_in_record (form_of c.args.class) (values.input_of c.args.at.now.bytes.now c.args.at.now.content before) c.args.at.now.scope c.args.scopes.now c.leave.new.self c.args.at.now.place (ap form_of c.in-None.is) c.leave.ensures
 
 pub returns-in-Ok-clause-puts : goal.returns-in-Ok-clause-puts
 returns-in-Ok-clause-puts c =
     let before = values_of c.args.scopes.now in
-    at_ok values.fault_in_record (form_of c.args.class) (form c.in-Some.class.now) (values.input_of c.args.bytes.now c.args.content before) (values.input_of c.args.bytes.now c.args.content before) c.args.scope before c.args.place c.args.scopes.now.spent c.in-Ok.end c.scope_into.new.scopes
+    at_ok values.fault_in_record (form_of c.args.class) (form c.in-Some.class.now) (values.input_of c.args.at.now.bytes.now c.args.at.now.content before) (values.input_of c.args.at.now.bytes.now c.args.at.now.content before) c.args.at.now.scope before c.args.at.now.place c.args.scopes.now.spent c.in-Ok.end c.scope_into.new.scopes
     (ap form_of c.in-Some.is) refl c.in-Ok.ensures.puts
 
 pub returns-in-Err-clause-puts : goal.returns-in-Err-clause-puts
 returns-in-Err-clause-puts c =
     let before = values_of c.args.scopes.now in
-    at_err values.fault_in_record (form_of c.args.class) (form c.in-Some.class.now) (values.input_of c.args.bytes.now c.args.content before) (values.input_of c.args.bytes.now c.args.content before) c.args.scope before c.args.place c.args.scopes.now.spent c.in-Err.fault c.fault_in_record.result c.scope_into.new.scopes
+    at_err values.fault_in_record (form_of c.args.class) (form c.in-Some.class.now) (values.input_of c.args.at.now.bytes.now c.args.at.now.content before) (values.input_of c.args.at.now.bytes.now c.args.at.now.content before) c.args.at.now.scope before c.args.at.now.place c.args.scopes.now.spent c.in-Err.fault c.fault_in_record.result c.scope_into.new.scopes
     (ap form_of c.in-Some.is) refl c.in-Err.ensures.puts c.fault_in_record.ensures
