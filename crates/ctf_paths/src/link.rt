@@ -21,36 +21,34 @@ use ctf_meaning::ResolveFault;
 use std::alloc::Global;
 use tsdl_tree::{Path, Word};
 
+/// What the classes of a trace are linked with.
+#[derive(Clone, Copy)]
+pub struct Linker<'a> {
+    /// What the memory of the classes is taken from.
+    pub alloc: Global,
+    /// The trace's byte order, that of integers which name none (CTF 1.8.3, section 4.1.3).
+    pub order: Order,
+    pub clocks: &'a Clocks<'a>,
+}
+
 /// The class that a shape is where it stands.
 #[cycle(link)]
-pub fn class_of(
-    alloc: Global,
-    order: Order,
-    clocks: &Clocks<'_>,
-    spot: &Spot<'_>,
-    shape: &Shape,
-) -> Result<Class, ResolveFault>
-    ensures { Follows (class_told order clocks.now.clocks.now (spot_by spot.now)
-        (views.shape shape.now)) (λ c. c) result }
+pub fn class_of(linker: &Linker<'_>, spot: &Spot<'_>, shape: &Shape) -> Result<Class, ResolveFault>
+    ensures { Follows (class_told linker.now.order linker.now.clocks.now.clocks.now
+        (spot_by spot.now) (views.shape shape.now)) (λ c. c) result }
 {
     match shape {
-        Shape::Integer(integer) => integer_class(order, clocks, spot, integer),
+        Shape::Integer(integer) => integer_class(linker.order, linker.clocks, spot, integer),
         Shape::Float => Err(ResolveFault::FloatingPoint),
         Shape::String => Ok(string_class()),
         Shape::Enumeration { container, labels } => {
-            enumeration_class(order, clocks, spot, container, labels)
+            enumeration_class(linker.order, linker.clocks, spot, container, labels)
         }
-        Shape::Structure { align, members } => {
-            structure_class(alloc, order, clocks, spot, *align, members)
-        }
-        Shape::Variant { tag, options } => {
-            variant_class(alloc, order, clocks, spot, tag, options)
-        }
-        Shape::Array { count, element } => {
-            array_class(alloc, order, clocks, spot, *count, element.get())
-        }
+        Shape::Structure { align, members } => { structure_class(linker, spot, *align, members) }
+        Shape::Variant { tag, options } => { variant_class(linker, spot, tag, options) }
+        Shape::Array { count, element } => { array_class(linker, spot, *count, element.get()) }
         Shape::Sequence { path, element } => {
-            sequence_class(alloc, order, clocks, spot, path.as_slice(), element.get())
+            sequence_class(linker, spot, path.as_slice(), element.get())
         }
     }
 }
@@ -58,35 +56,32 @@ pub fn class_of(
 /// The class of a structure.
 #[cycle(link)]
 fn structure_class(
-    alloc: Global,
-    order: Order,
-    clocks: &Clocks<'_>,
+    linker: &Linker<'_>,
     spot: &Spot<'_>,
     align: Align,
     members: &Members,
 ) -> Result<Class, ResolveFault>
-    ensures { Follows (class_told order clocks.now.clocks.now (spot_by spot.now)
-        (struct align (views.members members.now))) (λ c. c) result }
+    ensures { Follows (class_told linker.now.order linker.now.clocks.now.clocks.now
+        (spot_by spot.now) (struct align (views.members members.now))) (λ c. c) result }
 {
-    let made = members_in(alloc, order, clocks, spot, members)?;
+    let made = members_in(linker, spot, members)?;
     Ok(structure_of(align, made)?)
 }
 
 /// The members of a structure.
 #[cycle(link)]
 fn members_in(
-    alloc: Global,
-    order: Order,
-    clocks: &Clocks<'_>,
+    linker: &Linker<'_>,
     spot: &Spot<'_>,
     members: &Members,
 ) -> Result<List<Member>, ResolveFault>
-    ensures { Follows (each_told (member_told order clocks.now.clocks.now (spot_by spot.now)) []
+    ensures { Follows (each_told (member_told linker.now.order linker.now.clocks.now.clocks.now
+        (spot_by spot.now)) []
         (fields_in (views.members members.now))) (λ ms. ms) result }
 {
-    let mut made = room_for(alloc, members.len())?;
+    let mut made = room_for(linker.alloc, members.len())?;
     for place in 0..members.len() {
-        let member = member_at(alloc, order, clocks, spot, members, place)?;
+        let member = member_at(linker, spot, members, place)?;
         made.push(member)?;
     }
     Ok(made)
@@ -95,9 +90,7 @@ fn members_in(
 /// The member at a place of a structure, which sees those before it.
 #[cycle(link)]
 fn member_at(
-    alloc: Global,
-    order: Order,
-    clocks: &Clocks<'_>,
+    linker: &Linker<'_>,
     spot: &Spot<'_>,
     members: &Members,
     place: usize,
@@ -105,12 +98,13 @@ fn member_at(
     requires { place < length (fields_in (views.members members.now)) }
     ensures { let fields = fields_in (views.members members.now) in
         (f : Field) → slice_get fields place ≡ Some f →
-        Follows (member_told order clocks.now.clocks.now (spot_by spot.now) (take place fields) f)
+        Follows (member_told linker.now.order linker.now.clocks.now.clocks.now
+        (spot_by spot.now) (take place fields) f)
         (λ m. m) result }
 {
     let around = (&*spot).around(&*members, place);
     let inner = (&*spot).member(&around, (&*members).name(place));
-    let class = class_of(alloc, order, clocks, &inner, members.shape(place))?;
+    let class = class_of(linker, &inner, members.shape(place))?;
     let name = members.field_name(place).clone()?;
     Ok(Member { name, class })
 }
@@ -118,37 +112,34 @@ fn member_at(
 /// The class of a variant.
 #[cycle(link)]
 fn variant_class(
-    alloc: Global,
-    order: Order,
-    clocks: &Clocks<'_>,
+    linker: &Linker<'_>,
     spot: &Spot<'_>,
     tag: &Option<Path>,
     options: &Members,
 ) -> Result<Class, ResolveFault>
-    ensures { Follows (class_told order clocks.now.clocks.now (spot_by spot.now)
-        (variant tag.now (views.members options.now))) (λ c. c) result }
+    ensures { Follows (class_told linker.now.order linker.now.clocks.now.clocks.now
+        (spot_by spot.now) (variant tag.now (views.members options.now))) (λ c. c) result }
 {
-    let found = tag_at(alloc, spot, tag)?;
+    let found = tag_at(linker.alloc, spot, tag)?;
     let below = spot.below();
-    let made = options_in(alloc, order, clocks, &below, options)?;
-    Ok(variant_of(alloc, found, options, made)?)
+    let made = options_in(linker, &below, options)?;
+    Ok(variant_of(linker.alloc, found, options, made)?)
 }
 
 /// The options of a variant, each at a spot below it.
 #[cycle(link)]
 fn options_in(
-    alloc: Global,
-    order: Order,
-    clocks: &Clocks<'_>,
+    linker: &Linker<'_>,
     spot: &Spot<'_>,
     options: &Members,
 ) -> Result<List<Member>, ResolveFault>
-    ensures { Follows (each_told (option_told order clocks.now.clocks.now (spot_by spot.now)) []
+    ensures { Follows (each_told (option_told linker.now.order linker.now.clocks.now.clocks.now
+        (spot_by spot.now)) []
         (fields_in (views.members options.now))) (λ ms. ms) result }
 {
-    let mut made = room_for(alloc, options.len())?;
+    let mut made = room_for(linker.alloc, options.len())?;
     for place in 0..options.len() {
-        let option = option_at(alloc, order, clocks, spot, options, place)?;
+        let option = option_at(linker, spot, options, place)?;
         made.push(option)?;
     }
     Ok(made)
@@ -157,9 +148,7 @@ fn options_in(
 /// The option at a place of a variant.
 #[cycle(link)]
 fn option_at(
-    alloc: Global,
-    order: Order,
-    clocks: &Clocks<'_>,
+    linker: &Linker<'_>,
     spot: &Spot<'_>,
     options: &Members,
     place: usize,
@@ -167,10 +156,11 @@ fn option_at(
     requires { place < length (fields_in (views.members options.now)) }
     ensures { let fields = fields_in (views.members options.now) in
         (f : Field) → slice_get fields place ≡ Some f →
-        Follows (option_told order clocks.now.clocks.now (spot_by spot.now) (take place fields) f)
+        Follows (option_told linker.now.order linker.now.clocks.now.clocks.now
+        (spot_by spot.now) (take place fields) f)
         (λ m. m) result }
 {
-    let class = class_of(alloc, order, clocks, spot, options.shape(place))?;
+    let class = class_of(linker, spot, options.shape(place))?;
     let name = options.field_name(place).clone()?;
     Ok(Member { name, class })
 }
@@ -178,36 +168,32 @@ fn option_at(
 /// The class of an array of so many elements.
 #[cycle(link)]
 fn array_class(
-    alloc: Global,
-    order: Order,
-    clocks: &Clocks<'_>,
+    linker: &Linker<'_>,
     spot: &Spot<'_>,
     count: u64,
     element: &Shape,
 ) -> Result<Class, ResolveFault>
-    ensures { Follows (class_told order clocks.now.clocks.now (spot_by spot.now)
-        (array count (views.shape element.now))) (λ c. c) result }
+    ensures { Follows (class_told linker.now.order linker.now.clocks.now.clocks.now
+        (spot_by spot.now) (array count (views.shape element.now))) (λ c. c) result }
 {
     let below = spot.below();
-    let class = class_of(alloc, order, clocks, &below, element)?;
-    Ok(array_of(alloc, Length::Fixed(count), element, class)?)
+    let class = class_of(linker, &below, element)?;
+    Ok(array_of(linker.alloc, Length::Fixed(count), element, class)?)
 }
 
 /// The class of a sequence whose length a field says.
 #[cycle(link)]
 fn sequence_class(
-    alloc: Global,
-    order: Order,
-    clocks: &Clocks<'_>,
+    linker: &Linker<'_>,
     spot: &Spot<'_>,
     path: &[Word],
     element: &Shape,
 ) -> Result<Class, ResolveFault>
-    ensures { Follows (class_told order clocks.now.clocks.now (spot_by spot.now)
-        (sequence path.now (views.shape element.now))) (λ c. c) result }
+    ensures { Follows (class_told linker.now.order linker.now.clocks.now.clocks.now
+        (spot_by spot.now) (sequence path.now (views.shape element.now))) (λ c. c) result }
 {
-    let route = length_at(alloc, spot, path)?;
+    let route = length_at(linker.alloc, spot, path)?;
     let below = spot.below();
-    let class = class_of(alloc, order, clocks, &below, element)?;
-    Ok(array_of(alloc, Length::Field(route), element, class)?)
+    let class = class_of(linker, &below, element)?;
+    Ok(array_of(linker.alloc, Length::Field(route), element, class)?)
 }

@@ -10,33 +10,29 @@ ghost use Rattle.ctf_paths.specs.Spots.{earlier_by, scope_spot};
 ghost use Rattle.ctf_paths.specs.MovedClocks.{Tells};
 
 use crate::clocks::Clocks;
-use crate::link::class_of;
+use crate::link::{Linker, class_of};
 use crate::moved::{Moved, moved_in};
 use crate::spot::{Around, Earlier, Spot};
-use ctf_bits::Order;
 use ctf_class::{Class, Scope};
 use ctf_declared_class::Shape;
 use ctf_meaning::ResolveFault;
-use std::alloc::Global;
 
 /// The class that a shape is as the structure of a scope, behind the structures of the scopes before, the
 /// nearest first: its paths lead to fields, and its clocks are known. Else the first of its lengths and
 /// tags that is not found or does not fit, or of its mappings to an unknown clock (CTF 1.8.3, sections 4,
 /// 7.3.2 and 8). A class of more than 2^32 - 1 parts is refused as too large for the memory.
 pub fn scope_class(
-    alloc: Global,
-    order: Order,
-    clocks: &Clocks<'_>,
+    linker: &Linker<'_>,
     scope: Scope,
     before: &[Earlier<'_>],
     shape: &Shape,
 ) -> Result<Class, ResolveFault>
-    ensures { Follows (class_told order clocks.now.clocks.now
+    ensures { Follows (class_told linker.now.order linker.now.clocks.now.clocks.now
         (scope_spot scope (map earlier_by before.now)) (views.shape shape.now)) (λ c. c) result }
 {
     let around = Around::Outside;
     let spot = Spot::scope(scope, &around, before);
-    class_of(alloc, order, clocks, &spot, shape)
+    class_of(linker, &spot, shape)
 }
 
 /// The clocks that the integers of a scope's structure move, behind those moved so far (CTF 1.8.3, section

@@ -17,7 +17,7 @@ use ctf_declarations::ScopeShape;
 use ctf_declared_class::{Known, Shape};
 use ctf_list::{List, NoMemory};
 use ctf_meaning::ResolveFault;
-use ctf_paths::{Clocks, Earlier, scope_class};
+use ctf_paths::{Clocks, Earlier, Linker, scope_class};
 use std::alloc::Global;
 
 /// What is known of a text of which no declaration has a fault of its own.
@@ -96,14 +96,12 @@ impl<'a> Text<'a> {
             return Ok(None);
         };
         let before = self.before(alloc, home, scope)?;
-        match scope_class(
+        let linker = Linker {
             alloc,
-            self.order,
-            self.clocks,
-            scope,
-            before.as_slice(),
-            known.shape(),
-        ) {
+            order: self.order,
+            clocks: self.clocks,
+        };
+        match scope_class(&linker, scope, before.as_slice(), known.shape()) {
             Ok(class) => Ok(Some(class)),
             Err(fault) => Err(fault),
         }

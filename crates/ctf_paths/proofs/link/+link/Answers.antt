@@ -13,34 +13,34 @@ use Rattle.ctf_paths.proofs.link.+link.Goals as goal
 
 pub array_class-returns : goal.array_class-returns
 array_class-returns t c =
-    array_told c.args.order c.args.clocks.now.clocks.now (spot_by c.args.spot.now) (spot_by c.below-below.result) c.args.count (views.shape c.args.element.now) c.in_ok-class.class c.in_ok-array_of.field-0 c.below-below.ensures c.in_ok-class.ensures c.in_ok-array_of.ensures
+    array_told c.args.linker.now.order c.args.linker.now.clocks.now.clocks.now (spot_by c.args.spot.now) (spot_by c.below-below.result) c.args.count (views.shape c.args.element.now) c.in_ok-class.class c.in_ok-array_of.field-0 c.below-below.ensures c.in_ok-class.ensures c.in_ok-array_of.ensures
 
 pub sequence_class-returns : goal.sequence_class-returns
 sequence_class-returns t c =
-    sequence_told c.args.order c.args.clocks.now.clocks.now (spot_by c.args.spot.now) (spot_by c.below-below.result) c.args.path.now (views.shape c.args.element.now) c.in_ok-route.route c.in_ok-class.class c.in_ok-array_of.field-0 c.in_ok-route.ensures c.below-below.ensures c.in_ok-class.ensures c.in_ok-array_of.ensures
+    sequence_told c.args.linker.now.order c.args.linker.now.clocks.now.clocks.now (spot_by c.args.spot.now) (spot_by c.below-below.result) c.args.path.now (views.shape c.args.element.now) c.in_ok-route.route c.in_ok-class.class c.in_ok-array_of.field-0 c.in_ok-route.ensures c.below-below.ensures c.in_ok-class.ensures c.in_ok-array_of.ensures
 
 pub structure_class-returns : goal.structure_class-returns
 structure_class-returns t c =
-    structure_told c.args.order c.args.clocks.now.clocks.now (spot_by c.args.spot.now) c.args.align (views.members c.args.members.now) c.in_ok-made.made c.in_ok-structure_of.field-0 c.in_ok-made.ensures c.in_ok-structure_of.ensures
+    structure_told c.args.linker.now.order c.args.linker.now.clocks.now.clocks.now (spot_by c.args.spot.now) c.args.align (views.members c.args.members.now) c.in_ok-made.made c.in_ok-structure_of.field-0 c.in_ok-made.ensures c.in_ok-structure_of.ensures
 
 pub structure_class-returns-in_err-made : goal.structure_class-returns-in_err-made
 structure_class-returns-in_err-made t c =
     let r = err_from_is_err_and c.from_residual.result c.from_residual.ensures.1 in
-    rw (r.1, r.2) (structure_fails c.args.order c.args.clocks.now.clocks.now (spot_by c.args.spot.now) c.args.align (views.members c.args.members.now) c.in_err-made.field-0.0 c.in_err-made.ensures)
+    rw (r.1, r.2) (structure_fails c.args.linker.now.order c.args.linker.now.clocks.now.clocks.now (spot_by c.args.spot.now) c.args.align (views.members c.args.members.now) c.in_err-made.field-0.0 c.in_err-made.ensures)
 
 pub variant_class-returns : goal.variant_class-returns
 variant_class-returns t c =
-    variant_told c.args.order c.args.clocks.now.clocks.now (spot_by c.args.spot.now) (spot_by c.below-below.result) c.args.tag.now (views.members c.args.options.now) (tag_by c.in_ok-found.found) c.in_ok-made.made c.in_ok-variant_of.field-0 c.in_ok-found.ensures c.below-below.ensures c.in_ok-made.ensures c.in_ok-variant_of.ensures
+    variant_told c.args.linker.now.order c.args.linker.now.clocks.now.clocks.now (spot_by c.args.spot.now) (spot_by c.below-below.result) c.args.tag.now (views.members c.args.options.now) (tag_by c.in_ok-found.found) c.in_ok-made.made c.in_ok-variant_of.field-0 c.in_ok-found.ensures c.below-below.ensures c.in_ok-made.ensures c.in_ok-variant_of.ensures
 
 pub variant_class-returns-in_err-made : goal.variant_class-returns-in_err-made
 variant_class-returns-in_err-made t c =
     let r = err_from_is_err_and c.from_residual-in_err-made.result c.from_residual-in_err-made.ensures.1 in
-    rw (r.1, r.2) (variant_fails c.args.order c.args.clocks.now.clocks.now (spot_by c.args.spot.now) (spot_by c.below-below.result) c.args.tag.now (views.members c.args.options.now) (tag_by c.in_ok-found.found) c.in_err-made.field-0.0 c.in_ok-found.ensures c.below-below.ensures c.in_err-made.ensures)
+    rw (r.1, r.2) (variant_fails c.args.linker.now.order c.args.linker.now.clocks.now.clocks.now (spot_by c.args.spot.now) (spot_by c.below-below.result) c.args.tag.now (views.members c.args.options.now) (tag_by c.in_ok-found.found) c.in_err-made.field-0.0 c.in_ok-found.ensures c.below-below.ensures c.in_err-made.ensures)
 
 pub members_in-returns-in_err-member : goal.members_in-returns-in_err-member
 members_in-returns-in_err-member t c =
     let fields = fields_in (views.members c.args.members.now) in
-    let at = member_told c.args.order c.args.clocks.now.clocks.now (spot_by c.args.spot.now) in
+    let at = member_told c.args.linker.now.order c.args.linker.now.clocks.now.clocks.now (spot_by c.args.spot.now) in
     let f = there fields c.loop-place.place (omega (arith, c.len-place-end.ensures)) in
     let r = err_from_is_err_and c.from_residual-in_err-member.result c.from_residual-in_err-member.ensures.1 in
     let row = row_fails at fields c.loop-place.place f.0 c.loop-place.made c.in_err-member.field-0.0 f.1 (c.in_err-member.ensures f.0 f.1) in
@@ -49,7 +49,7 @@ members_in-returns-in_err-member t c =
 pub members_in-loop-place-preserved : goal.members_in-loop-place-preserved
 members_in-loop-place-preserved t c =
     let fields = fields_in (views.members c.args.members.now) in
-    let at = member_told c.args.order c.args.clocks.now.clocks.now (spot_by c.args.spot.now) in
+    let at = member_told c.args.linker.now.order c.args.linker.now.clocks.now.clocks.now (spot_by c.args.spot.now) in
     let i = c.loop-place.place in
     let f = there fields i (omega (arith, c.len-place-end.ensures)) in
     ap (λ (made : List Member). each_told at (take (i + 1) fields) (drop (i + 1) fields) >>= λ ms. Ok (made ++ ms)) c.in_ok-push.ensures.ok
@@ -59,7 +59,7 @@ members_in-loop-place-preserved t c =
 pub options_in-returns-in_err-option : goal.options_in-returns-in_err-option
 options_in-returns-in_err-option t c =
     let fields = fields_in (views.members c.args.options.now) in
-    let at = option_told c.args.order c.args.clocks.now.clocks.now (spot_by c.args.spot.now) in
+    let at = option_told c.args.linker.now.order c.args.linker.now.clocks.now.clocks.now (spot_by c.args.spot.now) in
     let f = there fields c.loop-place.place (omega (arith, c.len-place-end.ensures)) in
     let r = err_from_is_err_and c.from_residual-in_err-option.result c.from_residual-in_err-option.ensures.1 in
     let row = row_fails at fields c.loop-place.place f.0 c.loop-place.made c.in_err-option.field-0.0 f.1 (c.in_err-option.ensures f.0 f.1) in
@@ -68,7 +68,7 @@ options_in-returns-in_err-option t c =
 pub options_in-loop-place-preserved : goal.options_in-loop-place-preserved
 options_in-loop-place-preserved t c =
     let fields = fields_in (views.members c.args.options.now) in
-    let at = option_told c.args.order c.args.clocks.now.clocks.now (spot_by c.args.spot.now) in
+    let at = option_told c.args.linker.now.order c.args.linker.now.clocks.now.clocks.now (spot_by c.args.spot.now) in
     let i = c.loop-place.place in
     let f = there fields i (omega (arith, c.len-place-end.ensures)) in
     ap (λ (made : List Member). each_told at (take (i + 1) fields) (drop (i + 1) fields) >>= λ ms. Ok (made ++ ms)) c.in_ok-push.ensures.ok

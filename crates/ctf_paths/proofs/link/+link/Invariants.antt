@@ -36,11 +36,11 @@ decreases-sequence_class l = 4 * depth_of (views.shape l.element.now) + 1
 abbrev pub invariant-members_in-loop-place : goal.invariant-members_in-loop-place
 invariant-members_in-loop-place l =
     let fields = fields_in (views.members l.members) in
-    let at = member_told l.order l.clocks.clocks.now (spot_by l.spot) in
+    let at = member_told l.linker.order l.linker.clocks.now.clocks.now (spot_by l.spot) in
     (each_told at (take l.place fields) (drop l.place fields) >>= λ ms. Ok (l.made ++ ms)) ≡ each_told at [] fields
 
 abbrev pub invariant-options_in-loop-place : goal.invariant-options_in-loop-place
 invariant-options_in-loop-place l =
     let fields = fields_in (views.members l.options) in
-    let at = option_told l.order l.clocks.clocks.now (spot_by l.spot) in
+    let at = option_told l.linker.order l.linker.clocks.now.clocks.now (spot_by l.spot) in
     (each_told at (take l.place fields) (drop l.place fields) >>= λ ms. Ok (l.made ++ ms)) ≡ each_told at [] fields
