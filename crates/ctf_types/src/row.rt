@@ -17,6 +17,14 @@ use ctf_meaning::ResolveFault;
 use std::alloc::Global;
 use tsdl_tree::{BlockEntry, BlockKind, Declaration};
 
+/// A block, and the number of its declaration.
+#[derive(Clone, Copy)]
+struct TextBlock<'b> {
+    number: usize,
+    kind: BlockKind,
+    entries: &'b [BlockEntry],
+}
+
 impl<'a> Text<'a> {
     /// What a declaration gives.
     pub fn row(
@@ -38,7 +46,12 @@ impl<'a> Text<'a> {
     {
         match declaration {
             Declaration::Block { kind, entries } => {
-                match self.block_row(alloc, number, *kind, entries.as_slice(), ids) {
+                let block = TextBlock {
+                    number,
+                    kind: *kind,
+                    entries: entries.as_slice(),
+                };
+                match self.block_row(alloc, &block, ids) {
                     Ok(row) => Ok(row),
                     Err(fault) => Err(fault),
                 }
@@ -52,34 +65,34 @@ impl<'a> Text<'a> {
     fn block_row(
         &self,
         alloc: Global,
-        number: usize,
-        kind: BlockKind,
-        entries: &[BlockEntry],
+        block: &TextBlock<'_>,
         ids: &mut Ids,
     ) -> Result<Linked, ResolveFault>
         ghost text: { List WrittenDeclaration }
         requires whole { IsText text self.now }
-        requires stands { slice_get text number ≡ Some (Block kind (map entry_of entries.now)) }
-        requires ids { AreIds text number ids.old }
-        ensures row { MatchResult result
-            (IsRow text self.now.order (number, Block kind (map entry_of entries.now)))
+        requires stands { slice_get text block.now.number ≡
+            Some (Block block.now.kind (map entry_of block.now.entries.now)) }
+        requires ids { AreIds text block.now.number ids.old }
+        ensures row { let given = Block block.now.kind (map entry_of block.now.entries.now) in
+            MatchResult result (IsRow text self.now.order (block.now.number, given))
             (λ f. (f ≡ fault.NoMemory) ⊎
-            Contains (link_faults text (number, Block kind (map entry_of entries.now))) f) }
-        ensures ids { OnOk result (AreIds text (number + 1) ids.new) }
+            Contains (link_faults text (block.now.number, given)) f) }
+        ensures ids { OnOk result (AreIds text (block.now.number + 1) ids.new) }
     {
-        match kind {
+        let number = block.number;
+        match block.kind {
             BlockKind::Trace => match self.header(alloc, number) {
                 Ok(header) => Ok(Linked::Trace(header)),
                 Err(fault) => Err(fault),
             },
-            BlockKind::Stream => match stream_id(entries) {
+            BlockKind::Stream => match stream_id(block.entries) {
                 Ok(id) => match self.head(alloc, number, id) {
                     Ok(head) => Ok(Linked::Stream(head)),
                     Err(fault) => Err(fault),
                 },
                 Err(fault) => Err(fault),
             },
-            BlockKind::Event => match self.event_row(alloc, number, entries, ids) {
+            BlockKind::Event => match self.event_row(alloc, number, block.entries, ids) {
                 Ok(row) => Ok(row),
                 Err(fault) => Err(fault),
             },
