@@ -13,35 +13,41 @@ use ctf_stream::Gap;
 use ctf_timestamp::{MOST_STAMP, Stamper};
 use std::alloc::Global;
 
-/// Appends the message about a gap: `discarded ` and ` events`, or `lost ` and ` packets`.
+/// The words of a message about a gap: `discarded ` and ` events`, or `lost ` and ` packets`.
+#[derive(Clone, Copy)]
+pub(crate) struct GapWords<'a> {
+    pub(crate) verb: &'a [u8],
+    pub(crate) noun: &'a [u8],
+}
+
+/// Appends the message about a gap.
 pub(crate) fn append_gap(
     alloc: Global,
     text: &mut Vec<u8>,
     stamper: &mut Stamper,
-    verb: &[u8],
-    noun: &[u8],
+    words: &GapWords<'_>,
     gap: &Gap<'_>,
 ) -> Result<(), NoMemory>
     ensures text { OnOk result
         (text.new.items ≡
-        text.old.items ++ lines.gap_line verb.now noun.now stamper.old gap.now.name.now
-        (gap_of gap.now 0 0)) }
+        text.old.items ++ lines.gap_line words.now.verb.now words.now.noun.now stamper.old
+        gap.now.name.now (gap_of gap.now 0 0)) }
     ensures style { stamper.new ≡ stamper.old }
 {
-    append_count(text, verb, noun, gap.count)?;
+    append_count(text, words, gap.count)?;
     append_interval(text, stamper, gap.from, gap.to)?;
     append_stream(alloc, text, gap.name)?;
     Ok(())
 }
 
 /// Appends what was not written, and how many.
-fn append_count(text: &mut Vec<u8>, verb: &[u8], noun: &[u8], count: u64) -> Result<(), NoMemory>
+fn append_count(text: &mut Vec<u8>, words: &GapWords<'_>, count: u64) -> Result<(), NoMemory>
     ensures { OnOk result (text.new.items ≡
-        text.old.items ++ lines.count_text verb.now noun.now count) }
+        text.old.items ++ lines.count_text words.now.verb.now words.now.noun.now count) }
 {
     text.extend_from_slice(b"WARNING: tracer ")?;
-    text.extend_from_slice(verb)?;
-    append_number(text, noun, count)?;
+    text.extend_from_slice(words.verb)?;
+    append_number(text, words.noun, count)?;
     Ok(())
 }
 

@@ -9,7 +9,7 @@ ghost use Rattle.ctf_packet.specs.Items as items;
 ghost use Rattle.ctf_timestamp.specs.Stamps.{stamp_part};
 ghost use Rattle.ctf_stream.specs.Shown.{event_of, gap_of, item_of, PartIsRight, IsOf};
 
-use crate::gap::append_gap;
+use crate::gap::{GapWords, append_gap};
 use ctf_class::Scope;
 use ctf_decode::Value;
 use ctf_format::{put_packet_part, put_record, with_room};
@@ -120,14 +120,8 @@ impl Printer {
     {
         self.end = 0;
         self.line.clear();
-        append_gap(
-            self.alloc,
-            &mut self.line,
-            &mut self.stamper,
-            verb,
-            noun,
-            gap,
-        )?;
+        let words = GapWords { verb, noun };
+        append_gap(self.alloc, &mut self.line, &mut self.stamper, &words, gap)?;
         self.end = self.line.len();
         Ok(())
     }
