@@ -20,13 +20,20 @@ use ctf_log::Printer;
 use ctf_merge::Merge;
 use ctf_stream::{CurrentItem, Peeked};
 
-/// The time of the item in front, that of the stream of this number, in nanoseconds since the epoch.
-pub(crate) fn front_time<'a, S: Source + Drop>(merge: &Merge<'a, S>, number: usize) -> Option<i64>
-    requires { IsNext merge.now number }
-    ensures { (next : Item Classes) → first_now merge.now ≡ item number next
+/// The next item of several streams, by the number of its stream.
+#[derive(Clone, Copy)]
+pub(crate) struct NextItem<'m, 'a, S: Source + Drop> {
+    pub(crate) merge: &'m Merge<'a, S>,
+    pub(crate) number: usize,
+}
+
+/// The time of the next item, in nanoseconds since the epoch.
+pub(crate) fn front_time<'a, S: Source + Drop>(at: &NextItem<'_, 'a, S>) -> Option<i64>
+    requires { IsNext at.now.merge.now at.now.number }
+    ensures { (next : Item Classes) → first_now at.now.merge.now ≡ item at.now.number next
         → result ≡ time_of next }
 {
-    let Some(reader) = merge.reader(number) else {
+    let Some(reader) = at.merge.reader(at.number) else {
         unreachable!()
     };
     match reader.ahead() {
@@ -37,24 +44,23 @@ pub(crate) fn front_time<'a, S: Source + Drop>(merge: &Merge<'a, S>, number: usi
     }
 }
 
-/// Writes the line or the message of the item in front, that of the stream of this number. It gives the time of the last
-/// printed event record then, in nanoseconds since the epoch, or what stopped it.
+/// Writes the line or the message of the next item. It gives the time of the last printed event record then, in nanoseconds
+/// since the epoch, or what stopped it.
 pub(crate) fn print_front<'a, S: Source + Drop, W: Log, E: Sink>(
-    merge: &Merge<'a, S>,
-    number: usize,
+    at: &NextItem<'_, 'a, S>,
     printer: &mut Printer,
     last: Option<i64>,
     out: &mut W,
     err: &mut E,
 ) -> Result<Option<i64>, Stop>
-    requires { IsNext merge.now number }
+    requires { IsNext at.now.merge.now at.now.number }
     ensures prints { let wrote = written_by W.accepted W.settled E.accepted in
-        let name = get_or (names_of merge.now.readers) number [] in
+        let name = get_or (names_of at.now.merge.now.readers) at.now.number [] in
         IsTrue (W.tells out.old) → IsTrue (E.tells err.old)
-        → (next : Item Classes) → first_now merge.now ≡ item number next
+        → (next : Item Classes) → first_now at.now.merge.now ≡ item at.now.number next
         → Prints (answers.by_kind next (line_of printer.old.style last name next)) (stop_in result)
         (wrote out.old err.old out.new err.new) }
-    ensures last { (next : Item Classes) → first_now merge.now ≡ item number next
+    ensures last { (next : Item Classes) → first_now at.now.merge.now ≡ item at.now.number next
         → IfOk result (λ l. l ≡ answers.last_after last next) }
     ensures counts { let counts = counts_by W.failures W.refusals E.failures E.refusals in
         CountsAfterPrint (stop_in result) (counts out.old err.old) (counts out.new err.new) }
@@ -63,7 +69,7 @@ pub(crate) fn print_front<'a, S: Source + Drop, W: Log, E: Sink>(
     ensures out_tells { IsTrue (W.tells out.old) → IsTrue (W.tells out.new) }
     ensures err_tells { IsTrue (E.tells err.old) → IsTrue (E.tells err.new) }
 {
-    let Some(reader) = merge.reader(number) else {
+    let Some(reader) = at.merge.reader(at.number) else {
         unreachable!()
     };
     let Some(told) = reader.told() else {

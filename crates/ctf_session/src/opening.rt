@@ -6,7 +6,6 @@ ghost use Rattle.ctf_session.specs.Opening.{EachOpens};
 
 use crate::input::Streams;
 use ctf_bits::Source;
-use ctf_class::TraceClass;
 use ctf_clock::Shift;
 use ctf_list::{NoMemory, Text};
 use ctf_stream::StreamReader;
@@ -28,48 +27,48 @@ pub(crate) fn open_all<'a, S: Source + Drop>(
         (inputs_from (λ s. record { tells = S.tells s; bytes = S.left s; ending = S.ending s }) 0
         traces.entry.items)) }
 {
-    let mut readers = Vec::new(alloc);
-    let mut numbers = Vec::new(alloc);
+    let mut opened = Opened {
+        readers: Vec::new(alloc),
+        numbers: Vec::new(alloc),
+    };
     let mut number = 0;
     for trace in traces {
-        let Streams { class, streams } = trace;
-        open_streams(
-            alloc,
-            number,
-            class,
-            streams,
-            shift,
-            &mut readers,
-            &mut numbers,
-        )?;
+        open_streams(alloc, number, trace, shift, &mut opened)?;
         number += 1;
     }
-    Ok((readers, numbers))
+    Ok((opened.readers, opened.numbers))
+}
+
+/// The readers of streams, and the number of the trace of each.
+#[derive(Drop)]
+struct Opened<'a, S: Source + Drop> {
+    readers: Vec<StreamReader<'a, S>>,
+    numbers: Vec<usize>,
 }
 
 /// A reader more for each stream of a trace, and the number of the trace for each.
 fn open_streams<'a, S: Source + Drop>(
     alloc: Global,
     number: usize,
-    class: &'a TraceClass,
-    streams: Vec<(String, S)>,
+    trace: Streams<'a, S>,
     shift: Shift,
-    readers: &mut Vec<StreamReader<'a, S>>,
-    numbers: &mut Vec<usize>,
+    opened: &mut Opened<'a, S>,
 ) -> Result<(), NoMemory>
-    ensures opened { (inputs : List Input) → EachOpens shift inputs readers.old.items
+    ensures opened { (inputs : List Input) → EachOpens shift inputs opened.old.readers.items
         → OnOk result (EachOpens shift
         (inputs ++ map (input_of
         (λ s. record { tells = S.tells s; bytes = S.left s; ending = S.ending s }) number
-        class.now) streams.items) readers.new.items) }
+        trace.entry.class.now) trace.entry.streams.items) opened.new.readers.items) }
     ensures numbers { OnOk result
-        (numbers.new.items ≡ numbers.old.items ++ map (λ s. number) streams.items) }
+        (opened.new.numbers.items ≡
+        opened.old.numbers.items ++ map (λ s. number) trace.entry.streams.items) }
 {
+    let Streams { class, streams } = trace;
     for (name, source) in streams {
         let name = Text::from_string(name);
         let reader = StreamReader::new(alloc, class, name, source, shift);
-        readers.push(reader_of_texts(reader))?;
-        numbers.push(number)?;
+        opened.readers.push(reader_of_texts(reader))?;
+        opened.numbers.push(number)?;
     }
     Ok(())
 }

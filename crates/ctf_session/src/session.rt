@@ -10,7 +10,7 @@ ghost use Rattle.ctf_session.specs.Printing.{TellsFault};
 ghost use Rattle.ctf_session.specs.Steps.{answer_of, Tells, Steps, IsQuiet, IsRepeated, EndedBy, LeavesNothing, counts_by, CountsAfterStep, CountsAfter, SameForMessages, SettledBy, SettledByStep, IsNamedStep, IsNamed, Answered, RoomAfter, ReadersAfter, EndsBy};
 ghost use Rattle.ctf_session.specs.Writing.{written_by};
 
-use crate::front::{front_time, print_front};
+use crate::front::{NextItem, front_time, print_front};
 use crate::input::Streams;
 use crate::log::Log;
 use crate::opening::open_all;
@@ -168,7 +168,11 @@ impl<'a, S: Source + Drop> Session<'a, S> {
             self.ended = Some(ending);
             return Step::Ended(ending.outcome());
         };
-        match self.trim.judge(front_time(&self.merge, number)) {
+        let next = NextItem {
+            merge: &self.merge,
+            number,
+        };
+        match self.trim.judge(front_time(&next)) {
             Verdict::After => {
                 self.ended = Some(Ending::Done);
                 Step::Ended(Outcome::Done)
@@ -179,7 +183,7 @@ impl<'a, S: Source + Drop> Session<'a, S> {
             }
             Verdict::Within => {
                 let printer = &mut self.printer;
-                match print_front(&self.merge, number, printer, self.last, out, err) {
+                match print_front(&next, printer, self.last, out, err) {
                     Ok(last) => {
                         self.last = last;
                         self.merge.leave(number);

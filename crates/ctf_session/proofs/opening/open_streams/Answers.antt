@@ -10,8 +10,8 @@ pub loop-name-init : goal.loop-name-init
 loop-name-init g c = record {
   whole = refl;
   rest = search rules;
-  opened = λ inputs each. subst (λ (xs : List Input). EachOpens c.args.shift xs c.args.readers.now.items) (sym (append-nil inputs)) each;
-  numbers = sym (append-nil c.args.numbers.now.items);
+  opened = λ inputs each. subst (λ (xs : List Input). EachOpens c.args.shift xs c.args.opened.now.readers.items) (sym (append-nil inputs)) each;
+  numbers = sym (append-nil c.args.opened.now.numbers.items);
 }
 
 pub loop-name-preserved : goal.loop-name-preserved
@@ -24,7 +24,7 @@ loop-name-preserved g c =
           let gone = c.in-Some.ensures.steps.1 in
           let short = ap length steps in
           omega arith;
-      opened = λ inputs each. rw c.in_ok-push.ensures.items (opens_next c.args.shift inputs _ c.loop-name.yielded (c.in-Some.name, c.in-Some.source) c.loop-name.readers.items c.reader_of_texts.result
+      opened = λ inputs each. rw c.in_ok-push.ensures.items (opens_next c.args.shift inputs _ c.loop-name.yielded (c.in-Some.name, c.in-Some.source) c.loop-name.opened.readers.items c.reader_of_texts.result
           (c.loop-name.invariant.opened inputs each)
           (rw c.reader_of_texts.ensures.1 (record {
             told = c.new-reader.ensures.told;
@@ -40,10 +40,10 @@ loop-name-preserved g c =
 
 pub returns-clause-opened : goal.returns-clause-opened
 returns-clause-opened g c = λ inputs each.
-    let all : c.loop-name.yielded ≡ c.args.streams.items = all_taken c.loop-name.yielded _ _ c.loop-name.invariant.whole (sym c.loop-name.invariant.rest ∙ c.in-None.ensures.steps.0) ∙ c.into_iter-name-iterator.ensures.into_iter_gives.0 in
+    let all : c.loop-name.yielded ≡ c.args.trace.streams.items = all_taken c.loop-name.yielded _ _ c.loop-name.invariant.whole (sym c.loop-name.invariant.rest ∙ c.in-None.ensures.steps.0) ∙ c.into_iter-name-iterator.ensures.into_iter_gives.0 in
     rw (← all) (c.loop-name.invariant.opened inputs each)
 
 pub returns-clause-numbers : goal.returns-clause-numbers
 returns-clause-numbers g c =
-    let all : c.loop-name.yielded ≡ c.args.streams.items = all_taken c.loop-name.yielded _ _ c.loop-name.invariant.whole (sym c.loop-name.invariant.rest ∙ c.in-None.ensures.steps.0) ∙ c.into_iter-name-iterator.ensures.into_iter_gives.0 in
+    let all : c.loop-name.yielded ≡ c.args.trace.streams.items = all_taken c.loop-name.yielded _ _ c.loop-name.invariant.whole (sym c.loop-name.invariant.rest ∙ c.in-None.ensures.steps.0) ∙ c.into_iter-name-iterator.ensures.into_iter_gives.0 in
     rw (← all) c.loop-name.invariant.numbers
