@@ -49,7 +49,8 @@ pub fn run<S: Source + Drop, W: Log, E: Sink>(
     let classes = match load_all(alloc, &traces) {
         Ok(classes) => classes,
         Err(Unloaded::Broken { trace, fault }) => {
-            return tell(alloc, &traces, trace, fault, out, err);
+            let broken = BrokenTrace { trace, fault };
+            return tell(alloc, &traces, &broken, out, err);
         }
         Err(Unloaded::NoMemory) => return Outcome::NoMemory,
     };
@@ -63,19 +64,26 @@ pub fn run<S: Source + Drop, W: Log, E: Sink>(
     }
 }
 
+/// A trace, by its number, and the fault of its metadata.
+#[derive(Clone, Copy)]
+struct BrokenTrace {
+    trace: usize,
+    fault: LoadFault,
+}
+
 /// Writes the line of a fault of the metadata of a trace.
 fn tell<S, W: Log, E: Sink>(
     alloc: Global,
     traces: &[Trace<S>],
-    trace: usize,
-    fault: LoadFault,
+    broken: &BrokenTrace,
     out: &mut W,
     err: &mut E,
 ) -> Outcome
-    requires { is_refusal fault ≡ false }
+    requires { is_refusal broken.now.fault ≡ false }
     ensures told { let wrote = written_by W.accepted W.settled E.accepted in
         IsTrue (W.tells out.old) → IsTrue (E.tells err.old)
-        → TellsFault traces.now trace fault result (wrote out.old err.old out.new err.new) }
+        → TellsFault traces.now broken.now.trace broken.now.fault result
+        (wrote out.old err.old out.new err.new) }
     ensures counts { let counts = counts_by W.failures W.refusals E.failures E.refusals in
         CountsAfter result (counts out.old err.old) (counts out.new err.new) }
     ensures named { IsNamed result }
@@ -84,6 +92,7 @@ fn tell<S, W: Log, E: Sink>(
     ensures out_tells { IsTrue (W.tells out.old) → IsTrue (W.tells out.new) }
     ensures err_tells { IsTrue (E.tells err.old) → IsTrue (E.tells err.new) }
 {
+    let BrokenTrace { trace, fault } = *broken;
     let name = if traces.len() > 1 {
         match traces.get(trace) {
             Some(trace) => Some(trace.name.as_str()),
