@@ -101,6 +101,18 @@ pub struct RecordPlan {
     pub count: u64,
 }
 
+/// A member of a scope, on its way into a plan.
+#[derive(Clone, Copy)]
+struct ScopeMember<'a> {
+    /// What is printed before its name.
+    lead: &'a [u8],
+    /// The alignment of the structure that it begins, or 1.
+    align: Align,
+    /// How many members of its structure are before it.
+    index: usize,
+    member: &'a Member,
+}
+
 /// A plan on its way.
 #[derive(Drop)]
 struct Making {
@@ -219,9 +231,13 @@ impl Making {
         if class.align.bits() != 8 {
             return Ok(false);
         }
-        if !self.add_member(alloc, self.opening_text(), class.align, 0, first)?
-            || !self.add_later(alloc, others)?
-        {
+        let first = ScopeMember {
+            lead: self.opening_text(),
+            align: class.align,
+            index: 0,
+            member: first,
+        };
+        if !self.add_member(alloc, &first)? || !self.add_later(alloc, others)? {
             return Ok(false);
         }
         self.count = count;
@@ -249,22 +265,21 @@ impl Making {
             return Ok(false);
         };
         for (i, member) in members.iter().enumerate() {
-            if !self.add_member(alloc, b", ", anywhere, i + 1, member)? {
+            let later = ScopeMember {
+                lead: b", ",
+                align: anywhere,
+                index: i + 1,
+                member,
+            };
+            if !self.add_member(alloc, &later)? {
                 return Ok(false);
             }
         }
         Ok(true)
     }
 
-    /// Adds a field behind so many others of its structure, with this before its name. Whether that could be done.
-    fn add_member(
-        &mut self,
-        alloc: Global,
-        lead: &[u8],
-        align: Align,
-        index: usize,
-        member: &Member,
-    ) -> Result<bool, NoMemory>
+    /// Adds a member of a scope. Whether that could be done.
+    fn add_member(&mut self, alloc: Global, next: &ScopeMember<'_>) -> Result<bool, NoMemory>
         requires few { self.old.room ≤ 2 ^ 18 }
         requires near { self.old.span ≤ 2 ^ 33 }
         ensures few { IfOk result (λ took. IsTrue took → self.new.room ≤ 2 ^ 18) }
@@ -272,10 +287,16 @@ impl Making {
         ensures count { IfOk result (λ took. IsTrue took → self.new.count ≡ self.old.count) }
         ensures made { IfOk result (λ took. IsTrue took → (done : List Slot) →
             IsMade done self.old →
-            IsMade (done ++ record
-            { lead = lead.now; align = align; index = index; member = member.now } ∷ []) self.new) }
+            IsMade (done ++ record {
+              lead = next.now.lead.now;
+              align = next.now.align;
+              index = next.now.index;
+              member = next.now.member.now;
+            } ∷ []) self.new) }
     {
-        let ready = member.name.behind(alloc, lead)?;
+        let member = next.member;
+        let align = next.align;
+        let ready = member.name.behind(alloc, next.lead)?;
         if ready.len() > LONGEST_TEXT {
             return Ok(false);
         }
@@ -287,7 +308,7 @@ impl Making {
             })?;
             return Ok(true);
         }
-        let known = shown_of(&member.class, index)?;
+        let known = shown_of(&member.class, next.index)?;
         let Some(shown) = known else {
             return Ok(false);
         };

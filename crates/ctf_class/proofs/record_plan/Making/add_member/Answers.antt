@@ -8,7 +8,7 @@ use Rattle.ctf_class.proofs.record_plan.Making.add_member.Goals as goal
 
 pub returns-in-Some-clause-made : goal.returns-in-Some-clause-made
 returns-in-Some-clause-made c = λ _ done made.
-    let s : Slot = record { lead = c.args.lead.now; align = c.args.align; index = c.args.index; member = c.args.member.now } in
+    let s : Slot = record { lead = c.args.next.now.lead.now; align = c.args.next.now.align; index = c.args.next.now.index; member = c.args.next.now.member.now } in
     let n : PlainNumber = record { integer = c.in-Some.integer; window = c.in-Some.window; ready = c.in_ok-ready.ready } in
     let is : IsNumber c.args.self.now.span s n = record {
       is = search rules;
@@ -23,7 +23,7 @@ returns-in-Some-clause-made c = λ _ done made.
 
 pub returns-clause-made : goal.returns-clause-made
 returns-clause-made c = λ _ done made.
-    let s : Slot = record { lead = c.args.lead.now; align = c.args.align; index = c.args.index; member = c.args.member.now } in
-    let f : Field = record { ready = c.in_ok-ready.ready; align = c.args.align; shown = c.in-Some-known.shown } in
-    let is : IsField s f = record { align = refl; ready = c.in_ok-ready.ensures; shown = subst (λ o. IfSome o (IsShown c.args.index c.args.member.now)) c.in-Some-known.is (c.in_ok-known.ensures c.args.member.now refl) } in
+    let s : Slot = record { lead = c.args.next.now.lead.now; align = c.args.next.now.align; index = c.args.next.now.index; member = c.args.next.now.member.now } in
+    let f : Field = record { ready = c.in_ok-ready.ready; align = c.args.next.now.align; shown = c.in-Some-known.shown } in
+    let is : IsField s f = record { align = refl; ready = c.in_ok-ready.ensures; shown = subst (λ o. IfSome o (IsShown c.args.next.now.index c.args.next.now.member.now)) c.in-Some-known.is (c.in_ok-known.ensures c.args.next.now.member.now refl) } in
     subst (IsMade (done ++ s ∷ [])) (sym c.in_ok-add_field.ensures) (made_field done s c.args.self.now f is made)
