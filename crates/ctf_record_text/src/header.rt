@@ -14,6 +14,7 @@ use ctf_bits::{sint_within, uint_within};
 use ctf_class::{Align, Class, Integer, Kind, Member, PlannedEvent, RecordPlan};
 use ctf_clock::{Moment, Timeline};
 use ctf_decode::{MOST_VALUES, Value, chosen_by_first, named_id};
+use ctf_format::Content;
 use ctf_packet::{Head, RecordPlace, moved_by_integer, planned_named};
 
 /// How far a header was told.
@@ -87,14 +88,11 @@ fn told_short<'a>(at: &RecordPlace<'_, 'a>, short: &ShortHeader) -> Option<Plann
 {
     let packet = at.packet;
     let timeline = packet.timeline.as_ref()?;
-    let to = tell_short(
-        timeline,
-        short,
-        at.bytes,
-        packet.content,
-        at.clock?,
-        at.place,
-    )?;
+    let content = Content {
+        bytes: at.bytes,
+        end: packet.content,
+    };
+    let to = tell_short(timeline, short, &content, at.clock?, at.place)?;
     let planned = packet.stream.planned_event(to.id)?;
     let head = Head {
         event: planned.event,
@@ -144,7 +142,11 @@ fn told_timed<'a>(
     ensures few { IfSome result (λ p. p.told.spent ≤ MOST_VALUES) }
 {
     let from = begins_at(at.clock?, at.place);
-    let to = tell_header(Some(timeline), class, at.bytes, at.packet.content, from)?;
+    let content = Content {
+        bytes: at.bytes,
+        end: at.packet.content,
+    };
+    let to = tell_header(Some(timeline), class, &content, from)?;
     let planned = planned_named(at.packet.stream, to.id)?;
     Some(head_of(planned, to, Some(to.clock)))
 }
@@ -160,7 +162,11 @@ fn told_untimed<'a>(at: &RecordPlace<'_, 'a>, class: &Class) -> Option<PlannedHe
     ensures few { IfSome result (λ p. p.told.spent ≤ MOST_VALUES) }
 {
     let from = begins_at(Moment { cycles: 0, time: 0 }, at.place);
-    let to = tell_header(None, class, at.bytes, at.packet.content, from)?;
+    let content = Content {
+        bytes: at.bytes,
+        end: at.packet.content,
+    };
+    let to = tell_header(None, class, &content, from)?;
     let planned = planned_named(at.packet.stream, to.id)?;
     Some(head_of(planned, to, None))
 }
@@ -231,28 +237,25 @@ fn told_bare<'a>(at: &RecordPlace<'_, 'a>) -> Option<PlannedHead<'a>>
 fn tell_header(
     timeline: Option<&Timeline>,
     class: &Class,
-    bytes: &[u8],
-    content: u64,
+    packet: &Content<'_>,
     from: Telling,
 ) -> Option<Telling>
-    requires content { content ≤ 2 ^ 62 }
-    requires held { content ≤ 8 * length bytes.now }
-    requires start { from.place ≤ content }
-    ensures tells { IfSome result
-        (Tells (option_copied timeline.entry) (form class.now) bytes.now content from) }
-    ensures within { IfSome result (λ to. (to.place ≤ content) × (to.spent ≤ MOST_VALUES)) }
+    requires start { from.place ≤ packet.now.end }
+    ensures tells { let content = packet.now in IfSome result
+        (Tells (option_copied timeline.entry) (form class.now) content.bytes.now content.end from) }
+    ensures within { IfSome result (λ to. (to.place ≤ packet.now.end) × (to.spent ≤ MOST_VALUES)) }
 {
     let Kind::Structure { members } = &class.kind else {
         return None;
     };
     let members = members.as_slice();
-    let at = begin(class.align, content, from)?;
+    let at = begin(class.align, packet, from)?;
     if let [tag, variant] = members {
-        if let Some(to) = tell_pair(timeline, tag, variant, bytes, content, at) {
+        if let Some(to) = tell_pair(timeline, tag, variant, packet, at) {
             return Some(to);
         }
     }
-    tell_integers(timeline, members, bytes, content, at)
+    tell_integers(timeline, members, packet, at)
 }
 
 /// Tells a structure of integers.
@@ -260,38 +263,34 @@ fn tell_header(
 fn tell_structure(
     timeline: Option<&Timeline>,
     class: &Class,
-    bytes: &[u8],
-    content: u64,
+    packet: &Content<'_>,
     from: Telling,
 ) -> Option<Telling>
-    requires content { content ≤ 2 ^ 62 }
-    requires held { content ≤ 8 * length bytes.now }
-    requires start { from.place ≤ content }
-    ensures tells { IfSome result
-        (Tells (option_copied timeline.entry) (form class.now) bytes.now content from) }
-    ensures within { IfSome result (λ to. (to.place ≤ content) × (to.spent ≤ MOST_VALUES)) }
+    requires start { from.place ≤ packet.now.end }
+    ensures tells { let content = packet.now in IfSome result
+        (Tells (option_copied timeline.entry) (form class.now) content.bytes.now content.end from) }
+    ensures within { IfSome result (λ to. (to.place ≤ packet.now.end) × (to.spent ≤ MOST_VALUES)) }
 {
     let Kind::Structure { members } = &class.kind else {
         return None;
     };
-    let at = begin(class.align, content, from)?;
-    tell_integers(timeline, members.as_slice(), bytes, content, at)
+    let at = begin(class.align, packet, from)?;
+    tell_integers(timeline, members.as_slice(), packet, at)
 }
 
 /// Begins a structure of this alignment.
 #[inline(always)]
-fn begin(align: Align, content: u64, from: Telling) -> Option<Telling>
-    requires content { content ≤ 2 ^ 62 }
-    requires start { from.place ≤ content }
+fn begin(align: Align, packet: &Content<'_>, from: Telling) -> Option<Telling>
+    requires start { from.place ≤ packet.now.end }
     ensures begins { IfSome result (λ at. at ≡ begun align from) }
     ensures few { IfSome result (λ at. at.spent ≤ MOST_VALUES) }
-    ensures within { IfSome result (λ at. at.place ≤ content) }
+    ensures within { IfSome result (λ at. at.place ≤ packet.now.end) }
 {
     if from.spent >= MOST_VALUES {
         return None;
     }
     let place = align.up(from.place);
-    if place > content {
+    if place > packet.end {
         return None;
     }
     Some(Telling {
@@ -308,18 +307,15 @@ fn tell_pair(
     timeline: Option<&Timeline>,
     tag: &Member,
     variant: &Member,
-    bytes: &[u8],
-    content: u64,
+    packet: &Content<'_>,
     from: Telling,
 ) -> Option<Telling>
-    requires content { content ≤ 2 ^ 62 }
-    requires held { content ≤ 8 * length bytes.now }
-    requires start { from.place ≤ content }
+    requires start { from.place ≤ packet.now.end }
     requires few { from.spent ≤ MOST_VALUES }
-    ensures tells { IfSome result
-        (TellsMembers (option_copied timeline.entry) (tag.now ∷ variant.now ∷ []) bytes.now content
-        from) }
-    ensures within { IfSome result (λ to. (to.place ≤ content) × (to.spent ≤ MOST_VALUES)) }
+    ensures tells { let content = packet.now in IfSome result
+        (TellsMembers (option_copied timeline.entry) (tag.now ∷ variant.now ∷ [])
+        content.bytes.now content.end from) }
+    ensures within { IfSome result (λ to. (to.place ≤ packet.now.end) × (to.spent ≤ MOST_VALUES)) }
 {
     let Kind::Enumeration { container, labels } = &tag.class.kind else {
         return None;
@@ -335,7 +331,7 @@ fn tell_pair(
     if from.spent + 1 >= MOST_VALUES {
         return None;
     }
-    let read = tag_at(container, tag.class.align, bytes, content, from.place)?;
+    let read = tag_at(container, tag.class.align, packet, from.place)?;
     let i = chosen_by_first(route, choices, read.number)?;
     let options = options.as_slice();
     if i >= options.len() {
@@ -350,24 +346,23 @@ fn tell_pair(
         place: read.place,
         spent: from.spent + 2,
     };
-    tell_structure(timeline, &options[i].class, bytes, content, at)
+    tell_structure(timeline, &options[i].class, packet, at)
 }
 
 /// Reads a tag.
 #[inline(always)]
-fn tag_at(container: &Integer, align: Align, bytes: &[u8], content: u64, place: u64) -> Option<Tag>
-    requires content { content ≤ 2 ^ 62 }
-    requires held { content ≤ 8 * length bytes.now }
-    requires start { place ≤ content }
-    ensures stands { IfSome result (StandsAsTag align container.now bytes.now content place) }
-    ensures within { IfSome result (λ tag. tag.place ≤ content) }
+fn tag_at(container: &Integer, align: Align, packet: &Content<'_>, place: u64) -> Option<Tag>
+    requires start { place ≤ packet.now.end }
+    ensures stands { let content = packet.now in
+        IfSome result (StandsAsTag align container.now content.bytes.now content.end place) }
+    ensures within { IfSome result (λ tag. tag.place ≤ packet.now.end) }
 {
-    let bits = bits_at(container, align, content, place)?;
+    let bits = bits_at(container, align, packet, place)?;
     let size = container.size.bits();
     let number = if container.is_signed {
-        i128::from(sint_within(bytes, bits.begin, size, container.order))
+        i128::from(sint_within(packet.bytes, bits.begin, size, container.order))
     } else {
-        i128::from(uint_within(bytes, bits.begin, size, container.order))
+        i128::from(uint_within(packet.bytes, bits.begin, size, container.order))
     };
     Some(Tag {
         number,
@@ -377,17 +372,16 @@ fn tag_at(container: &Integer, align: Align, bytes: &[u8], content: u64, place: 
 
 /// The bits of an integer that could begin at a place, if they lie within the content.
 #[inline(always)]
-fn bits_at(integer: &Integer, align: Align, content: u64, place: u64) -> Option<Bits>
-    requires content { content ≤ 2 ^ 62 }
-    requires start { place ≤ content }
+fn bits_at(integer: &Integer, align: Align, packet: &Content<'_>, place: u64) -> Option<Bits>
+    requires start { place ≤ packet.now.end }
     ensures begin { IfSome result (λ bits. bits.begin ≡ next_multiple_of place align) }
     ensures end { IfSome result
         (λ bits. bits.end ≡ next_multiple_of place align + bits_of integer.now) }
-    ensures within { IfSome result (λ bits. bits.end ≤ content) }
+    ensures within { IfSome result (λ bits. bits.end ≤ packet.now.end) }
 {
     let begin = align.up(place);
     let end = begin + u64::from(integer.size.bits());
-    if end > content {
+    if end > packet.end {
         return None;
     }
     Some(Bits { begin, end })
@@ -398,21 +392,19 @@ fn bits_at(integer: &Integer, align: Align, content: u64, place: u64) -> Option<
 fn tell_integers(
     timeline: Option<&Timeline>,
     members: &[Member],
-    bytes: &[u8],
-    content: u64,
+    packet: &Content<'_>,
     from: Telling,
 ) -> Option<Telling>
-    requires content { content ≤ 2 ^ 62 }
-    requires held { content ≤ 8 * length bytes.now }
-    requires start { from.place ≤ content }
+    requires start { from.place ≤ packet.now.end }
     requires few { from.spent ≤ MOST_VALUES }
-    ensures tells { IfSome result
-        (TellsMembers (option_copied timeline.entry) members.now bytes.now content from) }
-    ensures within { IfSome result (λ to. (to.place ≤ content) × (to.spent ≤ MOST_VALUES)) }
+    ensures tells { let content = packet.now in IfSome result
+        (TellsMembers (option_copied timeline.entry) members.now content.bytes.now content.end
+        from) }
+    ensures within { IfSome result (λ to. (to.place ≤ packet.now.end) × (to.spent ≤ MOST_VALUES)) }
 {
     let mut at = from;
     for member in members {
-        at = tell_integer(timeline, member, bytes, content, at)?;
+        at = tell_integer(timeline, member, packet, at)?;
     }
     Some(at)
 }
@@ -422,16 +414,13 @@ fn tell_integers(
 fn tell_integer(
     timeline: Option<&Timeline>,
     member: &Member,
-    bytes: &[u8],
-    content: u64,
+    packet: &Content<'_>,
     from: Telling,
 ) -> Option<Telling>
-    requires content { content ≤ 2 ^ 62 }
-    requires held { content ≤ 8 * length bytes.now }
-    requires start { from.place ≤ content }
-    ensures tells { IfSome result
-        (TellsMember (option_copied timeline.entry) member.now bytes.now content from) }
-    ensures within { IfSome result (λ to. (to.place ≤ content) × (to.spent ≤ MOST_VALUES)) }
+    requires start { from.place ≤ packet.now.end }
+    ensures tells { let content = packet.now in IfSome result
+        (TellsMember (option_copied timeline.entry) member.now content.bytes.now content.end from) }
+    ensures within { IfSome result (λ to. (to.place ≤ packet.now.end) × (to.spent ≤ MOST_VALUES)) }
 {
     let Kind::Integer(integer) = &member.class.kind else {
         return None;
@@ -439,40 +428,44 @@ fn tell_integer(
     if from.spent >= MOST_VALUES {
         return None;
     }
-    let bits = bits_at(integer, member.class.align, content, from.place)?;
+    let bits = bits_at(integer, member.class.align, packet, from.place)?;
     let size = integer.size.bits();
+    let after = Telling {
+        id: from.id,
+        clock: from.clock,
+        place: bits.end,
+        spent: from.spent + 1,
+    };
     if integer.is_signed {
-        let value = Value::Signed(sint_within(bytes, bits.begin, size, integer.order));
-        tell_number(timeline, member, integer, &value, from, bits.end)
+        let value = Value::Signed(sint_within(packet.bytes, bits.begin, size, integer.order));
+        tell_number(timeline, member, integer, &value, after)
     } else {
-        let value = Value::Unsigned(uint_within(bytes, bits.begin, size, integer.order));
-        tell_number(timeline, member, integer, &value, from, bits.end)
+        let value = Value::Unsigned(uint_within(packet.bytes, bits.begin, size, integer.order));
+        tell_number(timeline, member, integer, &value, after)
     }
 }
 
-/// Tells the value of a member that is this integer and ends at a place.
+/// Tells the value of a member that is this integer, after its bits.
 #[inline(always)]
 fn tell_number(
     timeline: Option<&Timeline>,
     member: &Member,
     integer: &Integer,
     value: &Value,
-    from: Telling,
-    place: u64,
+    after: Telling,
 ) -> Option<Telling>
-    requires few { from.spent < MOST_VALUES }
     ensures tells { IfSome result
-        (TellsNumber (option_copied timeline.entry) member.now integer.now (val value.now) from) }
-    ensures reached { IfSome result (λ to. (to.place ≡ place) × (to.spent ≡ from.spent + 1)) }
+        (TellsNumber (option_copied timeline.entry) member.now integer.now (val value.now) after) }
+    ensures reached { IfSome result (λ to. (to.place ≡ after.place) × (to.spent ≡ after.spent)) }
 {
-    let mut id = from.id;
+    let mut id = after.id;
     named_id(member, value, &mut id);
-    let clock = clock_behind(timeline, integer, value, from.clock)?;
+    let clock = clock_behind(timeline, integer, value, after.clock)?;
     Some(Telling {
         id,
         clock,
-        place,
-        spent: from.spent + 1,
+        place: after.place,
+        spent: after.spent,
     })
 }
 

@@ -12,6 +12,7 @@ ghost use Rattle.ctf_record_text.specs.Shorts.{IsShort, IsTagOf, IsStampOf, IsSt
 use ctf_bits::{Order, Window};
 use ctf_class::{Align, Choice, Choices, Class, Integer, Kind, Member, Origin, Route, StreamClass};
 use ctf_clock::{Moment, Timeline};
+use ctf_format::Content;
 
 /// How many values such a header has: the structure, the tag, the variant, its option and the integer.
 pub(crate) const SHORT_VALUES: u64 = 5;
@@ -240,32 +241,29 @@ fn is_id(name: &[u8]) -> bool
 pub(crate) fn tell_short(
     timeline: &Timeline,
     short: &ShortHeader,
-    bytes: &[u8],
-    content: u64,
+    packet: &Content<'_>,
     clock: Moment,
     place: u64,
 ) -> Option<ShortTelling>
-    requires content { content ≤ 2 ^ 62 }
-    requires held { content ≤ 8 * length bytes.now }
-    requires start { place ≤ content }
+    requires start { place ≤ packet.now.end }
     requires near { EndsNear short.now }
     requires read { AreWindows short.now }
     ensures tells { IfSome result (λ to. (class : Class) → IsShort short.now class →
-        Tells (Some timeline.now) (form class) bytes.now content (begins_telling clock place)
-        (short_telling to)) }
-    ensures within { IfSome result (λ to. to.place ≤ content) }
+        Tells (Some timeline.now) (form class) packet.now.bytes.now packet.now.end
+        (begins_telling clock place) (short_telling to)) }
+    ensures within { IfSome result (λ to. to.place ≤ packet.now.end) }
 {
     let begin = short.align.up(place);
     let end = begin + short.end;
-    if end + 64 > content {
+    if end + 64 > packet.end {
         return None;
     }
     let first = (begin / 8) as usize;
-    let id = short.tag_window.number(bytes, first)?;
+    let id = short.tag_window.number(packet.bytes, first)?;
     if id < short.first || id > short.last {
         return None;
     }
-    let number = short.stamp_window.number(bytes, first)?;
+    let number = short.stamp_window.number(packet.bytes, first)?;
     let clock = timeline.advance(clock, short.stamp.size.bits(), number)?;
     Some(ShortTelling {
         id,

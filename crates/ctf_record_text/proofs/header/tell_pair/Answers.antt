@@ -16,5 +16,5 @@ returns-clause-tells c =
     let chooses = rw (to_z-of_z w128 z fits) at c.in_ok-i.ensures in
     let within = rw (c.as_slice-options.ensures) at c.if-i-options.false in
     let here = rw (c.as_slice-options.ensures) at c.index-options-i.is in
-    tells_pair (option_copied c.args.timeline) c.args.tag.now c.args.variant.now c.in-Enumeration.container c.in-Enumeration.labels c.in-Variant.route c.in-Variant.choices c.in-Variant.options c.args.bytes.now c.args.content c.args.from at c.tell_structure.result c.in_ok-read.read c.in_ok-i.i c.index-options-i.result
+    tells_pair (option_copied c.args.timeline) c.args.tag.now c.args.variant.now c.in-Enumeration.container c.in-Enumeration.labels c.in-Variant.route c.in-Variant.choices c.in-Variant.options c.args.packet.now.bytes.now c.args.packet.now.end c.args.from at c.tell_structure.result c.in_ok-read.read c.in_ok-i.i c.index-options-i.result
     c.in-Enumeration.is c.in-Variant.is (search (rules, arith)) within here c.in_ok-read.ensures.stands chooses named refl refl refl (rw (← c.index-options-i.is) at c.tell_structure.ensures.tells)

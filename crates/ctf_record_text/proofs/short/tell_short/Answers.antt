@@ -8,7 +8,7 @@ use Rattle.ctf_record_text.proofs.short.tell_short.Goals as goal
 pub returns-clause-tells : goal.returns-clause-tells
 returns-clause-tells c = λ class is.
     let short = c.args.short.now in
-    let bytes = c.args.bytes.now in
+    let bytes = c.args.packet.now.bytes.now in
     let i = short.tag in
     let j = short.stamp in
     let begin = c.up-begin.result in
@@ -19,7 +19,7 @@ returns-clause-tells c = λ class is.
     let none : begin + 0 ≡ begin = omega arith in
     let id_is : id ≡ number i.order bytes begin (bits_of i) = read_so short.tag_window i bytes _ begin 0 id c.in_ok-id.ensures.value read.tag read.tag_order starts ∙ ap (λ b. number i.order bytes b (bits_of i)) none in
     let n_is = read_so short.stamp_window j bytes _ begin short.stamp_place n c.in_ok-number.ensures.value read.stamp read.stamp_order starts in
-    let within : begin + short.end ≤ c.args.content = omega (arith, c.if-end-content.false) in
-    tells_short c.args.timeline.now short class bytes c.args.content c.args.place c.args.clock c.in_ok-clock.clock begin (begin + short.end) id n is
+    let within : begin + short.end ≤ c.args.packet.now.end = omega (arith, c.if-end-packet.false) in
+    tells_short c.args.timeline.now short class bytes c.args.packet.now.end c.args.place c.args.clock c.in_ok-clock.clock begin (begin + short.end) id n is
     c.up-begin.ensures.value c.up-begin.ensures.least.multiple refl within
     id_is c.if-id-short.false c.if-id-short-2.false n_is (ap (λ w. advanced c.args.timeline.now c.args.clock w n) (sym c.bits.ensures.value) ∙ sym c.in_ok-clock.ensures)
