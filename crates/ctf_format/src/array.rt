@@ -9,29 +9,28 @@ ghost use Rattle.ctf_format.specs.Standing.{Before, PutsOne, PutsElements, Count
 ghost use Rattle.ctf_format.specs.Texts as texts;
 
 use crate::content::Content;
-use crate::element::put_index;
+use crate::element::{ElementLead, put_index};
 use crate::mark::{put_end, put_nothing};
-use crate::standing::{Last, Next, Position, put_integer};
-use ctf_class::{Align, Integer};
+use crate::standing::{AlignedInteger, Last, Next, Position, put_integer};
+use ctf_class::Align;
 use ctf_decode::MOST_VALUES;
 
 /// Writes an array of so many integers.
 #[inline(never)]
 pub(crate) fn put_integers(
-    integer: &Integer,
-    align: Align,
+    class: &AlignedInteger<'_>,
     count: u64,
     packet: &Content<'_>,
-    place: u64,
+    from: Position,
     buffer: &mut Vec<u8>,
-    at: usize,
 ) -> Option<Next>
-    requires start { place ≤ packet.now.end }
-    requires index { at ≤ vec_len buffer.old }
-    ensures puts { let line = take at buffer.old.items in let shown = elements_text integer.now in
+    requires start { from.place ≤ packet.now.end }
+    requires index { from.text ≤ vec_len buffer.old }
+    ensures puts { let line = take from.text buffer.old.items in
+        let integer = class.now.integer.now in let shown = elements_text integer in
         (before : Before) (many : Length) (a : ℕ) → Counts many before count →
-        let k = forms.array a many (forms.integer align integer.now) in
-        Writes result before k shown packet.now place line buffer.new.items }
+        let k = forms.array a many (forms.integer class.now.align integer) in
+        Writes result before k shown packet.now from.place line buffer.new.items }
     ensures within { IfSome result (λ n. n.place ≤ packet.now.end) }
     ensures held { IfSome result (λ n. n.text ≤ vec_len buffer.new) }
     ensures few { IfSome result (λ n. n.more ≤ MOST_VALUES) }
@@ -39,8 +38,12 @@ pub(crate) fn put_integers(
     if count > MOST_VALUES {
         return None;
     }
-    let begin = begin_at(align, packet, place)?;
-    let ends = put_elements(integer, align, count, packet, begin, buffer, at)?;
+    let place = begin_at(class.align, packet, from.place)?;
+    let begin = Position {
+        place,
+        text: from.text,
+    };
+    let ends = put_elements(class, count, packet, begin, buffer)?;
     Some(Next {
         place: ends.place,
         text: ends.text,
@@ -65,29 +68,31 @@ pub(crate) fn begin_at(align: Align, packet: &Content<'_>, place: u64) -> Option
 
 /// Writes so many integers as the elements of an array.
 fn put_elements(
-    integer: &Integer,
-    align: Align,
+    class: &AlignedInteger<'_>,
     count: u64,
     packet: &Content<'_>,
-    begin: u64,
+    from: Position,
     buffer: &mut Vec<u8>,
-    at: usize,
 ) -> Option<Position>
-    requires start { begin ≤ packet.now.end }
-    requires index { at ≤ vec_len buffer.old }
-    ensures puts { IfSome result
-        (λ e. PutsElements (enclosed 91 93) align integer.now count packet.now.bytes.now
-        packet.now.end begin e.place (take at buffer.old.items) (take e.text buffer.new.items)) }
+    requires start { from.place ≤ packet.now.end }
+    requires index { from.text ≤ vec_len buffer.old }
+    ensures puts { let line = take from.text buffer.old.items in IfSome result
+        (λ e. PutsElements (enclosed 91 93) class.now.align class.now.integer.now count
+        packet.now.bytes.now packet.now.end from.place e.place line
+        (take e.text buffer.new.items)) }
     ensures within { IfSome result (λ e. e.place ≤ packet.now.end) }
     ensures held { IfSome result (λ e. e.text ≤ vec_len buffer.new) }
 {
     if count == 0 {
-        let Ok(text) = put_nothing(b'[', b']', buffer, at) else {
+        let Ok(text) = put_nothing(b'[', b']', buffer, from.text) else {
             return None;
         };
-        return Some(Position { place: begin, text });
+        return Some(Position {
+            place: from.place,
+            text,
+        });
     }
-    let ends = put_row(integer, align, count, packet, begin, buffer, at)?;
+    let ends = put_row(class, count, packet, from, buffer)?;
     let Ok(text) = put_end(b']', buffer, ends.text) else {
         return None;
     };
@@ -99,60 +104,61 @@ fn put_elements(
 
 /// Writes so many integers, the first behind `[`.
 fn put_row(
-    integer: &Integer,
-    align: Align,
+    class: &AlignedInteger<'_>,
     count: u64,
     packet: &Content<'_>,
-    begin: u64,
+    from: Position,
     buffer: &mut Vec<u8>,
-    at: usize,
 ) -> Option<Position>
-    requires start { begin ≤ packet.now.end }
-    requires index { at ≤ vec_len buffer.old }
-    ensures puts { IfSome result
-        (λ e. PutsElements (row 91) align integer.now count packet.now.bytes.now packet.now.end
-        begin e.place (take at buffer.old.items) (take e.text buffer.new.items)) }
+    requires start { from.place ≤ packet.now.end }
+    requires index { from.text ≤ vec_len buffer.old }
+    ensures puts { let line = take from.text buffer.old.items in IfSome result
+        (λ e. PutsElements (row 91) class.now.align class.now.integer.now count packet.now.bytes.now
+        packet.now.end from.place e.place line (take e.text buffer.new.items)) }
     ensures within { IfSome result (λ e. e.place ≤ packet.now.end) }
     ensures held { IfSome result (λ e. e.text ≤ vec_len buffer.new) }
 {
-    let mut place = begin;
-    let mut text = at;
-    let mut lead = b'[';
+    // A copy, so that it does not go through memory at each element.
+    let class = AlignedInteger {
+        integer: class.integer,
+        align: class.align,
+    };
+    let mut at = from;
+    let mut mark = b'[';
     for i in 0..count {
-        let ends = put_element(lead, i, integer, align, packet, place, buffer, text)?;
-        place = ends.place;
-        text = ends.text;
-        lead = b',';
+        let index = i as usize;
+        at = put_element(ElementLead { mark, index }, &class, packet, at, buffer)?;
+        mark = b',';
     }
-    Some(Position { place, text })
+    Some(at)
 }
 
-/// Writes an integer that is an element, behind a mark.
+/// Writes an integer that is an element, after its mark and its index.
 #[inline(always)]
 fn put_element(
-    lead: u8,
-    i: u64,
-    integer: &Integer,
-    align: Align,
+    lead: ElementLead,
+    class: &AlignedInteger<'_>,
     packet: &Content<'_>,
-    place: u64,
+    from: Position,
     buffer: &mut Vec<u8>,
-    at: usize,
 ) -> Option<Position>
-    requires start { place ≤ packet.now.end }
-    requires index { at ≤ vec_len buffer.old }
-    ensures puts { IfSome result
-        (λ e. PutsOne (forms.integer align integer.now)
-        (λ v. lead ∷ 32 ∷ texts.element_text (texts.integer_text integer.now) i v)
-        packet.now.bytes.now packet.now.end place e.place (take at buffer.old.items)
+    requires start { from.place ≤ packet.now.end }
+    requires index { from.text ≤ vec_len buffer.old }
+    ensures puts { let line = take from.text buffer.old.items in
+        let integer = class.now.integer.now in IfSome result
+        (λ e. PutsOne (forms.integer class.now.align integer)
+        (λ v. lead.mark ∷ 32 ∷ texts.element_text (texts.integer_text integer) lead.index v)
+        packet.now.bytes.now packet.now.end from.place e.place line
         (take e.text buffer.new.items)) }
     ensures within { IfSome result (λ e. e.place ≤ packet.now.end) }
     ensures held { IfSome result (λ e. e.text ≤ vec_len buffer.new) }
 {
-    let Ok(begin) = put_index(lead, i as usize, buffer, at) else {
+    let Ok(text) = put_index(lead, buffer, from.text) else {
         return None;
     };
-    let ends = put_integer(integer, align, packet, place, buffer.as_mut_slice(), begin)?;
+    let place = from.place;
+    let begin = Position { place, text };
+    let ends = put_integer(class, packet, begin, buffer.as_mut_slice())?;
     Some(Position {
         place: ends.place,
         text: ends.text,

@@ -16,11 +16,11 @@ ghost use Rattle.ctf_format.specs.Texts as texts;
 
 use crate::around::{Around, Members, Outside, ScopeInput, Seen, count_of, option_of};
 use crate::array::{begin_at, put_integers};
-use crate::element::put_index;
+use crate::element::{ElementLead, put_index};
 use crate::leaf::{put_enumeration, put_one, put_string_value, put_text_value};
 use crate::mark::{put_end, put_nothing, put_ready};
 use crate::number::LONGEST_NUMBER;
-use crate::standing::{Last, MembersEnd, Next, Position, Standing};
+use crate::standing::{AlignedInteger, Last, MembersEnd, Next, Position, Standing};
 use ctf_class::{Align, Class, Kind, Member};
 use ctf_decode::MOST_VALUES;
 
@@ -209,7 +209,8 @@ fn put_part(class: &Class, seen: &Seen<'_>, from: Position, buffer: &mut Vec<u8>
 {
     if let Kind::Integer(integer) = &class.kind {
         let align = class.align;
-        return put_one(integer, align, seen.packet, from.place, buffer, from.text);
+        let class = AlignedInteger { integer, align };
+        return put_one(&class, seen.packet, from, buffer);
     }
     put_any(class, seen, from, buffer)
 }
@@ -228,23 +229,23 @@ fn put_any(class: &Class, seen: &Seen<'_>, from: Position, buffer: &mut Vec<u8>)
     ensures few { IfSome result (λ n. n.more ≤ MOST_VALUES) }
 {
     let packet = seen.packet;
-    let place = from.place;
-    let text = from.text;
+    let align = class.align;
     match &class.kind {
-        Kind::Integer(integer) => put_one(integer, class.align, packet, place, buffer, text),
-        Kind::Enumeration { container, labels } => put_enumeration(
-            container,
-            labels.get(),
-            class.align,
-            packet,
-            place,
-            buffer,
-            text,
-        ),
-        Kind::String => put_string_value(packet, place, buffer, text),
+        Kind::Integer(integer) => {
+            let class = AlignedInteger { integer, align };
+            put_one(&class, packet, from, buffer)
+        }
+        Kind::Enumeration { container, labels } => {
+            let container = AlignedInteger {
+                integer: container,
+                align,
+            };
+            put_enumeration(&container, labels.get(), packet, from, buffer)
+        }
+        Kind::String => put_string_value(packet, from, buffer),
         Kind::Structure { members } => {
             let members = members.as_slice();
-            put_structure(members, class.align, seen, from, buffer)
+            put_structure(members, align, seen, from, buffer)
         }
         Kind::Variant {
             tag,
@@ -260,7 +261,7 @@ fn put_any(class: &Class, seen: &Seen<'_>, from: Position, buffer: &mut Vec<u8>)
         }
         Kind::Text { length } => {
             let count = count_of(length, seen)?;
-            put_text_value(count, packet, place, buffer, text)
+            put_text_value(count, packet, from, buffer)
         }
     }
 }
@@ -367,8 +368,8 @@ fn put_array(
 {
     if let Kind::Integer(integer) = &element.kind {
         let align = element.align;
-        let text = from.text;
-        return put_integers(integer, align, count, seen.packet, from.place, buffer, text);
+        let class = AlignedInteger { integer, align };
+        return put_integers(&class, count, seen.packet, from, buffer);
     }
     put_items(element, count, seen, from, buffer)
 }
@@ -474,15 +475,16 @@ fn put_row(
 {
     let mut at = from;
     let mut more = 0;
-    let mut lead = b'[';
+    let mut mark = b'[';
     for i in 0..count {
-        let next = put_item(lead, i, element, seen, at, buffer)?;
+        let index = i as usize;
+        let next = put_item(ElementLead { mark, index }, element, seen, at, buffer)?;
         at = Position {
             place: next.place,
             text: next.text,
         };
         more += next.more;
-        lead = b',';
+        mark = b',';
         if more > MOST_VALUES {
             return None;
         }
@@ -494,12 +496,11 @@ fn put_row(
     })
 }
 
-/// Writes an element behind a mark.
+/// Writes an element after its mark and its index.
 #[cycle(standing)]
 #[inline(always)]
 fn put_item(
-    lead: u8,
-    i: u64,
+    lead: ElementLead,
     element: &Class,
     seen: &Seen<'_>,
     from: Position,
@@ -508,13 +509,14 @@ fn put_item(
     requires start { from.place ≤ seen.now.packet.now.end }
     requires index { from.text ≤ vec_len buffer.old }
     ensures puts { let line = take from.text buffer.old.items in let k = element.now in
-        let shown = λ (v : Val). lead ∷ 32 ∷ texts.element_text (texts.value_text k) i v in
+        let shown = λ (v : Val).
+        lead.mark ∷ 32 ∷ texts.element_text (texts.value_text k) lead.index v in
         WritesIn result seen.now (form k) shown from.place line buffer.new.items }
     ensures within { IfSome result (λ n. n.place ≤ seen.now.packet.now.end) }
     ensures held { IfSome result (λ n. n.text ≤ vec_len buffer.new) }
     ensures few { IfSome result (λ n. n.more ≤ MOST_VALUES) }
 {
-    let Ok(text) = put_index(lead, i as usize, buffer, from.text) else {
+    let Ok(text) = put_index(lead, buffer, from.text) else {
         return None;
     };
     let place = from.place;

@@ -12,35 +12,36 @@ ghost use Rattle.ctf_format.specs.Texts as texts;
 use crate::content::Content;
 use crate::label::put_labelled;
 use crate::number::LONGEST_NUMBER;
-use crate::standing::{Last, Next, put_fixed_text, put_integer, put_string};
+use crate::standing::{
+    AlignedInteger, Last, Next, Position, bits_at, put_fixed_text, put_integer, put_string,
+};
 use ctf_bits::{sint_within, uint_within};
-use ctf_class::{Align, Integer, Labels};
+use ctf_class::{Integer, Labels};
 
 /// Writes an integer where there is room for it.
 #[inline(always)]
 pub(crate) fn put_one(
-    integer: &Integer,
-    align: Align,
+    class: &AlignedInteger<'_>,
     packet: &Content<'_>,
-    place: u64,
+    from: Position,
     buffer: &mut Vec<u8>,
-    at: usize,
 ) -> Option<Next>
-    requires start { place ≤ packet.now.end }
-    requires room { at + LONGEST_NUMBER ≤ vec_len buffer.old }
-    ensures puts { let line = take at buffer.old.items in let i = integer.now in
-        let k = forms.integer align i in let shown = texts.integer_text i in (before : Before) →
-        Writes result before k shown packet.now place line buffer.new.items }
+    requires start { from.place ≤ packet.now.end }
+    requires room { from.text + LONGEST_NUMBER ≤ vec_len buffer.old }
+    ensures puts { let line = take from.text buffer.old.items in let i = class.now.integer.now in
+        let k = forms.integer class.now.align i in let shown = texts.integer_text i in
+        (before : Before) →
+        Writes result before k shown packet.now from.place line buffer.new.items }
     ensures within { IfSome result (λ n. n.place ≤ packet.now.end) }
     ensures held { IfSome result (λ n. n.text ≤ vec_len buffer.new) }
     ensures few { IfSome result (λ n. n.more ≡ 0) }
 {
-    let ends = put_integer(integer, align, packet, place, buffer.as_mut_slice(), at)?;
+    let ends = put_integer(class, packet, from, buffer.as_mut_slice())?;
     Some(Next {
         place: ends.place,
         text: ends.text,
         more: 0,
-        last: number_of(integer, ends.bits),
+        last: number_of(class.integer, ends.bits),
     })
 }
 
@@ -59,20 +60,19 @@ fn number_of(integer: &Integer, bits: u64) -> Last
 /// Writes a string.
 pub(crate) fn put_string_value(
     packet: &Content<'_>,
-    place: u64,
+    from: Position,
     buffer: &mut Vec<u8>,
-    at: usize,
 ) -> Option<Next>
-    requires start { place ≤ packet.now.end }
-    requires index { at ≤ vec_len buffer.old }
-    ensures puts { let line = take at buffer.old.items in let shown = texts.string_text in
+    requires start { from.place ≤ packet.now.end }
+    requires index { from.text ≤ vec_len buffer.old }
+    ensures puts { let line = take from.text buffer.old.items in let shown = texts.string_text in
         (before : Before) (a : ℕ) →
-        Writes result before (forms.string a) shown packet.now place line buffer.new.items }
+        Writes result before (forms.string a) shown packet.now from.place line buffer.new.items }
     ensures within { IfSome result (λ n. n.place ≤ packet.now.end) }
     ensures held { IfSome result (λ n. n.text ≤ vec_len buffer.new) }
     ensures few { IfSome result (λ n. n.more ≡ 0) }
 {
-    let ends = put_string(packet, place, buffer, at)?;
+    let ends = put_string(packet, from, buffer)?;
     Some(Next {
         place: ends.place,
         text: ends.text,
@@ -85,20 +85,20 @@ pub(crate) fn put_string_value(
 pub(crate) fn put_text_value(
     count: u64,
     packet: &Content<'_>,
-    place: u64,
+    from: Position,
     buffer: &mut Vec<u8>,
-    at: usize,
 ) -> Option<Next>
-    requires start { place ≤ packet.now.end }
-    requires index { at ≤ vec_len buffer.old }
-    ensures puts { let line = take at buffer.old.items in let shown = texts.string_text in
+    requires start { from.place ≤ packet.now.end }
+    requires index { from.text ≤ vec_len buffer.old }
+    ensures puts { let line = take from.text buffer.old.items in let shown = texts.string_text in
         (before : Before) (a : ℕ) (many : Length) → Counts many before count →
-        Writes result before (forms.text a many) shown packet.now place line buffer.new.items }
+        let k = forms.text a many in
+        Writes result before k shown packet.now from.place line buffer.new.items }
     ensures within { IfSome result (λ n. n.place ≤ packet.now.end) }
     ensures held { IfSome result (λ n. n.text ≤ vec_len buffer.new) }
     ensures few { IfSome result (λ n. n.more ≡ 0) }
 {
-    let ends = put_fixed_text(count, packet, place, buffer, at)?;
+    let ends = put_fixed_text(count, packet, from, buffer)?;
     Some(Next {
         place: ends.place,
         text: ends.text,
@@ -107,38 +107,33 @@ pub(crate) fn put_text_value(
     })
 }
 
-/// Writes an enumeration.
+/// Writes an enumeration of these labels.
 #[inline(never)]
 pub(crate) fn put_enumeration(
-    container: &Integer,
+    container: &AlignedInteger<'_>,
     labels: &Labels,
-    align: Align,
     packet: &Content<'_>,
-    place: u64,
+    from: Position,
     buffer: &mut Vec<u8>,
-    at: usize,
 ) -> Option<Next>
-    requires start { place ≤ packet.now.end }
-    requires index { at ≤ vec_len buffer.old }
-    ensures puts { let line = take at buffer.old.items in let i = container.now in
-        let shown = texts.enumeration_text i labels.now in (before : Before) → Writes result before
-        (forms.enumeration align i) shown packet.now place line buffer.new.items }
+    requires start { from.place ≤ packet.now.end }
+    requires index { from.text ≤ vec_len buffer.old }
+    ensures puts { let line = take from.text buffer.old.items in
+        let i = container.now.integer.now in let k = forms.enumeration container.now.align i in
+        let shown = texts.enumeration_text i labels.now in (before : Before) →
+        Writes result before k shown packet.now from.place line buffer.new.items }
     ensures within { IfSome result (λ n. n.place ≤ packet.now.end) }
     ensures held { IfSome result (λ n. n.text ≤ vec_len buffer.new) }
     ensures few { IfSome result (λ n. n.more ≡ 0) }
 {
-    let size = container.size.bits();
-    let begin = align.up(place);
-    let end = begin + u64::from(size);
-    if end > packet.end {
-        return None;
-    }
-    let number = number_at(container, packet, begin);
-    let Ok(text) = put_labelled(container, labels, number, buffer, at) else {
+    let integer = container.integer;
+    let at = bits_at(integer, container.align, packet, from.place)?;
+    let number = number_at(integer, packet, at.begin);
+    let Ok(text) = put_labelled(integer, labels, number, buffer, from.text) else {
         return None;
     };
     Some(Next {
-        place: end,
+        place: at.end,
         text,
         more: 0,
         last: label_of(number),

@@ -14,9 +14,12 @@ use crate::array::put_integers;
 use crate::content::Content;
 use crate::leaf::put_enumeration;
 use crate::mark::put_end;
+use crate::placed_run::PlacedRun;
 use crate::plain_number::put_numbers;
 use crate::room::with_room;
-use crate::standing::{Standing, put_fixed_text, put_integer, put_string};
+use crate::standing::{
+    AlignedInteger, Position, Standing, put_fixed_text, put_integer, put_string,
+};
 use ctf_bits::up;
 use ctf_class::{Field, Integers, Many, PlainNumber, PreparedText, RecordPlan, Run, Shown};
 use ctf_decode::MOST_VALUES;
@@ -145,7 +148,10 @@ fn put_run(
     reach.place = begin + run.span;
     match &run.field {
         None => Some(text),
-        Some(field) => put_field(field, run, packet, reach, buffer, text),
+        Some(field) => {
+            let placed = PlacedRun { run, packet, first };
+            put_field(field, placed, reach, buffer, text)
+        }
     }
 }
 
@@ -180,126 +186,118 @@ fn put_before(ready: &PreparedText, buffer: &mut Vec<u8>, at: usize) -> usize
     ready.put(buffer.as_mut_slice(), at)
 }
 
-/// Writes a field behind the numbers of a run, and gives the index behind it; `reach` tells how far these came, and how far
+/// Writes a field after the numbers of a run, and gives the index after it; `reach` tells how far these came, and how far
 /// the field came then.
 #[inline(always)]
 fn put_field(
     field: &Field,
-    run: &Run,
-    packet: &Content<'_>,
+    placed: PlacedRun<'_>,
     reach: &mut Reach,
     buffer: &mut Vec<u8>,
     at: usize,
 ) -> Option<usize>
-    requires start { reach.old.place ≤ packet.now.end }
+    requires start { reach.old.place ≤ placed.packet.now.end }
     requires few { reach.old.more ≤ MOST_VALUES }
     requires room { at + length field.now.ready + 90 ≤ vec_len buffer.old }
-    requires run { run.now.span ≤ reach.old.place }
-    requires held { All (λ n. (reach.old.place - run.now.span) / 8 + n.window.place / 8 + 8 ≤
-        length packet.now.bytes.now) run.now.numbers }
-    ensures puts { (slot : Slot) → IsField slot field.now →
+    ensures puts { let packet = placed.entry.packet.now in (slot : Slot) → IsField slot field.now →
         IfSome result (λ text. (last : Option ℕ) ×
-        IsLastNumber last run.now.numbers packet.now.bytes.now
-        ((reach.old.place - run.now.span) / 8) ×
-        PutsField slot packet.now.bytes.now packet.now.end
+        IsLastNumber last placed.entry.run.now.numbers packet.bytes.now placed.entry.first ×
+        PutsField slot packet.bytes.now packet.end
         (behind_number reach.old last (take at buffer.old.items))
         (reached reach.new (take text buffer.new.items))) }
-    ensures within { IfSome result (λ _. reach.new.place ≤ packet.now.end) }
+    ensures within { IfSome result (λ _. reach.new.place ≤ placed.entry.packet.now.end) }
     ensures few { IfSome result (λ _. reach.new.more ≤ MOST_VALUES) }
     ensures held { IfSome result (λ text. text ≤ vec_len buffer.new) }
 {
-    let begin = field.align.up(reach.place);
-    if begin > packet.end {
+    let packet = placed.packet;
+    let place = field.align.up(reach.place);
+    if place > packet.end {
         return None;
     }
     let text = put_before(&field.ready, buffer, at);
+    let from = Position { place, text };
     match &field.shown {
         Shown::String => {
-            let ends = put_string(packet, begin, buffer, text)?;
+            let ends = put_string(packet, from, buffer)?;
             reach.place = ends.place;
             Some(ends.text)
         }
         Shown::Text(count) => {
-            let ends = put_fixed_text(*count, packet, begin, buffer, text)?;
+            let ends = put_fixed_text(*count, packet, from, buffer)?;
             reach.place = ends.place;
             Some(ends.text)
         }
         Shown::CountedText => {
-            let first = ((reach.place - run.span) / 8) as usize;
-            let count = last_number(run.numbers.as_slice(), packet.bytes, first)?;
-            let ends = put_fixed_text(count, packet, begin, buffer, text)?;
+            let count = last_number(placed)?;
+            let ends = put_fixed_text(count, packet, from, buffer)?;
             reach.place = ends.place;
             Some(ends.text)
         }
         Shown::Labelled(labelled) => {
             let labels = labelled.labels.get();
-            let container = &labelled.container;
-            let align = labelled.align;
-            let next = put_enumeration(container, labels, align, packet, begin, buffer, text)?;
+            let container = AlignedInteger {
+                integer: &labelled.container,
+                align: labelled.align,
+            };
+            let next = put_enumeration(&container, labels, packet, from, buffer)?;
             reach.place = next.place;
             Some(next.text)
         }
         Shown::Integers(are) => {
-            let first = ((reach.place - run.span) / 8) as usize;
             // A copy, so that the others do not go through memory.
             let mut to = Reach {
-                place: begin,
+                place,
                 more: reach.more,
             };
-            let numbers = run.numbers.as_slice();
-            let end = put_other(are, numbers, first, packet, &mut to, buffer, text)?;
+            let end = put_other(are, placed, &mut to, buffer, text)?;
             *reach = to;
             Some(end)
         }
     }
 }
 
-/// Writes integers that are none of the numbers of a run, but stand behind these, and gives the index behind them.
+/// Writes integers that are after the numbers of a run and none of these, and gives the index after them.
 #[inline(never)]
 fn put_other(
     are: &Integers,
-    numbers: &[PlainNumber],
-    first: usize,
-    packet: &Content<'_>,
+    placed: PlacedRun<'_>,
     reach: &mut Reach,
     buffer: &mut Vec<u8>,
     at: usize,
 ) -> Option<usize>
-    requires start { reach.old.place ≤ packet.now.end }
+    requires start { reach.old.place ≤ placed.packet.now.end }
     requires few { reach.old.more ≤ MOST_VALUES }
     requires room { at + 66 ≤ vec_len buffer.old }
-    requires held { All (λ n. first + n.window.place / 8 + 8 ≤ length packet.now.bytes.now)
-        numbers.now }
-    ensures puts { (index : ℕ) (member : Member) →
+    ensures puts { let packet = placed.entry.packet.now in (index : ℕ) (member : Member) →
         AreIntegers index member are.now.integer are.now.align are.now.many →
         IfSome result (λ text. (last : Option ℕ) ×
-        IsLastNumber last numbers.now packet.now.bytes.now first ×
+        IsLastNumber last placed.entry.run.now.numbers packet.bytes.now placed.entry.first ×
         PutsOther index last (form member.class) (texts.value_text member.class)
-        packet.now.bytes.now packet.now.end reach.old (take at buffer.old.items) reach.new
+        packet.bytes.now packet.end reach.old (take at buffer.old.items) reach.new
         (take text buffer.new.items)) }
-    ensures within { IfSome result (λ _. reach.new.place ≤ packet.now.end) }
+    ensures within { IfSome result (λ _. reach.new.place ≤ placed.entry.packet.now.end) }
     ensures few { IfSome result (λ _. reach.new.more ≤ MOST_VALUES) }
     ensures held { IfSome result (λ text. text ≤ vec_len buffer.new) }
 {
+    let packet = placed.packet;
+    let class = AlignedInteger {
+        integer: &are.integer,
+        align: are.align,
+    };
+    let from = Position {
+        place: reach.place,
+        text: at,
+    };
     let count = match are.many {
         Many::One => {
-            let line = buffer.as_mut_slice();
-            let ends = put_integer(&are.integer, are.align, packet, reach.place, line, at)?;
+            let ends = put_integer(&class, packet, from, buffer.as_mut_slice())?;
             reach.place = ends.place;
             return Some(ends.text);
         }
         Many::Fixed(count) => count,
-        Many::Counted => last_number(numbers, packet.bytes, first)?,
+        Many::Counted => last_number(placed)?,
     };
-    let next = put_integers(
-        &are.integer,
-        are.align,
-        count,
-        packet,
-        reach.place,
-        buffer,
-        at,
-    )?;
+    let next = put_integers(&class, count, packet, from, buffer)?;
     let more = reach.more + next.more;
     if more > MOST_VALUES {
         return None;
@@ -309,11 +307,12 @@ fn put_other(
     Some(next.text)
 }
 
-/// The last of the numbers of a run that begins behind so many bytes, if it is unsigned.
-fn last_number(numbers: &[PlainNumber], bytes: &[u8], first: usize) -> Option<u64>
-    requires held { All (λ n. first + n.window.place / 8 + 8 ≤ length bytes.now) numbers.now }
-    ensures { IsLastNumber result numbers.now bytes.now first }
+/// The last of the numbers of a run, if it is unsigned.
+fn last_number(placed: PlacedRun<'_>) -> Option<u64>
+    ensures { let bytes = placed.entry.packet.now.bytes.now in
+        IsLastNumber result placed.entry.run.now.numbers bytes placed.entry.first }
 {
+    let numbers = placed.run.numbers.as_slice();
     let count = numbers.len();
     if count == 0 {
         return None;
@@ -322,5 +321,5 @@ fn last_number(numbers: &[PlainNumber], bytes: &[u8], first: usize) -> Option<u6
     if last.integer.is_signed {
         return None;
     }
-    last.window.number(bytes, first)
+    last.window.number(placed.packet.bytes, placed.first)
 }

@@ -13,36 +13,42 @@ use ctf_class::{Class, EventClass, Heading, StreamClass};
 use ctf_decode::Value;
 use ctf_list::NoMemory;
 
-/// Writes the host, the name and the scopes of an event record (CTF 1.8.3, section 6) at an index of a
-/// buffer, in bytes, and gives the index behind them. `packet` is the part that the packet's event records
-/// share, as `put_packet_part` writes it; the values are those of the stream event context, of the event
-/// context and of the event fields. What stands before the index is kept, and the buffer grows where it has no
+/// What an event record's line shows of its scopes (CTF 1.8.3, section 6): the packet context as a text, and the values of
+/// the others.
+#[derive(Clone, Copy)]
+pub struct RecordScopes<'a> {
+    /// The part that the packet's event records share, as `put_packet_part` writes it.
+    pub packet: &'a [u8],
+    pub stream_context: Option<&'a Value>,
+    pub event_context: Option<&'a Value>,
+    pub fields: &'a Value,
+}
+
+/// Writes the host, the name and the scopes of an event record of these classes (CTF 1.8.3, section 6) at an index of a
+/// buffer, in bytes, and gives the index after them. What is before the index is kept, and the buffer grows where it has no
 /// room.
 ///
-/// It fails where memory is refused, and the buffer is then any buffer.
+/// It fails where an allocation fails, and the buffer is then an unspecified buffer.
 #[inline(always)]
 pub fn put_record(
-    packet: &[u8],
     stream: &StreamClass,
     event: &EventClass,
-    stream_context: Option<&Value>,
-    event_context: Option<&Value>,
-    fields: &Value,
+    scopes: &RecordScopes<'_>,
     buffer: &mut Vec<u8>,
     at: usize,
 ) -> Result<usize, NoMemory>
     requires { at ≤ vec_len buffer.old }
-    ensures text { IfOk result (λ end. take end buffer.new.items ≡
-        take at buffer.old.items ++ lines.record_text packet.now stream.now event.now
-        (option_map val (option_copied stream_context.entry))
-        (option_map val (option_copied event_context.entry))
-        (val fields.now)) }
+    ensures text { let shown = scopes.now in IfOk result (λ end. take end buffer.new.items ≡
+        take at buffer.old.items ++ lines.record_text shown.packet.now stream.now event.now
+        (option_map val (option_copied shown.stream_context))
+        (option_map val (option_copied shown.event_context))
+        (val shown.fields.now)) }
     ensures held { IfOk result (λ end. end ≤ vec_len buffer.new) }
 {
-    let end = put_front(&event.heading, packet, buffer, at)?;
-    let end = put_scope(stream.event_context(), stream_context, buffer, end)?;
-    let end = put_scope(event.context(), event_context, buffer, end)?;
-    put_value(event.fields(), fields, buffer, end)
+    let end = put_front(&event.heading, scopes.packet, buffer, at)?;
+    let end = put_scope(stream.event_context(), scopes.stream_context, buffer, end)?;
+    let end = put_scope(event.context(), scopes.event_context, buffer, end)?;
+    put_value(event.fields(), scopes.fields, buffer, end)
 }
 
 /// Writes what stands before the scopes of an event record at an index of a buffer, and gives the index behind it: the

@@ -1,6 +1,7 @@
 //! Texts of values where they stand, out of the packet's bits.
 
 ghost use Rattle.std.specs.Prelude.{ℕ, List, pos, ◌≡◌, true, false, ◌+◌, ◌*◌, ◌^◌, ◌++◌, ◌∷◌, ◌≤◌, ◌<◌, Some, length, nat_eq, not, position, take, vec_len, IfOk, IfSome, IsTrue};
+ghost use Rattle.std.specs.Int.{next_multiple_of};
 ghost use Rattle.std.specs.List.{take_while};
 ghost use Rattle.ctf_bits.specs.Number.{number, signed_number};
 ghost use Rattle.ctf_class.specs.Names.{label_text};
@@ -69,6 +70,13 @@ pub(crate) struct Position {
     pub(crate) text: usize,
 }
 
+/// An integer class (CTF 1.8.3, section 4.1.5) and its alignment.
+#[derive(Clone, Copy)]
+pub(crate) struct AlignedInteger<'a> {
+    pub(crate) integer: &'a Integer,
+    pub(crate) align: Align,
+}
+
 /// Where an integer ends, in bits from the packet's first one, the index behind its text, and its bits.
 #[derive(Clone, Copy)]
 pub(crate) struct IntegerEnds {
@@ -77,46 +85,72 @@ pub(crate) struct IntegerEnds {
     pub(crate) bits: u64,
 }
 
-/// Writes an integer. Mostly it is not negative, so that its bits are its number.
+/// Where an integer begins and ends, in bits from the packet's first one.
+#[derive(Clone, Copy)]
+pub(crate) struct Bits {
+    pub(crate) begin: u64,
+    pub(crate) end: u64,
+}
+
+/// The bits of an integer that could begin at a place, if they are within the packet's content.
 #[inline(always)]
-pub(crate) fn put_integer(
+pub(crate) fn bits_at(
     integer: &Integer,
     align: Align,
     packet: &Content<'_>,
     place: u64,
-    line: &mut [u8],
-    at: usize,
-) -> Option<IntegerEnds>
+) -> Option<Bits>
     requires start { place ≤ packet.now.end }
-    requires room { at + LONGEST_NUMBER ≤ length line.old }
-    ensures puts { let content = packet.now in let form = forms.integer align integer.now in
-        let shown = texts.integer_text integer.now in let before = take at line.old in
-        IfSome result (λ e. PutsOne form shown content.bytes.now content.end place e.place
-        before (take e.text line.new)) }
-    ensures within { IfSome result (λ e. e.place ≤ packet.now.end) }
-    ensures near { IfSome result (λ e. e.text ≤ at + LONGEST_NUMBER) }
-    ensures number { let content = packet.now in let form = forms.integer align integer.now in
-        IfSome result (λ e. integer.now.is_signed ≡ false →
-        StandsAsNumber form content.bytes.now content.end place e.bits) }
+    ensures begin { IfSome result (λ bits. bits.begin ≡ next_multiple_of place align) }
+    ensures end { IfSome result
+        (λ bits. bits.end ≡ next_multiple_of place align + bits_of integer.now) }
+    ensures within { IfSome result (λ bits. bits.end ≤ packet.now.end) }
 {
-    let size = integer.size.bits();
     let begin = align.up(place);
-    let end = begin + u64::from(size);
+    let end = begin + u64::from(integer.size.bits());
     if end > packet.end {
         return None;
     }
-    let bits = uint_within(packet.bytes, begin, size, integer.order);
+    Some(Bits { begin, end })
+}
+
+/// Writes an integer. Mostly it is not negative, so that its bits are its number.
+#[inline(always)]
+pub(crate) fn put_integer(
+    class: &AlignedInteger<'_>,
+    packet: &Content<'_>,
+    from: Position,
+    line: &mut [u8],
+) -> Option<IntegerEnds>
+    requires start { from.place ≤ packet.now.end }
+    requires room { from.text + LONGEST_NUMBER ≤ length line.old }
+    ensures puts { let content = packet.now in let integer = class.now.integer.now in
+        let form = forms.integer class.now.align integer in
+        let shown = texts.integer_text integer in let before = take from.text line.old in
+        IfSome result (λ e. PutsOne form shown content.bytes.now content.end from.place e.place
+        before (take e.text line.new)) }
+    ensures within { IfSome result (λ e. e.place ≤ packet.now.end) }
+    ensures near { IfSome result (λ e. e.text ≤ from.text + LONGEST_NUMBER) }
+    ensures number { let content = packet.now in let integer = class.now.integer.now in
+        let form = forms.integer class.now.align integer in
+        IfSome result (λ e. integer.is_signed ≡ false →
+        StandsAsNumber form content.bytes.now content.end from.place e.bits) }
+{
+    let integer = class.integer;
+    let at = bits_at(integer, class.align, packet, from.place)?;
+    let size = integer.size.bits();
+    let bits = uint_within(packet.bytes, at.begin, size, integer.order);
     if is_negative(integer, bits) {
-        let number = sint_within(packet.bytes, begin, size, integer.order);
+        let number = sint_within(packet.bytes, at.begin, size, integer.order);
         return Some(IntegerEnds {
-            place: end,
-            text: put_negative(integer, number, line, at),
+            place: at.end,
+            text: put_negative(integer, number, line, from.text),
             bits,
         });
     }
     Some(IntegerEnds {
-        place: end,
-        text: put_unsigned_number(integer, bits, line, at),
+        place: at.end,
+        text: put_unsigned_number(integer, bits, line, from.text),
         bits,
     })
 }
@@ -148,19 +182,19 @@ fn put_negative(integer: &Integer, number: i64, line: &mut [u8], at: usize) -> u
 #[inline(always)]
 pub(crate) fn put_string(
     packet: &Content<'_>,
-    place: u64,
+    from: Position,
     buffer: &mut Vec<u8>,
-    at: usize,
 ) -> Option<Position>
-    requires start { place ≤ packet.now.end }
-    requires index { at ≤ vec_len buffer.old }
-    ensures puts { let content = packet.now in let before = take at buffer.old.items in
+    requires start { from.place ≤ packet.now.end }
+    requires index { from.text ≤ vec_len buffer.old }
+    ensures puts { let content = packet.now in let before = take from.text buffer.old.items in
         IfSome result (λ e. (a : ℕ) → PutsOne (forms.string a) texts.string_text
-        content.bytes.now content.end place e.place before (take e.text buffer.new.items)) }
+        content.bytes.now content.end from.place e.place before (take e.text buffer.new.items)) }
     ensures within { IfSome result (λ e. e.place ≤ packet.now.end) }
     ensures held { IfSome result (λ e. e.text ≤ vec_len buffer.new) }
 {
-    let begin = up(place, 8);
+    let at = from.text;
+    let begin = up(from.place, 8);
     if begin > packet.end {
         return None;
     }
@@ -228,19 +262,19 @@ fn put_long_string(bytes: &[u8], begin: u64, buffer: &mut Vec<u8>, at: usize) ->
 pub(crate) fn put_fixed_text(
     count: u64,
     packet: &Content<'_>,
-    place: u64,
+    from: Position,
     buffer: &mut Vec<u8>,
-    at: usize,
 ) -> Option<Position>
-    requires start { place ≤ packet.now.end }
-    requires index { at ≤ vec_len buffer.old }
-    ensures puts { let content = packet.now in let before = take at buffer.old.items in
+    requires start { from.place ≤ packet.now.end }
+    requires index { from.text ≤ vec_len buffer.old }
+    ensures puts { let content = packet.now in let before = take from.text buffer.old.items in
         IfSome result (λ e. (a : ℕ) → PutsOne (forms.text a (Fixed count)) texts.string_text
-        content.bytes.now content.end place e.place before (take e.text buffer.new.items)) }
+        content.bytes.now content.end from.place e.place before (take e.text buffer.new.items)) }
     ensures within { IfSome result (λ e. e.place ≤ packet.now.end) }
     ensures held { IfSome result (λ e. e.text ≤ vec_len buffer.new) }
 {
-    let begin = up(place, 8);
+    let at = from.text;
+    let begin = up(from.place, 8);
     if begin > packet.end {
         return None;
     }

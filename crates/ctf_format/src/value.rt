@@ -11,7 +11,7 @@ ghost use Rattle.ctf_format.specs.Rows.{row, enclosed};
 ghost use Rattle.ctf_format.specs.Texts as texts;
 ghost use Rattle.ctf_format.specs.Texts.{member_part, member_texts, element_texts, part_text, option_text};
 
-use crate::element::put_index;
+use crate::element::{ElementLead, put_index};
 use crate::label::put_labelled;
 use crate::mark::{put_end, put_nothing, put_ready};
 use crate::number::{LONGEST_NUMBER, put_signed_number, put_unsigned_number};
@@ -333,19 +333,19 @@ fn put_elements(
     ensures held { IfOk result (λ end. end ≤ vec_len buffer.new) }
 {
     let mut end = at;
-    let mut lead = b'[';
+    let mut mark = b'[';
     for (i, value) in values.iter().enumerate() {
-        end = put_element(lead, i, element, value, buffer, end)?;
-        lead = b',';
+        let lead = ElementLead { mark, index: i };
+        end = put_element(lead, element, value, buffer, end)?;
+        mark = b',';
     }
     Ok(end)
 }
 
-/// Writes an element behind a mark.
+/// Writes an element after its mark and its index.
 #[cycle(texts)]
 fn put_element(
-    lead: u8,
-    i: usize,
+    lead: ElementLead,
     element: &Class,
     value: &Value,
     buffer: &mut Vec<u8>,
@@ -353,10 +353,10 @@ fn put_element(
 ) -> Result<usize, NoMemory>
     requires { at ≤ vec_len buffer.old }
     ensures text { IfOk result (λ end. take end buffer.new.items ≡
-        take at buffer.old.items ++ (lead ∷ 32 ∷ texts.element_text (texts.value_text element.now) i
-        (val value.now))) }
+        take at buffer.old.items ++ (lead.mark ∷ 32 ∷
+        texts.element_text (texts.value_text element.now) lead.index (val value.now))) }
     ensures held { IfOk result (λ end. end ≤ vec_len buffer.new) }
 {
-    let begin = put_index(lead, i, buffer, at)?;
+    let begin = put_index(lead, buffer, at)?;
     put_part(element, value, buffer, begin)
 }

@@ -6,7 +6,7 @@ ghost use Rattle.ctf_format.specs.Lines as lines;
 ghost use Rattle.ctf_format.specs.Texts as texts;
 
 use crate::packet::put_packet_part;
-use crate::record::put_record;
+use crate::record::{RecordScopes, put_record};
 use crate::value::put_value;
 use ctf_class::{Class, EventClass, StreamClass};
 use ctf_decode::Value;
@@ -42,35 +42,22 @@ pub fn packet_part(
     Ok(text)
 }
 
-/// What stands in an event record's line behind its stamp: the host, the name and the scopes. `packet` is what
-/// `packet_part` gives of the packet; the values are those of the stream event context, of the event context
-/// and of the event fields. It fails where memory is refused.
+/// An event record's line after its stamp: the host, the name and the scopes of an event record of these classes.
+/// It fails where an allocation fails.
 pub fn record_text(
     alloc: Global,
-    packet: &[u8],
     stream: &StreamClass,
     event: &EventClass,
-    stream_context: Option<&Value>,
-    event_context: Option<&Value>,
-    fields: &Value,
+    scopes: &RecordScopes<'_>,
 ) -> Result<Vec<u8>, NoMemory>
-    ensures { IfOk result (λ text.
-        text.items ≡ lines.record_text packet.now stream.now event.now
-        (option_map val (option_copied stream_context.entry))
-        (option_map val (option_copied event_context.entry))
-        (val fields.now)) }
+    ensures { let shown = scopes.now in IfOk result (λ text.
+        text.items ≡ lines.record_text shown.packet.now stream.now event.now
+        (option_map val (option_copied shown.stream_context))
+        (option_map val (option_copied shown.event_context))
+        (val shown.fields.now)) }
 {
     let mut text = Vec::new(alloc);
-    let end = put_record(
-        packet,
-        stream,
-        event,
-        stream_context,
-        event_context,
-        fields,
-        &mut text,
-        0,
-    )?;
+    let end = put_record(stream, event, scopes, &mut text, 0)?;
     text.truncate(end);
     Ok(text)
 }

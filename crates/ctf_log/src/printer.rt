@@ -12,7 +12,7 @@ ghost use Rattle.ctf_stream.specs.Shown.{event_of, gap_of, item_of, PartIsRight,
 use crate::gap::{GapWords, append_gap};
 use ctf_class::Scope;
 use ctf_decode::Value;
-use ctf_format::{put_packet_part, put_record, with_room};
+use ctf_format::{RecordScopes, put_packet_part, put_record, with_room};
 use ctf_list::NoMemory;
 use ctf_stream::{Event, EventText, Gap, Item};
 use ctf_timestamp::{MOST_PART, Stamper, Style};
@@ -243,16 +243,13 @@ fn put_body(
         Some(fields) => fields,
         None => &nothing,
     };
-    put_record(
-        packet,
-        event.stream,
-        event.class,
+    let scopes = RecordScopes {
+        packet: &*packet,
         stream_context,
         event_context,
         fields,
-        line,
-        at,
-    )
+    };
+    put_record(event.stream, event.class, &scopes, line, at)
 }
 
 /// The line of an item, with its newline, in memory of its own.

@@ -6,24 +6,15 @@ use crate::value::standing::LINE;
 use crate::value::words::values_of;
 use ctf_class::{EventClass, StreamClass};
 use ctf_decode::Value;
-use ctf_format::{put_record, record_text};
+use ctf_format::{RecordScopes, put_record, record_text};
 use ctf_list::NoMemory;
 use std::alloc::Global;
 
-/// The classes of an event record, and the text of its packet.
+/// The classes of an event record.
 #[derive(Clone, Copy)]
-struct Place<'a> {
+struct Classes<'a> {
     stream: &'a StreamClass,
     event: &'a EventClass,
-    packet: &'a [u8],
-}
-
-/// The values of an event record.
-#[derive(Clone, Copy)]
-struct Scopes<'a> {
-    stream_context: Option<&'a Value>,
-    event_context: Option<&'a Value>,
-    fields: &'a Value,
 }
 
 /// Puts what is shown of an event record, alone or in a line.
@@ -31,26 +22,23 @@ pub fn put_row(row: &mut Row<'_>, kind: &str, stream: &StreamClass) {
     if let Some(event) = event_of(stream, row.word()) {
         let packet = packet_of(row.alloc, row.word());
         let values = values_of(row.alloc, row.words);
-        if let Some(scopes) = scopes_of(&values) {
-            let place = Place {
-                stream,
-                event,
-                packet: packet.as_slice(),
-            };
-            put_shown(row, kind, place, scopes);
+        if let Some(scopes) = scopes_of(&packet, &values) {
+            put_shown(row, kind, Classes { stream, event }, &scopes);
         }
     }
 }
 
-/// The values of both contexts and of the fields, or of the fields alone.
-fn scopes_of(values: &[Value]) -> Option<Scopes<'_>> {
+/// The text of a packet, and the values of both contexts and of the fields, or of the fields alone.
+fn scopes_of<'a>(packet: &'a [u8], values: &'a [Value]) -> Option<RecordScopes<'a>> {
     match values {
-        [fields] => Some(Scopes {
+        [fields] => Some(RecordScopes {
+            packet,
             stream_context: None,
             event_context: None,
             fields,
         }),
-        [stream_context, event_context, fields] => Some(Scopes {
+        [stream_context, event_context, fields] => Some(RecordScopes {
+            packet,
             stream_context: Some(stream_context),
             event_context: Some(event_context),
             fields,
@@ -73,35 +61,22 @@ fn packet_of(alloc: Global, word: &str) -> Vec<u8> {
 }
 
 /// Puts what is shown of an event record.
-fn put_shown(row: &mut Row<'_>, kind: &str, place: Place<'_>, scopes: Scopes<'_>) {
+fn put_shown(row: &mut Row<'_>, kind: &str, classes: Classes<'_>, scopes: &RecordScopes<'_>) {
     let made = match kind {
-        "behind" => line_of(row.alloc, place, scopes),
-        _ => record_text(
-            row.alloc,
-            place.packet,
-            place.stream,
-            place.event,
-            scopes.stream_context,
-            scopes.event_context,
-            scopes.fields,
-        ),
+        "behind" => line_of(row.alloc, classes, scopes),
+        _ => record_text(row.alloc, classes.stream, classes.event, scopes),
     };
     row.put_made(made);
 }
 
 /// The text of an event record behind what stands in a line, over what stood there.
-fn line_of(alloc: Global, place: Place<'_>, scopes: Scopes<'_>) -> Result<Vec<u8>, NoMemory> {
+fn line_of(
+    alloc: Global,
+    classes: Classes<'_>,
+    scopes: &RecordScopes<'_>,
+) -> Result<Vec<u8>, NoMemory> {
     let mut line = Vec::from_slice(alloc, LINE)?;
-    let end = put_record(
-        place.packet,
-        place.stream,
-        place.event,
-        scopes.stream_context,
-        scopes.event_context,
-        scopes.fields,
-        &mut line,
-        5,
-    )?;
+    let end = put_record(classes.stream, classes.event, scopes, &mut line, 5)?;
     line.truncate(end);
     Ok(line)
 }

@@ -5,8 +5,8 @@ use Rattle.ctf_format.proofs.array.put_row.Given as goal
 
 abbrev pub invariant-loop-i : goal.invariant-loop-i
 invariant-loop-i l = record {
-  within : l.place ≤ l.packet.end;
-  held : l.text ≤ vec_len l.buffer;
-  marked : l.lead ≡ mark_at 91 l.i;
-  going : Going l.align l.integer l.count l.packet.bytes.now l.packet.end l.begin l.i l.place (take l.at l.fn.buffer.items) (take l.text l.buffer.items);
+  within : l.at.place ≤ l.packet.end;
+  held : l.at.text ≤ vec_len l.buffer;
+  marked : l.mark ≡ mark_at 91 l.i;
+  going : Going l.class.align l.class.integer.now l.count l.packet.bytes.now l.packet.end l.fn.from.place l.i l.at.place (take l.fn.from.text l.fn.buffer.items) (take l.at.text l.buffer.items);
 }

@@ -162,7 +162,7 @@ put_row-loop-i-preserved t c =
       held = c.in_ok-next.ensures.held;
       few = search (rules, arith);
       marked = mark_next 91 l.i;
-      going = items.going_on c.args.seen.now (form k) (value_text k) c.args.count c.args.from.place (take c.args.from.text c.args.buffer.now.items) l.i l.at.place l.more l.lead (take l.at.text l.buffer.items) next (take next.text c.put_item.new.buffer.items) c.loop-i-test.true l.invariant.marked l.invariant.going c.in_ok-next.ensures.puts;
+      going = items.going_on c.args.seen.now (form k) (value_text k) c.args.count c.args.from.place (take c.args.from.text c.args.buffer.now.items) l.i l.at.place l.more l.mark (take l.at.text l.buffer.items) next (take next.text c.put_item.new.buffer.items) c.loop-i-test.true l.invariant.marked l.invariant.going c.in_ok-next.ensures.puts;
     }
 
 pub put_row-returns-clause-puts : goal.put_row-returns-clause-puts
@@ -177,6 +177,6 @@ put_row-returns-clause-puts t c =
 pub put_item-returns-clause-puts : goal.put_item-returns-clause-puts
 put_item-returns-clause-puts t c =
     let k = c.args.element.now in
-    let lead = c.args.lead in
-    writes_behind c.put_part.result c.args.seen.now (form k) (value_text k) (λ v. lead ∷ 32 ∷ element_text (value_text k) c.args.i v) c.args.from.place (take c.args.from.text c.args.buffer.now.items) (take c.in-Ok.text c.put_index.new.buffer.items) c.put_part.new.buffer.items (lead ∷ 32 ∷ 91 ∷ (decimal c.args.i ++ codes "] = "))
-    c.in-Ok.ensures.text (λ v. element_behind (value_text k) lead c.args.i v) c.put_part.ensures.puts
+    let lead = c.args.lead.mark in
+    writes_behind c.put_part.result c.args.seen.now (form k) (value_text k) (λ v. lead ∷ 32 ∷ element_text (value_text k) c.args.lead.index v) c.args.from.place (take c.args.from.text c.args.buffer.now.items) (take c.in-Ok.text c.put_index.new.buffer.items) c.put_part.new.buffer.items (lead ∷ 32 ∷ 91 ∷ (decimal c.args.lead.index ++ codes "] = "))
+    c.in-Ok.ensures.text (λ v. element_behind (value_text k) lead c.args.lead.index v) c.put_part.ensures.puts

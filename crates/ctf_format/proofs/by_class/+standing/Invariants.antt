@@ -22,6 +22,6 @@ invariant-put_row-loop-i l = record {
   within : l.at.place ≤ l.seen.packet.now.end;
   held : l.at.text ≤ vec_len l.buffer;
   few : l.more ≤ MOST_VALUES;
-  marked : l.lead ≡ mark_at 91 l.i;
+  marked : l.mark ≡ mark_at 91 l.i;
   going : items.Going l.seen (form l.element) (value_text l.element) l.count l.fn.from.place l.i l.at.place l.more (take l.fn.from.text l.fn.buffer.items) (take l.at.text l.buffer.items);
 }

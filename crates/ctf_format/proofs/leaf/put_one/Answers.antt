@@ -8,13 +8,13 @@ use Rattle.ctf_format.proofs.leaf.put_one.Goals as goal
 
 pub returns-clause-puts : goal.returns-clause-puts
 returns-clause-puts c = λ before.
-    let i = c.args.integer.now in
-    let align = c.args.align in
+    let i = c.args.class.now.integer.now in
+    let align = c.args.class.now.align in
     let ends = c.in_ok-ends.ends in
     let bytes = c.args.packet.now.bytes.now in
     let content = c.args.packet.now.end in
-    let place = c.args.place in
-    let at = c.args.at in
+    let place = c.args.from.place in
+    let at = c.args.from.text in
     let items = c.args.buffer.now.items in
     let line = c.put_integer.new.line in
     let n = c.args.buffer.now.len in

@@ -6,4 +6,4 @@ use Rattle.ctf_format.proofs.leaf.put_string_value.Goals as goal
 
 pub returns-clause-puts : goal.returns-clause-puts
 returns-clause-puts c = λ before a.
-    writes_one before (forms.string a) string_text c.args.packet.now c.in_ok-ends.ends (take c.args.at c.args.buffer.now.items) c.put_string.new.buffer.items c.args.place (c.in_ok-ends.ensures.puts a)
+    writes_one before (forms.string a) string_text c.args.packet.now c.in_ok-ends.ends (take c.args.from.text c.args.buffer.now.items) c.put_string.new.buffer.items c.args.from.place (c.in_ok-ends.ensures.puts a)

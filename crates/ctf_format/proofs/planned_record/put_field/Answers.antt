@@ -1,4 +1,4 @@
-use Rattle.std.proofs.Common.{◌≡◌, ◌+◌, ◌-◌, ◌/◌, ◌≤◌, ◌∙◌, Some, None, take, refl, sym, ap, subst, arith, rules}
+use Rattle.std.proofs.Common.{◌≡◌, ◌+◌, ◌≤◌, ◌∙◌, Some, None, take, refl, sym, ap, subst, arith, rules}
 use Rattle.ctf_class.specs.Records.{IsShown}
 use Rattle.ctf_class.specs.declared.route.Length.TheVariants.{Fixed, Field}
 use Rattle.ctf_decode.specs.Forms as forms
@@ -16,54 +16,53 @@ pub returns-in_ok-ends-in-String-clause-puts : goal.returns-in_ok-ends-in-String
 returns-in_ok-ends-in-String-clause-puts c = λ slot is.
     let class = slot.member.class in
     let string = subst (IsShown slot.index slot.member) c.in-String.is is.shown in
-    let bytes = c.args.packet.now.bytes.now in
-    let content = c.args.packet.now.end in
-    let begin = c.up-begin.result in
+    let bytes = c.args.placed.packet.now.bytes.now in
+    let content = c.args.placed.packet.now.end in
+    let begin = c.up-place.result in
     let ends = c.in_ok-ends-in-String.ends in
     let line = take c.put_before-text.result c.put_before-text.new.buffer.items in
     let after = take ends.text c.put_string.new.buffer.items in
     let puts = as_one (forms.string class.align) (form class) string_text (value_text class) bytes content begin ends.place line after after (form_string class string) (text_string class string) refl (c.in_ok-ends-in-String.ensures.puts class.align) in
-    let within : begin ≤ content = omega (arith, c.if-begin-packet.false) in
-    (None, no_number c.args.run.now.numbers bytes ((c.args.reach.now.place - c.args.run.now.span) / 8), field_alone slot c.args.field.now bytes content begin c.args.reach.now.place c.args.reach.now.more ends.place None (take c.args.at c.args.buffer.now.items) line after is c.up-begin.ensures.value within c.put_before-text.ensures.text puts)
+    let within : begin ≤ content = omega (arith, c.if-place-packet.false) in
+    (None, no_number c.args.placed.run.now.numbers bytes c.args.placed.first, field_alone slot c.args.field.now bytes content begin c.args.reach.now.place c.args.reach.now.more ends.place None (take c.args.at c.args.buffer.now.items) line after is c.up-place.ensures.value within c.put_before-text.ensures.text puts)
 
 pub returns-in_ok-ends-in-Text-clause-puts : goal.returns-in_ok-ends-in-Text-clause-puts
 returns-in_ok-ends-in-Text-clause-puts c = λ slot is.
     let class = slot.member.class in
     let many = Fixed c.in-Text.count in
     let text = subst (IsShown slot.index slot.member) c.in-Text.is is.shown in
-    let bytes = c.args.packet.now.bytes.now in
-    let content = c.args.packet.now.end in
-    let begin = c.up-begin.result in
+    let bytes = c.args.placed.packet.now.bytes.now in
+    let content = c.args.placed.packet.now.end in
+    let begin = c.up-place.result in
     let ends = c.in_ok-ends-in-Text.ends in
     let line = take c.put_before-text.result c.put_before-text.new.buffer.items in
     let after = take ends.text c.put_fixed_text.new.buffer.items in
     let puts = as_one (forms.text class.align many) (form class) string_text (value_text class) bytes content begin ends.place line after after (form_text class many text) (text_text class many text) refl (c.in_ok-ends-in-Text.ensures.puts class.align) in
-    let within : begin ≤ content = omega (arith, c.if-begin-packet.false) in
-    (None, no_number c.args.run.now.numbers bytes ((c.args.reach.now.place - c.args.run.now.span) / 8), field_alone slot c.args.field.now bytes content begin c.args.reach.now.place c.args.reach.now.more ends.place None (take c.args.at c.args.buffer.now.items) line after is c.up-begin.ensures.value within c.put_before-text.ensures.text puts)
+    let within : begin ≤ content = omega (arith, c.if-place-packet.false) in
+    (None, no_number c.args.placed.run.now.numbers bytes c.args.placed.first, field_alone slot c.args.field.now bytes content begin c.args.reach.now.place c.args.reach.now.more ends.place None (take c.args.at c.args.buffer.now.items) line after is c.up-place.ensures.value within c.put_before-text.ensures.text puts)
 
 pub returns-in_ok-end-in-Integers-clause-puts : goal.returns-in_ok-end-in-Integers-clause-puts
 returns-in_ok-end-in-Integers-clause-puts c = λ slot is.
-    let bytes = c.args.packet.now.bytes.now in
-    let content = c.args.packet.now.end in
-    let begin = c.up-begin.result in
+    let bytes = c.args.placed.packet.now.bytes.now in
+    let content = c.args.placed.packet.now.end in
+    let begin = c.up-place.result in
     let to = c.put_other.new.reach in
     let before = take c.args.at c.args.buffer.now.items in
     let line = take c.put_before-text.result c.put_before-text.new.buffer.items in
     let after = take c.in_ok-end-in-Integers.end c.put_other.new.buffer.items in
-    let within : begin ≤ content = omega (arith, c.if-begin-packet.false) in
+    let within : begin ≤ content = omega (arith, c.if-place-packet.false) in
     let p = c.in_ok-end-in-Integers.ensures.puts slot.index slot.member (subst (IsShown slot.index slot.member) c.in-Integers.is is.shown) in
-    let field = field_next slot c.args.field.now bytes content begin c.args.reach.now.place c.args.reach.now.more p.2.0 to.place p.0 before line after is c.up-begin.ensures.value within c.put_before-text.ensures.text p.2.2 in
-    let known : IsLastNumber p.0 c.args.run.now.numbers bytes ((c.args.reach.now.place - c.args.run.now.span) / 8) = subst (λ ns. IsLastNumber p.0 ns bytes ((c.args.reach.now.place - c.args.run.now.span) / 8)) c.as_slice-numbers.ensures p.1 in
-    (p.0, known, subst (λ n. PutsField slot bytes content (numbers_to c.args.reach.now.place c.args.reach.now.more p.0 before) (numbers_to to.place n None after)) (sym p.2.1) field)
+    let field = field_next slot c.args.field.now bytes content begin c.args.reach.now.place c.args.reach.now.more p.2.0 to.place p.0 before line after is c.up-place.ensures.value within c.put_before-text.ensures.text p.2.2 in
+    (p.0, p.1, subst (λ n. PutsField slot bytes content (numbers_to c.args.reach.now.place c.args.reach.now.more p.0 before) (numbers_to to.place n None after)) (sym p.2.1) field)
 
 pub returns-in_ok-ends-in-CountedText-clause-puts : goal.returns-in_ok-ends-in-CountedText-clause-puts
 returns-in_ok-ends-in-CountedText-clause-puts c = λ slot is.
     let class = slot.member.class in
     let shown = subst (IsShown slot.index slot.member) c.in-CountedText.is is.shown in
     let many = Field shown.0 in
-    let bytes = c.args.packet.now.bytes.now in
-    let content = c.args.packet.now.end in
-    let begin = c.up-begin.result in
+    let bytes = c.args.placed.packet.now.bytes.now in
+    let content = c.args.placed.packet.now.end in
+    let begin = c.up-place.result in
     let count = c.in_ok-count-in-CountedText.count in
     let known = Some count in
     let before = behind slot.index known in
@@ -71,13 +70,13 @@ returns-in_ok-ends-in-CountedText-clause-puts c = λ slot is.
     let line = take c.put_before-text.result c.put_before-text.new.buffer.items in
     let items = c.put_fixed_text-in-CountedText.new.buffer.items in
     let counts : Counts many before count = counts_behind shown.0 slot.index count shown.2 in
-    let text = writes_text before class.align many count c.args.packet.now begin ends line items counts c.in_ok-ends-in-CountedText.ensures.puts in
-    let puts = writes_as (Some (record { place = ends.place; text = ends.text; more = 0; last = lasts.Unknown })) before (forms.text class.align many) (form class) string_text (value_text class) c.args.packet.now begin line items (form_text class many shown.1) (text_text class many shown.1) text in
-    let within : begin ≤ content = omega (arith, c.if-begin-packet.false) in
-    let first = (c.args.reach.now.place - c.args.run.now.span) / 8 in
-    let last : IsLastNumber known c.args.run.now.numbers bytes first = search rules in
+    let text = writes_text before class.align many count c.args.placed.packet.now begin ends line items counts c.in_ok-ends-in-CountedText.ensures.puts in
+    let puts = writes_as (Some (record { place = ends.place; text = ends.text; more = 0; last = lasts.Unknown })) before (forms.text class.align many) (form class) string_text (value_text class) c.args.placed.packet.now begin line items (form_text class many shown.1) (text_text class many shown.1) text in
+    let within : begin ≤ content = omega (arith, c.if-place-packet.false) in
+    let first = c.args.placed.first in
+    let last : IsLastNumber known c.args.placed.run.now.numbers bytes first = search rules in
     let none : c.args.reach.now.more + 0 ≡ c.args.reach.now.more = omega arith in
-    let field = field_next slot c.args.field.now bytes content begin c.args.reach.now.place c.args.reach.now.more 0 ends.place known (take c.args.at c.args.buffer.now.items) line (take ends.text items) is c.up-begin.ensures.value within c.put_before-text.ensures.text (forget before (form class) (value_text class) bytes content begin line (record { place = ends.place; text = ends.text; more = 0; last = lasts.Unknown }) (take ends.text items) puts) in
+    let field = field_next slot c.args.field.now bytes content begin c.args.reach.now.place c.args.reach.now.more 0 ends.place known (take c.args.at c.args.buffer.now.items) line (take ends.text items) is c.up-place.ensures.value within c.put_before-text.ensures.text (forget before (form class) (value_text class) bytes content begin line (record { place = ends.place; text = ends.text; more = 0; last = lasts.Unknown }) (take ends.text items) puts) in
     (known, last, subst (λ n. PutsField slot bytes content (numbers_to c.args.reach.now.place c.args.reach.now.more known (take c.args.at c.args.buffer.now.items)) (numbers_to ends.place n None (take ends.text items))) none field)
 
 pub returns-in_ok-next-in-Labelled-clause-puts : goal.returns-in_ok-next-in-Labelled-clause-puts
@@ -87,9 +86,9 @@ returns-in_ok-next-in-Labelled-clause-puts c = λ slot is.
     let i = e.container in
     let ls = c.get-labels.result.now in
     let shown = subst (IsShown slot.index slot.member) c.in-Labelled.is is.shown in
-    let bytes = c.args.packet.now.bytes.now in
-    let content = c.args.packet.now.end in
-    let begin = c.up-begin.result in
+    let bytes = c.args.placed.packet.now.bytes.now in
+    let content = c.args.placed.packet.now.end in
+    let begin = c.up-place.result in
     let before = behind slot.index None in
     let next = c.in_ok-next-in-Labelled.next in
     let from = take c.args.at c.args.buffer.now.items in
@@ -97,10 +96,10 @@ returns-in_ok-next-in-Labelled-clause-puts c = λ slot is.
     let items = c.put_enumeration.new.buffer.items in
     let forms_are = ap (λ a. forms.enumeration a i) shown.1 ∙ form_enumeration class i e.labels shown.0 in
     let texts_are = ap (enumeration_text i) c.get-labels.ensures ∙ text_enumeration class i e.labels shown.0 in
-    let puts = writes_as (Some next) before (forms.enumeration e.align i) (form class) (enumeration_text i ls) (value_text class) c.args.packet.now begin line items forms_are texts_are (c.in_ok-next-in-Labelled.ensures.puts before) in
+    let puts = writes_as (Some next) before (forms.enumeration e.align i) (form class) (enumeration_text i ls) (value_text class) c.args.placed.packet.now begin line items forms_are texts_are (c.in_ok-next-in-Labelled.ensures.puts before) in
     let alone : next.more ≡ 0 = c.in_ok-next-in-Labelled.ensures.few in
-    let within : begin ≤ content = omega (arith, c.if-begin-packet.false) in
+    let within : begin ≤ content = omega (arith, c.if-place-packet.false) in
     let more = c.args.reach.now.more in
     let none : more + next.more ≡ more = omega (arith, alone) in
-    let field = field_next slot c.args.field.now bytes content begin c.args.reach.now.place more next.more next.place None from line (take next.text items) is c.up-begin.ensures.value within c.put_before-text.ensures.text (forget before (form class) (value_text class) bytes content begin line next (take next.text items) puts) in
-    (None, no_number c.args.run.now.numbers bytes ((c.args.reach.now.place - c.args.run.now.span) / 8), subst (λ n. PutsField slot bytes content (numbers_to c.args.reach.now.place more None from) (numbers_to next.place n None (take next.text items))) none field)
+    let field = field_next slot c.args.field.now bytes content begin c.args.reach.now.place more next.more next.place None from line (take next.text items) is c.up-place.ensures.value within c.put_before-text.ensures.text (forget before (form class) (value_text class) bytes content begin line next (take next.text items) puts) in
+    (None, no_number c.args.placed.run.now.numbers bytes c.args.placed.first, subst (λ n. PutsField slot bytes content (numbers_to c.args.reach.now.place more None from) (numbers_to next.place n None (take next.text items))) none field)

@@ -21,8 +21,8 @@ returns-in-One-clause-puts c = λ index member are.
     let align = c.args.are.now.align in
     let is = subst (AreIntegers index member i align) c.in-One.is are in
     let ends = c.in_ok-ends-in-One.ends in
-    let bytes = c.args.packet.now.bytes.now in
-    let content = c.args.packet.now.end in
+    let bytes = c.args.placed.packet.now.bytes.now in
+    let content = c.args.placed.packet.now.end in
     let place = c.args.reach.now.place in
     let items = c.args.buffer.now.items in
     let line = c.put_integer.new.line in
@@ -32,10 +32,10 @@ returns-in-One-clause-puts c = λ index member are.
     let long : length line ≡ n = search rules in
     let room : at + 66 ≤ n = search rules in
     let same = same_front ends.text (at + 66) n line items long room c.in_ok-ends-in-One.ensures.near in
-    let puts = subst (λ xs. PutsOne (forms.integer align i) (integer_text i) bytes content place ends.place (take at xs) (take ends.text line)) c.as_mut_slice-line.ensures.value c.in_ok-ends-in-One.ensures.puts in
+    let puts = subst (λ xs. PutsOne (forms.integer align i) (integer_text i) bytes content place ends.place (take at xs) (take ends.text line)) c.as_mut_slice.ensures.value c.in_ok-ends-in-One.ensures.puts in
     let one = as_one (forms.integer align i) (form class) (integer_text i) (value_text class) bytes content place ends.place (take at items) (take ends.text line) (take ends.text all) (ap (λ a. forms.integer a i) is.1 ∙ form_integer class i is.0) (text_integer class i is.0) same puts in
     let none : c.args.reach.now.more ≡ c.args.reach.now.more + 0 = omega arith in
-    (None, no_number c.args.numbers.now bytes c.args.first, (0, none, puts_next (behind index None) (form class) (value_text class) bytes content place ends.place 0 (take at items) (take ends.text all) one))
+    (None, no_number c.args.placed.run.now.numbers bytes c.args.placed.first, (0, none, puts_next (behind index None) (form class) (value_text class) bytes content place ends.place 0 (take at items) (take ends.text all) one))
 
 pub returns-clause-puts : goal.returns-clause-puts
 returns-clause-puts c = λ index member are.
@@ -43,8 +43,8 @@ returns-clause-puts c = λ index member are.
     let i = c.args.are.now.integer in
     let align = c.args.are.now.align in
     let next = c.in_ok-next.next in
-    let bytes = c.args.packet.now.bytes.now in
-    let content = c.args.packet.now.end in
+    let bytes = c.args.placed.packet.now.bytes.now in
+    let content = c.args.placed.packet.now.end in
     let place = c.args.reach.now.place in
     let before = take c.args.at c.args.buffer.now.items in
     let items = c.put_integers.new.buffer.items in
@@ -57,7 +57,7 @@ returns-clause-puts c = λ index member are.
           let k = is.0 in
           let puts = c.in_ok-next.ensures.puts (behind index None) many class.align (λ earlier env vs counted last. sym w.count-is) in (
             None,
-            no_number c.args.numbers.now bytes c.args.first,
+            no_number c.args.placed.run.now.numbers bytes c.args.placed.first,
             (
               next.more,
               refl,
@@ -70,7 +70,7 @@ returns-clause-puts c = λ index member are.
           let many = lengths.Field is.0 in
           let k = is.1 in
           let last = Some c.match-are.count in
-          let known : IsLastNumber last c.args.numbers.now bytes c.args.first = subst (λ o. IsLastNumber o c.args.numbers.now bytes c.args.first) (w.in_ok-count-in-Counted.was ∙ ap Some (sym w.count-is)) w.last_number.ensures in
+          let known : IsLastNumber last c.args.placed.run.now.numbers bytes c.args.placed.first = subst (λ o. IsLastNumber o c.args.placed.run.now.numbers bytes c.args.placed.first) (w.in_ok-count-in-Counted.was ∙ ap Some (sym w.count-is)) w.last_number.ensures in
           let puts = c.in_ok-next.ensures.puts (behind index last) many class.align (counts_behind is.0 index c.match-are.count is.3) in (
             last,
             known,

@@ -13,8 +13,8 @@ returns-clause-text c =
     let event = c.args.event.now in
     let old = take c.args.at c.args.buffer.now.items in
     let heading = heading_text event.heading in
-    let front = c.in_ok-end.ensures.text ∙ sym (append_assoc old heading (flat_map followed (if_shown c.args.packet.now))) in
+    let front = c.in_ok-end.ensures.text ∙ sym (append_assoc old heading (flat_map followed (if_shown c.args.scopes.now.packet.now))) in
     let stream_context = rw c.event_context.ensures at c.in_ok-end-2.ensures.text in
     let event_context = rw c.context.ensures at c.in_ok-end-3.ensures.text in
     let fields = rw c.fields.ensures at c.put_value.ensures.text in
-    subst (λ xs. IfOk c.put_value.result (λ end. take end c.put_value.new.buffer.items ≡ xs)) (record_chain old heading (value_text event.fields (val c.args.fields.now)) _ _ _ _ (if_shown c.args.packet.now) (scope_texts stream.event_context (option_map val (option_copied c.args.stream_context))) (scope_texts event.context (option_map val (option_copied c.args.event_context))) refl front stream_context event_context) fields
+    subst (λ xs. IfOk c.put_value.result (λ end. take end c.put_value.new.buffer.items ≡ xs)) (record_chain old heading (value_text event.fields (val c.args.scopes.now.fields.now)) _ _ _ _ (if_shown c.args.scopes.now.packet.now) (scope_texts stream.event_context (option_map val (option_copied c.args.scopes.now.stream_context))) (scope_texts event.context (option_map val (option_copied c.args.scopes.now.event_context))) refl front stream_context event_context) fields

@@ -10,10 +10,10 @@ returns-clause-puts c a =
     let packet = c.args.packet.now.bytes.now in
     let content = c.args.packet.now.end in
     let n = c.args.count in
-    let before = take c.args.at c.args.buffer.now.items in
+    let before = take c.args.from.text c.args.buffer.now.items in
     let after = take c.in-Ok.text c.put_longer_text.new.buffer.items in
     let bytes = ap (take_while (λ x. not (nat_eq x 0))) (c.bytes_at-bytes.ensures ∙ ap (λ m. take n (drop (m / 8) packet)) c.up-begin.ensures.value) in
-    puts_text packet content c.args.place (c.up-begin.result + 8 * n) n before after (ap (λ m. m + 8 * n) c.up-begin.ensures.value) (grind (arith, c.if-count-packet.false, c.if-begin-packet.false))
+    puts_text packet content c.args.from.place (c.up-begin.result + 8 * n) n before after (ap (λ m. m + 8 * n) c.up-begin.ensures.value) (grind (arith, c.if-count-packet.false, c.if-begin-packet.false))
     (c.in-Ok.ensures.text ∙ ap (λ xs. before ++ label_text xs) bytes) a
 
 pub returns-in-Some-clause-puts : goal.returns-in-Some-clause-puts
@@ -21,9 +21,9 @@ returns-in-Some-clause-puts c a =
     let packet = c.args.packet.now.bytes.now in
     let content = c.args.packet.now.end in
     let n = c.args.count in
-    let before = take c.args.at c.args.buffer.now.items in
+    let before = take c.args.from.text c.args.buffer.now.items in
     let after = take c.put_short.result c.put_short.new.buffer.items in
     let bytes = c.bytes_at-bytes.ensures ∙ ap (λ m. take n (drop (m / 8) packet)) c.up-begin.ensures.value in
     let shown = sym (before_first_zero c.bytes_at-bytes.result.now c.in-Some.short c.in-Some.ensures.first) ∙ ap (take_while (λ x. not (nat_eq x 0))) bytes in
-    puts_text packet content c.args.place (c.up-begin.result + 8 * n) n before after (ap (λ m. m + 8 * n) c.up-begin.ensures.value) (grind (arith, c.if-count-packet.false, c.if-begin-packet.false))
+    puts_text packet content c.args.from.place (c.up-begin.result + 8 * n) n before after (ap (λ m. m + 8 * n) c.up-begin.ensures.value) (grind (arith, c.if-count-packet.false, c.if-begin-packet.false))
     (c.put_short.ensures.text ∙ ap (λ xs. before ++ label_text xs) shown) a

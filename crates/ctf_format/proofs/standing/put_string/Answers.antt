@@ -23,10 +23,10 @@ module _ (packet bytes : List ℕ) (content place begin : ℕ) (before : List �
 
 pub returns-clause-puts : goal.returns-clause-puts
 returns-clause-puts c =
-    puts_found c.args.packet.now.bytes.now c.bytes_from-bytes.result.now c.args.packet.now.end c.args.place c.up-begin.result (take c.args.at c.args.buffer.now.items) c.up-begin.ensures.value c.bytes_from-bytes.ensures
+    puts_found c.args.packet.now.bytes.now c.bytes_from-bytes.result.now c.args.packet.now.end c.args.from.place c.up-begin.result (take c.args.from.text c.args.buffer.now.items) c.up-begin.ensures.value c.bytes_from-bytes.ensures
     c.put_longer_string.result c.put_longer_string.new.buffer.items c.put_longer_string.ensures.puts
 
 pub returns-in-Some-clause-puts : goal.returns-in-Some-clause-puts
 returns-in-Some-clause-puts c =
-    puts_bytes c.args.packet.now.bytes.now c.bytes_from-bytes.result.now c.args.packet.now.end c.args.place c.up-begin.result (take c.args.at c.args.buffer.now.items) c.up-begin.ensures.value c.bytes_from-bytes.ensures
+    puts_bytes c.args.packet.now.bytes.now c.bytes_from-bytes.result.now c.args.packet.now.end c.args.from.place c.up-begin.result (take c.args.from.text c.args.buffer.now.items) c.up-begin.ensures.value c.bytes_from-bytes.ensures
     c.in-Some.count _ _ c.in-Some.ensures.first refl c.put_short.ensures.text

@@ -8,7 +8,7 @@ use Rattle.ctf_format.proofs.value.+texts.Given as goal
 abbrev pub invariant-put_elements-loop-i : goal.invariant-put_elements-loop-i
 invariant-put_elements-loop-i l = record {
   held : l.end ≤ vec_len l.buffer;
-  text : take l.end l.buffer.items ++ row l.lead (element_texts (value_text l.element) l.i (vals_of (map val (drop l.i l.values)))) ≡ take l.fn.at l.fn.buffer.items ++ row 91 (element_texts (value_text l.element) 0 (vals_of (map val l.values)));
+  text : take l.end l.buffer.items ++ row l.mark (element_texts (value_text l.element) l.i (vals_of (map val (drop l.i l.values)))) ≡ take l.fn.at l.fn.buffer.items ++ row 91 (element_texts (value_text l.element) 0 (vals_of (map val l.values)));
 }
 
 abbrev pub invariant-put_members-loop-i : goal.invariant-put_members-loop-i
