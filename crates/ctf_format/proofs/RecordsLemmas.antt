@@ -319,6 +319,11 @@ no_number [] packet first = refl
 no_number (n ∷ []) packet first = tt
 no_number (n ∷ (m ∷ ns)) packet first = no_number (m ∷ ns) packet first
 
+-- what is written behind no number that is known
+pub behind_no_number : (ns : List PlainNumber) (packet : List ℕ) (first : ℕ) (P : Option ℕ → ℕ → Type 0) (r : Option ℕ) → IfSome r (P None) → IfSome r (λ text. (last : Option ℕ) × IsLastNumber last ns packet first × P last text)
+behind_no_number ns packet first P (Some text) puts = (None, no_number ns packet first, puts)
+behind_no_number ns packet first P None puts = tt
+
 -- the last of some numbers
 pub last_number : (ns : List PlainNumber) (n : PlainNumber) (r : Option ℕ) (packet : List ℕ) (first : ℕ) → 0 < length ns → n ≡ get_or ns (length ns - 1) n → n.integer.is_signed ≡ false → IfSome r (λ v. number_behind n.window packet first ≡ pos v) → IsLastNumber r ns packet first
 last_number [] n r packet first some is plain read = absurd (omega (arith, some))

@@ -1,10 +1,11 @@
 //! Texts of event records by their plans.
 
-ghost use Rattle.std.specs.Prelude.{List, ℕ, [], ◌∷◌, ◌≡◌, ◌+◌, ◌*◌, ◌/◌, ◌^◌, ◌-◌, ◌++◌, ◌<◌, ◌≤◌, length, take, vec_len, Option, IfSome};
+ghost use Rattle.std.specs.Prelude.{List, ℕ, [], ◌∷◌, ◌≡◌, ◌+◌, ◌*◌, ◌/◌, ◌^◌, ◌-◌, ◌++◌, ◌<◌, ◌≤◌, length, take, vec_len, Option, None, IfSome};
 ghost use Rattle.std.specs.List.{All, flat_map};
 ghost use Rattle.ctf_class.specs.Records.{Slot, AreIntegers, AreRuns, IsField, IsPlanOf, numbers_room};
 ghost use Rattle.ctf_class.specs.declared.class.Class.{Class};
 ghost use Rattle.ctf_class.specs.declared.class.Member.{Member};
+ghost use Rattle.ctf_class.specs.declared.record_plan.Many.TheVariants.{One};
 ghost use Rattle.ctf_decode.specs.Views.{form};
 ghost use Rattle.ctf_format.specs.Plain.{plain_text};
 ghost use Rattle.ctf_format.specs.Records.{IsNear, IsLastNumber, PutsField, PutsFields, PutsOther, PutsScopes, TakesRun, behind_number, reached};
@@ -149,7 +150,8 @@ fn put_run(
     match &run.field {
         None => Some(text),
         Some(field) => {
-            let placed = PlacedRun { run, packet, first };
+            let end = reach.place;
+            let placed = PlacedRun { run, packet, end };
             put_field(field, placed, reach, buffer, text)
         }
     }
@@ -201,7 +203,8 @@ fn put_field(
     requires room { at + length field.now.ready + 90 ≤ vec_len buffer.old }
     ensures puts { let packet = placed.entry.packet.now in (slot : Slot) → IsField slot field.now →
         IfSome result (λ text. (last : Option ℕ) ×
-        IsLastNumber last placed.entry.run.now.numbers packet.bytes.now placed.entry.first ×
+        IsLastNumber last placed.entry.run.now.numbers packet.bytes.now
+        ((placed.entry.end - placed.entry.run.now.span) / 8) ×
         PutsField slot packet.bytes.now packet.end
         (behind_number reach.old last (take at buffer.old.items))
         (reached reach.new (take text buffer.new.items))) }
@@ -257,7 +260,7 @@ fn put_field(
 }
 
 /// Writes integers that are after the numbers of a run and none of these, and gives the index after them.
-#[inline(never)]
+#[inline(always)]
 fn put_other(
     are: &Integers,
     placed: PlacedRun<'_>,
@@ -271,7 +274,8 @@ fn put_other(
     ensures puts { let packet = placed.entry.packet.now in (index : ℕ) (member : Member) →
         AreIntegers index member are.now.integer are.now.align are.now.many →
         IfSome result (λ text. (last : Option ℕ) ×
-        IsLastNumber last placed.entry.run.now.numbers packet.bytes.now placed.entry.first ×
+        IsLastNumber last placed.entry.run.now.numbers packet.bytes.now
+        ((placed.entry.end - placed.entry.run.now.span) / 8) ×
         PutsOther index last (form member.class) (texts.value_text member.class)
         packet.bytes.now packet.end reach.old (take at buffer.old.items) reach.new
         (take text buffer.new.items)) }
@@ -279,7 +283,47 @@ fn put_other(
     ensures few { IfSome result (λ _. reach.new.more ≤ MOST_VALUES) }
     ensures held { IfSome result (λ text. text ≤ vec_len buffer.new) }
 {
-    let packet = placed.packet;
+    if let Many::One = are.many {
+        return put_lone(are, placed.packet, reach, buffer, at);
+    }
+    // A copy, so that the run of other fields does not go through memory.
+    let placed = PlacedRun {
+        run: placed.run,
+        packet: placed.packet,
+        end: placed.end,
+    };
+    put_array(are, placed, reach, buffer, at)
+}
+
+/// Writes integers that are after the numbers of a run and none of these, mostly an array, and gives the index after them.
+#[inline(never)]
+fn put_array(
+    are: &Integers,
+    placed: PlacedRun<'_>,
+    reach: &mut Reach,
+    buffer: &mut Vec<u8>,
+    at: usize,
+) -> Option<usize>
+    requires start { reach.old.place ≤ placed.packet.now.end }
+    requires few { reach.old.more ≤ MOST_VALUES }
+    requires room { at + 66 ≤ vec_len buffer.old }
+    ensures puts { let packet = placed.entry.packet.now in (index : ℕ) (member : Member) →
+        AreIntegers index member are.now.integer are.now.align are.now.many →
+        IfSome result (λ text. (last : Option ℕ) ×
+        IsLastNumber last placed.entry.run.now.numbers packet.bytes.now
+        ((placed.entry.end - placed.entry.run.now.span) / 8) ×
+        PutsOther index last (form member.class) (texts.value_text member.class)
+        packet.bytes.now packet.end reach.old (take at buffer.old.items) reach.new
+        (take text buffer.new.items)) }
+    ensures within { IfSome result (λ _. reach.new.place ≤ placed.entry.packet.now.end) }
+    ensures few { IfSome result (λ _. reach.new.more ≤ MOST_VALUES) }
+    ensures held { IfSome result (λ text. text ≤ vec_len buffer.new) }
+{
+    let count = match are.many {
+        Many::One => return put_lone(are, placed.packet, reach, buffer, at),
+        Many::Fixed(count) => count,
+        Many::Counted => last_number(placed)?,
+    };
     let class = AlignedInteger {
         integer: &are.integer,
         align: are.align,
@@ -288,16 +332,7 @@ fn put_other(
         place: reach.place,
         text: at,
     };
-    let count = match are.many {
-        Many::One => {
-            let ends = put_integer(&class, packet, from, buffer.as_mut_slice())?;
-            reach.place = ends.place;
-            return Some(ends.text);
-        }
-        Many::Fixed(count) => count,
-        Many::Counted => last_number(placed)?,
-    };
-    let next = put_integers(&class, count, packet, from, buffer)?;
+    let next = put_integers(&class, count, placed.packet, from, buffer)?;
     let more = reach.more + next.more;
     if more > MOST_VALUES {
         return None;
@@ -307,12 +342,51 @@ fn put_other(
     Some(next.text)
 }
 
+/// Writes the integer that is alone, and gives the index after it.
+#[inline(never)]
+fn put_lone(
+    are: &Integers,
+    packet: &Content<'_>,
+    reach: &mut Reach,
+    buffer: &mut Vec<u8>,
+    at: usize,
+) -> Option<usize>
+    requires start { reach.old.place ≤ packet.now.end }
+    requires few { reach.old.more ≤ MOST_VALUES }
+    requires room { at + 66 ≤ vec_len buffer.old }
+    ensures puts { let content = packet.now in (index : ℕ) (member : Member) →
+        AreIntegers index member are.now.integer are.now.align One →
+        IfSome result (λ text.
+        PutsOther index None (form member.class) (texts.value_text member.class)
+        content.bytes.now content.end reach.old (take at buffer.old.items) reach.new
+        (take text buffer.new.items)) }
+    ensures within { IfSome result (λ _. reach.new.place ≤ packet.now.end) }
+    ensures few { IfSome result (λ _. reach.new.more ≤ MOST_VALUES) }
+    ensures held { IfSome result (λ text. text ≤ vec_len buffer.new) }
+{
+    let class = AlignedInteger {
+        integer: &are.integer,
+        align: are.align,
+    };
+    let from = Position {
+        place: reach.place,
+        text: at,
+    };
+    let ends = put_integer(&class, packet, from, buffer.as_mut_slice())?;
+    reach.place = ends.place;
+    Some(ends.text)
+}
+
 /// The last of the numbers of a run, if it is unsigned.
+#[inline(always)]
 fn last_number(placed: PlacedRun<'_>) -> Option<u64>
     ensures { let bytes = placed.entry.packet.now.bytes.now in
-        IsLastNumber result placed.entry.run.now.numbers bytes placed.entry.first }
+        IsLastNumber result placed.entry.run.now.numbers bytes
+        ((placed.entry.end - placed.entry.run.now.span) / 8) }
 {
-    let numbers = placed.run.numbers.as_slice();
+    let run = placed.run;
+    let first = ((placed.end - run.span) / 8) as usize;
+    let numbers = run.numbers.as_slice();
     let count = numbers.len();
     if count == 0 {
         return None;
@@ -321,5 +395,5 @@ fn last_number(placed: PlacedRun<'_>) -> Option<u64>
     if last.integer.is_signed {
         return None;
     }
-    last.window.number(placed.packet.bytes, placed.first)
+    last.window.number(placed.packet.bytes, first)
 }

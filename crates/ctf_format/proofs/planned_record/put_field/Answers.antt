@@ -1,4 +1,4 @@
-use Rattle.std.proofs.Common.{◌≡◌, ◌+◌, ◌≤◌, ◌∙◌, Some, None, take, refl, sym, ap, subst, arith, rules}
+use Rattle.std.proofs.Common.{◌/◌, ◌-◌, ◌≡◌, ◌+◌, ◌≤◌, ◌∙◌, Some, None, take, refl, sym, ap, subst, arith, rules}
 use Rattle.ctf_class.specs.Records.{IsShown}
 use Rattle.ctf_class.specs.declared.route.Length.TheVariants.{Fixed, Field}
 use Rattle.ctf_decode.specs.Forms as forms
@@ -24,7 +24,7 @@ returns-in_ok-ends-in-String-clause-puts c = λ slot is.
     let after = take ends.text c.put_string.new.buffer.items in
     let puts = as_one (forms.string class.align) (form class) string_text (value_text class) bytes content begin ends.place line after after (form_string class string) (text_string class string) refl (c.in_ok-ends-in-String.ensures.puts class.align) in
     let within : begin ≤ content = omega (arith, c.if-place-packet.false) in
-    (None, no_number c.args.placed.run.now.numbers bytes c.args.placed.first, field_alone slot c.args.field.now bytes content begin c.args.reach.now.place c.args.reach.now.more ends.place None (take c.args.at c.args.buffer.now.items) line after is c.up-place.ensures.value within c.put_before-text.ensures.text puts)
+    (None, no_number c.args.placed.run.now.numbers bytes ((c.args.placed.end - c.args.placed.run.now.span) / 8), field_alone slot c.args.field.now bytes content begin c.args.reach.now.place c.args.reach.now.more ends.place None (take c.args.at c.args.buffer.now.items) line after is c.up-place.ensures.value within c.put_before-text.ensures.text puts)
 
 pub returns-in_ok-ends-in-Text-clause-puts : goal.returns-in_ok-ends-in-Text-clause-puts
 returns-in_ok-ends-in-Text-clause-puts c = λ slot is.
@@ -39,7 +39,7 @@ returns-in_ok-ends-in-Text-clause-puts c = λ slot is.
     let after = take ends.text c.put_fixed_text.new.buffer.items in
     let puts = as_one (forms.text class.align many) (form class) string_text (value_text class) bytes content begin ends.place line after after (form_text class many text) (text_text class many text) refl (c.in_ok-ends-in-Text.ensures.puts class.align) in
     let within : begin ≤ content = omega (arith, c.if-place-packet.false) in
-    (None, no_number c.args.placed.run.now.numbers bytes c.args.placed.first, field_alone slot c.args.field.now bytes content begin c.args.reach.now.place c.args.reach.now.more ends.place None (take c.args.at c.args.buffer.now.items) line after is c.up-place.ensures.value within c.put_before-text.ensures.text puts)
+    (None, no_number c.args.placed.run.now.numbers bytes ((c.args.placed.end - c.args.placed.run.now.span) / 8), field_alone slot c.args.field.now bytes content begin c.args.reach.now.place c.args.reach.now.more ends.place None (take c.args.at c.args.buffer.now.items) line after is c.up-place.ensures.value within c.put_before-text.ensures.text puts)
 
 pub returns-in_ok-end-in-Integers-clause-puts : goal.returns-in_ok-end-in-Integers-clause-puts
 returns-in_ok-end-in-Integers-clause-puts c = λ slot is.
@@ -73,7 +73,7 @@ returns-in_ok-ends-in-CountedText-clause-puts c = λ slot is.
     let text = writes_text before class.align many count c.args.placed.packet.now begin ends line items counts c.in_ok-ends-in-CountedText.ensures.puts in
     let puts = writes_as (Some (record { place = ends.place; text = ends.text; more = 0; last = lasts.Unknown })) before (forms.text class.align many) (form class) string_text (value_text class) c.args.placed.packet.now begin line items (form_text class many shown.1) (text_text class many shown.1) text in
     let within : begin ≤ content = omega (arith, c.if-place-packet.false) in
-    let first = c.args.placed.first in
+    let first = (c.args.placed.end - c.args.placed.run.now.span) / 8 in
     let last : IsLastNumber known c.args.placed.run.now.numbers bytes first = search rules in
     let none : c.args.reach.now.more + 0 ≡ c.args.reach.now.more = omega arith in
     let field = field_next slot c.args.field.now bytes content begin c.args.reach.now.place c.args.reach.now.more 0 ends.place known (take c.args.at c.args.buffer.now.items) line (take ends.text items) is c.up-place.ensures.value within c.put_before-text.ensures.text (forget before (form class) (value_text class) bytes content begin line (record { place = ends.place; text = ends.text; more = 0; last = lasts.Unknown }) (take ends.text items) puts) in
@@ -102,4 +102,4 @@ returns-in_ok-next-in-Labelled-clause-puts c = λ slot is.
     let more = c.args.reach.now.more in
     let none : more + next.more ≡ more = omega (arith, alone) in
     let field = field_next slot c.args.field.now bytes content begin c.args.reach.now.place more next.more next.place None from line (take next.text items) is c.up-place.ensures.value within c.put_before-text.ensures.text (forget before (form class) (value_text class) bytes content begin line next (take next.text items) puts) in
-    (None, no_number c.args.placed.run.now.numbers bytes c.args.placed.first, subst (λ n. PutsField slot bytes content (numbers_to c.args.reach.now.place more None from) (numbers_to next.place n None (take next.text items))) none field)
+    (None, no_number c.args.placed.run.now.numbers bytes ((c.args.placed.end - c.args.placed.run.now.span) / 8), subst (λ n. PutsField slot bytes content (numbers_to c.args.reach.now.place more None from) (numbers_to next.place n None (take next.text items))) none field)

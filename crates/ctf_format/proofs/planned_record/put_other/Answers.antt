@@ -1,84 +1,14 @@
-use Rattle.std.proofs.Common.{◌≡◌, ◌+◌, ◌≤◌, ◌++◌, ◌∙◌, Some, None, length, take, drop, refl, sym, ap, subst, rules, arith}
+use Rattle.std.proofs.Common.{ℕ, ◌-◌, ◌/◌, Option, take, subst}
 use Rattle.ctf_class.specs.Records.{AreIntegers}
-use Rattle.ctf_class.specs.declared.route.Length.TheVariants as lengths
-use Rattle.ctf_decode.specs.Forms as forms
 use Rattle.ctf_decode.specs.Views.{form}
-use Rattle.ctf_format.specs.Records.{IsLastNumber, behind}
-use Rattle.ctf_format.specs.Standing.{Before, PutsOne, elements_text}
-use Rattle.ctf_format.specs.Texts.{integer_text, value_text}
-use Rattle.ctf_format.specs.declared.standing.Next.{Next}
-use Rattle.ctf_format.proofs.ByClassLemmas.{forget}
-use Rattle.ctf_format.proofs.ArrayLemmas.{next_class, form_array, text_array}
-use Rattle.ctf_format.proofs.RecordsLemmas.{no_number, counts_behind}
-use Rattle.ctf_format.proofs.StandingLemmas.{as_one, same_front, puts_next, form_integer, text_integer}
+use Rattle.ctf_format.specs.Records.{PutsOther}
+use Rattle.ctf_format.specs.Texts.{value_text}
+use Rattle.ctf_format.proofs.RecordsLemmas.{behind_no_number}
 use Rattle.ctf_format.proofs.planned_record.put_other.Goals as goal
-use Rattle.ctf_format.proofs.planned_record.put_other.Goals.{in-Fixed, in-Counted+in_ok-count-in-Counted}
 
 pub returns-in-One-clause-puts : goal.returns-in-One-clause-puts
 returns-in-One-clause-puts c = λ index member are.
-    let class = member.class in
-    let i = c.args.are.now.integer in
-    let align = c.args.are.now.align in
-    let is = subst (AreIntegers index member i align) c.in-One.is are in
-    let ends = c.in_ok-ends-in-One.ends in
+    let is = subst (AreIntegers index member c.args.are.now.integer c.args.are.now.align) c.in-One.is are in
     let bytes = c.args.placed.packet.now.bytes.now in
-    let content = c.args.placed.packet.now.end in
-    let place = c.args.reach.now.place in
-    let items = c.args.buffer.now.items in
-    let line = c.put_integer.new.line in
-    let n = c.args.buffer.now.len in
-    let at = c.args.at in
-    let all = take n (line ++ drop (length line) items) in
-    let long : length line ≡ n = search rules in
-    let room : at + 66 ≤ n = search rules in
-    let same = same_front ends.text (at + 66) n line items long room c.in_ok-ends-in-One.ensures.near in
-    let puts = subst (λ xs. PutsOne (forms.integer align i) (integer_text i) bytes content place ends.place (take at xs) (take ends.text line)) c.as_mut_slice.ensures.value c.in_ok-ends-in-One.ensures.puts in
-    let one = as_one (forms.integer align i) (form class) (integer_text i) (value_text class) bytes content place ends.place (take at items) (take ends.text line) (take ends.text all) (ap (λ a. forms.integer a i) is.1 ∙ form_integer class i is.0) (text_integer class i is.0) same puts in
-    let none : c.args.reach.now.more ≡ c.args.reach.now.more + 0 = omega arith in
-    (None, no_number c.args.placed.run.now.numbers bytes c.args.placed.first, (0, none, puts_next (behind index None) (form class) (value_text class) bytes content place ends.place 0 (take at items) (take ends.text all) one))
-
-pub returns-clause-puts : goal.returns-clause-puts
-returns-clause-puts c = λ index member are.
-    let class = member.class in
-    let i = c.args.are.now.integer in
-    let align = c.args.are.now.align in
-    let next = c.in_ok-next.next in
-    let bytes = c.args.placed.packet.now.bytes.now in
-    let content = c.args.placed.packet.now.end in
-    let place = c.args.reach.now.place in
-    let before = take c.args.at c.args.buffer.now.items in
-    let items = c.put_integers.new.buffer.items in
-    let after = take next.text items in
-    let forget_it = λ (b : Before) (n : Next). forget b (form class) (value_text class) bytes content place before n after in
-    elim c.match-are.branch [
-      | in-Fixed w ↦
-          let is = subst (AreIntegers index member i align) w.in-Fixed.is are in
-          let many = lengths.Fixed w.in-Fixed.count in
-          let k = is.0 in
-          let puts = c.in_ok-next.ensures.puts (behind index None) many class.align (λ earlier env vs counted last. sym w.count-is) in (
-            None,
-            no_number c.args.placed.run.now.numbers bytes c.args.placed.first,
-            (
-              next.more,
-              refl,
-              forget_it (behind index None) next (next_class (Some next) (behind index None) (forms.array class.align many (forms.integer align i)) (form class) (elements_text i) (value_text class) bytes content place before items
-                  (ap (λ a. forms.array class.align many (forms.integer a i)) is.2.1 ∙ form_array class k many i is.1 is.2.0) (text_array class k many i is.1 is.2.0) puts),
-            ),
-          )
-      | in-Counted+in_ok-count-in-Counted w ↦
-          let is = subst (AreIntegers index member i align) w.in-Counted.is are in
-          let many = lengths.Field is.0 in
-          let k = is.1 in
-          let last = Some c.match-are.count in
-          let known : IsLastNumber last c.args.placed.run.now.numbers bytes c.args.placed.first = subst (λ o. IsLastNumber o c.args.placed.run.now.numbers bytes c.args.placed.first) (w.in_ok-count-in-Counted.was ∙ ap Some (sym w.count-is)) w.last_number.ensures in
-          let puts = c.in_ok-next.ensures.puts (behind index last) many class.align (counts_behind is.0 index c.match-are.count is.3) in (
-            last,
-            known,
-            (
-              next.more,
-              refl,
-              forget_it (behind index last) next (next_class (Some next) (behind index last) (forms.array class.align many (forms.integer align i)) (form class) (elements_text i) (value_text class) bytes content place before items
-                  (ap (λ a. forms.array class.align many (forms.integer a i)) is.4.1 ∙ form_array class k many i is.2 is.4.0) (text_array class k many i is.2 is.4.0) puts),
-            ),
-          )
-    ]
+    let puts = λ (last : Option ℕ) (text : ℕ). PutsOther index last (form member.class) (value_text member.class) bytes c.args.placed.packet.now.end c.args.reach.now (take c.args.at c.args.buffer.now.items) c.put_lone.new.reach (take text c.put_lone.new.buffer.items) in
+    behind_no_number c.args.placed.run.now.numbers bytes ((c.args.placed.end - c.args.placed.run.now.span) / 8) puts c.put_lone.result (c.put_lone.ensures.puts index member is)

@@ -1,4 +1,4 @@
-use Rattle.std.proofs.Common.{◌≡◌, ℕ, ◌+◌, ◌*◌, ◌/◌, List, ◌∷◌, ◌++◌, ◌≤◌, Option, None, take, ap, ◌∙◌, arith, rules, vec_len}
+use Rattle.std.proofs.Common.{◌≡◌, ℕ, ◌+◌, ◌-◌, ◌*◌, ◌/◌, List, ◌∷◌, ◌++◌, ◌≤◌, Option, None, take, ap, subst, ◌∙◌, arith, rules, vec_len}
 use Rattle.ctf_class.specs.Records.{Slot, numbers_room, room_of}
 use Rattle.ctf_format.specs.Records.{IsLastNumber, PutsFields, Reached, reached}
 use Rattle.ctf_format.proofs.RecordsLemmas.{numbers_to, no_number, room_alone, room_behind, run_numbers, behind_none, behind_some, run_field}
@@ -60,8 +60,9 @@ returns-in-Some-clause-puts c = λ slots others takes.
     let kept : line ≡ before = search rules in
     let one = behind_some takes.0 others run.field c.in-Some.field c.in-Some.is takes.2 in
     let mid : Option ℕ → Reached = λ last. numbers_to (place + run.span) more last text in
-    let known : (last : Option ℕ) → IsLastNumber last run.numbers bytes first → (used : List Slot) × (slots ≡ used ++ (one.0 ∷ others)) × PutsFields used bytes content (numbers_to place more None before) (mid last) = λ last is.
-    let all = run_numbers slots takes.0 run.numbers numbers run.span first place content more last bytes before line text takes.1 c.as_slice.ensures is starts within kept c.put_run_numbers-text.ensures.text in
+    let again : (place + run.span - run.span) / 8 ≡ first = omega arith in
+    let known : (last : Option ℕ) → IsLastNumber last run.numbers bytes ((place + run.span - run.span) / 8) → (used : List Slot) × (slots ≡ used ++ (one.0 ∷ others)) × PutsFields used bytes content (numbers_to place more None before) (mid last) = λ last is.
+    let all = run_numbers slots takes.0 run.numbers numbers run.span first place content more last bytes before line text takes.1 c.as_slice.ensures (subst (λ f. IsLastNumber last run.numbers bytes f) again is) starts within kept c.put_run_numbers-text.ensures.text in
     (all.0, all.1 ∙ ap (λ xs. all.0 ++ xs) one.1, all.2)
     in
-    run_field slots others one.0 run.numbers bytes content first (numbers_to place more None before) mid c.put_field.result (λ t. reached c.put_field.new.reach (take t c.put_field.new.buffer.items)) known (c.put_field.ensures.puts one.0 one.2)
+    run_field slots others one.0 run.numbers bytes content ((place + run.span - run.span) / 8) (numbers_to place more None before) mid c.put_field.result (λ t. reached c.put_field.new.reach (take t c.put_field.new.buffer.items)) known (c.put_field.ensures.puts one.0 one.2)
