@@ -1,4 +1,4 @@
--- Values that are shown where they stand, among the members and the scopes before them (all own).
+-- Values that are shown straight from the bits, among the members and the scopes before them (all own).
 use Rattle.std.specs.Prelude.{◌≡◌, ℕ, ◌+◌, ◌%◌, ◌<◌, ◌≤◌, List, [], ◌∷◌, ◌++◌, map, length, take, get_or, slice_get, Option, Some, IfSome, Ok, ⊤, option_and_then}
 use Rattle.ctf_class.specs.declared.class.Member.{Member}
 use Rattle.ctf_class.specs.declared.route.Length.{Length}

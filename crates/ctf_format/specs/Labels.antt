@@ -13,12 +13,12 @@ use Rattle.ctf_format.specs.Rows.{enclosed}
 abbrev pub is_named : List Label → ℤ → List ℕ → Bool
 is_named labels z name = list_any (λ (label : Label). covers label.span z && bytes_eq label.name name) labels
 
--- whether a label shows a number behind labels that stand before it: it covers the number, and none of those
+-- whether a label shows a number after labels that are before it: it covers the number, and none of those
 -- that cover it has the same name
 abbrev pub shows : List Label → Label → ℤ → Bool
 shows before label z = covers label.span z && not (is_named before z label.name)
 
--- the names of the labels that show a number, behind labels that stand before them
+-- the names of the labels that show a number, after labels that are before them
 abbrev pub names_behind : List Label → List Label → ℤ → List (List ℕ)
 names_behind before [] z = []
 names_behind before (label ∷ labels) z =

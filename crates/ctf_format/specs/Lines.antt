@@ -1,4 +1,4 @@
--- What stands in an event record's line behind its stamp.
+-- What is in an event record's line after its stamp.
 use Rattle.std.specs.Prelude.{ℕ, Bool, List, [], ◌∷◌, ◌++◌, Option, Some, None, if◌then◌else◌, codes}
 use Rattle.std.specs.List.{list_any}
 use Rattle.std.specs.Str.{bytes_eq}

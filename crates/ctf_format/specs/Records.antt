@@ -13,7 +13,7 @@ use Rattle.ctf_decode.specs.Forms.{Form}
 use Rattle.ctf_format.specs.Texts.{Shown, value_text, part_text, member_part}
 use Rattle.ctf_format.specs.declared.planned_record.Reach.{Reach}
 
--- How far fields came: where the next one could begin, how many values were begun in arrays, the number that stands last,
+-- How far fields came: where the next one could begin, how many values were begun in arrays, the number that comes last,
 -- if it is known, and what was written.
 pub record Reached : Type 0 where
   pub place : ℕ
@@ -25,16 +25,16 @@ pub record Reached : Type 0 where
 abbrev pub reached : Reach → List ℕ → Reached
 reached r line = record { place = r.place; more = r.more; last = None; line = line }
 
--- the same behind a number, if it is known
+-- the same after a number, if it is known
 abbrev pub behind_number : Reach → Option ℕ → List ℕ → Reached
 behind_number r last line = record { place = r.place; more = r.more; last = last; line = line }
 
--- a member behind so many others, of which the last is a number, if it is known; the first of a structure has none before it
+-- a member after so many others, of which the last is a number, if it is known; the first of a structure has none before it
 abbrev pub behind : ℕ → Option ℕ → Before
 behind zero last = record { index = zero; last = known None }
 behind (suc i) last = record { index = suc i; last = known last }
 
--- A field's value stands behind other fields, whatever was decoded before them, and what is printed of it follows what was
+-- A field's value comes after other fields, whatever was decoded before them, and what is printed of it follows what was
 -- written. If its number is known then, it is that.
 abbrev pub PutsField : Slot → List ℕ → ℕ → Reached → Reached → Type 0
 PutsField s packet content from to =
@@ -43,17 +43,17 @@ PutsField s packet content from to =
     × PutsNext (behind s.index from.last) (form s.member.class) (λ v. s.lead ++ part_text (member_part s.member) v) packet content begun from.line (record { place = to.place; text = 0; more = some; last = known None }) to.line
     × IfSome to.last (StandsAsNumber (form s.member.class) packet content begun)
 
--- so do fields one behind the other
+-- so do fields one after the other
 abbrev pub PutsFields : List Slot → List ℕ → ℕ → Reached → Reached → Type 0
 PutsFields [] packet content from to = to ≡ from
 PutsFields (s ∷ ss) packet content from to = (mid : Reached) × PutsField s packet content from mid × PutsFields ss packet content mid to
 
--- a value stands at the place that was reached, behind a number, if it is known, and so many others of its structure
+-- a value is at the place that was reached, after a number, if it is known, and so many others of its structure
 abbrev pub PutsOther : ℕ → Option ℕ → Form → Shown → List ℕ → ℕ → Reach → List ℕ → Reach → List ℕ → Type 0
 PutsOther index last k shown packet content from before to after =
     (some : ℕ) × (to.more ≡ from.more + some) × PutsNext (behind index last) k shown packet content from.place before (record { place = to.place; text = 0; more = some; last = known None }) after
 
--- a number, if it is given, is the last one of a run that begins behind so many bytes, and unsigned
+-- a number, if it is given, is the last one of a run that begins after so many bytes, and unsigned
 abbrev pub IsLastNumber : Option ℕ → List PlainNumber → List ℕ → ℕ → Type 0
 IsLastNumber last [] packet first = last ≡ None
 IsLastNumber last (n ∷ []) packet first = IfSome last (λ v. (n.integer.is_signed ≡ false) × (number_behind n.window packet first ≡ pos v))
@@ -63,14 +63,14 @@ IsLastNumber last (n ∷ (m ∷ ns)) packet first = IsLastNumber last (m ∷ ns)
 abbrev pub TakesRun : List Slot → Run → List Slot → Type 0
 TakesRun ss r others = (rest : List Slot) × AreInRun 0 ss r.numbers r.span rest × Behind rest r.field (λ xs. xs ≡ others)
 
--- what is known of each run: its room, and that its numbers stand near
+-- what is known of each run: its room, and that its numbers are near
 pub record IsNear (r : Run) : Type 0 where
   pub room : r.room ≡ room_of r.numbers r.field
   pub bounded : r.span ≤ 2 ^ 33
   pub behind : All (λ n. n.window.place ≤ r.span) r.numbers
 
--- The values of classes stand one behind the other from a place to another, whatever was decoded before, and their texts,
--- with a comma between two, follow a text. So many values were begun before them, and behind them.
+-- The values of classes follow each other from a place to another, whatever was decoded before, and their texts,
+-- with a comma between two, follow a text. So many values were begun before them, and after them.
 abbrev pub PutsScopes : List Class → List ℕ → ℕ → ℕ → ℕ → ℕ → ℕ → List ℕ → List ℕ → Type 0
 PutsScopes [] packet content place spent end total before after = ⊥
 PutsScopes (k ∷ []) packet content place spent end total before after = Puts (form k) (value_text k) packet content place spent end total before after

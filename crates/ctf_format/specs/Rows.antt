@@ -1,8 +1,8 @@
--- Texts one behind the other. Bytes are written as numbers: 32 is a space, 44 a comma, 91 and 93 are `[` and
+-- Texts one after the other. Bytes are written as numbers: 32 is a space, 44 a comma, 91 and 93 are `[` and
 -- `]`, 123 and 125 are `{` and `}`.
 use Rattle.std.specs.Prelude.{ℕ, List, [], ◌∷◌, ◌++◌}
 
--- texts, each behind a space: before the first stands a mark, before each other a comma (own)
+-- texts, each after a space: before the first comes a mark, before each other a comma (own)
 abbrev pub row : ℕ → List (List ℕ) → List ℕ
 row mark [] = []
 row mark (text ∷ texts) = mark ∷ 32 ∷ (text ++ row 44 texts)

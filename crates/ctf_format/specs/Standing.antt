@@ -1,4 +1,4 @@
--- Values that are shown where they stand.
+-- Values that are shown straight from the bits.
 use Rattle.std.specs.Prelude.{◌≡◌, ℕ, zero, suc, ◌+◌, ◌<◌, ◌≤◌, List, [], ◌∷◌, ◌++◌, map, length, take, Option, Some, None, IfSome, Ok, ⊤, if◌then◌else◌}
 use Rattle.ctf_class.specs.declared.class.Member.{Member}
 use Rattle.ctf_class.specs.declared.integer.Integer.{Integer}
@@ -22,8 +22,8 @@ use Rattle.ctf_format.specs.declared.standing.Next.{Next}
 abbrev pub among : List ℕ → ℕ → (Scope → Option Val) → Input
 among packet content earlier = record { packet = packet; content = content; earlier = earlier; limit = MOST_VALUES }
 
--- A value stands from a place to another, whatever was decoded before, and its text follows a text. So many values were
--- begun before it, and behind it (own).
+-- A value is there from a place to another, whatever was decoded before, and its text follows a text. So many values were
+-- begun before it, and after it (own).
 abbrev pub Puts : Form → Shown → List ℕ → ℕ → ℕ → ℕ → ℕ → ℕ → List ℕ → List ℕ → Type 0
 Puts k shown packet content place spent end total before after =
     (earlier : Scope → Option Val) (env : Env) → (v : Val) × (walk k (among packet content earlier) env place spent ≡ Ok (v, end, total)) × (after ≡ before ++ shown v)
@@ -54,7 +54,7 @@ known (Some n) = lasts.Unsigned n
 abbrev pub known_of : Integer → ℕ → Last
 known_of i bits = if i.is_signed then lasts.Unknown else lasts.Unsigned bits
 
--- the mark before the text of an index, where this one stands before the first; 44 is a comma
+-- the mark before the text of an index, where this one is before the first; 44 is a comma
 abbrev pub mark_at : ℕ → ℕ → ℕ
 mark_at first zero = first
 mark_at first (suc i) = 44
@@ -64,22 +64,22 @@ pub record Before : Type 0 where
   pub index : ℕ
   pub last : Last
 
--- the same of a value behind the members of a structure, with so many values in it, of which so much is known
+-- the same of a value after the members of a structure, with so many values in it, of which so much is known
 abbrev pub PutsNext : Before → Form → Shown → List ℕ → ℕ → ℕ → List ℕ → Next → List ℕ → Type 0
 PutsNext before k shown packet content place line next after =
     (spent : ℕ) → spent + next.more < MOST_VALUES → (earlier : Scope → Option Val) (env : Env) (vs : List Val) → length vs ≡ before.index → LastIs before.last vs
     → (v : Val) × (walk k (among packet content earlier) (vs ∷ env) place spent ≡ Ok (v, next.place, spent + 1 + next.more)) × (after ≡ line ++ shown v) × ValueIs next.last v
 
--- an unsigned integer of this number stands at a place, whatever was decoded before
+-- an unsigned integer of this number is at a place, whatever was decoded before
 abbrev pub StandsAsNumber : Form → List ℕ → ℕ → ℕ → ℕ → Type 0
 StandsAsNumber k packet content place n =
     (spent : ℕ) → spent < MOST_VALUES → (earlier : Scope → Option Val) (env : Env) → (end : ℕ) × (walk k (among packet content earlier) env place spent ≡ Ok (unsigned n, end, spent + 1))
 
--- an array of this length has so many elements behind the members of a structure
+-- an array of this length has so many elements after the members of a structure
 abbrev pub Counts : Length → Before → ℕ → Type 0
 Counts many before n = (earlier : Scope → Option Val) (env : Env) (vs : List Val) → length vs ≡ before.index → LastIs before.last vs → length_of many earlier (vs ∷ env) ≡ n
 
--- a value, if one was written, stands in a packet, and its text is behind a line now
+-- a value, if one was written, is in a packet, and its text follows a line now
 abbrev pub Writes : Option Next → Before → Form → Shown → Content → ℕ → List ℕ → List ℕ → Type 0
 Writes result before k shown packet place line items =
     IfSome result (λ next. PutsNext before k shown packet.bytes.now packet.end place line next (take next.text items))
@@ -100,7 +100,7 @@ array_text shown v = enclosed 91 93 (element_texts shown 0 (elements_in v))
 abbrev pub elements_text : Integer → Shown
 elements_text i = array_text (integer_text i)
 
--- so many integers stand one behind the other, where there may be as many more, and they are shown as elements
+-- so many integers follow each other, where there may be as many more, and they are shown as elements
 abbrev pub PutsElements : (List (List ℕ) → List ℕ) → ℕ → Integer → ℕ → List ℕ → ℕ → ℕ → ℕ → List ℕ → List ℕ → Type 0
 PutsElements together align i count packet content place end before after =
     (spent : ℕ) → spent + count ≤ MOST_VALUES → (earlier : Scope → Option Val) (env : Env)

@@ -1,4 +1,4 @@
-//! Texts of arrays of integers where they stand.
+//! Texts of arrays of integers, straight from the packet's bits.
 
 ghost use Rattle.std.specs.Prelude.{◌≡◌, ◌+◌, ◌*◌, ◌^◌, ◌∷◌, [], ◌<◌, ◌≤◌, length, take, vec_len, ℕ, IfSome};
 ghost use Rattle.std.specs.Int.{next_multiple_of};
@@ -102,7 +102,7 @@ fn put_elements(
     })
 }
 
-/// Writes so many integers, the first behind `[`.
+/// Writes so many integers, the first after `[`.
 fn put_row(
     class: &AlignedInteger<'_>,
     count: u64,

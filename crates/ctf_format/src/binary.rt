@@ -10,8 +10,8 @@ use std::simd::prelude::*;
 const LANES: u32 = 16;
 
 /// Writes the lowest bits of a number, the highest of them first, at an index of a line that has room for 64 of
-/// them, and gives the index behind them. Always sixteen are made at once: what stands behind the index may be any
-/// bytes.
+/// them, and gives the index after them. Always sixteen are made at once: the bytes after the index are
+/// unspecified.
 pub fn put_bits(number: u64, count: u32, line: &mut [u8], at: usize) -> usize
     requires some { 1 ≤ count }
     requires few { count ≤ 64 }

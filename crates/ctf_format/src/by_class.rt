@@ -1,4 +1,4 @@
-//! Texts of values of any class where they stand.
+//! Texts of values of any class, straight from the packet's bits.
 
 ghost use Rattle.std.specs.Prelude.{ℕ, List, [], ◌≡◌, ◌+◌, ◌∷◌, ◌≤◌, map, take, vec_len, IfSome};
 ghost use Rattle.ctf_class.specs.declared.route.Length.{Length};
@@ -120,7 +120,7 @@ fn put_enclosed(
     })
 }
 
-/// Writes members, the first behind `{`.
+/// Writes members, the first after `{`.
 #[cycle(standing)]
 fn put_members(
     members: &[Member],
@@ -167,7 +167,7 @@ fn put_members(
     })
 }
 
-/// Writes a member or an option behind a mark.
+/// Writes a member or an option after a mark.
 #[cycle(standing)]
 #[inline(always)]
 fn put_member(
@@ -455,7 +455,7 @@ fn put_bracketed(
     })
 }
 
-/// Writes so many elements, the first behind `[`.
+/// Writes so many elements, the first after `[`.
 #[cycle(standing)]
 fn put_row(
     element: &Class,

@@ -32,7 +32,7 @@ fn count_digits(number: u64) -> usize
 }
 
 /// Writes a number in decimal at an index of a line that has room for 20 bytes there, and gives the index
-/// behind it. Mostly it has up to four digits.
+/// after it. Mostly it has up to four digits.
 #[inline(always)]
 pub fn put_unsigned(number: u64, line: &mut [u8], at: usize) -> usize
     requires room { at + 20 ≤ length line.old }
@@ -106,7 +106,7 @@ fn put_up_to_4_digits(number: u32, line: &mut [u8], at: usize) -> usize
     at + 4 - missing_in(word)
 }
 
-/// How many of four digits a word does not have: as many zero bytes stand behind them.
+/// How many of four digits a word does not have: as many zero bytes follow them.
 #[inline(always)]
 fn missing_in(word: u32) -> usize
     ensures { result ≡ leading_zeros w32 word / 8 }

@@ -4,7 +4,7 @@ ghost use Rattle.std.specs.Prelude.{◌≡◌, ◌+◌, ◌++◌, ◌%◌, ◌^�
 ghost use Rattle.std.specs.Fmt.{digits, digit_glyph};
 
 /// Writes a number in the base 2^`shift` at an index of a line that has room for it, and gives the index
-/// behind it.
+/// after it.
 pub fn put_digits(number: u64, shift: u32, line: &mut [u8], at: usize) -> usize
     requires low { 1 ≤ shift }
     requires high { shift ≤ 4 }

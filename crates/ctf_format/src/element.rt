@@ -1,4 +1,4 @@
-//! What stands before an element.
+//! What is before an element.
 
 ghost use Rattle.std.specs.Prelude.{◌≡◌, ◌+◌, ◌++◌, ◌∷◌, [], ◌≤◌, length, take, vec_len, codes, IfOk};
 ghost use Rattle.std.specs.Fmt.{decimal};

@@ -8,8 +8,8 @@ ghost use Rattle.ctf_format.specs.Digits.{sixteens};
 use std::simd::prelude::*;
 
 /// Writes a number in hexadecimal at an index of a line that has room for 16 digits there, and gives the index
-/// behind it. Always 16 are made at once, so that no jump depends on how many there are: what stands behind the
-/// index may be any bytes.
+/// after it. Always 16 are made at once, so that no jump depends on how many there are: the bytes after
+/// the index are unspecified.
 pub fn put_hexadecimal(number: u64, line: &mut [u8], at: usize) -> usize
     requires room { at + 16 ≤ length line.old }
     ensures text { take result line.new ≡ take at line.old ++ digits 16 true number }
@@ -32,7 +32,7 @@ fn count_digits(number: u64) -> u32
 }
 
 /// What each of the 16 digits of a number is worth, the first of them in the first lane. A byte has two, and its
-/// first one stands in its upper half.
+/// first one is in its upper half.
 #[inline(always)]
 fn values(number: u64) -> u8x16
     ensures { result ≡ sixteens 16 number }

@@ -14,7 +14,7 @@ use ctf_class::{Integer, Labels};
 use ctf_list::NoMemory;
 
 /// Writes an enumeration's number, with the names of the labels that cover it, at an index of a buffer, and
-/// gives the index behind it. What stands before the index is kept. At an error the buffer is any buffer.
+/// gives the index after it. What is before the index is kept. At an error the buffer is unspecified.
 pub fn put_labelled(
     container: &Integer,
     labels: &Labels,
@@ -32,7 +32,7 @@ pub fn put_labelled(
     Ok(put_container(container, number, buffer.as_mut_slice(), end))
 }
 
-/// Writes what stands behind the names.
+/// Writes what follows the names.
 fn put_container(container: &Integer, number: i128, line: &mut [u8], at: usize) -> usize
     requires { at + (LONGEST_NUMBER + 20) ≤ length line.old }
     ensures text { take result line.new ≡
@@ -94,7 +94,7 @@ fn put_several(
     put_end(b'}', buffer, end)
 }
 
-/// Writes the names of the labels that cover a number, each once, the first behind a mark.
+/// Writes the names of the labels that cover a number, each once, the first after a mark.
 fn put_each_name(
     mark: u8,
     labels: &Labels,
@@ -118,7 +118,7 @@ fn put_each_name(
     Ok(end)
 }
 
-/// Writes the name of the label at a place behind a mark.
+/// Writes the name of the label at a place after a mark.
 #[inline(always)]
 fn put_name(
     mark: u8,

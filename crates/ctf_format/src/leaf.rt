@@ -1,4 +1,4 @@
-//! Texts of values without parts where they stand, with what is known of the value then.
+//! Texts of values without parts, straight from the packet's bits, with what is known of the value then.
 
 ghost use Rattle.std.specs.Prelude.{ℕ, cond, pos, ◌≡◌, ◌+◌, ◌≤◌, take, vec_len, IfSome};
 ghost use Rattle.ctf_bits.specs.Number.{number, signed_number};

@@ -1,4 +1,4 @@
-//! The text of values, and of the part of an event record's line behind its stamp.
+//! The text of values, and of the part of an event record's line after its stamp.
 #![tactic(auto)]
 
 mod around;

@@ -1,4 +1,4 @@
-//! What stands around texts.
+//! What is around texts.
 
 ghost use Rattle.std.specs.Prelude.{◌≡◌, ◌+◌, ◌*◌, ◌++◌, ◌∷◌, [], ◌≤◌, length, take, vec_len, IfOk};
 
@@ -6,7 +6,7 @@ use crate::room::with_room;
 use ctf_class::PreparedText;
 use ctf_list::NoMemory;
 
-/// Writes bytes at an index of a line that has room for them, and gives the index behind them.
+/// Writes bytes at an index of a line that has room for them, and gives the index after them.
 #[inline(always)]
 pub fn put_bytes(bytes: &[u8], line: &mut [u8], at: usize) -> usize
     requires { at + length bytes.now ≤ length line.old }
@@ -82,7 +82,7 @@ fn put_eight(bytes: &[u8], line: &mut [u8], at: usize) -> usize
     at + 8
 }
 
-/// Writes a mark and a space at an index of a line, and gives the index behind them.
+/// Writes a mark and a space at an index of a line, and gives the index after them.
 #[inline(always)]
 pub fn put_lead(mark: u8, line: &mut [u8], at: usize) -> usize
     requires { at + 2 ≤ length line.old }
@@ -94,8 +94,8 @@ pub fn put_lead(mark: u8, line: &mut [u8], at: usize) -> usize
     at + 2
 }
 
-/// Writes a mark, a space and a prepared text at an index of a buffer, and gives the index behind them. There is
-/// room for so many bytes more. What stands before the index is kept. At an error the buffer is any buffer.
+/// Writes a mark, a space and a prepared text at an index of a buffer, and gives the index after them. There is
+/// room for so many bytes more. What is before the index is kept. At an error the buffer is unspecified.
 #[inline(always)]
 pub fn put_ready(
     mark: u8,
@@ -116,7 +116,7 @@ pub fn put_ready(
     Ok(ready.put(line, begin))
 }
 
-/// Writes a space and a mark behind texts.
+/// Writes a space and a mark after texts.
 #[inline(always)]
 pub fn put_end(mark: u8, buffer: &mut Vec<u8>, at: usize) -> Result<usize, NoMemory>
     requires { at ≤ vec_len buffer.old }

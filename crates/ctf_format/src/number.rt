@@ -14,7 +14,7 @@ use ctf_class::{Base, Integer};
 pub const LONGEST_NUMBER: usize = 66;
 
 /// Writes an unsigned number of an integer class at an index of a line that has room for it, and gives the
-/// index behind it. Mostly its base is ten.
+/// index after it. Mostly its base is ten.
 #[inline(always)]
 pub fn put_unsigned_number(integer: &Integer, number: u64, line: &mut [u8], at: usize) -> usize
     requires room { at + LONGEST_NUMBER ≤ length line.old }

@@ -13,11 +13,11 @@ use ctf_decode::{Value, members_in};
 use ctf_list::NoMemory;
 
 /// Writes a packet context (CTF 1.8.3, section 5.2) without the members that say something of the packet
-/// alone, at an index of a buffer, in bytes, and gives the index behind it: nothing where no member is left,
-/// and where there is no class or no value. What stands before the index is kept, and the buffer grows where
+/// alone, at an index of a buffer, in bytes, and gives the index after it: nothing where no member is left,
+/// and where there is no class or no value. What is before the index is kept, and the buffer grows where
 /// it has no room.
 ///
-/// It fails where memory is refused, and the buffer is then any buffer.
+/// It fails where an allocation fails, and the buffer is then unspecified.
 pub fn put_packet_part(
     class: Option<&Class>,
     value: Option<&Value>,
@@ -78,7 +78,7 @@ fn put_context(
     put_end(b'}', buffer, end)
 }
 
-/// Writes the members that are shown, the first behind `{`.
+/// Writes the members that are shown, the first after `{`.
 fn put_shown(
     members: &[Member],
     values: &[Value],

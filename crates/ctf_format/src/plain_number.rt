@@ -1,4 +1,4 @@
-//! Texts of integers that stand at fixed distances.
+//! Texts of integers at fixed distances.
 
 ghost use Rattle.std.specs.Prelude.{◌≡◌, ◌+◌, ◌/◌, ◌++◌, ◌≤◌, length, take, true};
 ghost use Rattle.std.specs.Fmt.{signed_decimal};
@@ -11,7 +11,7 @@ use crate::decimal::{put_signed_short, put_unsigned};
 use ctf_bits::Window;
 use ctf_class::PlainNumber;
 
-/// Writes numbers of a run that begins behind so many bytes at an index of a line, and gives the index behind them.
+/// Writes numbers of a run that begins after so many bytes at an index of a line, and gives the index after them.
 #[inline(always)]
 pub(crate) fn put_numbers(
     numbers: &[PlainNumber],

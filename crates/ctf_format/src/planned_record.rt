@@ -39,7 +39,7 @@ pub(crate) struct Reach {
 /// before, and the index, in bytes. What is before the index is kept, and the buffer grows where it has no room.
 ///
 /// `None` where there is no plan, where the record has a fault or ends in the last eight bytes of the content, and where
-/// memory is refused; the buffer is then any buffer.
+/// an allocation fails; the buffer is then unspecified.
 #[inline(always)]
 pub fn put_planned_record(
     plan: &RecordPlan,
@@ -79,7 +79,7 @@ pub fn put_planned_record(
     })
 }
 
-/// Writes the fields of runs, and a brace, and gives the index behind them; `reach` tells how far they came then.
+/// Writes the fields of runs, and a brace, and gives the index after them; `reach` says how far they came then.
 #[inline(never)]
 fn put_runs(
     runs: &[Run],
@@ -115,7 +115,7 @@ fn put_runs(
     Some(text)
 }
 
-/// Writes the fields of a run, and gives the index behind them; `reach` tells how far they came then.
+/// Writes the fields of a run, and gives the index after them; `reach` says how far they came then.
 #[inline(always)]
 fn put_run(
     run: &Run,
@@ -157,8 +157,8 @@ fn put_run(
     }
 }
 
-/// Writes the numbers of a run that begins behind so many bytes at an index of a buffer that has room, and gives the index
-/// behind them.
+/// Writes the numbers of a run that begins after so many bytes at an index of a buffer that has room, and gives the index
+/// after them.
 #[inline(always)]
 fn put_run_numbers(
     numbers: &[PlainNumber],
@@ -177,7 +177,7 @@ fn put_run_numbers(
     put_numbers(numbers, bytes, first, buffer.as_mut_slice(), at)
 }
 
-/// Writes a text at an index of a buffer that has room for it and for 24 bytes more, and gives the index behind it.
+/// Writes a text at an index of a buffer that has room for it and for 24 bytes more, and gives the index after it.
 #[inline(always)]
 fn put_before(ready: &PreparedText, buffer: &mut Vec<u8>, at: usize) -> usize
     requires { at + length ready.now + 24 ≤ vec_len buffer.old }
@@ -188,7 +188,7 @@ fn put_before(ready: &PreparedText, buffer: &mut Vec<u8>, at: usize) -> usize
     ready.put(buffer.as_mut_slice(), at)
 }
 
-/// Writes a field after the numbers of a run, and gives the index after it; `reach` tells how far these came, and how far
+/// Writes a field after the numbers of a run, and gives the index after it; `reach` says how far these came, and how far
 /// the field came then.
 #[inline(always)]
 fn put_field(

@@ -1,4 +1,4 @@
-//! What stands in an event record's line behind its stamp.
+//! What is in an event record's line after its stamp.
 
 ghost use Rattle.std.specs.Prelude.{◌≡◌, ◌+◌, ◌++◌, ◌∷◌, [], ◌≤◌, length, take, vec_len, codes, option_map, option_copied, Some, IfOk};
 ghost use Rattle.std.specs.List.{flat_map};
@@ -51,11 +51,11 @@ pub fn put_record(
     put_value(event.fields(), scopes.fields, buffer, end)
 }
 
-/// Writes what stands before the scopes of an event record at an index of a buffer, and gives the index behind it: the
-/// host, the name and, with a comma behind it, the part that the packet's event records share. What stands before the index
+/// Writes what is before the scopes of an event record at an index of a buffer, and gives the index after it: the
+/// host, the name and, with a comma after it, the part that the packet's event records share. What is before the index
 /// is kept, and the buffer grows where it has no room.
 ///
-/// It fails where memory is refused, and the buffer is then any buffer.
+/// It fails where an allocation fails, and the buffer is then unspecified.
 #[inline(always)]
 pub fn put_front(
     heading: &Heading,
@@ -86,7 +86,7 @@ fn put_heading(heading: &Heading, buffer: &mut Vec<u8>, at: usize) -> Result<usi
     Ok(ready.put(buffer.as_mut_slice(), at))
 }
 
-/// Writes a text, if it is not empty, and a comma behind it.
+/// Writes a text, if it is not empty, and a comma after it.
 #[inline(always)]
 fn put_shared_part(bytes: &[u8], buffer: &mut Vec<u8>, at: usize) -> Result<usize, NoMemory>
     requires { at ≤ vec_len buffer.old }
@@ -104,7 +104,7 @@ fn put_shared_part(bytes: &[u8], buffer: &mut Vec<u8>, at: usize) -> Result<usiz
     Ok(put_lead(b',', line, end))
 }
 
-/// Writes a scope, if it has a class and a value, and a comma behind it.
+/// Writes a scope, if it has a class and a value, and a comma after it.
 #[inline(always)]
 fn put_scope(
     class: Option<&Class>,
@@ -128,7 +128,7 @@ fn put_scope(
     }
 }
 
-/// Writes a value and a comma behind it.
+/// Writes a value and a comma after it.
 #[inline(always)]
 fn put_followed(
     class: &Class,
@@ -146,8 +146,8 @@ fn put_followed(
     put_comma(buffer, end)
 }
 
-/// Writes a comma and a space at an index of a buffer, and gives the index behind them. What stands before the index is
-/// kept, and the buffer grows where it has no room. It fails where memory is refused, and the buffer is then any buffer.
+/// Writes a comma and a space at an index of a buffer, and gives the index after them. What is before the index is
+/// kept, and the buffer grows where it has no room. It fails where an allocation fails, and the buffer is then unspecified.
 #[inline(always)]
 pub fn put_comma(buffer: &mut Vec<u8>, at: usize) -> Result<usize, NoMemory>
     requires { at ≤ vec_len buffer.old }

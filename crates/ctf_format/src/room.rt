@@ -7,8 +7,8 @@ use ctf_list::NoMemory;
 /// From how many bytes on a buffer is long.
 const LONG: usize = 1 << 20;
 
-/// Makes room for so many bytes at an index of a buffer. What stands before the index is kept; what stands
-/// behind it may be any bytes. It fails where memory is refused, and the buffer is then any buffer.
+/// Makes room for so many bytes at an index of a buffer. What is before the index is kept, and the bytes
+/// after it are unspecified. It fails where an allocation fails, and the buffer is then unspecified.
 #[inline(always)]
 pub fn with_room(need: usize, buffer: &mut Vec<u8>, at: usize) -> Result<(), NoMemory>
     requires { at ≤ vec_len buffer.old }

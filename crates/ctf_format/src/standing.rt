@@ -1,4 +1,4 @@
-//! Texts of values where they stand, out of the packet's bits.
+//! Texts of values, straight from the packet's bits.
 
 ghost use Rattle.std.specs.Prelude.{ℕ, List, pos, ◌≡◌, true, false, ◌+◌, ◌*◌, ◌^◌, ◌++◌, ◌∷◌, ◌≤◌, ◌<◌, Some, length, nat_eq, not, position, take, vec_len, IfOk, IfSome, IsTrue};
 ghost use Rattle.std.specs.Int.{next_multiple_of};
@@ -30,11 +30,11 @@ pub struct Standing {
     pub place: u64,
     /// How many values were begun so far.
     pub spent: u64,
-    /// The index behind its text, in bytes.
+    /// The index after its text, in bytes.
     pub end: usize,
 }
 
-/// The value of a member, as far as it is known to a length or a tag behind it.
+/// The value of a member, as far as it is known to a length or a tag after it.
 #[derive(Clone, Copy)]
 pub(crate) enum Last {
     Unknown,
@@ -44,7 +44,7 @@ pub(crate) enum Last {
     Label(i64),
 }
 
-/// Where a value ends, in bits from the packet's first one, the index behind its text, how many values were begun in it, and
+/// Where a value ends, in bits from the packet's first one, the index after its text, how many values were begun in it, and
 /// what is known of it.
 #[derive(Clone, Copy)]
 pub(crate) struct Next {
@@ -54,7 +54,7 @@ pub(crate) struct Next {
     pub(crate) last: Last,
 }
 
-/// Where members or elements end, in bits from the packet's first one, the index behind their texts, and how many values were
+/// Where members or elements end, in bits from the packet's first one, the index after their texts, and how many values were
 /// begun in them.
 #[derive(Clone, Copy)]
 pub(crate) struct MembersEnd {
@@ -77,7 +77,7 @@ pub(crate) struct AlignedInteger<'a> {
     pub(crate) align: Align,
 }
 
-/// Where an integer ends, in bits from the packet's first one, the index behind its text, and its bits.
+/// Where an integer ends, in bits from the packet's first one, the index after its text, and its bits.
 #[derive(Clone, Copy)]
 pub(crate) struct IntegerEnds {
     pub(crate) place: u64,
@@ -208,7 +208,7 @@ pub(crate) fn put_string(
     put_longer_string(bytes, begin, buffer, at)
 }
 
-/// Writes the string that these bytes, which begin at this place, begin with. It stands out of the way of short ones.
+/// Writes the string that these bytes, which begin at this place, begin with. It is out of the way of short ones.
 #[inline(never)]
 fn put_longer_string(bytes: &[u8], begin: u64, buffer: &mut Vec<u8>, at: usize) -> Option<Position>
     requires bounded { begin + 8 * length bytes.now ≤ 2 ^ 62 }
@@ -297,8 +297,8 @@ pub(crate) fn put_fixed_text(
     })
 }
 
-/// Writes the bytes before the first zero byte, or all of them, and gives the index behind their text. What stands before
-/// the index is kept. At an error the buffer is any buffer.
+/// Writes the bytes before the first zero byte, or all of them, and gives the index after their text. What is before
+/// the index is kept. At an error the buffer is unspecified.
 #[inline(never)]
 fn put_longer_text(bytes: &[u8], buffer: &mut Vec<u8>, at: usize) -> Result<usize, NoMemory>
     requires { at ≤ vec_len buffer.old }

@@ -10,8 +10,8 @@ use crate::room::{holds_text, with_room_for_text};
 use crate::window::count_plain;
 use ctf_list::NoMemory;
 
-/// Writes a text, escaped and in quotes, at an index of a buffer, and gives the index behind it. What stands
-/// before the index is kept. It fails where memory is refused, and the buffer is then any buffer.
+/// Writes a text, escaped and in quotes, at an index of a buffer, and gives the index after it. What is
+/// before the index is kept. It fails where an allocation fails, and the buffer is then unspecified.
 pub fn put_quoted(bytes: &[u8], buffer: &mut Vec<u8>, at: usize) -> Result<usize, NoMemory>
     requires { at ≤ vec_len buffer.old }
     ensures text { IfOk result (λ end.
@@ -54,7 +54,7 @@ fn put_in_quotes(bytes: &[u8], line: &mut [u8], at: usize) -> usize
 /// How many bytes of a long text are written at once.
 const STEP: usize = 16;
 
-/// Writes a text, escaped, at an index of a line that has room for it, and gives the index behind it. It
+/// Writes a text, escaped, at an index of a line that has room for it, and gives the index after it. It
 /// goes by many bytes: mostly none of them is escaped.
 #[inline(always)]
 fn put_escaped(bytes: &[u8], line: &mut [u8], at: usize) -> usize
@@ -113,7 +113,7 @@ fn put_short(bytes: &[u8], line: &mut [u8], at: usize) -> usize
     }
 }
 
-/// Writes a text, escaped, that its first and its last so many bytes cover. Both are written at once: what stands in
+/// Writes a text, escaped, that its first and its last so many bytes cover. Both are written at once: what is in
 /// both of them is written twice. It is not inlined, since looking at several bytes in one step is lost where it is
 /// merged for several counts.
 #[inline(never)]

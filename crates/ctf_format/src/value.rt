@@ -22,10 +22,10 @@ use ctf_decode::{Value, choice_in, elements_in, members_in};
 use ctf_list::NoMemory;
 
 /// Writes the text of a value of a class (CTF 1.8.3, section 4) at an index of a buffer, in bytes, and gives
-/// the index behind it. What stands before the index is kept, and the buffer grows where it has no room. A
+/// the index after it. What is before the index is kept, and the buffer grows where it has no room. A
 /// value of another class, or a part of one, gives no text.
 ///
-/// It fails where memory is refused, and the buffer is then any buffer.
+/// It fails where an allocation fails, and the buffer is then unspecified.
 #[inline(always)]
 pub fn put_value(
     class: &Class,
@@ -207,7 +207,7 @@ fn put_structure(
     put_end(b'}', buffer, end)
 }
 
-/// Writes members, the first behind `{`.
+/// Writes members, the first after `{`.
 #[cycle(texts)]
 fn put_members(
     members: &[Member],
@@ -233,7 +233,7 @@ fn put_members(
     Ok(end)
 }
 
-/// Writes a member behind a mark.
+/// Writes a member after a mark.
 #[cycle(texts)]
 #[inline(always)]
 pub fn put_member(
@@ -318,7 +318,7 @@ fn put_array(
     put_end(b']', buffer, end)
 }
 
-/// Writes elements, the first behind `[`.
+/// Writes elements, the first after `[`.
 #[cycle(texts)]
 fn put_elements(
     element: &Class,

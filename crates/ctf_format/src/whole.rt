@@ -14,7 +14,7 @@ use ctf_list::NoMemory;
 use std::alloc::Global;
 
 /// The text of a value of a class (CTF 1.8.3, section 4). A value of another class, or a part of one, gives
-/// no text. It fails where memory is refused.
+/// no text. It fails where an allocation fails.
 pub fn value_text(alloc: Global, class: &Class, value: &Value) -> Result<Vec<u8>, NoMemory>
     ensures { IfOk result (λ text. text.items ≡ texts.value_text class.now (val value.now)) }
 {
@@ -26,7 +26,7 @@ pub fn value_text(alloc: Global, class: &Class, value: &Value) -> Result<Vec<u8>
 
 /// A packet context as it is shown in the lines of the packet's event records: without the members that say
 /// something of the packet alone (CTF 1.8.3, section 5.2). Empty where no member is left, and where there is no
-/// class or no value. It fails where memory is refused.
+/// class or no value. It fails where an allocation fails.
 pub fn packet_part(
     alloc: Global,
     class: Option<&Class>,

@@ -16,7 +16,7 @@ use std::simd::prelude::*;
 /// How many bytes are looked at at once.
 const WINDOW: usize = 16;
 
-/// How many bytes stand before the first zero byte, if they are fewer than sixteen, each is shown as it is, there are
+/// How many bytes are before the first zero byte, if they are fewer than sixteen, each is shown as it is, there are
 /// sixteen bytes, and so much room holds as many in quotes. No jump depends on how many they are: a processor foresees
 /// that badly.
 #[inline(always)]
@@ -38,7 +38,7 @@ pub fn count_short(bytes: &[u8], room: usize) -> Option<usize>
     Some(count)
 }
 
-/// How many bytes stand before the first zero byte, if they are sixteen to thirty-one, each is shown as it is, two windows
+/// How many bytes are before the first zero byte, if they are sixteen to thirty-one, each is shown as it is, two windows
 /// hold them, and so much room holds two windows in quotes.
 #[inline(always)]
 pub fn count_longer(bytes: &[u8], room: usize) -> Option<usize>
@@ -57,7 +57,7 @@ pub fn count_longer(bytes: &[u8], room: usize) -> Option<usize>
     Some(WINDOW + rest)
 }
 
-/// How many bytes stand before the first zero byte, if each of them is shown as it is, and there are sixteen bytes.
+/// How many bytes are before the first zero byte, if each of them is shown as it is, and there are sixteen bytes.
 #[inline(always)]
 pub fn count_long(bytes: &[u8]) -> Option<usize>
     ensures first { IfSome result (λ n. position (λ x. nat_eq x 0) bytes.now ≡ Some n) }
@@ -72,7 +72,7 @@ pub fn count_long(bytes: &[u8]) -> Option<usize>
     Some(count)
 }
 
-/// How many bytes stand before the first zero byte, or in all, if each of them is shown as it is, and there are sixteen.
+/// How many bytes are before the first zero byte, or in all, if each of them is shown as it is, and there are sixteen.
 #[inline(always)]
 pub fn count_text(bytes: &[u8]) -> Option<usize>
     ensures shown { let shown = take_while (λ x. not (nat_eq x 0)) bytes.now in
@@ -91,7 +91,7 @@ pub fn count_text(bytes: &[u8]) -> Option<usize>
     Some(count)
 }
 
-/// How many bytes stand before the first one that may be escaped, where there are sixteen bytes or more.
+/// How many bytes are before the first one that may be escaped, where there are sixteen bytes or more.
 #[inline(always)]
 fn count_all_plain(bytes: &[u8]) -> usize
     ensures plain { All (λ byte. shown_byte byte ≡ byte ∷ []) (take result bytes.now) }
@@ -138,7 +138,7 @@ fn count_without_zero(bytes: &[u8]) -> usize
     WINDOW * windows
 }
 
-/// How many of sixteen bytes stand before the first one that may be escaped.
+/// How many of sixteen bytes are before the first one that may be escaped.
 #[inline(always)]
 pub fn count_plain(bytes: &[u8]) -> usize
     requires { WINDOW ≤ length bytes.now }
@@ -177,7 +177,7 @@ fn are(window: u8x16, byte: u8) -> u64
 }
 
 /// Writes the first of sixteen bytes, which are shown as they are, in quotes at an index of a buffer that has room, and
-/// gives the index behind them. What stands before the index is kept.
+/// gives the index after them. What is before the index is kept.
 #[inline(always)]
 pub fn put_short(bytes: &[u8], count: usize, buffer: &mut Vec<u8>, at: usize) -> usize
     requires plain { All (λ byte. shown_byte byte ≡ byte ∷ []) (take count bytes.now) }
@@ -194,7 +194,7 @@ pub fn put_short(bytes: &[u8], count: usize, buffer: &mut Vec<u8>, at: usize) ->
 }
 
 /// Writes the first sixteen to thirty-two of some bytes, which are shown as they are, in quotes at an index of a buffer that has
-/// room, and gives the index behind them. The second of two windows is written over the quote behind the first.
+/// room, and gives the index after them. The second of two windows is written over the quote after the first.
 #[inline(always)]
 pub fn put_longer(bytes: &[u8], count: usize, buffer: &mut Vec<u8>, at: usize) -> usize
     requires plain { All (λ byte. shown_byte byte ≡ byte ∷ []) (take count bytes.now) }
@@ -213,8 +213,8 @@ pub fn put_longer(bytes: &[u8], count: usize, buffer: &mut Vec<u8>, at: usize) -
     put_window(rest, count - WINDOW, line, at + 1 + WINDOW)
 }
 
-/// Writes the first of some bytes, which are shown as they are, in quotes at an index of a buffer, and gives the index behind
-/// them. What stands before the index is kept, and the buffer grows where it has no room. At an error it is any buffer.
+/// Writes the first of some bytes, which are shown as they are, in quotes at an index of a buffer, and gives the index after
+/// them. What is before the index is kept, and the buffer grows where it has no room. At an error it is unspecified.
 #[inline(always)]
 pub fn put_long(
     bytes: &[u8],
@@ -233,8 +233,8 @@ pub fn put_long(
     Ok(put_between_quotes(&bytes[..count], buffer, at))
 }
 
-/// Writes bytes, which are shown as they are, in quotes at an index of a buffer that has room, and gives the index behind
-/// them. What stands before the index is kept.
+/// Writes bytes, which are shown as they are, in quotes at an index of a buffer that has room, and gives the index after
+/// them. What is before the index is kept.
 #[inline(always)]
 fn put_between_quotes(bytes: &[u8], buffer: &mut Vec<u8>, at: usize) -> usize
     requires plain { All (λ byte. shown_byte byte ≡ byte ∷ []) bytes.now }

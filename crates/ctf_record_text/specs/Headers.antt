@@ -1,4 +1,4 @@
--- Headers that are told where they stand.
+-- Headers that are decoded in place.
 use Rattle.std.specs.Prelude.{◌≡◌, ℕ, ◌+◌, ◌<◌, List, [], ◌++◌, map, Option, Some, None, Ok}
 use Rattle.std.specs.Int.{next_multiple_of}
 use Rattle.std.specs.List.{last_or}
@@ -34,12 +34,12 @@ use Rattle.ctf_format.specs.Standing.{among}
 abbrev pub begun : ℕ → Telling → Telling
 begun align from = record { id = from.id; clock = from.clock; place = next_multiple_of from.place align; spent = from.spent + 1 }
 
--- the clock behind integers that set it, where there is one
+-- the clock after integers that set it, where there is one
 abbrev pub set_by : Option Line → Moment → List (ℕ × ℕ) → Option Moment
 set_by None from ms = Some from
 set_by (Some line) from ms = advanced_by line from ms
 
--- A value stands at a place, whatever was decoded before. Its moving integers set the clock so, and its last number named
+-- A value is at a place, whatever was decoded before. Its clock-mapped integers set the clock so, and its last number named
 -- `id` is this (own).
 abbrev pub Tells : Option Line → Form → List ℕ → ℕ → Telling → Telling → Type 0
 Tells line k packet content from to =
@@ -60,11 +60,11 @@ TellsMembers line ms packet content from to =
     → (vs : List Val) × (walk_members (parts_of (map member_part ms)) (among packet content earlier) env [] from.place from.spent ≡ Ok (vs, to.place, to.spent))
     × (set_by line from.clock (member_moved (parts_of (map member_part ms)) (vals_of vs)) ≡ Some to.clock) × (last_or from.id (member_ids (parts_of (map member_part ms)) (vals_of vs)) ≡ to.id)
 
--- what the value of an integer tells that is this member
+-- what the value of an integer gives that is this member
 abbrev pub TellsNumber : Option Line → Member → Integer → Val → Telling → Telling → Type 0
 TellsNumber line m i v from to = (set_by line from.clock (moved_in i v) ≡ Some to.clock) × (last_or from.id (named_id m.name (form m.class) v) ≡ to.id)
 
--- an enumeration with this number stands at a place, whatever was decoded before
+-- an enumeration with this number is at a place, whatever was decoded before
 abbrev pub StandsAsTag : ℕ → Integer → List ℕ → ℕ → ℕ → Tag → Type 0
 StandsAsTag align i packet content place tag =
     (earlier : Scope → Option Val) (env : Env) (spent : ℕ) → spent < MOST_VALUES → walk (enumeration align i) (among packet content earlier) env place spent ≡ Ok (label tag.number, tag.place, spent + 1)
@@ -74,7 +74,7 @@ abbrev pub clock_kept : Option Line → Option Moment → Option Moment
 clock_kept (Some line) clock = clock
 clock_kept None clock = None
 
--- the header that stands at a place, whatever the values of the scopes before it
+-- the header at a place, whatever the values of the scopes before it
 abbrev pub TellsHead : StreamClass → StreamForm Classes → List ℕ → ℕ → Option Moment → ℕ → ToldHead → Type 0
 TellsHead class stream bytes content clock place told =
     (values : Values)

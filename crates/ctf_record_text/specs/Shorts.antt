@@ -43,7 +43,7 @@ pub record IsFirstChoice (tag : Route) (choices : List Choice) (choice : Choice)
   pub others : List Choice
   pub is : choices ≡ choice ∷ others
 
--- wherever a header begins, a tag of so many bits stands right there, and the stamp of an option behind it at this distance:
+-- wherever a header begins, a tag of so many bits is right there, and the stamp of an option after it at this distance:
 -- their alignments divide the header's (own)
 pub record IsStampPlace (header tag size option stamp place : ℕ) : Type 0 where
   pub tag_divides : header % tag ≡ 0
@@ -51,14 +51,14 @@ pub record IsStampPlace (header tag size option stamp place : ℕ) : Type 0 wher
   pub stamp_divides : header % stamp ≡ 0
   pub is : place ≡ next_multiple_of (next_multiple_of size option) stamp
 
--- a tag and a stamp lie within the header, one behind the other, and its end is near, however far its begin is rounded up
+-- a tag and a stamp lie within the header, one after the other, and its end is near, however far its begin is rounded up
 -- (own)
 pub record EndsNear (short : ShortHeader) : Type 0 where
   pub tag : bits_of short.tag ≤ short.stamp_place
   pub stamp : short.stamp_place + bits_of short.stamp ≡ short.end
   pub near : short.align + short.end ≤ 2 ^ 40
 
--- a header begins at a byte, and its tag and its stamp are unsigned integers, little endian, that are read so behind it (own)
+-- a header begins at a byte, and its tag and its stamp are unsigned integers, little endian, that are read so after it (own)
 pub record AreWindows (short : ShortHeader) : Type 0 where
   pub whole : short.align % 8 ≡ 0
   pub tag : short.tag_window ≡ record { place = 0; size = bits_of short.tag; is_signed = false }
@@ -90,15 +90,15 @@ pub record IsShort (short : ShortHeader) (class : Class) : Type 0 where
   pub near : EndsNear short
   pub read : AreWindows short
 
--- so are the headers of a stream class told, if anything was looked at
+-- so are the headers of a stream class decoded, if anything was looked at
 abbrev pub IsShortOf : StreamClass → Option ShortHeader → Type 0
 IsShortOf stream None = Unit {0}
 IsShortOf stream (Some short) = (class : Class) × (stream.event_header ≡ Some class) × IsShort short class
 
--- nothing is told yet
+-- nothing is decoded yet
 abbrev pub begins_telling : Moment → ℕ → Telling
 begins_telling clock place = record { id = None; clock = clock; place = place; spent = 0 }
 
--- a header of five values was told: the structure, the tag, the variant, its option and the integer
+-- a header of five values was decoded: the structure, the tag, the variant, its option and the integer
 abbrev pub short_telling : ShortTelling → Telling
 short_telling to = record { id = Some (pos to.id); clock = to.clock; place = to.place; spent = 5 }

@@ -1,4 +1,4 @@
--- The texts of event records behind their stamps.
+-- The texts of event records after their stamps.
 use Rattle.std.specs.Prelude.{List, ℕ, Option, Some, None}
 use Rattle.ctf_class.specs.declared.trace.EventClass.{EventClass}
 use Rattle.ctf_class.specs.Streams.{StreamClass}

@@ -1,4 +1,4 @@
-//! Headers of event records that are told where they stand, without their values.
+//! Headers of event records that are decoded in place, without values in scopes.
 
 ghost use Rattle.std.specs.Prelude.{◌≡◌, ℕ, List, None, ◌<◌, ◌≤◌, ◌+◌, ◌*◌, ◌^◌, [], ◌∷◌, Some, length, IfSome, option_copied};
 ghost use Rattle.std.specs.Int.{next_multiple_of};
@@ -17,7 +17,7 @@ use ctf_decode::{MOST_VALUES, Value, chosen_by_first, named_id};
 use ctf_format::Content;
 use ctf_packet::{Head, RecordPlace, moved_by_integer, planned_named};
 
-/// How far a header was told.
+/// How far a header was decoded.
 #[derive(Clone, Copy)]
 struct Telling {
     /// The last number of a member named `id`.
@@ -43,22 +43,22 @@ struct Bits {
     end: u64,
 }
 
-/// A header that was told, and how many values were begun for it.
+/// A header that was decoded, and how many values were begun for it.
 #[derive(Clone, Copy)]
 pub(crate) struct ToldHead<'a> {
     pub(crate) head: Head<'a>,
     pub(crate) spent: u64,
 }
 
-/// A header that was told, with the plan of the records of its event class.
+/// A header that was decoded, with the plan of the records of its event class.
 #[derive(Clone, Copy)]
 pub(crate) struct PlannedHead<'a> {
     pub(crate) told: ToldHead<'a>,
     pub(crate) plan: &'a RecordPlan,
 }
 
-/// The header of the event record at a place (CTF 1.8.3, section 6.1), told by what was looked at of its class, or by its class
-/// where that is not given. `None` where it can't be told so, and where it has a fault.
+/// The header of the event record at a place (CTF 1.8.3, section 6.1), by what was looked at of its class, or by its class
+/// where that is not given. `None` where it can't be decoded so, and where it has a fault.
 #[inline(always)]
 pub(crate) fn told_head<'a>(
     at: &RecordPlace<'_, 'a>,
@@ -76,7 +76,7 @@ pub(crate) fn told_head<'a>(
     }
 }
 
-/// The header of the event record at a place (CTF 1.8.3, section 6.1), told by what was looked at of its class. `None` where
+/// The header of the event record at a place (CTF 1.8.3, section 6.1), by what was looked at of its class. `None` where
 /// that does not hold for it, and where it has a fault.
 #[inline(always)]
 fn told_short<'a>(at: &RecordPlace<'_, 'a>, short: &ShortHeader) -> Option<PlannedHead<'a>>
@@ -108,7 +108,7 @@ fn told_short<'a>(at: &RecordPlace<'_, 'a>, short: &ShortHeader) -> Option<Plann
     })
 }
 
-/// The header of the event record at a place (CTF 1.8.3, section 6.1). Only structures of integers are told, and those of an
+/// The header of the event record at a place (CTF 1.8.3, section 6.1). Only structures of integers are decoded, and those of an
 /// enumeration and a variant on it whose option is such a structure; and records without a header. `None` where the class is
 /// another one, and where the header has a fault.
 #[inline(always)]
@@ -171,7 +171,7 @@ fn told_untimed<'a>(at: &RecordPlace<'_, 'a>, class: &Class) -> Option<PlannedHe
     Some(head_of(planned, to, None))
 }
 
-/// Nothing of a header at this place is told yet, where the clock came so far.
+/// Nothing of a header at this place is decoded yet, where the clock came so far.
 #[inline(always)]
 fn begins_at(clock: Moment, place: u64) -> Telling
     ensures { result ≡ begins_telling clock place }
@@ -184,7 +184,7 @@ fn begins_at(clock: Moment, place: u64) -> Telling
     }
 }
 
-/// The header that was told, of an event class, with the clock behind it.
+/// The header that was decoded, of an event class, with the clock after it.
 #[inline(always)]
 fn head_of<'a>(planned: PlannedEvent<'a>, to: Telling, clock: Option<Moment>) -> PlannedHead<'a>
     ensures event { result.told.head.event ≡ planned.entry.event }
@@ -232,7 +232,7 @@ fn told_bare<'a>(at: &RecordPlace<'_, 'a>) -> Option<PlannedHead<'a>>
     })
 }
 
-/// Tells the structure of a header.
+/// Decodes the structure of a header.
 #[inline(always)]
 fn tell_header(
     timeline: Option<&Timeline>,
@@ -258,7 +258,7 @@ fn tell_header(
     tell_integers(timeline, members, packet, at)
 }
 
-/// Tells a structure of integers.
+/// Decodes a structure of integers.
 #[inline(always)]
 fn tell_structure(
     timeline: Option<&Timeline>,
@@ -301,7 +301,7 @@ fn begin(align: Align, packet: &Content<'_>, from: Telling) -> Option<Telling>
     })
 }
 
-/// Tells an enumeration and a variant on it.
+/// Decodes an enumeration and a variant on it.
 #[inline(always)]
 fn tell_pair(
     timeline: Option<&Timeline>,
@@ -387,7 +387,7 @@ fn bits_at(integer: &Integer, align: Align, packet: &Content<'_>, place: u64) ->
     Some(Bits { begin, end })
 }
 
-/// Tells members that are integers.
+/// Decodes members that are integers.
 #[inline(always)]
 fn tell_integers(
     timeline: Option<&Timeline>,
@@ -409,7 +409,7 @@ fn tell_integers(
     Some(at)
 }
 
-/// Tells a member, if it is an integer.
+/// Decodes a member, if it is an integer.
 #[inline(always)]
 fn tell_integer(
     timeline: Option<&Timeline>,
@@ -445,7 +445,7 @@ fn tell_integer(
     }
 }
 
-/// Tells the value of a member that is this integer, after its bits.
+/// Takes in the value of a member that is this integer, after its bits.
 #[inline(always)]
 fn tell_number(
     timeline: Option<&Timeline>,
@@ -469,7 +469,7 @@ fn tell_number(
     })
 }
 
-/// The moment behind an integer of this value, where there is a clock that it may set.
+/// The moment after an integer of this value, where there is a clock that it may set.
 #[inline(always)]
 fn clock_behind(
     timeline: Option<&Timeline>,

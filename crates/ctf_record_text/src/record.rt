@@ -26,10 +26,10 @@ use std::alloc::Global;
 /// streams.
 const LONGEST_KEPT: usize = 65_536;
 
-/// The buffer of event records' texts, and memory for what their scopes tell to lengths and tags behind them.
+/// The buffer of event records' texts, and memory for what their scopes give to lengths and tags after them.
 #[derive(Drop)]
 pub struct LineBuffer {
-    /// The text of the last event record that was written, at the front. Behind it stand any bytes.
+    /// It begins with the text of the last event record that was written. The bytes after it are unspecified.
     pub bytes: Vec<u8>,
     stream_context: Members,
     event_context: Members,
@@ -52,17 +52,17 @@ impl LineBuffer {
 #[derive(Clone, Copy)]
 pub struct LineRecord<'a> {
     pub record: EventRecord<'a>,
-    /// The index behind its text, in bytes, where that was made. Else its values are in the scopes.
+    /// The index after its text, in bytes, where that was made. Else its values are in the scopes.
     pub text: Option<usize>,
 }
 
 /// The event record at a place (CTF 1.8.3, section 6), if it can be shown without its values. The values of the packet's
 /// header and context are in `scopes`, and `part` is the text of the packet in the lines of its event records. The header is
-/// told by `short`, which `short_header` gave for its stream class, or by its class where that is not given. The text of the
-/// record is at the front of `line` then: the host, the name and the scopes.
+/// decoded by `short`, which `short_header` gave for its stream class, or by its class where that is not given. The text of the
+/// record is at the beginning of `line` then: the host, the name and the scopes.
 ///
-/// `None` where the header can't be told so, where `put_standing` gives no text, where the record has a fault, and where
-/// memory is refused. The line is then any line.
+/// `None` where the header can't be decoded so, where `put_standing` gives no text, where the record has a fault, and where
+/// an allocation fails. The line is unspecified then.
 #[inline(always)]
 pub fn written_line<'a>(
     alloc: Global,
@@ -89,7 +89,7 @@ pub fn written_line<'a>(
 
 /// The event record at a place (CTF 1.8.3, section 6), of which `written_line` made no text by its class. The values of the
 /// packet's header and context are in `scopes`, and `part` is their text in the lines of the packet's event records. Where the
-/// class of the header alone was in the way, the text of the record is at the front of `line` then: the host, the name and the
+/// class of the header alone was in the way, the text of the record is at the start of `line` then: the host, the name and the
 /// scopes. Elsewhere the record's values are in `scopes`. The memory of `scratch` is used.
 ///
 /// An error is the first fault of the record: F6 to F11, or `NoMemory`.
@@ -111,10 +111,10 @@ pub fn next_line<'a>(
         (packet_values (values_of scopes.new) ≡ packet_values (values_of scopes.old)) }
     ensures text { IfOk result (λ r. IfSome r.text (λ end. end ≤ vec_len line.new.bytes)) }
 {
-    // A text that failed late leaves no long buffer beside the values.
+    // A text that failed late keeps no long buffer beside the values.
     keep_short(alloc, line);
     let head = next_head(alloc, at, scratch, scopes)?;
-    // Behind a header that its class tells, a text was tried before.
+    // After a header that is decoded by its class, a text was tried before.
     if told_by_class(at).is_none() {
         let told = ToldHead {
             head,
@@ -186,7 +186,7 @@ fn read_values<'a>(
     })
 }
 
-/// Writes the text of the event record at a place at the front of a line by the plan of such records, or, where that can't be
+/// Writes the text of the event record at a place at the start of a line by the plan of such records, or, where that can't be
 /// done, scope by scope.
 #[inline(always)]
 fn put_planned_body<'a>(
@@ -211,7 +211,7 @@ fn put_planned_body<'a>(
     put_record(at, planned.told, part, scopes, line)
 }
 
-/// Writes the text of the event record at a place at the front of a line, by the plan alone.
+/// Writes the text of the event record at a place at the beginning of a line, by the plan alone.
 #[inline(always)]
 fn put_by_plan<'a>(
     at: &RecordPlace<'_, 'a>,
@@ -252,7 +252,7 @@ fn put_by_plan<'a>(
     Some(all)
 }
 
-/// Writes the text of the event record at a place at the front of a line, where the scopes behind its header stand in a form
+/// Writes the text of the event record at a place at the beginning of a line, where the scopes after its header are in a form
 /// that can be shown without their values.
 #[inline(always)]
 fn put_record(
@@ -281,7 +281,7 @@ fn put_record(
     Some(all)
 }
 
-/// Writes the host, the name and the scopes behind a header, one after the other. It stands apart, out of the way of records
+/// Writes the host, the name and the scopes after a header, one after the other. It is apart, out of the way of records
 /// that are written by a plan.
 #[inline(never)]
 fn put_scopes(

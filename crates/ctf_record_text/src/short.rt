@@ -18,10 +18,10 @@ use ctf_format::Content;
 pub(crate) const SHORT_VALUES: u64 = 5;
 
 /// What is read of the usual header of tracers such as LTTng (CTF 1.8.3, section 6.1): of an enumeration named `id` and a
-/// variant on it whose first choice is a structure of one integer that sets the clock. Who knows it tells such a header
+/// variant on it whose first choice is a structure of one integer that sets the clock. Such a header is then decoded
 /// without a look at its class.
 ///
-/// The alignments of its parts divide its own, and it begins at a byte. So these stand at fixed places behind its begin, and
+/// The alignments of its parts divide its own, and it begins at a byte. So these are at fixed places after its begin, and
 /// the tag right there. Both integers are little endian and lie in eight bytes.
 #[derive(Drop)]
 pub struct ShortHeader {
@@ -50,7 +50,7 @@ struct AlignedInteger {
     integer: Integer,
 }
 
-/// What such a header told.
+/// What was decoded of such a header.
 #[derive(Clone, Copy)]
 pub(crate) struct ShortTelling {
     /// The number of the event class.
@@ -60,7 +60,7 @@ pub(crate) struct ShortTelling {
     pub(crate) place: u64,
 }
 
-/// How the headers of event records of a stream class can be told, if their class is such a one.
+/// How the headers of event records of a stream class can be decoded, if their class is such a one.
 pub fn short_header(stream: &StreamClass) -> Option<ShortHeader>
     ensures { IsShortOf stream.now result }
 {
@@ -68,7 +68,7 @@ pub fn short_header(stream: &StreamClass) -> Option<ShortHeader>
     short_class(class)
 }
 
-/// How headers of this class can be told, if it is such a one.
+/// How headers of this class can be decoded, if it is such a one.
 fn short_class(class: &Class) -> Option<ShortHeader>
     ensures { IfSome result (λ short. IsShort short class.now) }
 {
@@ -119,7 +119,7 @@ fn short_class(class: &Class) -> Option<ShortHeader>
     })
 }
 
-/// Where the stamp begins, in bits from the header's first one, if that is the same wherever the header stands.
+/// Where the stamp begins, in bits from the header's first one, if that is the same wherever the header is.
 fn stamp_place(
     header: Align,
     tag: Align,
@@ -141,7 +141,7 @@ fn stamp_place(
     Some(stamp.up(option.up(size_of(integer))))
 }
 
-/// How an unsigned integer is read that stands at a place behind the first bit of a byte, if it is little endian and lies in
+/// How an unsigned integer is read that is at a place after the first bit of a byte, if it is little endian and lies in
 /// eight bytes.
 fn window_of(integer: &Integer, place: u64) -> Option<Window>
     ensures is { IfSome result
@@ -235,7 +235,7 @@ fn is_id(name: &[u8]) -> bool
     name == b"id".as_slice()
 }
 
-/// Tells a header of such a class, at a place in bits from the packet's first one, where the clock came so far. `None` where
+/// Decodes a header of such a class, at a place in bits from the packet's first one, where the clock came so far. `None` where
 /// its tag is none of these numbers, where it has a fault, and where it ends in the last eight bytes of the content.
 #[inline(always)]
 pub(crate) fn tell_short(

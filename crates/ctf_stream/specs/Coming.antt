@@ -36,11 +36,11 @@ abbrev pub values_in : Values → Result (Recorded Classes) StreamFault → Valu
 values_in values (Ok r) = r.values
 values_in values (Err f) = values
 
--- the values of the event record that stands where one was read
+-- the values of the event record at the place where one was read
 abbrev pub values_at : Opened Classes → List ℕ → WrittenRecord → Values
 values_at packet bytes w = values_in packet.values (record_at packet bytes w.before w.begin)
 
--- an event record in front, which was read from a place on, where its packet's clock came so far
+-- the current event record, which was read from a place on, where its packet's clock came so far
 abbrev pub front_as : EventRecord → Option Moment → ℕ → Option ℕ → Front
 front_as r before begin None = fronts.Event r
 front_as r before begin (Some end) = fronts.Written (record { event = r; begin = begin; before = before; end = end })
@@ -48,14 +48,14 @@ front_as r before begin (Some end) = fronts.Written (record { event = r; begin =
 abbrev pub front_in : LineRecord → Option Moment → ℕ → Front
 front_in made before begin = front_as made.record before begin made.text
 
--- the item in front
+-- the current item
 abbrev pub item_in : Shift → Known → List ℕ → Packet → Front → Item Classes
 item_in shift known bytes p (fronts.Written w) = let packet = opened_in shift known p.opened in item_of packet (recorded_of p.opened.stream.now (values_at packet bytes w) w.event)
 item_in shift known bytes p (fronts.Event r) = item_of (opened_in shift known p.opened) (recorded_of p.opened.stream.now (values_of known) r)
 item_in shift known bytes p (fronts.Lost count) = let packet = opened_in shift known p.opened in lost (gap_of packet count packet.clock)
 item_in shift known bytes p (fronts.Discarded count) = let packet = opened_in shift known p.opened in discarded (gap_of packet count packet.until)
 
--- how many gaps are to be told
+-- how many gaps are to be reported
 abbrev pub one_if_some : Option ℕ → ℕ
 one_if_some None = 0
 one_if_some (Some count) = 1
@@ -82,7 +82,7 @@ TakesRoom old new (Ok (Some front)) = new < old
 TakesRoom old new (Ok None) = new ≤ old
 TakesRoom old new (Err fault) = Unit {0}
 
--- where texts are written, this one is that of the event record which stands where it was read
+-- where texts are written, this one is that of the event record at the place where it was read
 pub record IsWritten (writes : Bool) (packet : Opened Classes) (stream : StreamClass) (bytes part line : List ℕ) (w : WrittenRecord) : Type 0 where
   pub asked : IsTrue writes
   pub stands : record_at packet bytes w.before w.begin ≡ Ok (recorded_of stream (values_at packet bytes w) w.event)

@@ -47,19 +47,19 @@ with_scope known EventContext value = record known { event_context = value }
 with_scope known EventFields value = record known { event_fields = value }
 
 -- The first item that was to come is given, out of a packet that ends where the bytes taken do and is held, and the rest is
--- to come; or nothing was to come; or a fault was, which comes again, or a growth was refused.
+-- to come; or nothing was to come; or a fault was, which comes again, or an allocation failed.
 abbrev pub Gives : Run Classes → Reader → Result (Option OwnedItem) StreamFault → Type 0
 Gives old new (Ok (Some x)) = old ≡ before (item_of x new.taken new.held ∷ []) (coming new)
 Gives old new (Ok None) = (old ≡ stops None new.cut) × (coming new ≡ old)
 Gives old new (Err f) = OrNoMemory (λ g. old ≡ stops (Some g) new.cut) f × (coming new ≡ stops (Some f) new.cut)
 
--- what stands in front then: nothing behind an item that was given, and the end or the fault that was told
+-- what comes next then: nothing yet after an item that was given, and the end or the fault that was reported
 abbrev pub ahead_behind : Result (Option OwnedItem) StreamFault → Peeked
 ahead_behind (Ok (Some x)) = start
 ahead_behind (Ok None) = ended
 ahead_behind (Err f) = fault f
 
--- an item in front is the one that is given, out of the packet that is held, unless a growth was refused
+-- a current item is the one that is given, out of the packet that is held, unless an allocation failed
 abbrev pub GivesAhead : Peeked → Reader → Result (Option OwnedItem) StreamFault → Type 0
 GivesAhead (item x) new (Ok (Some y)) = x ≡ item_of y new.taken new.held
 GivesAhead (item x) new (Ok None) = ⊥
@@ -80,7 +80,7 @@ GivesRoom old new (Ok (Some x)) = new < old
 GivesRoom old new (Ok None) = new ≤ old
 GivesRoom old new (Err f) = new ≤ old
 
--- what is behind an item that is given stays
+-- what comes after an item that is given stays
 abbrev pub KeepsBehind : Run Classes → Run Classes → Result (Option OwnedItem) StreamFault → Type 0
 KeepsBehind old new (Ok (Some x)) = new ≡ old
 KeepsBehind old new (Ok None) = Unit {0}

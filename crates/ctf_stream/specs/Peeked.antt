@@ -1,4 +1,4 @@
--- What stands in front of a reader, by its time alone.
+-- What a reader gives next, by its time alone.
 use Rattle.std.specs.Prelude.{ℤ, Option, option_map}
 use Rattle.ctf_clock.specs.declared.moment.Moment.{Moment}
 use Rattle.ctf_packet.specs.ItemTimes.{time_of}
@@ -15,7 +15,7 @@ told (reader.item x) = aheads.Item (time_of x)
 told reader.ended = aheads.Ended
 told (reader.fault f) = aheads.Fault f
 
--- the clock of the item in front, by the packet at hand
+-- the clock of the current item, by the packet at hand
 abbrev pub clock_in : Front → Packet → Option Moment
 clock_in (fronts.Event r) p = r.clock
 clock_in (fronts.Written w) p = w.event.clock

@@ -19,7 +19,7 @@ use Rattle.ctf_format.specs.Lines.{packet_part}
 abbrev pub trace_of : PacketStart → TraceForm Classes
 trace_of cut = trace_form cut.shift cut.trace.now
 
--- what is to come at a cut point, or within the packet that begins there
+-- what is to come at a packet boundary, or within the packet that begins there
 abbrev pub coming_at : PacketStart → Ending → List ℕ → Known → List ℕ → Option Packet → Run Classes
 coming_at cut ending left known bytes None = from_bytes (trace_of cut) ending cut.reached cut.at left
 coming_at cut ending left known bytes (Some p) =
@@ -35,7 +35,7 @@ pub record Between (cut : PacketStart) (bytes : List ℕ) (taken : ℕ) : Type 0
   pub here : taken ≡ cut.at
   pub near : cut.at ≤ 2 ^ 60 + 2 ^ 28
 
--- within a packet it is held, no byte was taken behind it, and the class of its event headers was looked at
+-- within a packet it is held, no byte was taken after it, and the class of its event headers was looked at
 pub record Inside (cut : PacketStart) (bytes : List ℕ) (taken : ℕ) (p : Packet) : Type 0 where
   pub fetched : FetchedAt cut.at bytes cut.shift p.opened
   pub here : taken ≡ p.opened.end
@@ -59,7 +59,7 @@ IsPartOf values text (Some p) = text ≡ packet_part p.opened.stream.now.packet_
 abbrev pub HasPart : ReadState → Type 0
 HasPart c = IsPartOf (packet_values (values_of c.scopes)) c.part c.packet
 
--- the text of the event record in front was written, where that has no values
+-- the text of the current event record was written, where that has no values
 abbrev pub HoldsIn : ReadState → Option Packet → Front → Type 0
 HoldsIn c (Some p) front = HoldsFront c.writes c.cut.shift c.scopes c.buffer c.part c.line.bytes.items p front
 HoldsIn c None front = Unit {0}
@@ -77,14 +77,14 @@ abbrev pub room_of : ReadState → ℕ
 room_of c = 11 * (most_taken - c.taken) + room_within c.packet
 
 -- the items of the packet at hand give the next one, and the rest is to come; or they are over, and what is to come
--- stays; or a fault stands in the packet
+-- stays; or a fault is in the packet
 abbrev pub StepsWithin : Run Classes → Run Classes → PacketStart → Known → List ℕ → Option Packet → Result (Option Front) StreamFault → Type 0
 StepsWithin old new cut known bytes (Some p) (Ok (Some front)) = old ≡ before (item_in cut.shift known bytes p front ∷ []) new
 StepsWithin old new cut known bytes None (Ok (Some front)) = ⊥
 StepsWithin old new cut known bytes packet (Ok None) = (old ≡ new) × (packet ≡ None)
 StepsWithin old new cut known bytes packet (Err fault) = OrNoMemory (λ f. old ≡ stops (Some f) cut.at) fault
 
--- the next packet is at hand, and what is to come stays; or the stream ends; or a fault stands at the cut point
+-- the next packet is at hand, and what is to come stays; or the stream ends; or a fault is at the packet boundary
 abbrev pub Enters : Run Classes → Run Classes → PacketStart → List ℕ → Result Bool StreamFault
     → Type 0
 Enters old new cut left (Ok true) = old ≡ new

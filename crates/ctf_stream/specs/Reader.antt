@@ -7,9 +7,9 @@ use Rattle.ctf_packet.specs.declared.fault.StreamFault.{StreamFault}
 use Rattle.ctf_packet.specs.declared.fault.StreamFault.TheVariants as faults
 use Rattle.ctf_fetch.specs.Fetching.{longest_bytes, most_taken}
 
--- what stands in front
+-- what the reader gives next
 pub data Peeked : Type 0 where
-  -- nothing was fetched yet, or the item that stood here was given away
+  -- nothing was fetched yet, or the item that was here was given away
   start : Peeked
   item : Item Classes → Peeked
   ended : Peeked
@@ -21,30 +21,30 @@ pub record Reader : Type 0 where
   pub name : List ℕ
   -- whether its source tells its bytes
   pub tells : Bool
-  -- whether event records are told as texts, where they can
+  -- whether event records are given as texts, where they can
   pub writes : Bool
   pub ahead : Peeked
-  -- what is to come behind that, where the source tells
+  -- what is to come after that, where the source tells
   pub behind : Run Classes
   -- the bytes that the source has left
   pub left : List ℕ
   -- how many bytes were taken from it
   pub taken : ℕ
-  -- the cut point at which the packet at hand begins, or the next one
+  -- the packet boundary at which the packet at hand begins, or the next one
   pub cut : ℕ
   -- the length of the packet that is held, in bytes
   pub held : ℕ
   -- how many items may still come, of any source
   pub room : ℕ
 
--- what is to come behind what stands in front: nothing behind an end or a fault
+-- what is to come after what is current: nothing after an end or a fault
 abbrev pub behind_ahead : Peeked → ℕ → Run Classes → Run Classes
 behind_ahead start cut behind = behind
 behind_ahead (item x) cut behind = behind
 behind_ahead ended cut behind = stops None cut
 behind_ahead (fault f) cut behind = stops (Some f) cut
 
--- what is to come: what stands in front, and what is behind it
+-- what is to come: what is current, and what comes after it
 abbrev pub with_ahead : Peeked → Run Classes → Run Classes
 with_ahead start run = run
 with_ahead (item x) run = before (x ∷ []) run
@@ -57,22 +57,22 @@ rest_of r = behind_ahead r.ahead r.cut r.behind
 abbrev pub coming : Reader → Run Classes
 coming r = with_ahead r.ahead (rest_of r)
 
--- a run that a refused growth ends
+-- a run that a failed allocation ends
 abbrev pub IsRefused : {C : Type 0} → Run C → Type 0
 IsRefused run = (run.items ≡ []) × (run.fault ≡ Some faults.NoMemory)
 
--- this run, or none of it where a growth was refused
+-- this run, or none of it where an allocation failed
 abbrev pub OrRefused : {C : Type 0} → Run C → Run C → Type 0
 OrRefused run actual = (actual ≡ run) ⊎ IsRefused actual
 
--- the item in front
+-- the current item
 abbrev pub item_ahead : Peeked → Option (Item Classes)
 item_ahead start = None
 item_ahead (item x) = Some x
 item_ahead ended = None
 item_ahead (fault f) = None
 
--- the fault in front
+-- the current fault
 abbrev pub fault_ahead : Peeked → Option StreamFault
 fault_ahead start = None
 fault_ahead (item x) = None
@@ -107,10 +107,10 @@ packet_length (event e) = e.packet_length
 packet_length (discarded gap) = gap.packet_length
 packet_length (lost gap) = gap.packet_length
 
--- How many bytes were taken and how many are held, of any source: where nothing stands in front, those to the end of the
--- packet that begins at the cut point, and that packet, or all before the cut point, and none; those to the end of the
--- packet that holds the item in front, and that packet; at the end all before the cut point, and none; before a fault at
--- most a packet and a byte behind the cut point, and none (own).
+-- How many bytes were taken and how many are held, of any source: where nothing is current, those to the end of the packet
+-- that begins at the packet boundary, and that packet, or all before the boundary, and none; those to the end of the
+-- packet that holds the current item, and that packet; at the end all before the boundary, and none; before a fault at
+-- most a packet and a byte after the boundary, and none (own).
 abbrev pub OnLine : Peeked → ℕ → ℕ → ℕ → Type 0
 OnLine start taken cut held = (taken ≡ cut + held) × (held ≤ longest_bytes)
 OnLine (item x) taken cut held = (taken ≡ packet_end x) × (held ≡ packet_length x) × (held ≤ longest_bytes)

@@ -45,21 +45,21 @@ IsOf trace name (shown.Event e) = (e.trace.now ≡ trace) × PartIsRight e
 IsOf trace name (shown.Discarded g) = g.name.now ≡ name
 IsOf trace name (shown.Lost g) = g.name.now ≡ name
 
--- it is the item in front; or none stands there
+-- it is the current item; or there is none
 abbrev pub Shows : TraceClass → List ℕ → Peeked → Option Item → Type 0
 Shows trace name ahead (Some x) = ((end : ℕ) × ((length : ℕ) × (item_ahead ahead ≡ Some (item_of x end length)))) × IsOf trace name x
 Shows trace name ahead None = item_ahead ahead ≡ None
 
--- where values are not to be had of each item, there may be none of an item that stands there
+-- where values are not to be had of each item, there may be none of an item that is there
 abbrev pub ShowsValues : Bool → TraceClass → List ℕ → Peeked → Option Item → Type 0
 ShowsValues writes trace name ahead (Some x) = Shows trace name ahead (Some x)
 ShowsValues writes trace name ahead None = (item_ahead ahead ≡ None) ⊎ IsTrue writes
 
--- it is the text of the event record in front, with its clock
+-- it is the text of the current event record, with its clock
 abbrev pub ShowsText : Peeked → EventText → Type 0
 ShowsText ahead t = (e : items.Event Classes) × (item_ahead ahead ≡ Some (items.event e)) × (t.moment ≡ e.clock) × (t.text.now ≡ event_text e)
 
--- the item in front is told, or none stands there
+-- the current item is given, or there is none
 abbrev pub Tells : TraceClass → List ℕ → Peeked → Option CurrentItem → Type 0
 Tells trace name ahead (Some (told.Item x)) = Shows trace name ahead (Some x)
 Tells trace name ahead (Some (told.Text t)) = ShowsText ahead t
@@ -69,7 +69,7 @@ abbrev pub IsMadeTold : CurrentItem → Type 0
 IsMadeTold (told.Item x) = IsMade x
 IsMadeTold (told.Text t) = Unit {0}
 
--- texts are told where they were asked for
+-- texts are given where they were asked for
 abbrev pub IsAsked : Bool → CurrentItem → Type 0
 IsAsked writes (told.Item x) = Unit {0}
 IsAsked writes (told.Text t) = IsTrue writes

@@ -10,7 +10,7 @@ use Rattle.ctf_stream.specs.declared.read_state.ReadState.{ReadState}
 use Rattle.ctf_stream.specs.declared.reader.Head.{Head}
 use Rattle.ctf_stream.specs.declared.reader.Head.TheVariants as heads
 
--- the item in front is one of the packet at hand; without one there is none
+-- the current item is one of the packet at hand; without one there is none
 abbrev pub item_at : ReadState → Option Packet → Front → Peeked
 item_at c (Some p) front = item (item_in c.cut.shift c.scopes c.buffer p front)
 item_at c None front = start
@@ -21,14 +21,15 @@ ahead_of c (heads.Item front) = item_at c c.packet front
 ahead_of c heads.Ended = ended
 ahead_of c (heads.Fault f) = fault f
 
--- one item stands in front
+-- there is one current item
 abbrev pub room_ahead : Head → ℕ
 room_ahead heads.Start = 0
 room_ahead (heads.Item front) = 1
 room_ahead heads.Ended = 0
 room_ahead (heads.Fault f) = 0
 
--- the packet at hand, whose text was made, holds the item in front, whose text was written or which has its values, or held the one before; at the end and behind a fault
+-- the packet at hand, whose text was made, holds the current item, whose text was written or which has its values, or held the
+-- one before; at the end and after a fault
 -- nothing is held
 abbrev pub IsStanding : ReadState → Head → Type 0
 IsStanding c heads.Start = Stands c × HasPart c

@@ -1,4 +1,4 @@
-//! What stands in front of a reader.
+//! What a reader gives next.
 
 ghost use Rattle.std.specs.Prelude.{◌≡◌, option_map};
 ghost use Rattle.ctf_stream.specs.Peeked.{told, time_in};
@@ -9,7 +9,7 @@ use ctf_bits::Source;
 use ctf_clock::Moment;
 use ctf_packet::StreamFault;
 
-/// What stands in front of a reader.
+/// What a reader gives next.
 #[derive(Clone, Copy)]
 pub enum Peeked {
     /// Nothing was fetched yet.
@@ -58,7 +58,7 @@ fn time_at(clock: Option<Moment>) -> Option<i64>
 }
 
 impl<'a, S: Source + Drop> StreamReader<'a, S> {
-    /// What stands in front. Mostly it is an item.
+    /// What comes next. Mostly it is an item.
     pub fn ahead(&self) -> Peeked
         ensures { result ≡ told self.now.ahead }
     {

@@ -21,7 +21,7 @@ use ctf_packet::{EventRecord, RecordPlace, Scratch, next_record};
 use std::alloc::Global;
 
 impl<'a> ReadState<'a> {
-    /// The item in front by value, of the packet at hand, which stays. `name` is the stream's.
+    /// The current item by value, of the packet at hand, which stays. `name` is the stream's.
     pub(crate) fn give(
         &mut self,
         alloc: Global,

@@ -23,7 +23,7 @@ pub struct Event<'r> {
     pub trace: &'r TraceClass,
     pub stream: &'r StreamClass,
     pub class: &'r EventClass,
-    /// The clock behind its header, where the stream has one.
+    /// The clock after its header, where the stream has one.
     pub moment: Option<Moment>,
     /// The values of its scopes.
     pub scopes: &'r Scopes,
@@ -36,7 +36,7 @@ pub struct Event<'r> {
 pub struct Gap<'r> {
     /// How many event records or packets, at least one.
     pub count: u64,
-    /// The clock behind the packet's context, where the stream has one.
+    /// The clock after the packet's context, where the stream has one.
     pub moment: Option<Moment>,
     /// Since when: the clock before the packet.
     pub from: Option<Moment>,
@@ -46,16 +46,16 @@ pub struct Gap<'r> {
     pub name: &'r str,
 }
 
-/// An event record (CTF 1.8.3, section 6), as the text that stands for it.
+/// An event record (CTF 1.8.3, section 6), as its text.
 #[derive(Clone, Copy)]
 pub struct EventText<'r> {
-    /// The clock behind its header, where the stream has one.
+    /// The clock after its header, where the stream has one.
     pub moment: Option<Moment>,
-    /// Its text in its line, behind the stamp: the host, the name and the scopes.
+    /// Its text in its line, after the stamp: the host, the name and the scopes.
     pub text: &'r [u8],
 }
 
-/// What a reader tells of the item in front of it.
+/// What a reader says of its current item.
 #[derive(Clone, Copy)]
 pub enum CurrentItem<'r> {
     /// The item, with its values.
@@ -88,7 +88,7 @@ impl<'r> Event<'r> {
 }
 
 impl<'r> Gap<'r> {
-    /// The time behind the context of the packet that follows, in nanoseconds since the epoch.
+    /// The time after the context of the packet that follows, in nanoseconds since the epoch.
     pub fn time(&self) -> Option<i64>
         ensures { result ≡ option_map (λ m. m.time) self.now.moment }
     {

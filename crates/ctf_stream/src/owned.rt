@@ -28,7 +28,7 @@ pub struct OwnedEvent<'a> {
     pub trace: &'a TraceClass,
     pub stream: &'a StreamClass,
     pub class: &'a EventClass,
-    /// The clock behind its header, where the stream has one.
+    /// The clock after its header, where the stream has one.
     pub moment: Option<Moment>,
     /// The values of its scopes, those of its packet's header and context among them.
     pub scopes: Scopes,
@@ -39,7 +39,7 @@ pub struct OwnedEvent<'a> {
 pub struct OwnedGap {
     /// How many event records or packets, at least one.
     pub count: u64,
-    /// The clock behind the packet's context, where the stream has one.
+    /// The clock after the packet's context, where the stream has one.
     pub moment: Option<Moment>,
     /// Since when: the clock before the packet.
     pub from: Option<Moment>,

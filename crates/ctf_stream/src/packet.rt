@@ -18,15 +18,15 @@ use ctf_packet::{EventRecord, OpenPacket, RecordPlace, Scratch, StreamFault, nex
 use ctf_record_text::{LineBuffer, LineRecord, ShortHeader, next_line, written_line};
 use std::alloc::Global;
 
-/// A packet whose items are told one after the other.
+/// A packet whose items are given one after the other.
 #[derive(Drop)]
 pub(crate) struct Packet<'a> {
     pub(crate) opened: OpenPacket<'a>,
     /// What was looked at of the class of its event headers.
     pub(crate) short: Option<ShortHeader>,
-    /// How many packets were lost before it, where that is not told yet.
+    /// How many packets were lost before it, where that is not reported yet.
     pub(crate) lost: Option<u64>,
-    /// How many event records were discarded before it, where that is not told yet.
+    /// How many event records were discarded before it, where that is not reported yet.
     pub(crate) dropped: Option<u64>,
     /// The clock so far.
     pub(crate) clock: Option<Moment>,
@@ -34,7 +34,7 @@ pub(crate) struct Packet<'a> {
     pub(crate) place: u64,
 }
 
-/// The item of a packet that stands in front.
+/// The current item of a packet.
 #[derive(Clone, Copy)]
 pub(crate) enum Front<'a> {
     /// An event record, whose values are those of the scopes.
@@ -47,7 +47,7 @@ pub(crate) enum Front<'a> {
     Lost(u64),
 }
 
-/// An event record whose text stands in front of a line, and where it was read.
+/// An event record whose text is at the beginning of a line, and where it was read.
 #[derive(Clone, Copy)]
 pub(crate) struct WrittenRecord<'a> {
     pub(crate) event: EventRecord<'a>,
@@ -55,16 +55,16 @@ pub(crate) struct WrittenRecord<'a> {
     pub(crate) begin: u64,
     /// The clock before it.
     pub(crate) before: Option<Moment>,
-    /// The index behind its text, in bytes.
+    /// The index after its text, in bytes.
     pub(crate) end: usize,
 }
 
 impl<'a> Packet<'a> {
-    /// The next item, if `writes` asks for texts, and it is an event record that can be shown without its values: its text is
-    /// at the front of `line` then. `scopes` has the values of the packet, and `part` is the text that the lines of the packet
-    /// share. Mostly that is the next item, so it is apart from `next`. Its header is told as a short one, or `by_class`.
+    /// The next item, if `writes` asks for texts, and it is an event record that can be shown without its values: then its text
+    /// is at the start of `line`. `scopes` has the values of the packet, and `part` is the text that the lines of the packet
+    /// share. Mostly that is the next item, so it is apart from `next`. Its header is read as a short one, or `by_class`.
     ///
-    /// `None` elsewhere: the packet is as it was then, and the line is any line.
+    /// `None` elsewhere: the packet is as it was then, and the line is unspecified.
     #[inline(always)]
     pub(crate) fn next_written(
         &mut self,
@@ -114,8 +114,8 @@ impl<'a> Packet<'a> {
         Some(front_of(made, before, begin))
     }
 
-    /// The next item, out of the packet's bytes; `None` behind the last one. `scopes` has the values of the
-    /// packet, and of an event record then, unless `writes` asks for its text and this could be written at the front of
+    /// The next item, out of the packet's bytes; `None` after the last one. `scopes` has the values of the
+    /// packet, and of an event record then, unless `writes` asks for its text and this could be written at the start of
     /// `line`; `part` is the text that the lines of the packet share. The memory of `scratch` is used.
     ///
     /// An error is the fault of the next event record: F6 to F11, or `NoMemory`.
@@ -202,7 +202,7 @@ fn event_at<'a>(
     Ok(LineRecord { record, text: None })
 }
 
-/// What was looked at of a class of headers, unless they are told by their class.
+/// What was looked at of a class of headers, unless they are decoded by their class.
 #[inline(always)]
 fn short_unless(short: &Option<ShortHeader>, by_class: bool) -> Option<&ShortHeader>
     ensures { (stream : StreamClass) → IsShortOf stream short.now →
@@ -211,7 +211,7 @@ fn short_unless(short: &Option<ShortHeader>, by_class: bool) -> Option<&ShortHea
     if by_class { None } else { short.as_ref() }
 }
 
-/// An event record in front, which was read from a place on, where its packet's clock came so far.
+/// The current event record, which was read from a place on, where its packet's clock came so far.
 #[inline(always)]
 fn front_of(made: LineRecord<'_>, before: Option<Moment>, begin: u64) -> Front<'_>
     ensures { result ≡ front_in made.entry before begin }

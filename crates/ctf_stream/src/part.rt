@@ -15,7 +15,7 @@ use std::marker::Model;
 /// Contracts see its text.
 #[derive(Drop)]
 pub(crate) struct PacketPart {
-    /// Behind the text stand any bytes.
+    /// After the text come unspecified bytes.
     bytes: Vec<u8>,
     end: usize,
 }

@@ -31,7 +31,7 @@ pub(crate) struct ReadState<'a> {
     pub(crate) packet: Option<Packet<'a>>,
     /// The bytes of the packet at hand.
     pub(crate) buffer: Buffer,
-    /// The values of the packet at hand, and of the event record in front, if one stands there.
+    /// The values of the packet at hand, and of the current event record, if there is one.
     pub(crate) scopes: Scopes,
     /// What the lines of its event records share.
     pub(crate) part: PacketPart,
@@ -39,14 +39,14 @@ pub(crate) struct ReadState<'a> {
     pub(crate) scratch: Scratch,
     /// Whether event records are read as texts, where they can.
     pub(crate) writes: bool,
-    /// The text of the event record in front, if it was read as that.
+    /// The text of the current event record, if it was read as that.
     pub(crate) line: LineBuffer,
     /// How many bytes were taken from the source.
     pub(crate) taken: u64,
 }
 
 impl<'a> ReadState<'a> {
-    /// A stream of which nothing was read, from a cut point on.
+    /// A stream of which nothing was read, from a packet boundary on.
     pub(crate) fn new(alloc: Global, cut: PacketStart<'a>) -> ReadState<'a>
         ensures cut { result.cut ≡ cut.entry }
         ensures packet { result.packet ≡ None }
@@ -123,7 +123,7 @@ impl<'a> ReadState<'a> {
 
     /// The next item, out of a source, where `next_written` gave none `by_class`. `None` where the stream ends.
     ///
-    /// An error is the fault of the stream behind the items before, or `NoMemory`.
+    /// An error is the fault of the stream after the items before, or `NoMemory`.
     #[inline(never)]
     pub(crate) fn advance<S: Source>(
         &mut self,
@@ -262,7 +262,7 @@ impl<'a> ReadState<'a> {
         }
     }
 
-    /// The item in front, of the packet at hand. `name` is the stream's.
+    /// The current item, of the packet at hand. `name` is the stream's.
     pub(crate) fn current_item<'r>(
         &'r self,
         front: &'r Front<'a>,
@@ -310,7 +310,7 @@ impl<'a> ReadState<'a> {
         }
     }
 
-    /// Leaves the packet at hand behind.
+    /// Goes past the packet at hand.
     #[inline(never)]
     fn leave(&mut self, reached: Reached)
         ensures packet { self.new.packet ≡ None }
@@ -329,7 +329,7 @@ impl<'a> ReadState<'a> {
     }
 }
 
-/// What a stream has come to behind a packet.
+/// What a stream has come to after a packet.
 fn reached_behind(packet: &Packet<'_>) -> Reached
     ensures { (shift : Shift) (values : Values) →
         result ≡ packets.reached_behind (opened_of shift values packet.now.opened)

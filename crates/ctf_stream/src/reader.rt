@@ -21,7 +21,7 @@ use ctf_packet::StreamFault;
 use std::alloc::Global;
 use std::marker::Model;
 
-/// What stands in front.
+/// What the reader gives next.
 #[derive(Drop)]
 pub(crate) enum Head<'a> {
     /// Nothing was fetched yet, or the item was given away.
@@ -105,7 +105,7 @@ impl<'a, S: Source + Drop> StreamReader<'a, S> {
         }
     }
 
-    /// From now on the reader tells event records as texts, where these can be made without the values.
+    /// From now on the reader gives event records as texts, where these can be made without the values.
     pub fn with_texts(self) -> StreamReader<'a, S>
         ensures { result ≡ record self.entry { writes = true } }
     {
@@ -114,9 +114,9 @@ impl<'a, S: Source + Drop> StreamReader<'a, S> {
         reader
     }
 
-    /// Leaves the item in front behind and fetches the next. An end and a fault stay.
+    /// Goes past the current item and fetches the next. An end and a fault stay.
     pub fn go_on(&mut self)
-        // What was behind comes now, unless a growth was refused.
+        // What was to come after it comes now, unless an allocation failed.
         ensures goes_on { IsTrue self.old.tells → OrRefused (rest_of self.old) (coming self.new) }
         ensures fetched { IsFetched self.new.ahead }
 
@@ -149,8 +149,8 @@ impl<'a, S: Source + Drop> StreamReader<'a, S> {
         self.advance();
     }
 
-    /// Fetches the next item, where nothing stands in front. Mostly the next item is one that `go_on` fetches itself, so this
-    /// stands out of its way.
+    /// Fetches the next item, where there is no current one. Mostly the next item is one that `go_on` fetches itself, so this
+    /// is kept out of its way.
     #[inline(never)]
     fn advance(&mut self)
         requires { self.old.ahead ≡ start }
@@ -185,15 +185,15 @@ impl<'a, S: Source + Drop> StreamReader<'a, S> {
 
     /// The next item, by value; `None` at the end. After a fault the same fault again, after the end the end again.
     ///
-    /// An error is the fault of the stream behind the items before, F1 to F11, F13 or F14, or `NoMemory`.
+    /// An error is the fault of the stream after the items before, F1 to F11, F13 or F14, or `NoMemory`.
     pub fn next(&mut self) -> Result<Option<OwnedItem<'a>>, StreamFault>
         // The first item that was to come is given, out of a packet that ends where the bytes taken do and is held, and the
         // rest is to come.
         ensures gives { IsTrue self.old.tells → Gives (coming self.old) self.new result }
         ensures of { GivesOf self.old.trace self.old.name result }
 
-        // Of any source: what stood in front is told, an end and a fault stay as they are, and an item that is given took
-        // room and leaves nothing in front.
+        // Of any source: what was current is given, an end and a fault stay as they are, and an item that is given took
+        // room and is no longer current.
         ensures told { GivesAhead self.old.ahead self.new result }
         ensures ahead { self.new.ahead ≡ ahead_behind result }
         ensures stays { IsLast self.old.ahead → self.new ≡ self.old }
@@ -214,7 +214,7 @@ impl<'a, S: Source + Drop> StreamReader<'a, S> {
         self.give()
     }
 
-    /// Fetches the next item, if nothing stands in front.
+    /// Fetches the next item, if there is no current one.
     fn fetch(&mut self)
         ensures comes { IsTrue self.old.tells → OrRefused (coming self.old) (coming self.new) }
         ensures fetched { IsFetched self.new.ahead }
@@ -237,7 +237,7 @@ impl<'a, S: Source + Drop> StreamReader<'a, S> {
         }
     }
 
-    /// Gives the item in front away, or tells the end or the fault.
+    /// Gives the current item away, or reports the end or the fault.
     fn give(&mut self) -> Result<Option<OwnedItem<'a>>, StreamFault>
         requires { IsFetched self.old.ahead }
         ensures told { GivesAhead self.old.ahead self.new result }
@@ -274,7 +274,7 @@ impl<'a, S: Source + Drop> StreamReader<'a, S> {
         }
     }
 
-    /// The item in front, if one stands there: an event record as a text, if it was read as that. No memory is taken.
+    /// The current item, if there is one: an event record as a text, if it was read as that. No memory is taken.
     pub fn told(&self) -> Option<CurrentItem<'_>>
         ensures tells { Tells self.now.trace self.now.name self.now.ahead result }
         ensures made { IfSome result IsMadeTold }
@@ -288,7 +288,7 @@ impl<'a, S: Source + Drop> StreamReader<'a, S> {
         }
     }
 
-    /// The item in front, if one stands there, with its values; `None` also of an event record that was read as a text. No
+    /// The current item, if there is one, with its values; `None` also of an event record that was read as a text. No
     /// memory is taken.
     pub fn head(&self) -> Option<Item<'_>>
         ensures shows { ShowsValues self.now.writes self.now.trace self.now.name self.now.ahead
@@ -302,7 +302,7 @@ impl<'a, S: Source + Drop> StreamReader<'a, S> {
         }
     }
 
-    /// The fault in front, if one stands there.
+    /// The current fault, if there is one.
     pub fn fault(&self) -> Option<StreamFault>
         ensures { result ≡ fault_ahead self.now.ahead }
     {
