@@ -57,7 +57,7 @@ options_at options chosen place bytes =
 abbrev pub text_at : Place → List ℕ → Step Val
 text_at place bytes = string_at (input_at place bytes) (next_multiple_of place.end 8) place.spent
 
--- whatever follows them, a string that is there ends in the last of these bytes or behind them, but for so many that
+-- whatever follows them, a string that is there ends in the last of these bytes or after them, but for so many that
 -- were there before
 abbrev pub EndsNear : Place → ℕ → List ℕ → Type 0
 EndsNear place before bytes =
@@ -71,7 +71,7 @@ IsFound step d = step ≡ Ok (val d.value, d.end, d.spent)
 abbrev pub Failed : {A : Type 0} → Ending → Step A → StreamFault → Type 0
 Failed ending step fault = (f : Fault) × (step ≡ Err f) × (fault ≡ fault_in_front ending f)
 
--- a place behind the opening of a structure or an array, which is at a bit
+-- a place after the opening of a structure or an array, which is at a bit
 pub record IsOpened (place : Place) (b : ℕ) (inner : Place) : Type 0 where
   pub begun : place.spent < MOST_VALUES
   pub end : inner.end ≡ b

@@ -1,4 +1,4 @@
--- What is told where a packet is fetched at a cut point.
+-- What is given where a packet is fetched at a packet boundary.
 use Rattle.std.specs.Prelude.{◌≡◌, ℕ, ◌+◌, ◌*◌, ◌^◌, ◌≤◌, ◌<◌, ◌⊎◌, List, [], length, Option, Some, None, Result, Ok, Err}
 use Rattle.ctf_bits.specs.declared.source.Ending.{Ending}
 use Rattle.ctf_clock.specs.declared.moment.Moment.{Moment}
@@ -36,7 +36,7 @@ Fetches shift known trace ending at run bytes left (Ok (Some packet)) =
 Fetches shift known trace ending at run bytes left (Ok None) = (run ≡ stops None at) × (left ≡ [])
 Fetches shift known trace ending at run bytes left (Err fault) = OrNoMemory (λ f. run ≡ stops (Some f) at) fault
 
--- a packet that begins at a cut point and whose bytes are these
+-- a packet that begins at a packet boundary and whose bytes are these
 pub record FetchedAt (at : ℕ) (bytes : List ℕ) (shift : Shift) (packet : OpenPacket) : Type 0 where
   pub starts : packet.start ≡ at
   pub ends : packet.end ≡ at + length bytes
@@ -46,7 +46,7 @@ pub record FetchedAt (at : ℕ) (bytes : List ℕ) (shift : Shift) (packet : Ope
   pub inside : packet.content ≤ 8 * length bytes
   pub line : packet.timeline ≡ (stream_form shift packet.stream.now).line
 
--- of any source: a packet was fetched at a cut point, or no byte came
+-- of any source: a packet was fetched at a packet boundary, or no byte came
 abbrev pub FetchesAt : ℕ → List ℕ → Shift → Result (Option OpenPacket) StreamFault → Type 0
 FetchesAt at bytes shift (Ok (Some packet)) = FetchedAt at bytes shift packet
 FetchesAt at bytes shift (Ok None) = bytes ≡ []

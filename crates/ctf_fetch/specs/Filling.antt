@@ -10,7 +10,7 @@ Fills ending rest (Ok Whole) = Unit {0}
 Fills ending rest (Ok (Ended e)) = (e ≡ ending) × (rest ≡ [])
 Fills ending rest (Err refused) = Unit {0}
 
--- the same, as far as counts tell it
+-- as many came as were asked for, or the source ended, as far as counts say it
 abbrev pub Counts : {E : Type 0} → ℕ → ℕ → Result Filled E → Type 0
 Counts target count (Ok Whole) = count ≡ target
 Counts target count (Ok (Ended e)) = count < target

@@ -1,4 +1,4 @@
--- What is told while the bytes of a packet come.
+-- What is given while the bytes of a packet come.
 use Rattle.std.specs.Prelude.{◌≡◌, ℕ, ◌*◌, ◌≤◌, ◌<◌, min, List, [], ◌++◌, length, Option, Some, None, Result, Ok, Err}
 use Rattle.ctf_bits.specs.declared.source.Ending.{Ending}
 use Rattle.ctf_clock.specs.declared.moment.Shift.{Shift}
@@ -28,7 +28,7 @@ abbrev pub want_of : Shift → Known → Opening → Option Sizes → wants.Want
 want_of shift known opening (Some sizes) = wants.whole (begun_of shift (values_of known) opening.begun) sizes
 want_of shift known opening None = wants.rest (begun_of shift (values_of known) opening.begun)
 
--- as far as counts tell it of any source: the bytes that came are no more than the packet has
+-- as far as counts say it of any source: the bytes that came are no more than the packet has
 abbrev pub FitsOpening : ℕ → Option Sizes → Type 0
 FitsOpening n (Some sizes) = 8 * n ≤ sizes.packet
 FitsOpening n None = Unit {0}
@@ -43,7 +43,7 @@ abbrev pub TakesRest : Ending → List ℕ → List ℕ → Result Ending Stream
 TakesRest ending bytes left (Ok e) = (e ≡ ending) × (left ≡ [])
 TakesRest ending bytes left (Err fault) = OrNoMemory (λ f. (f ≡ faults.ImpossibleSizes) × (longest_bytes < length (bytes ++ left))) fault
 
--- The bytes of a packet came, with its sizes where it tells none: those that the definition says of all that is left.
+-- The bytes of a packet came, with its sizes where it gives none: those that the definition says of all that is left.
 -- Or its bytes are not there.
 abbrev pub TakesSized : Ending → ℕ → List ℕ → List ℕ → Option Sizes → Result Sizes StreamFault → Type 0
 TakesSized ending first bytes left (Some told) (Ok sizes) = sizes ≡ told

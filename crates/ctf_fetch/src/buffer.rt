@@ -19,7 +19,7 @@ const FIRST: usize = 4_096;
 /// The bytes of a packet that came so far. Contracts see them.
 #[derive(Drop)]
 pub struct Buffer {
-    /// Behind those that came stand bytes of earlier packets, or zeros.
+    /// After those that came are bytes of earlier packets, or zeros.
     bytes: Vec<u8>,
     filled: usize,
 }
@@ -143,7 +143,7 @@ impl Buffer {
     }
 }
 
-/// Takes bytes of a source behind the first ones, up to `end` at most. How many.
+/// Takes bytes of a source after the first ones, up to `end` at most. How many.
 fn take_behind<S: Source>(
     source: &mut S,
     bytes: &mut [u8],

@@ -54,7 +54,7 @@ pub struct PacketStart<'a> {
 #[derive(Clone, Copy)]
 pub(crate) struct Opening<'a> {
     begun: Begun<'a>,
-    /// In bits. `None` where it tells none, and is the rest of its stream.
+    /// In bits. `None` where it gives none, and is the rest of its stream.
     sizes: Option<Sizes>,
 }
 
@@ -309,7 +309,7 @@ struct PacketScratch {
     context: Value,
 }
 
-/// Leaves no values. The memory of those of the packet's header and context.
+/// Removes the values. The memory of those of the packet's header and context.
 fn forget(scopes: &mut Scopes) -> PacketScratch
     ensures { scopes.new ≡ nothing_known }
 {

@@ -17,7 +17,7 @@ use ctf_class::{Align, Class};
 use ctf_decode::{DecodeFault, Decoded, MOST_VALUES, Packet, Reached, decode_within};
 use ctf_packet::{StreamFault, front_content};
 
-/// The place behind the opening of a structure or an array, which begins at a multiple of `align`.
+/// The place after the opening of a structure or an array, which begins at a multiple of `align`.
 ///
 /// An error is F1, F5, F11 or F13; or `NoMemory`.
 pub(crate) fn opening_end<'a, S: Source>(

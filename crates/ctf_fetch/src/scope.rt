@@ -27,7 +27,7 @@ pub(crate) struct NextScope<'a> {
 }
 
 /// Puts the value of a header or a context in its scope, for which bytes are taken as they are needed. The bit at which
-/// it ends. The memory of `spare` may be used for it, and any value may be in it then.
+/// it ends. The memory of `spare` may be used for it, and an unspecified value is in it then.
 ///
 /// An error is its fault: F1, F5, F8, F11 or F13; or `NoMemory`.
 pub(crate) fn scope_on_demand<S: Source>(
@@ -70,7 +70,7 @@ pub(crate) fn scope_on_demand<S: Source>(
 }
 
 /// Puts the value of this class in its scope, if all of its bytes are there. The bit at which it ends. The memory of `spare`
-/// may be used for it, and any value may be in it then.
+/// may be used for it, and an unspecified value is in it then.
 fn scope_at_hand(
     class: &Class,
     next: &NextScope<'_>,

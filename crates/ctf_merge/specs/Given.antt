@@ -10,8 +10,8 @@ use Rattle.ctf_merge.specs.Merges.{Merge, first_now, MergedOrRefused, IsRefusal,
 use Rattle.ctf_merge.specs.declared.fault.MergeFault.{MergeFault}
 use Rattle.ctf_merge.specs.declared.fault.MergeFault.TheVariants.{Stream}
 
--- The first item that was to come is given, and the rest is to come; or nothing was to come; or the fault was, or a growth
--- was refused for the item, and then nothing comes.
+-- The first item that was to come is given, and the rest is to come; or nothing was to come; or the fault was, or an allocation
+-- failed for the item, and then nothing comes.
 abbrev pub Gives : Merged → Merged → Result (Option OwnedItem) MergeFault → Type 0
 Gives old new (Ok (Some x)) = (number : ℕ) × (end : ℕ) × (length : ℕ) × (rest : Merged) × (old ≡ then (record { number = number; item = item_of x end length }) rest) × MergedOrRefused rest new
 Gives old new (Ok None) = (old ≡ ends None) × (new ≡ ends None)
@@ -26,19 +26,19 @@ pub record IsGiven (m : Merge) (x : OwnedItem) : Type 0 where
   pub same : it.next ≡ item_of x end length
   pub of : IsOf it.front.trace it.front.name x
 
--- the item in front of a reader is given, unless a growth was refused
+-- the current item of a reader is given, unless an allocation failed
 abbrev pub GivesFront : reader.Peeked → Result (Option OwnedItem) StreamFault → Type 0
 GivesFront ahead (Ok (Some x)) = (end : ℕ) × (length : ℕ) × (ahead ≡ reader.item (item_of x end length))
 GivesFront ahead (Ok None) = ⊥
 GivesFront ahead (Err f) = f ≡ faults.NoMemory
 
--- the fault in front is told, or a growth that was refused for the item in front
+-- the current fault is reported, or an allocation that failed for the current item
 abbrev pub IsTold : First → MergeFault → Type 0
 IsTold (item i x) f = f ≡ Stream i faults.NoMemory
 IsTold (broken i g) f = f ≡ Stream i g
 IsTold nothing f = ⊥
 
--- what stood in front is told, of any sources
+-- what was current is given, of any sources
 abbrev pub GivesFirst : Merge → Result (Option OwnedItem) MergeFault → Type 0
 GivesFirst m (Ok (Some x)) = IsGiven m x
 GivesFirst m (Ok None) = first_now m ≡ nothing

@@ -7,14 +7,14 @@ abbrev pub time_if : ℕ → ℕ → Option ℤ
 time_if zero time = None
 time_if (suc n) time = Some (pos time -ℤ pos (2 ^ 63))
 
--- what stands above a number: the last bit tells whether there is a time
+-- what is above a number: the last bit says whether there is a time
 abbrev pub time_at : ℕ → Option ℤ
 time_at above = time_if (above % 2) (above / 2)
 
 abbrev pub turn_of_key : ℕ → Turn
 turn_of_key key = record { time = time_at (key / (2 ^ 63)); number = key % (2 ^ 63) }
 
--- where there is no time, 0 stands for it
+-- where there is no time, 0 is in its place
 abbrev pub IsTimed : ℕ → Type 0
 IsTimed above = (above ≡ 0) ⊎ (above % 2 ≡ 1)
 

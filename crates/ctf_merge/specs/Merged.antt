@@ -27,13 +27,13 @@ abbrev pub of_stream : ℕ → List Placed → List (Item Classes)
 of_stream i [] = []
 of_stream i (x ∷ xs) = cond (nat_eq x.number i) (x.item ∷ of_stream i xs) (of_stream i xs)
 
--- the run of one stream; of a number behind the last one an empty one
+-- the run of one stream; of a number after the last one an empty one
 abbrev pub run_at : ℕ → List (Run Classes) → Run Classes
 run_at i [] = record { items = []; fault = None; at = 0 }
 run_at zero (r ∷ rs) = r
 run_at (suc i) (r ∷ rs) = run_at i rs
 
--- of two items at one time that of the lower stream stands first, and no item stands behind a later one
+-- of two items at one time that of the lower stream comes first, and no item comes after a later one
 abbrev pub IsPlacedBefore : Placed → Placed → Type 0
 IsPlacedBefore x y = NotBefore (time_of x.item) (time_of y.item) × (is_before (time_of x.item) (time_of y.item) ≡ false → x.number ≤ y.number)
 
@@ -48,7 +48,7 @@ pub record IsMerged (runs : List (Run Classes)) (all : List Placed) : Type 0 whe
   pub in_order : InOrder all
 
 -- The list up to the cut: the whole one where no stream has a fault; nothing where a faulty stream has no item, the least
--- of them being told; else up to the last item of a faulty stream, behind which each other faulty stream has an item still.
+-- of them being reported; else up to the last item of a faulty stream, after which each other faulty stream has an item still.
 pub data IsCut (runs : List (Run Classes)) (all : List Placed) : Merged → Type 0 where
   whole : ((i : ℕ) → (run_at i runs).fault ≡ None) → IsCut runs all (record { items = all; fault = None })
   at_once : (i : ℕ) (f : StreamFault) → (run_at i runs).fault ≡ Some f → (run_at i runs).items ≡ []
@@ -76,7 +76,7 @@ pub data First : Type 0 where
   broken : ℕ → StreamFault → First
   nothing : First
 
--- the same, one stream further
+-- what comes first of several streams, counted from one stream earlier
 abbrev pub later : First → First
 later (item i x) = item (suc i) x
 later (broken i f) = broken (suc i) f
@@ -137,7 +137,7 @@ merged_by (suc fuel) runs = merged_from (first_of (map head_of runs)) (λ i. mer
 unfoldable pub merged : List (Run Classes) → Merged
 merged runs = merged_by (count runs) runs
 
--- no item of a merged list is before the one in front of it, nor the first before this time
+-- no item of a merged list is before the one that precedes it, nor the first before this time
 abbrev pub PlacedRise : Option ℤ → List Placed → Type 0
 PlacedRise low [] = Unit {0}
 PlacedRise low (x ∷ xs) = NotBefore low (time_of x.item) × PlacedRise (time_of x.item) xs

@@ -15,10 +15,10 @@ use Rattle.ctf_merge.specs.declared.fault.MergeFault.TheVariants.{Stream, NoMemo
 
 pub record Merge : Type 0 where
   pub readers : List Reader
-  -- its fault was left behind
+  -- its fault was gone past
   pub over : Bool
 
--- what is to come: the merged list of what is to come of each reader; nothing behind the fault
+-- what is to come: the merged list of what is to come of each reader; nothing after the fault
 abbrev pub coming_of : Merge → Merged
 coming_of m = cond m.over (ends None) (merged (map coming m.readers))
 
@@ -26,7 +26,7 @@ coming_of m = cond m.over (ends None) (merged (map coming m.readers))
 abbrev pub EachTells : List Reader → Type 0
 EachTells readers = AllByRecursion (λ r. IsTrue r.tells) readers
 
--- each reader has taken no more than the item in front needs
+-- each reader has taken no more than the current item needs
 abbrev pub EachOnLine : List Reader → Type 0
 EachOnLine readers = AllByRecursion IsOnLine readers
 
@@ -34,7 +34,7 @@ EachOnLine readers = AllByRecursion IsOnLine readers
 abbrev pub EachAllTaken : List Reader → Type 0
 EachAllTaken readers = AllByRecursion (λ r. IsAllTaken r.ahead r.left) readers
 
--- each reader has its first item in front, or its end or a fault
+-- each reader has its first item as the current one, or its end or a fault
 abbrev pub EachFetched : List Reader → Type 0
 EachFetched readers = AllByRecursion (λ r. IsFetched r.ahead) readers
 
@@ -63,7 +63,7 @@ names_of readers = map (λ r. r.name) readers
 abbrev pub traces_of : List Reader → List TraceClass
 traces_of readers = map (λ r. r.trace) readers
 
--- whether event records of the streams are told as texts, where they can
+-- whether event records of the streams are given as texts, where they can
 abbrev pub writes_of : List Reader → List Bool
 writes_of readers = map (λ r. r.writes) readers
 
@@ -75,27 +75,27 @@ given_by r = r.taken + length r.left
 abbrev pub given_of : List Reader → List ℕ
 given_of readers = map given_by readers
 
--- this fault is want of memory
+-- this fault is out of memory
 abbrev pub IsRefusal : MergeFault → Type 0
 IsRefusal (Stream number fault) = fault ≡ faults.NoMemory
 IsRefusal NoMemory = Unit {0}
 
--- this list, or none of it where a growth was refused
+-- this list, or none of it where an allocation failed
 abbrev pub MergedOrRefused : Merged → Merged → Type 0
 MergedOrRefused m actual = (actual ≡ m) ⊎ ((actual.items ≡ []) × ((f : MergeFault) × (actual.fault ≡ Some f) × IsRefusal f))
 
--- What stands in front is left behind: an item, or the fault, behind which nothing comes.
+-- What was current is gone past: an item, or the fault, after which nothing comes.
 pub record GoesOn (old new : Merged) : Type 0 where
   pub behind_item : (x : Placed) (rest : Merged) → old ≡ then x rest → MergedOrRefused rest new
   pub behind_fault : old.items ≡ [] → new ≡ ends None
 
--- the number of the stream of the item in front
+-- the number of the stream of the current item
 abbrev pub number_in : First → Option ℕ
 number_in (item i x) = Some i
 number_in (broken i f) = None
 number_in nothing = None
 
--- the fault in front
+-- the current fault
 abbrev pub fault_in : First → Option MergeFault
 fault_in (item i x) = None
 fault_in (broken i f) = Some (Stream i f)
@@ -104,7 +104,7 @@ fault_in nothing = None
 abbrev pub first_now : Merge → First
 first_now m = cond m.over nothing (first_of (map (λ r. r.ahead) m.readers))
 
--- what stands first was fetched, and what is to come is the same, unless a growth was refused
+-- what comes first was fetched, and what is to come is the same, unless an allocation failed
 pub record Fetched (old new : Reader) : Type 0 where
   pub told : IsTrue old.tells → OrRefused (coming old) (coming new)
   pub fetched : IsFetched new.ahead
@@ -128,18 +128,18 @@ FetchedUpTo (suc i) [] (s ∷ ss) = ⊥
 FetchedUpTo (suc i) (r ∷ rs) [] = ⊥
 FetchedUpTo (suc i) (r ∷ rs) (s ∷ ss) = Fetched r s × FetchedUpTo i rs ss
 
--- an item in front is not before this time
+-- a current item is not before this time
 abbrev pub AheadNotBefore : Option ℤ → reader.Peeked → Type 0
 AheadNotBefore low reader.start = Unit {0}
 AheadNotBefore low (reader.item x) = NotBefore low (time_of x)
 AheadNotBefore low reader.ended = Unit {0}
 AheadNotBefore low (reader.fault f) = Unit {0}
 
--- no item in front of a reader is before this time
+-- no current item of a reader is before this time
 abbrev pub EachNotBefore : Option ℤ → List Reader → Type 0
 EachNotBefore low readers = AllByRecursion (λ r. AheadNotBefore low r.ahead) readers
 
--- The item that comes next is the one in front of the reader of this number: of any sources it is that of the least turn,
+-- The item that comes next is the current one of the reader of this number: of any sources it is that of the least turn,
 -- and where they tell their bytes the first one to come.
 pub record IsNext (m : Merge) (number : ℕ) : Type 0 where
   pub front : Reader
@@ -157,8 +157,8 @@ RoomLeft (item i x) old new = new < old
 RoomLeft (broken i f) old new = new ≡ old
 RoomLeft nothing old new = new ≡ old
 
--- The reader of this number has left the item in front of it behind: what was behind that is to come, unless a growth was
--- refused. Each other reader is as it was.
+-- The reader of this number has gone past its current item: what came after that is to come, unless an allocation
+-- failed. Each other reader is as it was.
 pub record LeavesOne (number : ℕ) (old new : List Reader) : Type 0 where
   pub before : Reader
   pub after : Reader
@@ -169,12 +169,12 @@ pub record LeavesOne (number : ℕ) (old new : List Reader) : Type 0 where
   pub fetched : IsFetched after.ahead
   pub goes_on : IsTrue before.tells → OrRefused (rest_of before) (coming after)
 
--- the reader of the item in front has left it behind; where none is in front, each reader is as it was
+-- the reader of the current item has gone past it; where there is none, each reader is as it was
 abbrev pub LeavesFront : First → List Reader → List Reader → Type 0
 LeavesFront (item i x) old new = LeavesOne i old new
 LeavesFront (broken i f) old new = new ≡ old
 LeavesFront nothing old new = new ≡ old
 
--- what is to come of each reader is what was to come of it, unless a growth was refused
+-- what is to come of each reader is what was to come of it, unless an allocation failed
 abbrev pub EachComes : List Reader → List Reader → Type 0
 EachComes old new = AllZip (λ r s. IsTrue r.tells → OrRefused (coming r) (coming s)) old new

@@ -18,12 +18,12 @@ is_over stages.Over = true
 abbrev pub going : Stage
 going = stages.Going
 
--- the stage where a stream has this fault in front, or none
+-- the stage where a stream has this fault next, or none
 abbrev pub stage_of : ℕ → Option StreamFault → Stage
 stage_of number (Some fault) = stages.Broken number fault
 stage_of number None = stages.Going
 
--- the streams are lined up; a fault is in front; or it was left behind
+-- the streams are lined up; a fault comes next; or it was gone past
 abbrev pub Stands : Stage → List reader.Peeked → List (Option Turn) → Type 0
 Stands stages.Going heads turns = LinedUp heads turns
 Stands (stages.Broken number fault) heads turns = first_of heads ≡ broken number fault

@@ -1,11 +1,11 @@
--- Turns as the leaves of a tree (own).
+-- Turns as the leaves of a tournament tree (own).
 use Rattle.std.specs.Prelude.{◌≡◌, ◌≢◌, ℕ, suc, ◌+◌, ◌-◌, ◌/◌, ◌%◌, ◌^◌, ◌<◌, ◌≤◌, ◌⊎◌, min, false, cond, eqb, List, [], ◌∷◌, length, get_or, Option, Some, None, IfSome, slice_get}
 use Rattle.std.specs.List.{AllByRecursion}
 use Rattle.std.specs.Ordering.{is_lt}
 use Rattle.ctf_merge.specs.Keys.{turn_of_key, IsKey}
 use Rattle.ctf_merge.specs.Turns.{Turn, turn_cmp}
 
--- what stands in the place of a turn where there is none
+-- what is in the place of a turn where there is none
 abbrev pub nothing : ℕ
 nothing = 2 ^ 128 - 1
 
@@ -26,11 +26,11 @@ pub record IsTreeBut (hole leaves : ℕ) (nodes : List ℕ) : Type 0 where
   pub sized : length nodes ≡ leaves + leaves
   pub lesser : (i : ℕ) → 1 ≤ i → i < leaves → i ≢ hole → IsLesser i nodes
 
--- each node is; at 0 stands none
+-- each node is; at 0 there is none
 abbrev pub IsTree : ℕ → List ℕ → Type 0
 IsTree leaves nodes = IsTreeBut 0 leaves nodes
 
--- each node is but for the one above this place, and this key stands at the place
+-- each node is but for the one above this place, and this key is at the place
 pub record IsRisen (leaves place key : ℕ) (nodes : List ℕ) : Type 0 where
   pub tree : IsTreeBut (place / 2) leaves nodes
   pub at : node place nodes ≡ key

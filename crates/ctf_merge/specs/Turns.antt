@@ -12,7 +12,7 @@ use Rattle.ctf_stream.specs.Reader as reader
 use Rattle.ctf_stream.specs.declared.ahead.Peeked.{Peeked}
 use Rattle.ctf_stream.specs.declared.ahead.Peeked.TheVariants as aheads
 
--- the turn of a stream whose item stands in front
+-- the turn of a stream with a current item
 pub record Turn : Type 0 where
   -- the item's time, in nanoseconds since the epoch, where its stream has a clock
   pub time : Option ℤ
@@ -26,7 +26,7 @@ turn_cmp x y = ordering_then (option_cmp int_cmp x.time y.time) (nat_cmp x.numbe
 pub turns_total : IsTotalOrder turn_cmp
 turns_total = then_total (on_total (λ (t : Turn). t.time) (options_total int_cmp_total)) (on_total (λ (t : Turn). t.number) nat_cmp_total)
 
--- the turn of a stream, where an item stands in front
+-- the turn of a stream, where it has a current item
 abbrev pub turn_at : ℕ → Peeked → Option Turn
 turn_at number aheads.Start = None
 turn_at number (aheads.Item time) = Some (record { time = time; number = number })
@@ -38,14 +38,14 @@ abbrev pub turns_from : ℕ → List reader.Peeked → List (Option Turn)
 turns_from from [] = []
 turns_from from (h ∷ hs) = turn_at from (told h) ∷ turns_from (suc from) hs
 
--- the fault in front
+-- the current fault
 abbrev pub fault_at : Peeked → Option StreamFault
 fault_at aheads.Start = None
 fault_at (aheads.Item time) = None
 fault_at aheads.Ended = None
 fault_at (aheads.Fault f) = Some f
 
--- the turns of streams in front of which no fault stands
+-- the turns of streams of which none has a current fault
 pub record LinedUp (heads : List reader.Peeked) (turns : List (Option Turn)) : Type 0 where
   pub sound : AllByRecursion (λ h. fault_at (told h) ≡ None) heads
   pub turns_are : turns ≡ turns_from 0 heads

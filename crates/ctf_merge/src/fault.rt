@@ -9,7 +9,7 @@ pub enum MergeFault {
     /// A stream goes no further. It is the one of this number, from 0.
     #[error("{fault}")]
     Stream { number: usize, fault: StreamFault },
-    /// A growth was refused.
+    /// An allocation failed.
     #[error("no memory")]
     NoMemory,
 }

@@ -39,12 +39,12 @@ pub(crate) enum Stage {
     Going,
     /// The fault of the stream of this number comes next.
     Broken(usize, StreamFault),
-    /// The fault was left behind.
+    /// The fault was given and gone past.
     Over,
 }
 
 impl Stage {
-    /// Goes on where this stream has a fault in front, or none. Mostly it has none, and then nothing is written.
+    /// Goes on where this stream has a fault next, or none. Mostly it has none, and then nothing is written.
     #[inline(always)]
     fn meet(&mut self, number: usize, fault: Option<StreamFault>)
         requires { self.old ≡ going }
@@ -63,7 +63,7 @@ impl Stage {
 #[derive(Drop)]
 pub struct Merge<'a, S: Source + Drop> {
     readers: Vec<StreamReader<'a, S>>,
-    /// The turns of the streams with an item in front, while no fault comes next.
+    /// The turns of the streams with a current item, while no fault comes next.
     turns: TournamentTree,
     stage: Stage,
 }
@@ -85,7 +85,7 @@ impl<'a, S: Source + Drop> Model for Merge<'a, S> {
     ghost invariant = { λ m. IsStanding m.readers.items m.turns m.stage };
 }
 
-/// Fetches what stands first, where nothing was fetched.
+/// Fetches what comes first, where nothing was fetched.
 fn fetch<'a, S: Source + Drop>(reader: &mut StreamReader<'a, S>)
     ensures { Fetched reader.old reader.new }
 {
@@ -97,7 +97,7 @@ fn fetch<'a, S: Source + Drop>(reader: &mut StreamReader<'a, S>)
     }
 }
 
-/// Fetches what stands first of each reader.
+/// Fetches what comes first of each reader.
 fn fetch_each<'a, S: Source + Drop>(readers: &mut [StreamReader<'a, S>])
     ensures { EachIsFetched readers.old readers.new }
 {
@@ -106,7 +106,7 @@ fn fetch_each<'a, S: Source + Drop>(readers: &mut [StreamReader<'a, S>])
     }
 }
 
-/// Gives the item in front of a reader, and fetches the next one.
+/// Gives the current item of a reader, and fetches the next one.
 fn give<'a, S: Source + Drop>(
     reader: &mut StreamReader<'a, S>,
 ) -> Result<Option<OwnedItem<'a>>, StreamFault>
@@ -133,8 +133,8 @@ fn give<'a, S: Source + Drop>(
     }
 }
 
-/// Lines up a stream by what stands in front of it: its turn, where that is an item, in the place of the one before. Gives
-/// the fault that stands there.
+/// Lines up a stream by what comes next of it: its turn, where that is an item, in the place of the one before. Gives
+/// the fault that comes next.
 #[inline(always)]
 fn line_up(turns: &mut TournamentTree, number: usize, ahead: Peeked) -> Option<StreamFault>
     requires number { number + 1 < 2 ^ 63 }
@@ -155,7 +155,7 @@ fn line_up(turns: &mut TournamentTree, number: usize, ahead: Peeked) -> Option<S
     }
 }
 
-/// Lines up the turns of all streams, up to the first one with a fault in front.
+/// Lines up the turns of all streams, up to the first one with a fault next.
 fn line_up_each<'a, S: Source + Drop>(
     alloc: Global,
     readers: &[StreamReader<'a, S>],
@@ -187,7 +187,7 @@ impl<'a, S: Source + Drop> Merge<'a, S> {
         ensures traces { IfOk result (λ m. traces_of m.readers ≡ traces_of readers.entry.items) }
         ensures writes { IfOk result (λ m. writes_of m.readers ≡ writes_of readers.entry.items) }
 
-        // The bytes taken are those that the sources gave, and no more than the items in front need.
+        // The bytes taken are those that the sources gave, and no more than the current items need.
         ensures tells { IfOk result (λ m. EachTells readers.entry.items → EachTells m.readers) }
         ensures counted { IfOk result (λ m. EachTells readers.entry.items →
             given_of m.readers ≡ given_of readers.entry.items) }
@@ -259,7 +259,7 @@ impl<'a, S: Source + Drop> Merge<'a, S> {
         }
     }
 
-    /// Leaves the item in front behind, that of the stream of this number, and fetches the next one of its stream. For a
+    /// Goes past the current item, that of the stream of this number, and fetches the next one of its stream. For a
     /// caller who knows it, so that it isn't looked for again.
     #[inline(always)]
     pub fn leave(&mut self, number: usize)
@@ -273,11 +273,11 @@ impl<'a, S: Source + Drop> Merge<'a, S> {
         ensures traces { traces_of self.new.readers ≡ traces_of self.old.readers }
         ensures writes { writes_of self.new.readers ≡ writes_of self.old.readers }
 
-        // Of any sources: an item that is left took room.
+        // Of any sources: an item that is gone past took room.
         ensures room { RoomLeft (first_now self.old) (room_of self.old.readers)
             (room_of self.new.readers) }
 
-        // The bytes taken are those that the sources gave, and no more than the items in front need.
+        // The bytes taken are those that the sources gave, and no more than the current items need.
         ensures tells { EachTells self.old.readers → EachTells self.new.readers }
         ensures counted { EachTells self.old.readers →
             given_of self.new.readers ≡ given_of self.old.readers }
@@ -292,8 +292,8 @@ impl<'a, S: Source + Drop> Merge<'a, S> {
         self.stage.meet(number, fault);
     }
 
-    /// Leaves the item in front behind, and fetches the next one of its stream; or leaves the fault in front
-    /// behind, and then nothing comes. The end stays.
+    /// Goes past the current item, and fetches the next one of its stream; or goes past the current fault,
+    /// and then nothing comes. The end stays.
     pub fn go_on(&mut self)
         ensures goes_on { EachTells self.old.readers →
             GoesOn (coming_of self.old) (coming_of self.new) }
@@ -304,11 +304,11 @@ impl<'a, S: Source + Drop> Merge<'a, S> {
         ensures traces { traces_of self.new.readers ≡ traces_of self.old.readers }
         ensures writes { writes_of self.new.readers ≡ writes_of self.old.readers }
 
-        // Of any sources: an item that is left took room.
+        // Of any sources: an item that is gone past took room.
         ensures room { RoomLeft (first_now self.old) (room_of self.old.readers)
             (room_of self.new.readers) }
 
-        // The bytes taken are those that the sources gave, and no more than the items in front need.
+        // The bytes taken are those that the sources gave, and no more than the current items need.
         ensures tells { EachTells self.old.readers → EachTells self.new.readers }
         ensures counted { EachTells self.old.readers →
             given_of self.new.readers ≡ given_of self.old.readers }
@@ -327,11 +327,11 @@ impl<'a, S: Source + Drop> Merge<'a, S> {
         }
     }
 
-    /// The next item, by value, while the next one of its stream is fetched; `None` at the end. The fault is told once, and
-    /// then nothing comes: one that was met while an item was fetched is told by the next call. A growth that is refused
-    /// for the item is told in its place.
+    /// The next item, by value, while the next one of its stream is fetched; `None` at the end. The fault is reported once, and
+    /// then nothing comes: one that was met while an item was fetched is reported by the next call. Where an allocation
+    /// fails for the item, that is reported in its place.
     ///
-    /// An error is the fault of a stream behind the items before, F1 to F11, F13, F14 or `NoMemory`, with its number.
+    /// An error is the fault of a stream after the items before, F1 to F11, F13, F14 or `NoMemory`, with its number.
     pub fn next(&mut self) -> Result<Option<OwnedItem<'a>>, MergeFault>
         ensures gives { EachTells self.old.readers →
             Gives (coming_of self.old) (coming_of self.new) result }
@@ -339,7 +339,7 @@ impl<'a, S: Source + Drop> Merge<'a, S> {
         ensures fetched { EachFetched self.new.readers }
         ensures rises { EachTells self.old.readers → ComingRises self.old → ComingRises self.new }
 
-        // Of any sources: what stood in front is told, behind a fault nothing comes, the end stays, and an item that is
+        // Of any sources: what was current is given, after a fault nothing comes, the end stays, and an item that is
         // given took room.
         ensures first { GivesFirst self.old result }
         ensures over { OnErr result (self.new.over ≡ true) }
@@ -349,7 +349,7 @@ impl<'a, S: Source + Drop> Merge<'a, S> {
         ensures traces { traces_of self.new.readers ≡ traces_of self.old.readers }
         ensures writes { writes_of self.new.readers ≡ writes_of self.old.readers }
 
-        // The bytes taken are those that the sources gave, and no more than the items in front need.
+        // The bytes taken are those that the sources gave, and no more than the current items need.
         ensures tells { EachTells self.old.readers → EachTells self.new.readers }
         ensures counted { EachTells self.old.readers →
             given_of self.new.readers ≡ given_of self.old.readers }

@@ -9,19 +9,19 @@ use ctf_list::NoMemory;
 use std::alloc::Global;
 use std::marker::Model;
 
-/// Stands behind all turns.
+/// Comes after all turns.
 const NOTHING: u128 = u128::MAX;
 
-/// The number that stands there in place of a stream's.
+/// The number that is there in place of a stream's.
 const NOBODY: usize = (1 << 63) - 1;
 
 /// The turn of each stream, by its number, where it has one. Contracts see these.
 ///
-/// They are the leaves of a tree, and each node above is the lesser of the two below it, so that the first one is the least
-/// turn. Which of two that is, is chosen without a jump: streams take turns as they please, and a processor can't foresee it.
+/// They are the leaves of a tournament tree, and each node above is the lesser of the two below it, so that the first one is the least
+/// turn. Which of two that is, is chosen without a jump: streams alternate as they please, and a processor can't foresee it.
 #[derive(Drop)]
 pub(crate) struct TournamentTree {
-    /// A node's two lie at twice its place and behind that; the first node is at 1, and nothing at 0.
+    /// A node's two lie at twice its place and after that; the first node is at 1, and nothing at 0.
     nodes: Vec<u128>,
     /// How many leaves there are, and where the first one is.
     leaves: usize,
@@ -94,7 +94,7 @@ fn key_of(turn: Option<Turn>) -> u128
     }
 }
 
-/// The number of the stream of a node, if a turn stands there. The half that tells is looked at alone, since a node is
+/// The number of the stream of a node, if a turn is there. The half that says it is looked at alone, since a node is
 /// written by halves.
 #[inline(always)]
 fn number_in(key: u128) -> Option<usize>

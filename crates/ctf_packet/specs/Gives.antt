@@ -12,12 +12,12 @@ abbrev pub Exactly : {A B : Type 0} → (A → B) → Result A StreamFault → R
 Exactly view (Ok x) r = r ≡ Ok (view x)
 Exactly view (Err f) r = r ≡ Err f
 
--- the same, or memory ran out
+-- an answer, seen as what the definition gives, or memory ran out
 abbrev pub OrRefused : {A B : Type 0} → (A → B) → Result A StreamFault → Result B StreamFault → Type 0
 OrRefused view (Ok x) r = r ≡ Ok (view x)
 OrRefused view (Err f) r = (r ≡ Err f) ⊎ (f ≡ faults.NoMemory)
 
--- no size is told; the sizes told can be; or they can't, whatever is left
+-- no size is given; the sizes given can be; or they can't, whatever is left
 abbrev pub SizesTold : Option ℕ → Option ℕ → ℕ → ℕ → Result (Option Sizes) StreamFault → Type 0
 SizesTold packet content rest end (Ok None) = (packet ≡ None) × (content ≡ None)
 SizesTold packet content rest end (Ok (Some sizes)) = (sizes_of packet content rest ≡ sizes) × (are_possible sizes end ≡ true) × (((packet ≡ None) × (content ≡ None)) → ⊥)

@@ -19,7 +19,7 @@ pub record Event (C : Type 0) : Type 0 where
   pub packet_end : ℕ
   pub packet_length : ℕ
 
--- what a tracer did not write before a packet: how many, the clock behind the packet's context, and since when and
+-- what a tracer did not write before a packet: how many, the clock after the packet's context, and since when and
 -- until when
 pub record Gap : Type 0 where
   pub count : ℕ
@@ -36,7 +36,7 @@ pub data Item (C : Type 0) : Type 0 where
   -- packets
   lost : Gap → Item C
 
--- Items and how they end: at the end of the stream, or with a fault. `at` is the cut point at which they end, in
+-- Items and how they end: at the end of the stream, or with a fault. `at` is the packet boundary at which they end, in
 -- bytes of the stream: the end of all packets, or the beginning of the packet with the fault.
 pub record Run (C : Type 0) : Type 0 where
   pub items : List (Item C)
@@ -85,7 +85,7 @@ from_record (suc fuel) packet bytes clock place follows =
     then recorded packet (λ next end. from_record fuel packet bytes next end follows) (record_at packet bytes clock place)
     else follows clock
 
--- the same, without a bound: each record has a bit at least
+-- the event records from a place on, without a bound: each has a bit at least
 abbrev pub from_place : {C : Type 0} → Opened C → List ℕ → Option Moment → ℕ → (Option Moment → Run C) → Run C
 from_place packet bytes clock place follows = from_record (packet.content - place) packet bytes clock place follows
 
@@ -94,7 +94,7 @@ abbrev pub from_packet : {C : Type 0} → Opened C → List ℕ → (Option Mome
 from_packet packet bytes follows =
     before (gaps packet) (from_place packet bytes packet.clock packet.first follows)
 
--- the end at a cut point
+-- the end at a packet boundary
 abbrev pub end_fault : Ending → Option StreamFault
 end_fault Clean = None
 end_fault Failed = Some faults.ReadFailed
@@ -108,7 +108,7 @@ abbrev pub opened : {C : Type 0} → ℕ → List ℕ → (Opened C → Option M
 opened at left follows (Ok packet) = from_packet packet (take (packet.end - packet.start) left) (follows packet)
 opened at left follows (Err fault) = stops (Some fault) at
 
--- The items from a cut point on, where the stream has come so far: packets one after the other (CTF 1.8.3,
+-- The items from a packet boundary on, where the stream has come so far: packets one after the other (CTF 1.8.3,
 -- section 5). `fuel` bounds their number.
 abbrev pub from_cut : {C : Type 0} → ℕ → TraceForm C → Ending → Option Reached → ℕ → List ℕ → Run C
 from_cut zero trace ending reached at left = stops (end_fault ending) at
@@ -119,7 +119,7 @@ from_cut (suc fuel) trace ending reached at (byte ∷ bytes) =
     then stops (Some faults.StreamTooLong) at
     else opened at left (λ packet clock. from_cut fuel trace ending (Some (reached_behind packet clock)) packet.end (drop (packet.end - packet.start) left)) (open_at trace ending reached at left)
 
--- the same, without a bound: each packet has a byte at least
+-- the items from a packet boundary on, without a bound: each packet has a byte at least
 abbrev pub from_bytes : {C : Type 0} → TraceForm C → Ending → Option Reached → ℕ → List ℕ → Run C
 from_bytes trace ending reached at left = from_cut (length left) trace ending reached at left
 

@@ -31,7 +31,7 @@ pub record Opened (C : Type 0) : Type 0 where
   -- where its event records begin and its content ends, in bits from its first one
   pub first : ℕ
   pub content : ℕ
-  -- the clock before it, behind its context, and at its end as far as it says
+  -- the clock before it, after its context, and at its end as far as it says
   pub before : Option Moment
   pub clock : Option Moment
   pub until : Option Moment
@@ -52,7 +52,7 @@ abbrev pub or_fault : {A : Type 0} → StreamFault → Option A → Result A Str
 or_fault fault (Some x) = Ok x
 or_fault fault None = Err fault
 
--- the front of what is left of a stream, as far as a packet may reach
+-- the beginning of what is left of a stream, as far as a packet may reach
 abbrev pub front : List ℕ → Values → Input
 front left values = input_of left (min (8 * length left) longest) values
 
@@ -105,7 +105,7 @@ clock_before None reached = Ok None
 clock_before (Some line) None = or_fault faults.ClockRefused (moment_at line 0) >>= (λ start. Ok (Some start))
 clock_before (Some line) (Some reached) = Ok reached.clock
 
--- the clock behind a scope whose integers set it
+-- the clock after a scope whose integers set it
 abbrev pub clock_behind : Option Line → Option Moment → List (ℕ × ℕ) → Result (Option Moment) StreamFault
 clock_behind (Some line) (Some clock) ms = or_fault faults.ClockRefused (advanced_by line clock ms) >>= (λ next. Ok (Some next))
 clock_behind (Some line) None ms = Ok None
@@ -146,7 +146,7 @@ sizes_checked packet_size content_size ending rest end = do
   there ← unless (cut_short ending) (is_there packet_size content_size ending sizes rest)
   Ok sizes
 
--- A packet of these sizes, whose header and context have these values: the clock, and what its counts tell (own).
+-- A packet of these sizes, whose header and context have these values: the clock, and what its counts say (own).
 unfoldable pub placed : {C : Type 0} → StreamForm C → Option Reached → ℕ → Values → ℕ → Sizes → Result (Opened C) StreamFault
 placed stream reached start values first sizes = do
   let field = λ (name : List ℕ). role name stream.packet_context values.packet_context
@@ -180,6 +180,6 @@ open_at trace ending reached start left = do
   sizes ← sizes_checked (size (codes "packet_size")) (size (codes "content_size")) ending (8 * length left) context.end
   placed stream reached start (record known { packet_context = context.value }) context.end sizes
 
--- what is reached behind a packet, where its clock came so far
+-- what is reached after a packet, where its clock came so far
 abbrev pub reached_behind : {C : Type 0} → Opened C → Option Moment → Reached
 reached_behind packet clock = record { stream = packet.stream.id; clock = clock; discarded = packet.discarded; number = packet.number }

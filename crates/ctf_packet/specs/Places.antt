@@ -1,4 +1,4 @@
--- What stands where an event record begins.
+-- What is there where an event record begins.
 use Rattle.std.specs.Prelude.{◌≡◌, Result}
 use Rattle.ctf_clock.specs.declared.moment.Shift.{Shift}
 use Rattle.ctf_packet.specs.Classes.{Classes, stream_form}
@@ -13,10 +13,10 @@ use Rattle.ctf_packet.specs.declared.record_place.RecordPlace.{RecordPlace}
 abbrev pub IsTimed : Shift → OpenPacket → Type 0
 IsTimed shift packet = packet.timeline ≡ (stream_form shift packet.stream.now).line
 
--- the header that stands there, behind these values
+-- the header there, after these values
 abbrev pub headed_at : Shift → Values → RecordPlace → Result (Headed Classes) StreamFault
 headed_at shift values at = headed (stream_form shift at.packet.now.stream.now) at.bytes.now at.packet.now.content values at.clock at.place
 
--- the event record that stands there, behind the packet's values among these
+-- the event record there, after the packet's values among these
 abbrev pub record_there : Shift → Values → RecordPlace → Result (Recorded Classes) StreamFault
 record_there shift values at = record_at (opened_of shift (packet_values values) at.packet.now) at.bytes.now at.clock at.place

@@ -13,7 +13,7 @@ use Rattle.ctf_packet.specs.Packets.{Opened, unless, or_fault, moves, clock_behi
 use Rattle.ctf_packet.specs.declared.fault.StreamFault.{StreamFault}
 use Rattle.ctf_packet.specs.declared.fault.StreamFault.TheVariants as faults
 
--- an event record: its class, the clock behind its header, and the values of all scopes
+-- an event record: its class, the clock after its header, and the values of all scopes
 pub record Recorded (C : Type 0) : Type 0 where
   pub event : EventForm C
   pub clock : Option Moment
@@ -26,7 +26,7 @@ abbrev pub event_numbered : {C : Type 0} → List (EventForm C) → ℤ → Opti
 event_numbered events (pos id) = if nat_lt id (2 ^ 64) then first_of_id (λ event. event.id) id events else None
 event_numbered events (negsuc n) = None
 
--- the class that the last number named `id` tells, or the only one (CTF 1.8.3, section 6.1; the last and the only
+-- the class that the last number named `id` gives, or the only one (CTF 1.8.3, section 6.1; the last and the only
 -- one are own)
 abbrev pub event_named : {C : Type 0} → List (EventForm C) → Option ℤ → Option (EventForm C)
 event_named events (Some id) = event_numbered events id
@@ -37,7 +37,7 @@ ids_in (Some k) (Some v) = ids k v
 ids_in (Some k) None = []
 ids_in None v = []
 
--- the header of an event record: the class that it names, the clock behind it, and its value
+-- the header of an event record: the class that it names, the clock after it, and its value
 pub record Headed (C : Type 0) : Type 0 where
   pub event : EventForm C
   pub clock : Option Moment
@@ -52,12 +52,12 @@ headed stream bytes content values clock place = do
   event ← or_fault faults.UnknownEvent (event_named stream.events (last_or None (ids_in stream.event_header header.value)))
   Ok (record { event = event; clock = next; header = header })
 
--- what stands behind the header: the values of all scopes, and where the last one ends
+-- what follows the header: the values of all scopes, and where the last one ends
 pub record Body : Type 0 where
   pub values : Values
   pub end : ℕ
 
--- The scopes behind the header, one after the other: the stream event context, the event context, the fields (CTF
+-- The scopes after the header, one after the other: the stream event context, the event context, the fields (CTF
 -- 1.8.3, section 6.2).
 unfoldable pub bodied : Option Form → Option Form → Form → List ℕ → ℕ → Values → ℕ → ℕ → Result Body StreamFault
 bodied shared_class own_class fields_class bytes content values place spent = do

@@ -54,7 +54,7 @@ abbrev pub stood : (Fault → StreamFault) → Step Val → Result Stood StreamF
 stood told (Ok x) = Ok (record { value = Some x.0; end = x.1; spent = x.2 })
 stood told (Err f) = Err (told f)
 
--- the value of a scope that stands at a place, behind so many values; a scope without a class is empty
+-- the value of a scope that is at a place, after so many values; a scope without a class is empty
 abbrev pub scope_at : (Fault → StreamFault) → Option Form → Input → ℕ → ℕ → Result Stood StreamFault
 scope_at told None input place spent = Ok (record { value = None; end = place; spent = spent })
 scope_at told (Some k) input place spent = stood told (walk k input [] place spent)

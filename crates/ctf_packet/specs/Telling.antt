@@ -1,4 +1,4 @@
--- What a header tells of its event record.
+-- What a header says of its event record.
 use Rattle.std.specs.Prelude.{◌≡◌, ℕ, ℤ, Bool, true, false, IsTrue, List, map, Option, Some, None, Result, Ok, Err}
 use Rattle.std.specs.List.{last_or}
 use Rattle.ctf_class.specs.declared.class.Class.{Class}
@@ -67,7 +67,7 @@ choice_ids options value = fields.of_choice (fields.choice_in (val value)) (fiel
 abbrev pub option_ids : List Member → ℕ → Value → List ℤ
 option_ids options i inner = fields.option_ids (parts_of (map member_part options)) i (val inner)
 
--- its class number and the clock behind it; or the clock is refused
+-- its class number and the clock after it; or the clock is refused
 abbrev pub TellsHeader : Option Line → Option Moment → Option Form → Option Val → Result HeaderTold StreamFault → Type 0
 TellsHeader line clock k v (Ok told) = (clock_behind line clock (moves k v) ≡ Ok told.clock) × (told.id ≡ last_or None (ids_in k v))
 TellsHeader line clock k v (Err f) = clock_behind line clock (moves k v) ≡ Err f

@@ -53,13 +53,13 @@ opened_of shift values o =
       number = o.number;
     }
 
--- the value that stands was put in its scope; or it has this fault
+-- the value that is there was put in its scope; or it has this fault
 abbrev pub PutsValue : Scope → Values → Step Val → Result ℕ DecodeFault → Known → Type 0
 PutsValue scope before step (Ok end) after =
     (v : Val) × (step ≡ Ok (v, end, after.spent)) × (values_of after ≡ put scope (Some v) before)
 PutsValue scope before step (Err f) after = Fails f step
 
--- the same of a scope that may have no class, with the stream's faults
+-- the value of a scope, which may have no class, was put there; or it has this fault, with the stream's faults
 abbrev pub PutsScope : Scope → Values → Result Stood StreamFault → Result ℕ StreamFault → Known → Type 0
 PutsScope scope before stood (Ok end) after =
     (s : Stood) × (stood ≡ Ok s) × (end ≡ s.end) × (after.spent ≡ s.spent) × (values_of after ≡ put scope s.value before)
@@ -76,13 +76,13 @@ IsTold told NoMemory fault = fault ≡ faults.NoMemory
 abbrev pub packet_values : Values → Values
 packet_values values = record no_values { packet_header = values.packet_header; packet_context = values.packet_context }
 
--- the header of an event record: its class and the clock behind it, and its value in its scope; or its fault
+-- the header of an event record: its class and the clock after it, and its value in its scope; or its fault
 abbrev pub PutsHead : StreamClass → Values → Result (Headed Classes) StreamFault → Result Head StreamFault → Known → Type 0
 PutsHead stream before headed (Ok head) after =
     (h : Headed Classes) × (headed ≡ Ok h) × (event_form stream head.event.now ≡ h.event) × (head.clock ≡ h.clock) × (head.end ≡ h.header.end) × (after.spent ≡ h.header.spent) × (values_of after ≡ put EventHeader h.header.value before)
 PutsHead stream before headed (Err f) after = (headed ≡ Err f) ⊎ (f ≡ faults.NoMemory)
 
--- the scopes behind it
+-- the scopes after it
 abbrev pub PutsBody : Result Body StreamFault → Result ℕ StreamFault → Known → Type 0
 PutsBody bodied (Ok end) after = bodied ≡ Ok (record { values = values_of after; end = end })
 PutsBody bodied (Err f) after = (bodied ≡ Err f) ⊎ (f ≡ faults.NoMemory)

@@ -35,7 +35,7 @@ pub fn clock_before(
     }
 }
 
-/// The clock behind a scope whose moving integers set it.
+/// The clock after a scope whose clock-mapped integers set it.
 ///
 /// F9 exactly where one of them is refused.
 pub fn clock_behind(
@@ -57,7 +57,7 @@ pub fn clock_behind(
     }
 }
 
-/// The clock behind a scope, where there is one.
+/// The clock after a scope, where there is one.
 fn set(
     timeline: &Timeline,
     clock: Moment,
@@ -80,7 +80,7 @@ fn set(
     }
 }
 
-/// The clock at a packet's end: `timestamp_end`, extended from the clock behind its context, or that clock
+/// The clock at a packet's end: `timestamp_end`, extended from the clock after its context, or that clock
 /// where there is no such field or it is refused.
 pub fn clock_until(
     timeline: Option<&Timeline>,

@@ -44,7 +44,7 @@ pub enum StreamFault {
     /// F14: the stream is longer than 2^60 bytes.
     #[error("stream too long")]
     StreamTooLong,
-    /// A growth was refused.
+    /// An allocation failed.
     #[error("no memory")]
     NoMemory,
 }

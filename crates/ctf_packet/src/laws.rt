@@ -8,18 +8,18 @@ pub fn walk_finds_what_stands()
 {}
 
 /// The clock goes by the steps that `moving` gives, on each number that an integer's width holds and on each
-/// value that stands in a packet.
+/// value that is in a packet.
 pub fn clock_goes_by_moving()
     ensures { ClockGoesByMoving }
 {}
 
 /// What comes from a place of a packet on is the event record there and what comes from its end on, or
-/// its fault; behind the content it is what follows the packet.
+/// its fault; after the content it is what follows the packet.
 pub fn records_go_on()
     ensures { RecordsGoOn }
 {}
 
-/// What comes from a cut point of a stream on is the packet there and what comes from its end on, or its
+/// What comes from a packet boundary of a stream on is the packet there and what comes from its end on, or its
 /// fault; where no byte is left it is the end.
 pub fn packets_go_on()
     ensures { PacketsGoOn }

@@ -33,7 +33,7 @@ pub struct OpenPacket<'a> {
     pub content: u64,
     /// The clock before it.
     pub before: Option<Moment>,
-    /// The clock behind its context.
+    /// The clock after its context.
     pub clock: Option<Moment>,
     /// The clock at its end, as far as it says.
     pub until: Option<Moment>,

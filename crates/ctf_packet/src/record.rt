@@ -25,7 +25,7 @@ use std::alloc::Global;
 #[derive(Clone, Copy)]
 pub struct Head<'a> {
     pub event: &'a EventClass,
-    /// The clock behind it.
+    /// The clock after it.
     pub clock: Option<Moment>,
     /// Where it ends, in bits from the packet's first one.
     pub end: u64,
@@ -35,13 +35,13 @@ pub struct Head<'a> {
 #[derive(Clone, Copy)]
 pub struct EventRecord<'a> {
     pub event: &'a EventClass,
-    /// The clock behind its header.
+    /// The clock after its header.
     pub clock: Option<Moment>,
     /// Where it ends, in bits from the packet's first one.
     pub end: u64,
 }
 
-/// The event class of the number that a header tells, or the only one (CTF 1.8.3, section 6.1).
+/// The event class of the number that a header gives, or the only one (CTF 1.8.3, section 6.1).
 pub fn event_named(stream: &StreamClass, id: Option<i128>) -> Option<&EventClass>
     ensures { option_map (event_form stream.now) (option_copied result) ≡
         records.event_named (map (event_form stream.now) stream.now.events) id }
@@ -143,7 +143,7 @@ pub fn put_body(
     record_scope(alloc, Some(fields), &third, &mut body.fields, scopes)
 }
 
-/// Puts the header of an event record. Its class, and the clock behind it.
+/// Puts the header of an event record. Its class, and the clock after it.
 #[tactic(auto, unfolding(crate::specs::Records::headed))]
 fn put_head<'a>(
     alloc: Global,

@@ -30,7 +30,7 @@ pub struct ScopePlace<'a> {
 }
 
 /// Puts the value of a class that is at a place in the scope there. The place where it ends, in bits from the packet's first
-/// one. The memory of `spare` is used for it, and any value may be in it then.
+/// one. The memory of `spare` is used for it, and an unspecified value is in it then.
 #[inline(always)]
 pub fn scope_into(
     alloc: Global,
@@ -62,7 +62,7 @@ pub fn scope_into(
     }
 }
 
-/// The content of the front of a stream, as far as a packet may reach, in bits.
+/// The content of the beginning of a stream, as far as a packet may reach, in bits.
 pub fn front_content(left: &[u8]) -> u64
     ensures value { result ≡ min (8 * length left.now) values.longest }
     ensures held { result ≤ 8 * length left.now }
@@ -98,7 +98,7 @@ fn fault_in_record(fault: DecodeFault) -> StreamFault
 }
 
 /// Puts the value of a scope of an event record that is at a place in the scope there. The place where it ends, in bits from
-/// the packet's first one. The memory of `spare` is used for it, and any value may be in it then.
+/// the packet's first one. The memory of `spare` is used for it, and an unspecified value is in it then.
 #[inline(always)]
 pub fn record_scope(
     alloc: Global,

@@ -18,7 +18,7 @@ pub struct Sizes {
     pub content: u64,
 }
 
-/// The sizes that a packet's context tells, where it ends at a bit; `None` where it tells neither, and the
+/// The sizes that a packet's context gives, where it ends at a bit; `None` where it gives neither, and the
 /// packet is the rest of the stream (CTF 1.8.3, section 5.2).
 ///
 /// F5 exactly where they can't be.

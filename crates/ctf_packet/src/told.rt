@@ -1,4 +1,4 @@
-//! What the header of an event record tells.
+//! What the header of an event record says.
 
 ghost use Rattle.std.specs.Prelude.{◌≡◌, [], Some, Ok, option_map, option_copied};
 ghost use Rattle.ctf_decode.specs.Views.{form, val};
@@ -11,18 +11,18 @@ use ctf_class::Class;
 use ctf_clock::{Moment, Timeline};
 use ctf_decode::{Value, last_id};
 
-/// What the header of an event record tells of it.
+/// What the header of an event record says of it.
 #[derive(Clone, Copy)]
 pub(crate) struct HeaderTold {
     /// The number of its class, if there is one.
     pub(crate) id: Option<i128>,
-    /// The clock behind it.
+    /// The clock after it.
     pub(crate) clock: Option<Moment>,
 }
 
-/// What a header tells, where the clock came so far.
+/// What a header says, where the clock came so far.
 ///
-/// F9 exactly where one of its moving integers is refused.
+/// F9 exactly where one of its clock-mapped integers is refused.
 pub(crate) fn told_by(
     timeline: Option<&Timeline>,
     clock: Option<Moment>,
@@ -48,7 +48,7 @@ pub(crate) fn told_by(
     }
 }
 
-/// The clock behind a scope that does not set it.
+/// The clock after a scope that does not set it.
 fn unchanged_clock(timeline: Option<&Timeline>, clock: Option<Moment>) -> Option<Moment>
     ensures { packets.clock_behind (option_copied timeline.entry) clock [] ≡ Ok result }
 {
@@ -58,7 +58,7 @@ fn unchanged_clock(timeline: Option<&Timeline>, clock: Option<Moment>) -> Option
     }
 }
 
-/// What a header that is there tells.
+/// What a header that is there says.
 fn told_in(
     timeline: Option<&Timeline>,
     clock: Option<Moment>,
@@ -83,7 +83,7 @@ fn told_in(
     }
 }
 
-/// What a header tells that sets a clock.
+/// What a header says that sets a clock.
 fn told_on(
     timeline: &Timeline,
     clock: Moment,
