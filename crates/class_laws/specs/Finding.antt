@@ -20,7 +20,7 @@ HasTag route c env = (z : ℤ) × (found route c.earlier env ≡ Some (label z))
 
 abbrev mutual
   -- Each length and each tag that is looked for where a value of a class is decoded is found: at whatever place; in each
-  -- member, whatever stands before it; in each option; in each element.
+  -- member, whatever is before it; in each option; in each element.
   pub FindsAll : Form → Input → Env → Type 0
   FindsAll (structure a ps) c env = FindsInMembers ps c env []
   FindsAll (variant a tag choices ps) c env = HasTag tag c env × FindsInOptions ps c env
@@ -28,7 +28,7 @@ abbrev mutual
   FindsAll (text a many) c env = HasLength many c env
   FindsAll _ c env = Unit {0}
 
-  -- the members behind those that are done
+  -- the members after those that are done
   pub FindsInMembers : Parts → Input → Env → List Val → Type 0
   FindsInMembers no_parts c env done = Unit {0}
   FindsInMembers (part name k ps) c env done =
@@ -38,7 +38,7 @@ abbrev mutual
   FindsInOptions no_parts c env = Unit {0}
   FindsInOptions (part name k ps) c env = FindsAll k c env × FindsInOptions ps c env
 
--- the same of a scope, which may have no class
+-- each length and each tag of a scope is found; it may have no class
 abbrev pub FindsIn : Option Form → Input → Type 0
 FindsIn None c = Unit {0}
 FindsIn (Some k) c = FindsAll k c []

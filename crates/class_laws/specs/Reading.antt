@@ -11,7 +11,7 @@ use Rattle.ctf_packet.specs.Records.{Headed, headed}
 use Rattle.ctf_packet.specs.declared.reached.Reached.{Reached}
 use Rattle.class_laws.specs.Finding.{FindsIn}
 
--- In the scopes of an event record behind its header, each decoded with the values of those before it.
+-- In the scopes of an event record after its header, each decoded with the values of those before it.
 pub record FindsInBody (shared_class own_class fields_class : Option Form) (bytes : List ℕ) (content : ℕ) (values : Values) : Type 0 where
   pub stream_event_context : FindsIn shared_class (input_of bytes content values)
   pub event_context : (place spent : ℕ) (shared : Stood) → scope_at fault_in_record shared_class (input_of bytes content values) place spent ≡ Ok shared

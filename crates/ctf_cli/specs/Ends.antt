@@ -17,8 +17,8 @@ use Rattle.ctf_cli.specs.Traces.{AreTraces, AreBlocked}
 
 -- ---- the sinks
 
--- a sink: the bytes that it accepted, whether it holds none of them back, how often it failed, and how often it was
--- refused memory
+-- a sink: the bytes that it accepted, whether it holds none of them back, how often it failed, and how often it ran
+-- out of memory
 pub record Side : Type 0 where
   pub accepted : List ℕ
   pub settled : Bool
@@ -68,7 +68,7 @@ pub record Counted (outcome : Outcome) (old new : Side) : Type 0 where
   pub failures : new.failures ≡ failures_after outcome old.failures
   pub refusals : new.refusals ≡ refusals_after outcome old.refusals
 
--- all of a text, or a first part of it where the sink failed or was refused memory
+-- all of a text, or a first part of it where the sink failed or ran out of memory
 abbrev pub IsPut : List ℕ → Outcome → List ℕ → List ℕ → Type 0
 IsPut text Done old new = new ≡ old ++ text
 IsPut text (Fault fault) old new = ⊥
@@ -87,7 +87,7 @@ pub record Says (text : List ℕ) (old new : Side) : Type 0 where
 
 -- ---- the end of the log
 
--- What the log holds back is passed on, which changes how the program ends only where the log fails or is refused memory.
+-- What the log holds back is passed on, which changes how the program ends only where the log fails or runs out of memory.
 -- After a failed write nothing more is passed on.
 pub data Settles (old new : Side) : Outcome → Outcome → Type 0 where
   settled : (outcome : Outcome) → (outcome ≡ WriteFailed → ⊥) → IsTrue new.settled → new.accepted ≡ old.accepted → Counted Done old new → Settles old new outcome outcome
@@ -97,8 +97,8 @@ pub data Settles (old new : Side) : Outcome → Outcome → Type 0 where
 
 -- ---- the program
 
--- A run over the traces, in which nothing of the log is held back behind the line of a fault, nor where the messages failed or
--- were refused memory; then the log is settled; then the line of how that ended is written.
+-- A run over the traces, in which nothing of the log is held back after the line of a fault, nor where the messages failed or
+-- ran out of memory; then the log is settled; then the line of how that ended is written.
 pub record Prints (traces : List Trace) (options : Options) (old new : Sides) (status : ℕ) : Type 0 where
   pub between : Sides
   pub outcome : Outcome
@@ -128,14 +128,14 @@ pub record Refuses (line : List ℕ) (old new : Sides) (status : ℕ) : Type 0 w
   pub status_is : status ≡ 1
 
 -- How the program ends for options: the traces in the folders are printed; or the line of the first path that can't be
--- read is, or that of want of memory.
+-- read is, or that of out of memory.
 pub data EndsFor (options : Options) (files : Files) (old new : Sides) (status : ℕ) : Type 0 where
   printed : (traces : List Trace) → AreTraces files options.dirs traces → Prints traces options old new status → EndsFor options files old new status
   blocked : (path : List ℕ) → AreBlocked files options.dirs path → Refuses (path_line path) old new status → EndsFor options files old new status
   starved : Refuses (outcome_text NoMemory) old new status → EndsFor options files old new status
 
 -- How the program ends for words: as for the options that they give; or with the usage line, where they ask for help; or
--- with the line of bad words, or of want of memory.
+-- with the line of bad words, or of out of memory.
 pub data Ends (words : List (List ℕ)) (files : Files) (old new : Sides) (status : ℕ) : Type 0 where
   asked : (options : Options) → GivesOptions words options → EndsFor options files old new status → Ends words files old new status
   helped : IsRefusal words usages.Help → Helps old new status → Ends words files old new status

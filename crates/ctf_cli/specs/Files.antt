@@ -5,7 +5,7 @@ use Rattle.ctf_session.specs.Inputs.{Given}
 use Rattle.ctf_cli.specs.declared.folders.FolderFault.{FolderFault}
 use Rattle.ctf_cli.specs.declared.folders.FolderFault.TheVariants.{Unreadable, NoMemory}
 
--- what stands at a path, for one who looks for a stream: no file that is not empty, or one that can't be opened, or a stream
+-- what is at a path, for one who looks for a stream: no file that is not empty, or one that can't be opened, or a stream
 pub data Found : Type 0 where
   nothing : Found
   closed : Found
@@ -19,7 +19,7 @@ pub record Files : Type 0 where
   pub bytes : List ℕ → Option (List ℕ)
   pub found : List ℕ → Found
 
--- a fault stands where something can't be read, and want of memory anywhere
+-- a fault is where something can't be read, and out of memory anywhere
 abbrev pub IsFault : Type 0 → FolderFault → Type 0
 IsFault blocked Unreadable = blocked
 IsFault blocked NoMemory = Unit {0}

@@ -3,7 +3,7 @@ use Rattle.std.specs.Prelude.{ℕ, List, Bool, true, false, Option, [], ◌∷�
 use Rattle.std.specs.Io.KnownBytes.{append_known}
 use Rattle.ctf_cli.specs.declared.log_writer.LogWriter.{LogWriter}
 
--- the writer behind it
+-- the inner writer
 abbrev pub writer_of : {O : Type 0} → LogWriter O → O
 writer_of log = log.writer
 

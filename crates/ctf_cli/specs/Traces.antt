@@ -41,7 +41,7 @@ abbrev pub stream_if : List ℕ → Option Given → List Stream
 stream_if name None = []
 stream_if name (Some given) = record { name = name; given = given } ∷ []
 
--- what stands at the path of a name, and then the streams behind it; or the first path that can't be opened
+-- what is at the path of a name, and then the streams after it; or the first path that can't be opened
 abbrev pub stream_then : List ℕ → List ℕ → Found → Result (List Stream) (List ℕ) → Result (List Stream) (List ℕ)
 stream_then path name closed rest = Err path
 stream_then path name nothing rest = rest
@@ -91,7 +91,7 @@ pub record AreBlocked (files : Files) (dirs : List (List ℕ)) (path : List ℕ)
 
 -- ---- why traces were not opened
 
--- the line of a path that is blocked so, or want of memory
+-- the line of a path that is blocked so, or out of memory
 abbrev pub IsStop : (List ℕ → Type 0) → OpeningFault → Type 0
 IsStop blocked (Unreadable line) = (path : List ℕ) × blocked path × (line.items ≡ path_line path)
 IsStop blocked NoMemory = Unit {0}

@@ -33,7 +33,7 @@ pub struct Disk<'a, R: Files> {
     alloc: Global,
     /// How many streams were opened.
     opened: Cell<usize>,
-    /// The last file that was opened anew. A packet takes several reads, one behind the other.
+    /// The last file that was opened anew. A packet takes several reads, one after the other.
     last: Cell<Option<LastFile<R>>>,
 }
 
@@ -108,7 +108,7 @@ impl<'a, R: Files> Disk<'a, R> {
         (AHEAD / self.opened.get().max(1)).min(AHEAD_OF_ONE)
     }
 
-    /// Reads from a place of a file on, and moves the place behind what was read.
+    /// Reads from a place of a file on, and moves the place to the end of what was read.
     fn read_at(&self, number: usize, path: &str, at: &mut u64, buf: &mut [u8]) -> io::Result<usize>
         requires { 0 < length buf.old }
         ensures { IfOk result (λ count. count ≤ length buf.new) }
@@ -159,7 +159,7 @@ fn names_in<R: Files + AllocGlobal + Clone + Drop>(
 }
 
 /// Opens a file that is not empty; none where the path leads to something else. A link to nothing, or to itself, leads to
-/// none; a path at which nothing stands, since it was listed, to a file that is gone.
+/// none; a path at which nothing is there, since it was listed, to a file that is gone.
 fn open_stream<R: Files>(rt: &R, path: &str) -> io::Result<Option<R::File>> {
     match open_file(rt, path, 1) {
         Err(error) if leads_nowhere(error.kind()) && is_link(rt, path) => Ok(None),
@@ -169,7 +169,7 @@ fn open_stream<R: Files>(rt: &R, path: &str) -> io::Result<Option<R::File>> {
 
 /// Opens a regular file of so many bytes at the least; none where the path leads to something else.
 ///
-/// The system waits where a pipe is opened to which nobody writes, so what stands there is looked at first. What was opened
+/// The system waits where a pipe is opened to which nobody writes, so what is there is looked at first. What was opened
 /// is looked at too, since the path can lead elsewhere by then.
 fn open_file<R: Files>(rt: &R, path: &str, least: u64) -> io::Result<Option<R::File>> {
     let found = retry_interrupted(|| fs::metadata(rt, path))?;
@@ -192,7 +192,7 @@ fn is_link<R: Files>(rt: &R, path: &str) -> bool {
     }
 }
 
-/// Whether this is told of a link that leads to no file.
+/// Whether this is reported of a link that leads to no file.
 fn leads_nowhere(kind: ErrorKind) -> bool {
     match kind {
         ErrorKind::NotFound | ErrorKind::NotADirectory | ErrorKind::FilesystemLoop => true,

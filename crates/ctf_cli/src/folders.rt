@@ -21,7 +21,7 @@ pub trait Folders {
     /// An open file, to be read from its beginning.
     type Stream: Source + Drop;
 
-    /// Whether the folders tell what they hold.
+    /// Whether the folders say what they hold.
     ghost tells: { Self → Bool };
 
     /// What they hold.

@@ -16,7 +16,7 @@ pub(crate) struct Held {
     room: Vec<u8>,
     /// Held are the bytes from here on.
     begin: usize,
-    /// The index behind them.
+    /// The index after them.
     end: usize,
 }
 

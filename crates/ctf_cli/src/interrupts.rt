@@ -45,7 +45,7 @@ pub(crate) fn read_uninterrupted<R: Read>(reader: &mut R, buf: &mut [u8]) -> io:
     Err(Error::from(ErrorKind::TimedOut))
 }
 
-/// A writer that writes again where a signal interrupted it. Contracts see the writer behind it.
+/// A writer that writes again where a signal interrupted it. Contracts see the inner writer.
 #[derive(Drop)]
 pub(crate) struct Retrying<W: Write> {
     inner: W,
@@ -60,14 +60,14 @@ impl<W: Write> Model for Retrying<W> {
 }
 
 impl<W: Write> Retrying<W> {
-    /// A writer in front of this one.
+    /// A writer around this one.
     pub(crate) fn new(inner: W) -> Retrying<W>
         ensures { result ≡ inner }
     {
         Retrying { inner }
     }
 
-    /// The writer behind it.
+    /// The inner writer.
     pub(crate) fn into_inner(self) -> W
         ensures { result ≡ self }
     {

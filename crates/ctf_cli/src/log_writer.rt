@@ -19,7 +19,7 @@ use std::io::Write;
 #[derive(Drop)]
 pub struct LogWriter<O: Write + Drop> {
     writer: Retrying<O>,
-    /// What stands in front of the writer. Mostly a line is only copied there.
+    /// What is held back from the writer. Mostly a line is only copied there.
     held: Held,
     failures: u64,
 }

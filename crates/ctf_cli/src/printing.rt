@@ -15,7 +15,7 @@ use std::alloc::Global;
 /// Does what the words of a command line ask for, and gives the exit status: 0 on success, else 1. The first word is
 /// the program's name.
 ///
-/// Refused words are told first, then the first path that cannot be read, then what the run tells. The log is passed
+/// Refused words are reported first, then the first path that cannot be read, then what the run reports. The log is passed
 /// on at the end, and before each message.
 pub fn program<F: Folders, W: Log, E: Sink>(
     alloc: Global,
@@ -136,7 +136,7 @@ fn end<E: Sink>(outcome: Outcome, err: &mut E) -> u8
     outcome.status()
 }
 
-/// Tries to write a line that tells why nothing is printed, and gives the status.
+/// Tries to write a line that says why nothing is printed, and gives the status.
 pub(crate) fn say<E: Sink>(line: &[u8], err: &mut E) -> u8
     ensures says { IsTrue (E.tells err.old) →
         ends.Says line.now (ends.plain_side_of E.accepted E.failures E.refusals err.old)

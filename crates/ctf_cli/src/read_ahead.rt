@@ -19,7 +19,7 @@ const LEAST: usize = 512;
 const PART: usize = 4;
 
 /// Bytes of a reader that are held until they are asked for. There is no room for any until small reads come, and none
-/// again behind a large one and at the end.
+/// again after a large one and at the end.
 #[derive(Drop)]
 pub(crate) struct ReadAhead {
     alloc: Global,
@@ -40,7 +40,7 @@ impl ReadAhead {
         }
     }
 
-    /// Gives the next bytes: those that are held, or else of the reader behind them. Of that so many more may be held.
+    /// Gives the next bytes: those that are held, or else those of the reader after them. Of that so many more may be held.
     pub(crate) fn read<R: Read>(
         &mut self,
         reader: &mut R,
@@ -104,7 +104,7 @@ impl ReadAhead {
     {
         let wanted = (self.small / PART).min(most);
         if wanted >= LEAST && wanted / 2 >= self.held.room() {
-            // Where memory is refused, less is read ahead.
+            // Where an allocation fails, less is read ahead.
             if let Ok(held) = Held::new(self.alloc, wanted) {
                 self.held = held;
             }

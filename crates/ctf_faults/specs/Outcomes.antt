@@ -3,7 +3,7 @@ use Rattle.std.specs.Prelude.{ℕ, List, [], codes}
 use Rattle.ctf_faults.specs.declared.outcome.Outcome.{Outcome}
 use Rattle.ctf_faults.specs.declared.outcome.Outcome.TheVariants.{Done, Fault, WriteFailed, NoMemory}
 
--- the line that a program prints behind a run that was cut
+-- the line that a program prints after a run that was cut
 abbrev pub outcome_text : Outcome → List ℕ
 outcome_text Done = []
 outcome_text (Fault fault) = []

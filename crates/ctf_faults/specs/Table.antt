@@ -12,7 +12,7 @@ use Rattle.tsdl_text.specs.declared.fault.MetaFault.TheVariants as meta
 use Rattle.ctf_faults.specs.declared.load.LoadFault.{LoadFault}
 use Rattle.ctf_faults.specs.declared.load.LoadFault.TheVariants.{Metadata, Text, Syntax, Meaning}
 
--- want of memory is no fault: it has a line of its own, told by the program
+-- out of memory is no fault: it has a line of its own, printed by the program
 abbrev pub no_memory : List ℕ
 no_memory = codes "O2: no memory"
 
@@ -68,7 +68,7 @@ stream_text streams.ReadFailed = codes "F13: read failed"
 stream_text streams.StreamTooLong = codes "F14: stream too long"
 stream_text streams.NoMemory = no_memory
 
--- want of memory, in each part
+-- out of memory, in each part
 abbrev pub is_meta_refusal : MetaFault → Bool
 is_meta_refusal meta.CutShort = false
 is_meta_refusal meta.WrongMagic = false

@@ -8,7 +8,7 @@ use thiserror::Error;
 use tsdl_parse::SyntaxFault;
 use tsdl_text::MetaFault;
 
-/// Why metadata has no trace class, the first of these that stands. Each part can also be want of memory.
+/// Why metadata has no trace class, the first of these that applies. Each part can also run out of memory.
 #[derive(Clone, Copy, Debug, PartialEq, Eq, Error)]
 pub enum LoadFault {
     /// M1 to M6: its packets.
@@ -26,7 +26,7 @@ pub enum LoadFault {
 }
 
 impl LoadFault {
-    /// Whether a growth was refused.
+    /// Whether an allocation failed.
     pub fn is_refusal(&self) -> bool
         ensures { result ≡ is_refusal self.now }
     {

@@ -16,7 +16,7 @@ pub enum RunFault {
     /// A stream of the trace of this number, from 0, goes no further.
     #[error("{fault}")]
     Stream { trace: usize, fault: StreamFault },
-    /// A growth was refused. A run answers `Outcome::NoMemory` in its place.
+    /// An allocation failed. A run answers `Outcome::NoMemory` in its place.
     #[error("no memory")]
     NoMemory,
 }
@@ -30,7 +30,7 @@ pub enum Outcome {
     Fault(RunFault),
     /// A sink failed. Nothing was written after that.
     WriteFailed,
-    /// A growth was refused. Nothing was written after that.
+    /// An allocation failed. Nothing was written after that.
     NoMemory,
 }
 
@@ -45,7 +45,7 @@ impl Outcome {
         }
     }
 
-    /// The line that a program is to print behind the run, with its newline; empty where there is none. It takes
+    /// The line that a program is to print after the run, with its newline; empty where there is none. It takes
     /// no memory.
     pub fn text(&self) -> &'static [u8]
         ensures { result.now ≡ outcome_text self.now }

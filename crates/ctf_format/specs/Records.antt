@@ -25,7 +25,7 @@ pub record Reached : Type 0 where
 abbrev pub reached : Reach → List ℕ → Reached
 reached r line = record { place = r.place; more = r.more; last = None; line = line }
 
--- the same after a number, if it is known
+-- as far as this, with this line, after a number, if it is known
 abbrev pub behind_number : Reach → Option ℕ → List ℕ → Reached
 behind_number r last line = record { place = r.place; more = r.more; last = last; line = line }
 

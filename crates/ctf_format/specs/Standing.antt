@@ -28,7 +28,7 @@ abbrev pub Puts : Form → Shown → List ℕ → ℕ → ℕ → ℕ → ℕ �
 Puts k shown packet content place spent end total before after =
     (earlier : Scope → Option Val) (env : Env) → (v : Val) × (walk k (among packet content earlier) env place spent ≡ Ok (v, end, total)) × (after ≡ before ++ shown v)
 
--- the same of one value, where there may be one more
+-- a value that counts as one is there from a place to another, and its text follows a text, where there may be one more
 abbrev pub PutsOne : Form → Shown → List ℕ → ℕ → ℕ → ℕ → List ℕ → List ℕ → Type 0
 PutsOne k shown packet content place end before after =
     (spent : ℕ) → spent < MOST_VALUES → Puts k shown packet content place spent end (spent + 1) before after
@@ -64,7 +64,7 @@ pub record Before : Type 0 where
   pub index : ℕ
   pub last : Last
 
--- the same of a value after the members of a structure, with so many values in it, of which so much is known
+-- a value and its text are there after the members of a structure, with so many values in it, of which so much is known
 abbrev pub PutsNext : Before → Form → Shown → List ℕ → ℕ → ℕ → List ℕ → Next → List ℕ → Type 0
 PutsNext before k shown packet content place line next after =
     (spent : ℕ) → spent + next.more < MOST_VALUES → (earlier : Scope → Option Val) (env : Env) (vs : List Val) → length vs ≡ before.index → LastIs before.last vs

@@ -5,6 +5,6 @@ use Rattle.ctf_faults.specs.Table.{is_refusal}
 use Rattle.ctf_faults.specs.declared.load.LoadFault.{LoadFault}
 use Rattle.ctf_load.specs.Loading.{Describes, IsBroken}
 
--- Metadata denotes a trace class, or has a fault, which is no want of memory.
+-- Metadata denotes a trace class, or has a fault, which is not out of memory.
 abbrev pub ClassOrFault : Type 0
 ClassOrFault = (bytes : List ℕ) → ((trace : TraceClass) × Describes bytes trace) ⊎ ((fault : LoadFault) × IsBroken bytes fault × (is_refusal fault ≡ false))

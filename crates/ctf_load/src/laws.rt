@@ -2,7 +2,7 @@
 
 ghost use Rattle.ctf_load.specs.Laws.{ClassOrFault};
 
-/// Metadata denotes a trace class, or has a fault, which is no want of memory.
+/// Metadata denotes a trace class, or has a fault, which is not out of memory.
 pub fn class_or_fault()
     ensures { ClassOrFault }
 {}

@@ -127,7 +127,7 @@ impl Printer {
     }
 }
 
-/// Writes the line of an event record at the front of a buffer, and gives its length. The text of the packet's
+/// Writes the line of an event record at the beginning of a buffer, and gives its length. The text of the packet's
 /// part is made in `packet` where the event record has none.
 fn put_event(
     stamper: &mut Stamper,
@@ -150,7 +150,7 @@ fn put_event(
     Ok(end + 1)
 }
 
-/// Writes the line of an event record at the front of a buffer, out of its text, and gives its length.
+/// Writes the line of an event record at the beginning of a buffer, out of its text, and gives its length.
 fn put_text(
     stamper: &mut Stamper,
     event: &EventText<'_>,
@@ -173,7 +173,7 @@ fn put_text(
     Ok(behind + 1)
 }
 
-/// Writes bytes at an index of a line that has room for them, and gives the index behind them.
+/// Writes bytes at an index of a line that has room for them, and gives the index after them.
 #[inline(always)]
 fn put_bytes(bytes: &[u8], line: &mut [u8], at: usize) -> usize
     requires { at + length bytes.now ≤ length line.old }
@@ -185,7 +185,7 @@ fn put_bytes(bytes: &[u8], line: &mut [u8], at: usize) -> usize
     end
 }
 
-/// Writes what stands behind the stamp of an event record. Mostly the text of its packet's part is there.
+/// Writes what follows the stamp of an event record. Mostly the text of its packet's part is there.
 #[inline(always)]
 fn put_behind_stamp(
     event: &Event<'_>,
@@ -205,7 +205,7 @@ fn put_behind_stamp(
     put_with_part(event, packet, line, at)
 }
 
-/// Writes what stands behind the stamp of an event record, and makes the text of the packet's part first.
+/// Writes what follows the stamp of an event record, and makes the text of the packet's part first.
 #[inline(never)]
 fn put_with_part(
     event: &Event<'_>,

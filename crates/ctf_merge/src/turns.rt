@@ -17,8 +17,9 @@ const NOBODY: usize = (1 << 63) - 1;
 
 /// The turn of each stream, by its number, where it has one. Contracts see these.
 ///
-/// They are the leaves of a tournament tree, and each node above is the lesser of the two below it, so that the first one is the least
-/// turn. Which of two that is, is chosen without a jump: streams alternate as they please, and a processor can't foresee it.
+/// They are the leaves of a tournament tree, and each node above is the lesser of the two below it, so that the first one is
+/// the least turn. Which of two that is, is chosen without a jump: streams alternate as they please, and a processor can't
+/// foresee it.
 #[derive(Drop)]
 pub(crate) struct TournamentTree {
     /// A node's two lie at twice its place and after that; the first node is at 1, and nothing at 0.

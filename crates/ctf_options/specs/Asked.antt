@@ -45,7 +45,7 @@ abbrev pub shift_of : Option (List ℕ) → Option (List ℕ) → Option Shift
 shift_of seconds nanos = option_and_then (λ seconds.
     option_map (λ nanos. record { seconds = seconds; nanos = nanos }) (integer_or_zero nanos)) (integer_or_zero seconds)
 
--- what stands within brackets, where the text begins with one
+-- what is within brackets, where the text begins with one
 abbrev pub unbracketed : List ℕ → Option (List ℕ)
 unbracketed text =
     if slice_index text 0 == 91

@@ -58,7 +58,7 @@ bt_ctf = with_rules (new_app (codes "bt-ctf")) (
 unfoldable pub matches : List (List ℕ) → List Row
 matches words = matches_of bt_ctf words
 
--- the ways in which clap refuses the words, besides want of memory: none where it takes them
+-- the ways in which clap refuses the words, besides out of memory: none where it takes them
 unfoldable pub faults : List (List ℕ) → Kinds
 faults words = fault_of bt_ctf words
 
@@ -70,7 +70,7 @@ is_flag name rows = option_map_or (λ value. bytes_eq value (codes "true")) (fir
 abbrev pub is_help : List ℕ → Bool
 is_help word = bytes_eq word (codes "--help") || (slice_index word 0 == 45 && slice_index word 1 == 104)
 
--- the words behind the program's name ask for help
+-- the words after the program's name ask for help
 abbrev pub asks_help : List (List ℕ) → Bool
 asks_help words = list_any is_help (drop 1 words)
 

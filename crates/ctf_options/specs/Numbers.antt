@@ -5,7 +5,7 @@ use Rattle.std.specs.Str.{all_ascii_digits}
 use Rattle.std.specs.Str.Parse.{digits_value, starts_with_minus}
 use Rattle.ctf_clock.specs.Clock.{fits}
 
--- what stands before and behind the first byte of a kind
+-- what is before and after the first byte of a kind
 abbrev pub halves : ℕ → List ℕ → Option (List ℕ × List ℕ)
 halves mark text =
     if nat_lt (position_or_len (λ b. b == mark) text) (length text)
@@ -20,7 +20,7 @@ is_digits text = nat_lt 0 (length text) && all_ascii_digits text
 abbrev pub number_in : List ℕ → Option ℕ
 number_in text = if is_digits text && nat_lt (digits_value 10 text) (2 ^ 64) then Some (digits_value 10 text) else None
 
--- the same of just so many digits
+-- the number of 64 bits that just so many decimal digits write
 abbrev pub number_of : ℕ → List ℕ → Option ℕ
 number_of count text = if length text == count then number_in text else None
 
@@ -29,10 +29,10 @@ abbrev pub signed : Bool → ℕ → Option ℤ
 signed is_negative n =
     let number = if is_negative then neg_ℤ (pos n) else pos n in if fits number then Some number else None
 
--- the text behind a minus that may stand first
+-- the text after a minus that may come first
 abbrev pub magnitude : List ℕ → List ℕ
 magnitude text = if starts_with_minus text then drop 1 text else text
 
--- digits behind a minus that may stand first
+-- digits after a minus that may come first
 abbrev pub integer_in : List ℕ → Option ℤ
 integer_in text = option_and_then (signed (starts_with_minus text)) (number_in (magnitude text))

@@ -11,7 +11,7 @@ use Rattle.ctf_options.specs.declared.civil.Day.{Day}
 use Rattle.ctf_options.specs.declared.civil.Clock.{Clock}
 use Rattle.ctf_options.specs.Numbers.{halves, number_in, number_of, signed, magnitude}
 
--- the nanoseconds that 1 to 9 digits behind a dot write
+-- the nanoseconds that 1 to 9 digits after a dot write
 abbrev pub fraction_in : List ℕ → Option ℕ
 fraction_in digits =
     if nat_le (length digits) 9 then option_map (λ n. n * 10 ^ (9 - length digits)) (number_in digits) else None
@@ -20,7 +20,7 @@ abbrev pub with_fraction : List ℕ → Option (List ℕ × List ℕ) → Option
 with_fraction text None = Some (text, 0)
 with_fraction text (Some parts) = option_map (λ nanos. (parts.0, nanos)) (fraction_in parts.1)
 
--- what stands before the dot, with the nanoseconds behind it; a text may have no dot
+-- what is before the dot, with the nanoseconds after it; a text may have no dot
 abbrev pub dotted : List ℕ → Option (List ℕ × ℕ)
 dotted text = with_fraction text (halves 46 text)
 

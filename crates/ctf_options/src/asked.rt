@@ -62,7 +62,7 @@ pub(crate) fn shift_of(seconds: Option<&str>, nanos: Option<&str>) -> Result<Shi
     Ok(Shift { seconds, nanos })
 }
 
-/// What stands within brackets, where the text begins with one.
+/// What is within brackets, where the text begins with one.
 fn text_in_brackets(text: &str) -> Option<&str>
     ensures { option_map (λ text. text.now) result ≡ asked.unbracketed text.now }
 {

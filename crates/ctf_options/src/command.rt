@@ -86,7 +86,7 @@ fn any_asks(words: &[String]) -> bool
     false
 }
 
-/// Whether a word behind the program's name asks for help.
+/// Whether a word after the program's name asks for help.
 fn asks_help(words: &[String]) -> bool
     ensures { result ≡ commands.asks_help (map string_bytes words.now) }
 {

@@ -4,7 +4,7 @@ ghost use Rattle.std.specs.Prelude.{◌≡◌, ◌<◌, ◌^◌, MatchOption, No
 ghost use Rattle.std.specs.Str.Parse.{starts_with_minus};
 ghost use Rattle.ctf_options.specs.Numbers as numbers;
 
-/// What stands before and behind the first such character.
+/// What is before and after the first such character.
 pub(crate) fn halves(text: &str, mark: char) -> Option<(&str, &str)>
     requires { mark < 128 }
     ensures { MatchOption result (numbers.halves mark text.now ≡ None)
@@ -13,7 +13,7 @@ pub(crate) fn halves(text: &str, mark: char) -> Option<(&str, &str)>
     text.split_once(mark)
 }
 
-/// Whether a minus stands first, and the text behind it.
+/// Whether a minus comes first, and the text after it.
 pub(crate) fn sign(text: &str) -> (bool, &str)
     ensures minus { result.0 ≡ starts_with_minus text.now }
     ensures rest { result.1.now ≡ numbers.magnitude text.now }
@@ -24,7 +24,7 @@ pub(crate) fn sign(text: &str) -> (bool, &str)
     }
 }
 
-/// The number that decimal digits write. `None` where another byte or no digit stands, and where the
+/// The number that decimal digits write. `None` where there is another byte or no digit, and where the
 /// number has more than 64 bits.
 pub(crate) fn number(text: &str) -> Option<u64>
     ensures { result ≡ numbers.number_in text.now }
@@ -56,7 +56,7 @@ pub(crate) fn signed(is_negative: bool, magnitude: u128) -> Option<i64>
     i64::try_from(if is_negative { -number } else { number }).ok()
 }
 
-/// A number of 64 bits: digits behind a minus that may stand first.
+/// A number of 64 bits: digits after a minus that may come first.
 pub(crate) fn integer(text: &str) -> Option<i64>
     ensures { result ≡ numbers.integer_in text.now }
 {

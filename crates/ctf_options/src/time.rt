@@ -9,12 +9,12 @@ use crate::usage::Usage;
 use ctf_timestamp::Zone;
 use std::alloc::Global;
 
-/// The digits behind a dot, at most: they count nanoseconds.
+/// The digits after a dot, at most: they count nanoseconds.
 const MOST_DIGITS: usize = 9;
 
 const SECOND: u128 = 1_000_000_000;
 
-/// The nanoseconds that the digits behind a dot write.
+/// The nanoseconds that the digits after a dot write.
 fn fraction(digits: &str) -> Option<u32>
     ensures value { result ≡ times.fraction_in digits.now }
     ensures bound { IfSome result (λ nanos. nanos < 1000000000) }
@@ -27,7 +27,7 @@ fn fraction(digits: &str) -> Option<u32>
     Some((number * scale) as u32)
 }
 
-/// What stands before a dot, and the nanoseconds behind it. A text may have no dot.
+/// What is before a dot, and the nanoseconds after it. A text may have no dot.
 pub(crate) fn split_at_dot(text: &str) -> Option<(&str, u32)>
     ensures value { MatchOption result (times.dotted text.now ≡ None)
         (λ parts. times.dotted text.now ≡ Some (parts.0.now, parts.1)) }

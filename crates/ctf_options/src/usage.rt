@@ -16,7 +16,7 @@ pub enum Usage {
     /// The words are not of the form that the program takes.
     #[error("bad arguments")]
     Bad,
-    /// A growth was refused.
+    /// An allocation failed.
     #[error("no memory")]
     NoMemory,
 }

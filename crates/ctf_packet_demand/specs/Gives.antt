@@ -21,7 +21,7 @@ abbrev pub want_of : Shift → Values → Want → wants.Want Classes
 want_of shift values (Whole begun sizes) = wants.whole (begun_of shift values begun) sizes
 want_of shift values (Rest begun) = wants.rest (begun_of shift values begun)
 
--- it is asked for; or it is refused with the fault that stands
+-- it is asked for; or it is refused with the fault that is there
 abbrev pub Judged : Shift → Values → Result Want StreamFault → wants.Want Classes → Type 0
 Judged shift values (Ok want) w = w ≡ want_of shift values want
 Judged shift values (Err fault) w = w ≡ wants.faulty fault

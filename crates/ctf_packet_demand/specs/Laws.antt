@@ -14,7 +14,7 @@ use Rattle.ctf_packet_demand.specs.Wants.{Begun, wanted}
 
 -- What some first bytes ask for settles what a packet with these first bytes is, whatever follows them.
 pub record WantsTell (C : Type 0) : Type 0 where
-  -- a fault that stands is the packet's
+  -- a fault that is there is the packet's
   pub faulty : (trace : TraceForm C) (ending : Ending) (reached : Option Reached) (start : ℕ) (have more_bytes : List ℕ) (fault : StreamFault)
       → wanted trace reached have ≡ wants.faulty fault
       → open_at trace ending reached start (have ++ more_bytes) ≡ Err fault
@@ -25,7 +25,7 @@ pub record WantsTell (C : Type 0) : Type 0 where
   -- more is asked for than is there
   pub beyond : (trace : TraceForm C) (reached : Option Reached) (have : List ℕ) (bits : ℕ)
       → wanted trace reached have ≡ wants.more bits → min (8 * length have) longest < bits
-  -- a packet whose sizes are told is there where so many bits are left
+  -- a packet whose sizes are given is there where so many bits are left
   pub whole : (trace : TraceForm C) (ending : Ending) (reached : Option Reached) (start : ℕ) (have more_bytes : List ℕ) (begun : Begun C) (sizes : Sizes)
       → wanted trace reached have ≡ wants.whole begun sizes
       → open_at trace ending reached start (have ++ more_bytes)
@@ -33,12 +33,12 @@ pub record WantsTell (C : Type 0) : Type 0 where
   -- they can be
   pub possible : (trace : TraceForm C) (reached : Option Reached) (have : List ℕ) (begun : Begun C) (sizes : Sizes)
       → wanted trace reached have ≡ wants.whole begun sizes → are_possible sizes begun.first ≡ true
-  -- a packet whose sizes are not told is what is left
+  -- a packet whose sizes are not given is what is left
   pub rest : (trace : TraceForm C) (ending : Ending) (reached : Option Reached) (start : ℕ) (have more_bytes : List ℕ) (begun : Begun C)
       → wanted trace reached have ≡ wants.rest begun
       → open_at trace ending reached start (have ++ more_bytes)
       ≡ (sizes_checked None None ending (8 * length (have ++ more_bytes)) begun.first >>= (λ (sizes : Sizes). placed begun.stream reached start begun.values begun.first sizes))
-  -- it begins its event records behind each place that was asked for
+  -- it begins its event records after each place that was asked for
   pub begins : (trace : TraceForm C) (reached : Option Reached) (have more_bytes : List ℕ) (bits : ℕ) (begun : Begun C) (sizes : Sizes)
       → wanted trace reached have ≡ wants.more bits → wanted trace reached (have ++ more_bytes) ≡ wants.whole begun sizes → bits ≤ begun.first
   -- it has the values of its header and context, and no other

@@ -29,7 +29,7 @@ pub data Want (C : Type 0) : Type 0 where
   whole : Begun C → Sizes → Want C
   -- all that is left of the stream
   rest : Begun C → Want C
-  -- nothing: this fault stands
+  -- nothing: this fault is there
   faulty : StreamFault → Want C
 
 -- what is found, and what follows from it; or what is wanted for it
@@ -48,7 +48,7 @@ abbrev pub asked : {C : Type 0} → Step Val → Result Stood (Want C)
 asked (Ok x) = Ok (record { value = Some x.0; end = x.1; spent = x.2 })
 asked (Err fault) = Err (missing fault)
 
--- the value of a header or a context at a place, behind so many values, or what it asks for; without a class it is
+-- the value of a header or a context at a place, after so many values, or what it asks for; without a class it is
 -- empty
 abbrev pub asked_at : {C : Type 0} → Option Form → Input → ℕ → ℕ → Result Stood (Want C)
 asked_at None input place spent = Ok (record { value = None; end = place; spent = spent })
@@ -63,7 +63,7 @@ or_faulty (Err fault) = Err (faulty fault)
 abbrev pub if_possible : {C : Type 0} → Begun C → Sizes → Want C
 if_possible begun sizes = if are_possible sizes begun.first then whole begun sizes else faulty faults.ImpossibleSizes
 
--- a packet that tells a size or two; with neither it is the rest of the stream (CTF 1.8.3, section 5.2)
+-- a packet that gives a size or two; with neither it is the rest of the stream (CTF 1.8.3, section 5.2)
 abbrev pub sized : {C : Type 0} → Begun C → Option ℕ → Option ℕ → Want C
 sized begun None None = rest begun
 sized begun (Some packet) content = if_possible begun (sizes_of (Some packet) content 0)

@@ -15,7 +15,7 @@ use ctf_packet::{StreamFault, field_of_role, number_in, told_sizes};
 
 /// What a packet asks for whose context has this value (CTF 1.8.3, section 5.2).
 ///
-/// F5 exactly where the sizes that it tells can't be.
+/// F5 exactly where the sizes that it gives can't be.
 pub fn judge_sizes<'a>(begun: Begun<'a>, context: Option<&Value>) -> Result<Want<'a>, StreamFault>
     ensures judged { (shift : Shift) (values : Values) →
         Judged shift values result (wants.sized (begun_of shift values begun.entry)

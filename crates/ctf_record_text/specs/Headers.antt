@@ -46,14 +46,14 @@ Tells line k packet content from to =
     (earlier : Scope → Option Val) (env : Env)
     → (v : Val) × (walk k (among packet content earlier) env from.place from.spent ≡ Ok (v, to.place, to.spent)) × (set_by line from.clock (moved k v) ≡ Some to.clock) × (last_or from.id (ids k v) ≡ to.id)
 
--- the same of a member of a structure, which may be named so itself
+-- a member of a structure is at a place, sets the clock so, and gives this last number named `id`, which may be its own
 abbrev pub TellsMember : Option Line → Member → List ℕ → ℕ → Telling → Telling → Type 0
 TellsMember line m packet content from to =
     (earlier : Scope → Option Val) (env : Env)
     → (v : Val) × (walk (form m.class) (among packet content earlier) env from.place from.spent ≡ Ok (v, to.place, to.spent)) × (set_by line from.clock (moved (form m.class) v) ≡ Some to.clock)
     × (last_or from.id (named_id m.name (form m.class) v ++ ids (form m.class) v) ≡ to.id)
 
--- the same of the members of a structure
+-- the members of a structure are there from a place on, set the clock so, and give this last number named `id`
 abbrev pub TellsMembers : Option Line → List Member → List ℕ → ℕ → Telling → Telling → Type 0
 TellsMembers line ms packet content from to =
     (earlier : Scope → Option Val) (env : Env)
@@ -80,7 +80,7 @@ TellsHead class stream bytes content clock place told =
     (values : Values)
     → (h : Headed Classes) × (headed stream bytes content values clock place ≡ Ok h) × (event_form class told.head.event.now ≡ h.event) × (told.head.clock ≡ h.clock) × (told.head.end ≡ h.header.end) × (told.spent ≡ h.header.spent)
 
--- the same where a record begins, whose packet has the clock of its stream
+-- the header at the place where a record begins, whose packet has the clock of its stream
 abbrev pub TellsAt : RecordPlace → ToldHead → Type 0
 TellsAt at told =
     let class = at.packet.now.stream.now in

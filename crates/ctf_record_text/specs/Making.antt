@@ -36,7 +36,7 @@ PutsBody known stream event part bytes content place spent end text =
     (values : Values) → SharesPacket known (value_in values) → (b : Body) × (bodied (option_map form stream.event_context) (option_map form event.context) (form event.fields) bytes content values place spent ≡ Ok b)
     × (end ≡ b.end) × (packet_values b.values ≡ packet_values values) × (text ≡ values_text part stream event b.values)
 
--- the same after a header that was decoded where the record begins
+-- the scopes after a header that was decoded where the record begins are there, and the text is that of the record
 abbrev pub PutsRecord : Known → RecordPlace → ToldHead → List ℕ → ℕ → List ℕ → Type 0
 PutsRecord known at told part end text =
     PutsBody known at.packet.now.stream.now told.head.event.now part at.bytes.now at.packet.now.content told.head.end told.spent end text
@@ -47,7 +47,7 @@ Made stream stands part known line r None = stands ≡ Ok (recorded_of stream (v
 Made stream stands part known line r (Some end) =
     (values : Values) × (stands ≡ Ok (recorded_of stream values r)) × (packet_values values ≡ packet_values (values_of known)) × (take end line ≡ values_text part stream r.event.now values)
 
--- the same, or the fault of the record, or memory ran out
+-- the event record was made, or it is the fault of the record, or memory ran out
 abbrev pub Makes : StreamClass → Result (Recorded Classes) StreamFault → List ℕ → Known → List ℕ → Result LineRecord StreamFault → Type 0
 Makes stream stands part known line (Ok r) = Made stream stands part known line r.record r.text
 Makes stream stands part known line (Err f) = (stands ≡ Err f) ⊎ (f ≡ faults.NoMemory)

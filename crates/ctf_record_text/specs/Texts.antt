@@ -17,7 +17,7 @@ or_nothing None = unsigned 0
 abbrev pub values_text : List ℕ → StreamClass → EventClass → Values → List ℕ
 values_text packet stream event values = record_text packet stream event values.stream_event_context values.event_context (or_nothing values.event_fields)
 
--- the same of an event record of a stream
+-- the text of an event record of a stream
 abbrev pub body_text : List ℕ → Event Classes → List ℕ
 body_text packet e = values_text packet e.class.stream e.class.event e.values
 

@@ -35,6 +35,6 @@ abbrev pub IsUnloaded : {S : Type 0} → List (Trace S) → Unloaded → Type 0
 IsUnloaded traces (unloaded.Broken number fault) = IsFirstFault traces number fault
 IsUnloaded traces unloaded.NoMemory = Unit {0}
 
--- the fault of the metadata of a trace, but want of memory is one of no trace
+-- the fault of the metadata of a trace, but out of memory is one of no trace
 abbrev pub of_trace : ℕ → LoadFault → Unloaded
 of_trace trace fault = cond (is_refusal fault) unloaded.NoMemory (unloaded.Broken trace fault)

@@ -32,7 +32,7 @@ pub fn load(alloc: Global, metadata: &[u8]) -> Result<TraceClass, RunFault>
 pub(crate) enum Unloaded {
     /// The metadata of a trace, by its number, have a fault.
     Broken { trace: usize, fault: LoadFault },
-    /// A growth was refused.
+    /// An allocation failed.
     NoMemory,
 }
 
@@ -64,7 +64,7 @@ pub(crate) fn load_all<S>(alloc: Global, traces: &[Trace<S>]) -> Result<Vec<Trac
     Ok(classes)
 }
 
-/// The fault of the metadata of a trace; or want of memory.
+/// The fault of the metadata of a trace; or out of memory.
 fn of_trace(trace: usize, fault: LoadFault) -> Unloaded
     ensures { result ≡ of_trace trace fault }
 {

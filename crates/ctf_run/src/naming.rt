@@ -60,7 +60,7 @@ fn name_streams<S: Drop>(
     }
 }
 
-/// The streams of a trace, each with the name of the trace in front of its own.
+/// The streams of a trace, each with the name of the trace before its own.
 fn join_names<S: Drop>(
     alloc: Global,
     trace: &str,

@@ -27,18 +27,18 @@ pub fn run<S: Source + Drop, W: Log, E: Sink>(
     err: &mut E,
 ) -> Outcome
     // What the definition says of the bytes of the metadata and of the streams is written and answered. Where a write
-    // fails or a growth is refused, the first pieces of it are written, a first part of the next, and nothing behind it.
+    // fails or an allocation fails, the first pieces of it are written, a first part of the next, and nothing after it.
     ensures runs { let all = traces_of (given_by S.tells S.left S.ending) traces.items in
         let wrote = written_by W.accepted W.settled E.accepted in
         EachTells all → IsTrue (W.tells out.old) → IsTrue (E.tells err.old)
         → Runs all options.now result (wrote out.old err.old out.new err.new) }
 
-    // No sink failed or was refused memory but the one that stopped the run, once.
+    // No sink failed or ran out of memory but the one that stopped the run, once.
     ensures counts { let counts = counts_by W.failures W.refusals E.failures E.refusals in
         CountsAfter result (counts out.old err.old) (counts out.new err.new) }
     ensures named { IsNamed result }
 
-    // Nothing of the log is held back behind the line of a fault, nor where the messages failed or were refused memory.
+    // Nothing of the log is held back after the line of a fault, nor where the messages failed or ran out of memory.
     ensures behind { SettledBy result (W.settled out.new) }
     ensures settled { let counts = counts_by W.failures W.refusals E.failures E.refusals in
         SameForMessages (counts out.old err.old) (counts out.new err.new)

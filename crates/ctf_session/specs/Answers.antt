@@ -45,7 +45,7 @@ is_within Before = false
 is_within Within = true
 is_within After = false
 
--- some item stands after the end
+-- some item is after the end
 abbrev pub some_after : Setting → List Placed → Bool
 some_after setting [] = false
 some_after setting (x ∷ xs) = cond (is_after (verdict setting x)) true (some_after setting xs)
@@ -83,7 +83,7 @@ last_after last (lost g) = last
 
 -- ---- how it ends
 
--- the line of a fault of a stream; want of memory is no fault of a stream and has none
+-- the line of a fault of a stream; out of memory is no fault of a stream and has none
 abbrev pub fault_line : StreamFault → List ℕ → List ℕ
 fault_line streams.NoMemory name = []
 fault_line fault name = stream_line fault name

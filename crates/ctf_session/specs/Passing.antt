@@ -10,7 +10,7 @@ use Rattle.ctf_fetch.specs.Fetching.{longest_bytes}
 use Rattle.ctf_stream.specs.Reader.{Reader, coming, rest_of, OrRefused, packet_end, packet_length}
 use Rattle.ctf_session.specs.Answers.{Setting, verdict, is_after}
 
--- what is to come of each reader is what its stream means, unless a growth was refused
+-- what is to come of each reader is what its stream means, unless an allocation failed
 abbrev pub EachMeans : List (Run Classes) → List Reader → Type 0
 EachMeans runs readers = AllZip (λ run r. OrRefused run (coming r)) runs readers
 
@@ -25,17 +25,17 @@ GivenBy [] (Some f) at all taken held = (at ≤ taken) × (taken ≤ at + longes
 abbrev pub HasGiven : Run Classes → ℕ → Reader → Type 0
 HasGiven run all r = GivenBy run.items run.fault run.at all r.taken r.held
 
--- the runs of several streams of which these items were left behind, one after the other
+-- the runs of several streams of which these items were gone past, one after the other
 abbrev pub without : List Placed → List (Run Classes) → List (Run Classes)
 without [] runs = runs
 without (x ∷ xs) runs = without xs (advance x.number runs)
 
--- From these readers come those, each by one reader that leaves its item behind, while no growth is refused.
+-- From these readers come those, each by one reader that goes past its item, while no allocation fails.
 abbrev pub Pass : List Placed → List Reader → List Reader → Type 0
 Pass [] old new = new ≡ old
 Pass (x ∷ xs) old new = (next : List Reader) × (it : LeavesOne x.number old next) × (it.left ≡ x.item) × (coming it.after ≡ rest_of it.before) × Pass xs next new
 
--- From these readers come those, each by one reader that leaves its item behind, none that stands after the end of what is
+-- From these readers come those, each by one reader that goes past its item, none that is after the end of what is
 -- asked for.
 pub data PassesWithin (setting : Setting) (old : List Reader) : List Reader → Type 0 where
   still : PassesWithin setting old old

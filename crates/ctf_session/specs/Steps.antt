@@ -62,8 +62,8 @@ next_texts_by setting last (x ∷ xs) fault = shown_text (verdict setting x) set
 abbrev pub next_texts : Session → Texts
 next_texts s = next_texts_by s.setting s.last s.coming.items s.coming.fault
 
--- One item was taken, none after the end; its line or its message was written, nothing where it stands before the beginning.
--- What is to come then is the rest, unless a growth was refused.
+-- One item was taken, none after the end; its line or its message was written, nothing where it is before the beginning.
+-- What is to come then is the rest, unless an allocation failed.
 pub record Goes (old new : Session) (w : Written) : Type 0 where
   pub item : Placed
   pub rest : Merged
@@ -73,17 +73,17 @@ pub record Goes (old new : Session) (w : Written) : Type 0 where
   pub leaves : MergedOrRefused rest new.coming
   pub last_is : new.last ≡ last_shown (verdict old.setting item) old.last item
 
--- every item that is left stands after the end
+-- every item that is left is after the end
 abbrev pub EachAfter : Setting → List Placed → Type 0
 EachAfter setting [] = Unit {0}
 EachAfter setting (x ∷ xs) = (is_after (verdict setting x) ≡ true) × EachAfter setting xs
 
--- what is told at the end: the fault, unless an item is left, which then stands after the end
+-- what is reported at the end: the fault, unless an item is left, which then is after the end
 abbrev pub told_by : List Placed → Option MergeFault → Option MergeFault
 told_by [] fault = fault
 told_by (x ∷ xs) fault = None
 
--- No item is left but those after the end; where none is left the fault is told.
+-- No item is left but those after the end; where none is left the fault is reported.
 pub record Ends (old : Session) (outcome : Outcome) (w : Written) : Type 0 where
   pub none_left : EachAfter old.setting old.coming.items
   pub outcome_is : outcome ≡ outcome_of old.setting (told_by old.coming.items old.coming.fault)
@@ -122,18 +122,18 @@ abbrev pub RoomAfter : Step → ℕ → ℕ → Type 0
 RoomAfter steps.Went old new = new < old
 RoomAfter (steps.Ended o) old new = new ≡ old
 
--- The reader of one stream leaves its item behind, the first of what is to come. Each other reader is as it was.
+-- The reader of one stream goes past its item, the first of what is to come. Each other reader is as it was.
 pub record LeavesFirst (coming : Merged) (old new : List Reader) : Type 0 where
   pub number : ℕ
   pub leaves : LeavesOne number old new
   pub first : EachTells old → (rest : Merged) × (coming ≡ then (record { number = number; item = leaves.left }) rest)
 
--- a step that went left the first item behind; one that ended took nothing from a source
+-- a step that went has gone past the first item; one that ended took nothing from a source
 abbrev pub ReadersAfter : Step → Merged → List Reader → List Reader → Type 0
 ReadersAfter steps.Went coming old new = LeavesFirst coming old new
 ReadersAfter (steps.Ended o) coming old new = new ≡ old
 
--- behind an answer that it ended nothing is to come
+-- after an answer that it ended nothing is to come
 abbrev pub LeavesNothing : Step → Merged → Type 0
 LeavesNothing steps.Went coming = Unit {0}
 LeavesNothing (steps.Ended o) coming = coming ≡ ends None
@@ -152,7 +152,7 @@ FailedOnce old new = (new ≡ record old { out_failures = one_more old.out_failu
 abbrev pub RefusedAtMostOnce : Counts → Counts → Type 0
 RefusedAtMostOnce old new = (new ≡ old) ⊎ ((new ≡ record old { out_refusals = one_more old.out_refusals }) ⊎ (new ≡ record old { err_refusals = one_more old.err_refusals }))
 
--- no sink failed and none was refused memory, but the one that stopped the call, once
+-- no sink failed and none ran out of memory, but the one that stopped the call, once
 abbrev pub CountsAfter : Outcome → Counts → Counts → Type 0
 CountsAfter outcomes.Done old new = new ≡ old
 CountsAfter (outcomes.Fault f) old new = new ≡ old
@@ -163,7 +163,7 @@ abbrev pub CountsAfterStep : Step → Counts → Counts → Type 0
 CountsAfterStep steps.Went old new = new ≡ old
 CountsAfterStep (steps.Ended o) old new = CountsAfter o old new
 
--- the same by the sinks themselves
+-- the counts of two sinks, by the sinks themselves
 module _ {O E : Type 0} (out_failures out_refusals : O → ℕ) (err_failures err_refusals : E → ℕ) where
   abbrev pub counts_by : O → E → Counts
   counts_by out err = record {
@@ -173,9 +173,9 @@ module _ {O E : Type 0} (out_failures out_refusals : O → ℕ) (err_failures er
     err_refusals = err_refusals err;
   }
 
--- ---- no message in front of a line
+-- ---- no message before a line
 
--- behind the line of a fault nothing of the log is held back
+-- after the line of a fault nothing of the log is held back
 abbrev pub SettledBy : Outcome → Bool → Type 0
 SettledBy outcomes.Done settled = Unit {0}
 SettledBy (outcomes.Fault f) settled = IsTrue settled
@@ -186,11 +186,11 @@ abbrev pub SettledByStep : Step → Bool → Type 0
 SettledByStep steps.Went settled = Unit {0}
 SettledByStep (steps.Ended o) settled = SettledBy o settled
 
--- the messages failed no more often, nor were they refused memory
+-- the messages failed no more often, nor ran out of memory
 abbrev pub SameForMessages : Counts → Counts → Type 0
 SameForMessages old new = (new.err_failures ≡ old.err_failures) × (new.err_refusals ≡ old.err_refusals)
 
--- ---- want of memory is no fault
+-- ---- out of memory is no fault
 
 abbrev pub IsWant : RunFault → Type 0
 IsWant (faults.Metadata trace fault) = table.is_refusal fault ≡ true

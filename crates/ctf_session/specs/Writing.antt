@@ -12,7 +12,7 @@ no_texts = record { output = []; messages = [] }
 abbrev pub and_then : Texts → Texts → Texts
 and_then a b = record { output = a.output ++ b.output; messages = a.messages ++ b.messages }
 
--- pieces, one behind the other
+-- pieces, one after the other
 abbrev pub joined : List Texts → Texts
 joined [] = no_texts
 joined (t ∷ ts) = and_then t (joined ts)
@@ -25,7 +25,7 @@ pub record Written : Type 0 where
   pub new_messages : List ℕ
   pub settled : Bool
 
--- the same by the sinks themselves
+-- what both sinks held and hold, by the sinks themselves
 module _ {O E : Type 0} (lines : O → List ℕ) (settled : O → Bool) (messages : E → List ℕ) where
   abbrev pub written_by : O → E → O → E → Written
   written_by old_out old_err new_out new_err = record {
@@ -55,7 +55,7 @@ pub record WritesParts (w : Written) (texts : Texts) : Type 0 where
 
 -- ---- pieces in their order
 
--- what was written behind these texts
+-- what was written after these texts
 abbrev pub behind : Texts → Written → Written
 behind texts w = record w { old_output = w.old_output ++ texts.output; old_messages = w.old_messages ++ texts.messages }
 
@@ -68,7 +68,7 @@ abbrev pub first_of : List Texts → Texts
 first_of [] = no_texts
 first_of (t ∷ ts) = t
 
--- The first pieces were written, each of them whole and in their order, then a first part of the next one, and nothing behind
+-- The first pieces were written, each of them whole and in their order, then a first part of the next one, and nothing after
 -- that. Where it is a part of a message, nothing of the log is held back.
 pub record Stopped (pieces : List Texts) (w : Written) : Type 0 where
   pub before : List Texts

@@ -1,4 +1,4 @@
-//! The item in front of several streams, on its way to two sinks.
+//! The next item of several streams, on its way to two sinks.
 
 ghost use Rattle.std.specs.Prelude.{◌≡◌, ◌⊎◌, [], IfOk, IsTrue, get_or};
 ghost use Rattle.ctf_log.specs.Lines.{line_of};

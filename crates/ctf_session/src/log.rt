@@ -11,7 +11,7 @@ pub trait Log: Sink {
     /// Whether nothing is held back.
     ghost settled: { Self → Bool };
 
-    /// Passes on what is held back. At a fault it failed or was refused memory once more.
+    /// Passes on what is held back. At a fault it failed or ran out of memory once more.
     fn settle(&mut self) -> Result<(), SinkFault>
         ensures settles { OnOk result (IsTrue (settled self.new)) }
         ensures stays { IsTrue (Self.tells self.old) → IsTrue (Self.tells self.new) }

@@ -11,7 +11,7 @@ use ctf_list::{NoMemory, Text};
 use ctf_stream::StreamReader;
 use std::alloc::Global;
 
-/// A reader of each stream, which tells event records as texts where they can be, and the number of the trace of each.
+/// A reader of each stream, which gives event records as texts where they can be, and the number of the trace of each.
 pub(crate) fn open_all<'a, S: Source + Drop>(
     alloc: Global,
     traces: Vec<Streams<'a, S>>,

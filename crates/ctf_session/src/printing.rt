@@ -21,7 +21,7 @@ use ctf_clock::Moment;
 use ctf_log::Printer;
 use ctf_stream::{EventText, Item};
 
-/// The time of the last printed event record behind this item, in nanoseconds since the epoch.
+/// The time of the last printed event record after this item, in nanoseconds since the epoch.
 pub(crate) fn last_after(last: Option<i64>, item: &Item<'_>) -> Option<i64>
     ensures { (end length : ℕ) → result ≡ answers.last_after last (item_of item.now end length) }
 {
@@ -97,7 +97,7 @@ pub(crate) fn print<W: Log, E: Sink>(
     }
 }
 
-/// Writes a message behind the whole log. It answers what stopped it.
+/// Writes a message after the whole log. It answers what stopped it.
 pub fn say<W: Log, E: Sink>(text: &[u8], out: &mut W, err: &mut E) -> Option<Stop>
     ensures prints { let wrote = written_by W.accepted W.settled E.accepted in
         IsTrue (W.tells out.old) → IsTrue (E.tells err.old)

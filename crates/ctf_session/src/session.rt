@@ -84,7 +84,7 @@ impl<'a, S: Source + Drop> Session<'a, S> {
         ensures begins { IfOk result (λ s. s.last ≡ None) }
         ensures open { IfOk result (λ s. s.ended ≡ None) }
 
-        // The bytes taken are those that the sources gave, and no more than the items in front need.
+        // The bytes taken are those that the sources gave, and no more than the current items need.
         ensures tells { let given = given_by S.tells S.left S.ending in
             let inputs = inputs_from given 0 traces.entry.items in
             AllTell inputs → IfOk result (λ s. Tells s) }
@@ -117,7 +117,7 @@ impl<'a, S: Source + Drop> Session<'a, S> {
         })
     }
 
-    /// Writes the line or the message of the next item, nothing for one before the beginning; or tells how the run
+    /// Writes the line or the message of the next item, nothing for one before the beginning; or says how the run
     /// ends.
     pub fn step<W: Log, E: Sink>(&mut self, out: &mut W, err: &mut E) -> Step
         // One item and its text, or the end and the fault's line, or a first part of what comes next.
@@ -134,7 +134,7 @@ impl<'a, S: Source + Drop> Session<'a, S> {
         ensures ends { EndedBy result self.new.ended }
         ensures nothing_left { self.old.ended ≡ None → LeavesNothing result self.new.coming }
 
-        // No sink failed or was refused memory but the one that stopped the step, once.
+        // No sink failed or ran out of memory but the one that stopped the step, once.
         ensures counts { let counts = counts_by W.failures W.refusals E.failures E.refusals in
             self.old.ended ≡ None
             → CountsAfterStep result (counts out.old err.old) (counts out.new err.new) }
@@ -146,11 +146,11 @@ impl<'a, S: Source + Drop> Session<'a, S> {
         ensures quiet { Tells self.old → self.old.ended ≡ None → IsQuiet self.old
             → (out.new ≡ out.old) × (err.new ≡ err.old) }
 
-        // Of any sources: a step that went took room and left the first item behind; one that ended took nothing from a source.
+        // Of any sources: a step that went took room and went past the first item; one that ended took nothing from a source.
         ensures room { RoomAfter result self.old.room self.new.room }
         ensures readers { ReadersAfter result self.old.coming self.old.readers self.new.readers }
 
-        // The bytes taken are those that the sources gave, and no more than the items in front need.
+        // The bytes taken are those that the sources gave, and no more than the current items need.
         ensures tells { Tells self.old → Tells self.new }
         ensures counted { EachTells self.old.readers
             → given_of self.new.readers ≡ given_of self.old.readers }
@@ -198,7 +198,7 @@ impl<'a, S: Source + Drop> Session<'a, S> {
         }
     }
 
-    /// Tells how the run ends where no item comes: its fault's line, if there is one.
+    /// Says how the run ends where no item comes: its fault's line, if there is one.
     fn end<W: Log, E: Sink>(&self, out: &mut W, err: &mut E) -> Ending
         ensures ends { let wrote = written_by W.accepted W.settled E.accepted in
             EachTells self.now.readers → self.now.ended ≡ None → self.now.coming.items ≡ []
@@ -222,7 +222,7 @@ impl<'a, S: Source + Drop> Session<'a, S> {
         }
     }
 
-    /// Writes the line of a stream's fault. Want of memory has none.
+    /// Writes the line of a stream's fault. Out of memory has none.
     fn tell<W: Log, E: Sink>(
         &self,
         number: usize,
@@ -298,8 +298,8 @@ pub fn print_all<'a, S: Source + Drop, W: Log, E: Sink>(
         CountsAfter result (counts out.old err.old) (counts out.new err.new) }
     ensures named { IsNamed result }
 
-    // Of any sources and sinks: nothing of the log is held back behind the line of a fault, nor where the messages failed or
-    // were refused memory.
+    // Of any sources and sinks: nothing of the log is held back after the line of a fault, nor where the messages failed or
+    // ran out of memory.
     ensures behind { SettledBy result (W.settled out.new) }
     ensures settled { let counts = counts_by W.failures W.refusals E.failures E.refusals in
         SameForMessages (counts out.old err.old) (counts out.new err.new)
@@ -308,7 +308,7 @@ pub fn print_all<'a, S: Source + Drop, W: Log, E: Sink>(
     ensures setting { session.new.setting ≡ session.old.setting }
 
     // No stream is read on from an item after the end; the bytes taken are those that the sources gave, and no more than the
-    // items in front need.
+    // current items need.
     ensures passes { Tells session.old → IsTrue (W.tells out.old) → IsTrue (E.tells err.old)
         → PassesWithin session.old.setting session.old.readers session.new.readers }
     ensures tells { Tells session.old → Tells session.new }

@@ -9,7 +9,7 @@ use ctf_packet::StreamFault;
 /// What a step of a session did.
 #[derive(Drop)]
 pub enum Step {
-    /// It left one item behind: its line or its message was written, or it was before the beginning.
+    /// It went past one item: its line or its message was written, or it was before the beginning.
     Went,
     /// Nothing comes any more.
     Ended(Outcome),

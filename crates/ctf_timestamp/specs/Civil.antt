@@ -11,7 +11,7 @@ use Rattle.ctf_timestamp.specs.Digits.{last_digits}
 abbrev pub second_of : ℤ → ℤ
 second_of nanos = int_div_euclid nanos (pos 1000000000)
 
--- the nanoseconds behind them
+-- the nanoseconds after them
 abbrev pub within_second : ℤ → ℕ
 within_second nanos = unsigned_abs (int_rem_euclid nanos (pos 1000000000))
 
@@ -49,7 +49,7 @@ time_at second = time_of_day (unsigned_abs (int_rem_euclid second (pos 86400)))
 unfoldable pub date_at : ℤ → List ℕ
 date_at second = day_text (int_div_euclid second (pos 86400)) ++ codes " " ++ time_at second
 
--- the same of a civil time of jiff, by its parts
+-- the time of day of a civil time of jiff, by its parts
 abbrev pub shown_time : Time → List ℕ
 shown_time t = clock_text t.hour t.minute t.second
 

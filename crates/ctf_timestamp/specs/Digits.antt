@@ -1,7 +1,7 @@
 -- Decimal digits.
 use Rattle.std.specs.Prelude.{ℕ, zero, suc, ◌+◌, ◌/◌, ◌%◌, List, [], ◌∷◌, ◌++◌, codes, decimal}
 
--- the last so many decimal digits of a number, with zeros in front where it has fewer (own)
+-- the last so many decimal digits of a number, with zeros before them where it has fewer (own)
 unfoldable pub last_digits : ℕ → ℕ → List ℕ
 last_digits zero n = []
 last_digits (suc count) n = last_digits count (n / 10) ++ (48 + n % 10) ∷ []

@@ -9,7 +9,7 @@ use Rattle.ctf_timestamp.specs.Civil.{second_of, within_second, time_at, date_at
 use Rattle.ctf_timestamp.specs.Digits.{last_digits, seconds_text}
 use Rattle.ctf_timestamp.specs.Zones.{civil_at}
 
--- the seconds since the epoch, `-` in front where they are below 0
+-- the seconds since the epoch, with `-` first where they are below 0
 unfoldable pub signed_seconds : ℤ → List ℕ
 signed_seconds (pos n) = seconds_text n
 signed_seconds (negsuc n) = codes "-" ++ seconds_text (suc n)

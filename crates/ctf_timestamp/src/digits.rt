@@ -1,4 +1,4 @@
-//! Digits and bytes that are written into a slice at an index. Each call gives the index behind what it wrote.
+//! Digits and bytes that are written into a slice at an index. Each call gives the index after what it wrote.
 
 ghost use Rattle.std.specs.Prelude.{◌≡◌, ◌+◌, ◌<◌, ◌≤◌, [], ◌∷◌, ◌++◌, codes, length, decimal};
 ghost use Rattle.ctf_timestamp.specs.Digits.{last_digits, seconds_text};
@@ -151,7 +151,7 @@ fn put_long(number: u64, line: &mut [u8], at: usize) -> usize
     put_bytes(digits.format(number).as_bytes(), line, at)
 }
 
-/// Nanoseconds in seconds, with nine digits behind the dot: at most 30 bytes, which take room for 31.
+/// Nanoseconds in seconds, with nine digits after the dot: at most 30 bytes, which take room for 31.
 #[tactic(auto, using(crate::proofs::Groups::digits_long))]
 #[inline(always)]
 pub(crate) fn put_seconds(nanos: u64, line: &mut [u8], at: usize) -> usize

@@ -45,7 +45,7 @@ pub struct Stamper {
 /// A stamp that needs no calendar.
 #[derive(Drop)]
 struct Kept {
-    // `hh:mm:ss`, and what may stand behind it.
+    // `hh:mm:ss`, and what may come after it.
     text: [u8; MOST_HEAD],
     nanos: u32,
 }
@@ -78,7 +78,7 @@ impl Stamper {
         }
     }
 
-    /// Writes the stamp of a moment at an index, and gives the index behind it.
+    /// Writes the stamp of a moment at an index, and gives the index after it.
     #[inline(always)]
     pub fn put_stamp(&mut self, moment: Moment, line: &mut [u8], at: usize) -> usize
         requires { at + MOST_STAMP ≤ length line.old }
@@ -116,7 +116,7 @@ impl Stamper {
         put_second(&self.text[..self.length], nanos, line, at)
     }
 
-    /// Writes the beginning of a line at an index, and gives the index behind it: the stamp of the line's
+    /// Writes the beginning of a line at an index, and gives the index after it: the stamp of the line's
     /// moment in brackets and, where the style has it, the time since `last` in parentheses. Nothing for a
     /// line without a moment.
     #[inline(always)]
@@ -181,7 +181,7 @@ impl Stamper {
         self.put_end(last, moment.time, line, at)
     }
 
-    /// What stands behind a stamp.
+    /// What follows a stamp.
     #[inline(always)]
     #[tactic(auto, using(crate::proofs::Groups::digits_long))]
     fn put_end(&self, last: Option<i64>, time: i64, line: &mut [u8], at: usize) -> usize
@@ -222,7 +222,7 @@ fn short_since(last: Option<i64>, time: i64) -> Option<u32>
     Some(nanos as u32)
 }
 
-/// What stands behind a stamp in a style with any time since the one before.
+/// What follows a stamp in a style with any time since the one before.
 #[cold]
 #[inline(never)]
 fn put_any_delta(last: Option<i64>, time: i64, line: &mut [u8], at: usize) -> usize
@@ -251,7 +251,7 @@ fn put_second(head: &[u8], nanos: u32, line: &mut [u8], at: usize) -> usize
     put_fraction(nanos, line, at)
 }
 
-/// The nanoseconds of a time behind the start of a second, if it lies in that second and is not its last nanosecond.
+/// The nanoseconds of a time after the start of a second, if it lies in that second and is not its last nanosecond.
 /// It takes neither a division nor a product.
 #[inline(always)]
 fn nanos_within(start: i64, time: i64) -> Option<u32>
@@ -270,7 +270,7 @@ fn nanos_within(start: i64, time: i64) -> Option<u32>
     Some(nanos as u32)
 }
 
-/// The nanoseconds of a time behind the start of its second.
+/// The nanoseconds of a time after the start of its second.
 fn nanos_of(time: i64) -> u32
     ensures nanos { result ≡ within_second time }
     ensures below { result < 1000000000 }

@@ -10,7 +10,7 @@ pub enum ClockStyle {
     Time,
     /// `YYYY-MM-DD hh:mm:ss.nnnnnnnnn` in the zone.
     Date,
-    /// Seconds since the epoch, with nine digits behind the dot.
+    /// Seconds since the epoch, with nine digits after the dot.
     Seconds,
     /// The clock's value without its offsets, in 20 digits.
     Cycles,

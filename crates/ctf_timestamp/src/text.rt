@@ -8,7 +8,7 @@ use crate::style::Style;
 use ctf_clock::Moment;
 use ctf_list::NoMemory;
 
-/// Appends the stamp of a moment. Where memory is refused the text is as it was.
+/// Appends the stamp of a moment. Where an allocation fails the text is as it was.
 pub fn append_stamp(text: &mut Vec<u8>, style: &Style, moment: Moment) -> Result<(), NoMemory>
     ensures appended { IfOk result
         (λ _. text.new.items ≡ text.old.items ++ stamp style.now moment) }
@@ -21,7 +21,7 @@ pub fn append_stamp(text: &mut Vec<u8>, style: &Style, moment: Moment) -> Result
 }
 
 /// Appends the beginning of a line: the stamp of its moment in brackets and, where the style has it, the
-/// time since `last` in parentheses. Nothing for a line without a moment. Where memory is refused the
+/// time since `last` in parentheses. Nothing for a line without a moment. Where an allocation fails the
 /// text is as it was.
 pub fn append_part(
     text: &mut Vec<u8>,

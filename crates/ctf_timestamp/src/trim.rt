@@ -10,7 +10,7 @@ pub struct Trim {
     pub end: Option<i64>,
 }
 
-/// Where an item stands to what is wanted.
+/// Where an item is relative to what is wanted.
 #[derive(Clone, Copy)]
 pub enum Verdict {
     Before,
@@ -19,7 +19,7 @@ pub enum Verdict {
 }
 
 impl Trim {
-    /// Where an item of this time stands, in nanoseconds since the epoch. An item without a time is within;
+    /// Where an item of this time is, in nanoseconds since the epoch. An item without a time is within;
     /// a time above the end is after it, also where it is below the beginning. No memory is taken.
     pub fn judge(&self, time: Option<i64>) -> Verdict
         ensures { result ≡ verdict_of self.now time }

@@ -23,7 +23,7 @@ pub enum ZoneFault {
     /// The text is no POSIX rule.
     #[error("no time zone rule")]
     Bad,
-    /// A growth was refused.
+    /// An allocation failed.
     #[error("no memory")]
     NoMemory,
 }

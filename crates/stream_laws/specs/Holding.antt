@@ -28,7 +28,7 @@ is_rest (whole begun sizes) = false
 is_rest (rest begun) = true
 is_rest (faulty fault) = false
 
--- Whether the packet of an item is the rest of its stream: its context tells neither its size nor that of its content
+-- Whether the packet of an item is the rest of its stream: its context gives neither its size nor that of its content
 -- (CTF 1.8.3, section 5.2). It is looked at as a first packet, since those before it settle only whether its stream
 -- class is the right one.
 abbrev pub is_in_rest : {C : Type 0} → TraceForm C → List ℕ → Item C → Bool

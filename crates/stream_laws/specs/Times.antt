@@ -6,7 +6,7 @@ use Rattle.ctf_clock.specs.declared.moment.Moment.{Moment}
 use Rattle.ctf_packet.specs.Items.{Item}
 use Rattle.ctf_packet.specs.ItemTimes.{time_of}
 
--- the time that a clock tells, in nanoseconds since the epoch
+-- the time that a clock gives, in nanoseconds since the epoch
 abbrev pub time_at : Option Moment → Option ℤ
 time_at clock = option_map (λ (moment : Moment). moment.time) clock
 
@@ -20,7 +20,7 @@ is_before (Some time) (Some other) = lt_z time other
 abbrev pub NotBefore : Option ℤ → Option ℤ → Type 0
 NotBefore low time = is_before time low ≡ false
 
--- no time is before the one in front of it, and the first is not before `low`
+-- no time is before the one that precedes it, and the first is not before `low`
 abbrev pub Rises : {C : Type 0} → Option ℤ → List (Item C) → Type 0
 Rises low [] = Unit {0}
 Rises low (x ∷ xs) = NotBefore low (time_of x) × Rises (time_of x) xs
