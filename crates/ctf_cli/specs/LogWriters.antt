@@ -1,4 +1,4 @@
--- What a log in front of a writer holds.
+-- What a log that is held back from a writer holds.
 use Rattle.std.specs.Prelude.{ℕ, List, Bool, true, false, Option, [], ◌∷◌}
 use Rattle.std.specs.Io.KnownBytes.{append_known}
 use Rattle.ctf_cli.specs.declared.log_writer.LogWriter.{LogWriter}

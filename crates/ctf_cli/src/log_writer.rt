@@ -1,4 +1,4 @@
-//! A log that is held back in a buffer in front of a writer.
+//! A log that is held back in a buffer before it goes to a writer.
 
 ghost use Rattle.std.specs.Prelude.{◌≡◌, ◌<◌, ◌≤◌, IfOk, IfErr, OnOk, [], true, is_some, unwrap_or, IsTrue, length};
 ghost use Rattle.std.specs.Io.KnownBytes.{Keeps, WriteAppends};
@@ -15,7 +15,7 @@ use ctf_run::Log;
 use std::alloc::Global;
 use std::io::Write;
 
-/// A buffer in front of a writer. It tells its bytes where the writer does. An error of the writer is a failure.
+/// A buffer for a writer. It tells its bytes where the writer does. An error of the writer is a failure.
 #[derive(Drop)]
 pub struct LogWriter<O: Write + Drop> {
     writer: Retrying<O>,

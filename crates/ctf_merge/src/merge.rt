@@ -39,7 +39,7 @@ pub(crate) enum Stage {
     Going,
     /// The fault of the stream of this number comes next.
     Broken(usize, StreamFault),
-    /// The fault was given and gone past.
+    /// The fault was gone past.
     Over,
 }
 

@@ -58,7 +58,7 @@ bt_ctf = with_rules (new_app (codes "bt-ctf")) (
 unfoldable pub matches : List (List ℕ) → List Row
 matches words = matches_of bt_ctf words
 
--- the ways in which clap refuses the words, besides out of memory: none where it takes them
+-- the ways in which clap refuses the words, besides running out of memory: none where it takes them
 unfoldable pub faults : List (List ℕ) → Kinds
 faults words = fault_of bt_ctf words
 

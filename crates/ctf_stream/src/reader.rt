@@ -149,7 +149,7 @@ impl<'a, S: Source + Drop> StreamReader<'a, S> {
         self.advance();
     }
 
-    /// Fetches the next item, where there is no current one. Mostly the next item is one that `go_on` fetches itself, so this
+    /// Fetches the next item, where nothing is current. Mostly the next item is one that `go_on` fetches itself, so this
     /// is kept out of its way.
     #[inline(never)]
     fn advance(&mut self)
@@ -214,7 +214,7 @@ impl<'a, S: Source + Drop> StreamReader<'a, S> {
         self.give()
     }
 
-    /// Fetches the next item, if there is no current one.
+    /// Fetches the next item, if nothing is current.
     fn fetch(&mut self)
         ensures comes { IsTrue self.old.tells → OrRefused (coming self.old) (coming self.new) }
         ensures fetched { IsFetched self.new.ahead }
