@@ -6,7 +6,7 @@ use Rattle.ctf_bits.specs.declared.drip_sink.DripSink.{DripSink}
 abbrev pub accepted_of : DripSink → List ℕ
 accepted_of sink = sink.bytes.items
 
--- how often it was refused memory
+-- how often it ran out of memory
 abbrev pub refusals_of : DripSink → ℕ
 refusals_of sink = sink.refusals
 

@@ -11,7 +11,7 @@ accepted_of sink = sink.bytes.items
 abbrev pub failures_of : FailingSink → ℕ
 failures_of sink = sink.failures
 
--- how often it was refused memory
+-- how often it ran out of memory
 abbrev pub refusals_of : FailingSink → ℕ
 refusals_of sink = sink.refusals
 

@@ -3,14 +3,14 @@ use Rattle.std.specs.Prelude.{ℕ, ℤ, Bool, pos, ◌+◌, ◌*◌, List, if◌
 use Rattle.ctf_bits.specs.declared.number.Order.TheVariants.{Le}
 use Rattle.ctf_bits.specs.Number.{number, signed_number}
 
--- where an integer stands, in bits behind the first one of a byte, of how many bits it is, and whether it is in two's
+-- where an integer is, in bits after the first one of a byte, of how many bits it is, and whether it is in two's
 -- complement
 pub record Placed : Type 0 where
   pub place : ℕ
   pub size : ℕ
   pub is_signed : Bool
 
--- its number, little endian, where that byte stands behind so many others (CTF 1.8.3, section 4.1.5)
+-- its number, little endian, where that byte is after so many others (CTF 1.8.3, section 4.1.5)
 abbrev pub number_behind : Placed → List ℕ → ℕ → ℤ
 number_behind w bytes first =
     if w.is_signed then signed_number Le bytes (8 * first + w.place) w.size else pos (number Le bytes (8 * first + w.place) w.size)

@@ -6,6 +6,6 @@ use Rattle.ctf_bits.specs.declared.vec_sink.VecSink.{VecSink}
 abbrev pub accepted_of : VecSink → List ℕ
 accepted_of sink = sink.bytes.items
 
--- how often it was refused memory
+-- how often it ran out of memory
 abbrev pub refusals_of : VecSink → ℕ
 refusals_of sink = sink.refusals

@@ -1,4 +1,4 @@
-//! Numbers that stand at any bit of a list of bytes, where bytes come from, and where they go.
+//! Numbers at any bit of a list of bytes, where bytes come from, and where they go.
 #![tactic(auto)]
 
 mod align;

@@ -38,7 +38,7 @@ impl<'a> Rest<'a> {
         (self.whole - self.left.len()) as u64
     }
 
-    /// Moves the first bytes to the front of the buffer, as many as fit and at most `most`, and says
+    /// Moves the first bytes to the beginning of the buffer, as many as fit and at most `most`, and says
     /// how many.
     pub(crate) fn give(&mut self, buf: &mut [u8], most: usize) -> usize
         ensures count { result ≡ min (min (length buf.old) most) (length (left_of self.old)) }

@@ -1,4 +1,4 @@
-//! Integers that are read at once, since it is known beforehand where they stand.
+//! Integers that are read at once, since it is known beforehand where they are.
 
 ghost use Rattle.std.specs.Prelude.{◌≡◌, ◌+◌, ◌*◌, ◌/◌, ◌%◌, ◌^◌, ◌≤◌, true, pos, length, None, SomeIff, IfSome};
 ghost use Rattle.ctf_bits.specs.declared.number.Order.TheVariants.{Le};
@@ -9,17 +9,17 @@ use crate::signed::twos_complement;
 use byteorder::{ByteOrder, LittleEndian};
 use std::marker::Model;
 
-/// Where a little endian integer stands behind the first bit of a byte, if it lies in the eight bytes from its own first one
+/// Where a little endian integer is after the first bit of a byte, if it lies in the eight bytes from its own first one
 /// on (CTF 1.8.3, section 4.1.5). Contracts see its place and its size, in bits, and whether it is in two's complement.
 #[derive(Drop)]
 pub struct Window {
-    /// How many bytes stand before its first one.
+    /// How many bytes are before its first one.
     bytes: usize,
     /// A one for each of its bits.
     mask: u64,
     /// The greatest number that it has.
     last: u64,
-    /// How many bits of its first byte stand before it.
+    /// How many bits of its first byte are before it.
     shift: u32,
     size: u32,
     is_signed: bool,
@@ -76,7 +76,7 @@ impl Window {
         self.place() + u64::from(self.size)
     }
 
-    /// Its number behind so many of some bytes, which are known to hold the eight; `None` where that is below zero, which no
+    /// Its number after so many of some bytes, which are known to hold the eight; `None` where that is below zero, which no
     /// unsigned one is.
     #[inline(always)]
     pub fn number(&self, bytes: &[u8], first: usize) -> Option<u64>

@@ -6,7 +6,7 @@ use Rattle.std.specs.List.{flat_map}
 abbrev pub hex_digit : ℕ → ℕ
 hex_digit digit = if nat_lt digit 10 then 48 + digit else 87 + digit
 
--- one byte: `"`, `\`, newline, tab and carriage return behind a `\`; other bytes below 0x20 and 0x7F as
+-- one byte: `"`, `\`, newline, tab and carriage return after a `\`; other bytes below 0x20 and 0x7F as
 -- `\x` and two digits; each other byte as it is (own)
 unfoldable pub shown_byte : ℕ → List ℕ
 shown_byte byte =

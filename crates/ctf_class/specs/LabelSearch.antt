@@ -15,7 +15,7 @@ place_in order rank = get_or order rank rank
 abbrev pub span_in : List Label → List ℕ → ℕ → Span
 span_in labels order rank = (label_at labels (place_in order rank)).span
 
--- the labels' numbers stand one after the other in an order
+-- the labels' numbers are one after the other in an order
 pub record AreApart (labels : List Label) (order : List ℕ) : Type 0 where
   pub forward : (rank : ℕ) → rank < length labels → (span_in labels order rank).first ≤ℤ (span_in labels order rank).last
   pub apart : (rank later : ℕ) → rank < later → later < length labels → (span_in labels order rank).last <ℤ (span_in labels order later).first

@@ -22,7 +22,7 @@ label_at labels place = get_or labels place no_label
 abbrev pub is_shown : List Label → ℤ → List ℕ → Bool
 is_shown labels z name = list_any (λ (label : Label). covers label.span z && bytes_eq label.name name) labels
 
--- whether the label at a place covers a number, and none that stands before it and covers the number has its name
+-- whether the label at a place covers a number, and none that is before it and covers the number has its name
 abbrev pub shows_at : List Label → ℤ → ℕ → Bool
 shows_at labels z place = covers (label_at labels place).span z && not (is_shown (take place labels) z (label_at labels place).name)
 

@@ -7,11 +7,11 @@ use Rattle.ctf_class.specs.declared.record_plan.Run.{Run}
 use Rattle.ctf_class.specs.declared.plain_number.PlainNumber.{PlainNumber}
 use Rattle.ctf_class.specs.Records.{Slot, Scoped, between, all_slots, values_in, AreScoped, AreInRun, AreRuns, room_of}
 
--- fields are these runs, whatever runs stand behind them
+-- fields are these runs, whatever runs are after them
 abbrev pub RunsTo : List Slot → List Run → Type 0
 RunsTo full runs = (rest : List Slot) (rs : List Run) → AreRuns rest rs → AreRuns (full ++ rest) (runs ++ rs)
 
--- fields are these numbers, whatever fields stand behind them
+-- fields are these numbers, whatever fields are after them
 abbrev pub IsOpen : List Slot → List PlainNumber → ℕ → Type 0
 IsOpen now numbers span = (rest : List Slot) → AreInRun 0 (now ++ rest) numbers span rest
 
@@ -32,7 +32,7 @@ pub record IsMadeOf (ks : List Class) (m : Making) : Type 0 where
   pub count : m.count ≡ values_in scopes
   pub made : IsMade (all_slots [] scopes) m
 
--- what stands before the brace of a scope behind so many values
+-- what is before the brace of a scope after so many values
 abbrev pub before_scope : ℕ → List ℕ
 before_scope zero = []
 before_scope (suc n) = between
@@ -47,7 +47,7 @@ with_number m n = record {
   count = m.count;
 }
 
--- with a field behind the open run, which is whole then
+-- with a field after the open run, which is whole then
 abbrev pub with_field : Making → Field → Making
 with_field m f = record {
   runs = m.runs ++ record { numbers = m.numbers; span = m.span; room = m.room + (length f.ready + 66); field = Some f } ∷ [];

@@ -9,7 +9,7 @@ use Rattle.ctf_class.specs.LabelSearch.{place_in}
 abbrev pub name_in : List (List ℕ) → List ℕ → ℕ → List ℕ
 name_in names order rank = get_or names (place_in order rank) []
 
--- there is a name of a rank, which comes behind that of the rank before
+-- there is a name of a rank, which comes after that of the rank before
 pub record IsNext (names : List (List ℕ)) (order : List ℕ) (rank : ℕ) : Type 0 where
   pub within : place_in order rank < length names
   pub behind : 0 < rank → slice_cmp nat_cmp (name_in names order (rank - 1)) (name_in names order rank) ≡ Less

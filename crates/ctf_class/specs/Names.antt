@@ -8,7 +8,7 @@ shown_name [] = []
 shown_name (first ∷ []) = first ∷ []
 shown_name (first ∷ second ∷ rest) = if first == 95 then second ∷ rest else first ∷ second ∷ rest
 
--- what stands before a member's value (own)
+-- what is before a member's value (own)
 abbrev pub field_text : List ℕ → List ℕ
 field_text name = shown_name name ++ codes " = "
 

@@ -1,4 +1,4 @@
--- Event records whose integers stand at fixed distances (all own). Bytes are written as numbers: 32 is a space, 44 a comma,
+-- Event records whose integers are at fixed distances (all own). Bytes are written as numbers: 32 is a space, 44 a comma,
 -- 123 and 125 are `{` and `}`.
 use Rattle.std.specs.Prelude.{◌≡◌, ℕ, suc, ◌+◌, ◌%◌, ◌<◌, ◌≤◌, ◌^◌, List, [], ◌∷◌, ◌++◌, length, max, Option, Some, None, ⊤}
 use Rattle.std.specs.Int.{next_multiple_of}
@@ -22,7 +22,7 @@ use Rattle.ctf_class.specs.declared.route.Route.{Route}
 use Rattle.ctf_class.specs.declared.plain_number.PlainNumber.{PlainNumber}
 
 -- a field: what is printed between the value before it and its name, the alignment of the structure that it begins, or 1,
--- how many members of its structure stand before it, and the member that it is of
+-- how many members of its structure are before it, and the member that it is of
 pub record Slot : Type 0 where
   pub lead : List ℕ
   pub align : ℕ
@@ -34,16 +34,16 @@ pub record Scoped : Type 0 where
   pub align : ℕ
   pub members : List Member
 
--- a member behind so many others
+-- a member after so many others
 abbrev pub later : ℕ → Member → Slot
 later i m = record { lead = 44 ∷ 32 ∷ []; align = 1; index = i; member = m }
 
--- members one behind the other, the first of them behind so many others
+-- members one after the other, the first of them after so many others
 abbrev pub laters : ℕ → List Member → List Slot
 laters i [] = []
 laters i (m ∷ ms) = later i m ∷ laters (suc i) ms
 
--- the fields of a structure, of which the first stands behind a text and a brace
+-- the fields of a structure, of which the first is after a text and a brace
 abbrev pub slots_of : List ℕ → ℕ → List Member → List Slot
 slots_of before align [] = []
 slots_of before align (m ∷ ms) = record { lead = before ++ (123 ∷ 32 ∷ []); align = align; index = 0; member = m } ∷ laters 1 ms
@@ -51,11 +51,11 @@ slots_of before align (m ∷ ms) = record { lead = before ++ (123 ∷ 32 ∷ [])
 abbrev pub slots : List ℕ → Scoped → List Slot
 slots before s = slots_of before s.align s.members
 
--- what stands between two structures
+-- what is between two structures
 abbrev pub between : List ℕ
 between = 32 ∷ 125 ∷ 44 ∷ 32 ∷ []
 
--- the fields of structures one behind the other
+-- the fields of structures one after the other
 abbrev pub all_slots : List ℕ → List Scoped → List Slot
 all_slots before [] = []
 all_slots before (s ∷ ss) = slots before s ++ all_slots between ss
@@ -72,7 +72,7 @@ AreScoped [] (s ∷ ss) = ⊥
 AreScoped (k ∷ ks) [] = ⊥
 AreScoped (k ∷ ks) (s ∷ ss) = (k.kind ≡ kind.Structure s.members) × (k.align ≡ s.align) × (s.align ≡ 8) × (0 < length s.members) × AreScoped ks ss
 
--- the scopes of an event record behind its header that have a class
+-- the scopes of an event record after its header that have a class
 abbrev pub and_scope : Option Class → List Class → List Class
 and_scope None ks = ks
 and_scope (Some k) ks = k ∷ ks
@@ -80,7 +80,7 @@ and_scope (Some k) ks = k ∷ ks
 abbrev pub scopes_of : Option Class → Option Class → Class → List Class
 scopes_of shared own fields = and_scope shared (and_scope own (fields ∷ []))
 
--- a field is an integer in decimal, little endian, behind this distance from a byte's first bit, where it stands wherever
+-- a field is an integer in decimal, little endian, after this distance from a byte's first bit, where it is wherever
 -- that byte is; and so it is read and begun
 pub record IsNumber (from : ℕ) (s : Slot) (n : PlainNumber) : Type 0 where
   pub is : s.member.class.kind ≡ kind.Integer n.integer
@@ -91,7 +91,7 @@ pub record IsNumber (from : ℕ) (s : Slot) (n : PlainNumber) : Type 0 where
   pub window : n.window ≡ record { place = next_multiple_of (next_multiple_of from s.align) s.member.class.align; size = max 1 n.integer.size; is_signed = n.integer.is_signed }
   pub ready : n.ready ≡ s.lead ++ field_text s.member.name
 
--- so are the first of these fields, one behind the other, as far as a distance, and these are left
+-- so are the first of these fields, one after the other, as far as a distance, and these are left
 abbrev pub AreInRun : ℕ → List Slot → List PlainNumber → ℕ → List Slot → Type 0
 AreInRun from ss [] span rest = (span ≡ from) × (rest ≡ ss)
 AreInRun from [] (n ∷ ns) span rest = ⊥
@@ -105,13 +105,13 @@ LeadsBefore route index = (route.origin ≡ Enclosing 0) × ((step : ℕ) × (ro
 abbrev pub IsInteger : Class → Integer → ℕ → Type 0
 IsInteger k integer align = (k.kind ≡ kind.Integer integer) × (align ≡ k.align)
 
--- a member behind so many others is one integer, or an array of integers
+-- a member after so many others is one integer, or an array of integers
 abbrev pub AreIntegers : ℕ → Member → Integer → ℕ → Many → Type 0
 AreIntegers index m integer align many.One = IsInteger m.class integer align
 AreIntegers index m integer align (many.Fixed count) = (k : Class) × (m.class.kind ≡ kind.Array (lengths.Fixed count) k) × IsInteger k integer align
 AreIntegers index m integer align many.Counted = (route : Route) × (k : Class) × (m.class.kind ≡ kind.Array (lengths.Field route) k) × LeadsBefore route index × IsInteger k integer align
 
--- what a member behind so many others is shown as
+-- what a member after so many others is shown as
 abbrev pub IsShown : ℕ → Member → Shown → Type 0
 IsShown index m shown.String = m.class.kind ≡ kind.String
 IsShown index m (shown.Text count) = m.class.kind ≡ kind.Text (lengths.Fixed count)
@@ -136,13 +136,13 @@ abbrev pub numbers_room : List PlainNumber → ℕ
 numbers_room [] = 24
 numbers_room (n ∷ ns) = length n.ready + 24 + numbers_room ns
 
--- the room that numbers and a field behind them take in a line, in bytes: each text 24 more, and a number 66 at the most
+-- the room that numbers and a field after them take in a line, in bytes: each text 24 more, and a number 66 at the most
 abbrev pub room_of : List PlainNumber → Option Field → ℕ
 room_of [] None = 24
 room_of [] (Some f) = length f.ready + 90
 room_of (n ∷ ns) f = length n.ready + 24 + room_of ns f
 
--- fields are these runs, one behind the other
+-- fields are these runs, one after the other
 abbrev pub AreRuns : List Slot → List Run → Type 0
 AreRuns ss [] = ss ≡ []
 AreRuns ss (r ∷ rs) = (rest : List Slot) × AreInRun 0 ss r.numbers r.span rest × (r.room ≡ room_of r.numbers r.field) × (r.span ≤ 2 ^ 33) × Behind rest r.field (λ others. AreRuns others rs)

@@ -22,7 +22,7 @@ pub fn sorted_places(alloc: Global, labels: &[Label]) -> Result<List<usize>, NoM
     Ok(List::from_vec(places))
 }
 
-/// So many places, as they stand.
+/// So many places, in their order.
 pub fn places_of(alloc: Global, count: usize) -> Result<Vec<usize>, NoMemory>
     ensures { IfOk result (λ places. places.items ≡ range_with_len 0 count) }
 {
@@ -33,7 +33,7 @@ pub fn places_of(alloc: Global, count: usize) -> Result<Vec<usize>, NoMemory>
     Ok(places)
 }
 
-/// Whether the numbers of labels stand one after the other in an order of the labels.
+/// Whether the numbers of labels are one after the other in an order of the labels.
 pub fn are_apart(labels: &[Label], order: &[usize]) -> bool
     ensures { IsTrue result → AreApart labels.now order.now }
 {

@@ -29,7 +29,7 @@ enum Kept {
 /// The choices of a variant in their order (CTF 1.8.3, section 4.2.2). Contracts see the list of the choices.
 ///
 /// A tag may have far more labels than the variant has options, and may be that of many variants. Then no list is
-/// kept, so that classes take no more memory than the text that declares them asks for. What is kept stands apart,
+/// kept, so that classes take no more memory than the text that declares them asks for. What is kept is on the heap,
 /// since each class of a field has room for the largest.
 #[derive(Drop)]
 pub struct Choices {

@@ -30,7 +30,7 @@ pub enum Kind {
     /// CTF 1.8.3, section 4.1.8.
     Enumeration {
         container: Integer,
-        /// In the order of their declaration. One name may stand more than once. Classes that are
+        /// In the order of their declaration. One name may occur more than once. Classes that are
         /// made of one declaration share them.
         labels: Shared<Labels>,
     },

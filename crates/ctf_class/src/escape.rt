@@ -6,7 +6,7 @@ ghost use Rattle.ctf_class.specs.Escapes.{escaped, shown_byte, hex_digit};
 use ctf_list::NoMemory;
 use std::alloc::{AllocError, Global};
 
-/// A text as it is shown: `"`, `\`, newline, tab and carriage return behind a `\`, other bytes below 0x20
+/// A text as it is shown: `"`, `\`, newline, tab and carriage return after a `\`, other bytes below 0x20
 /// and 0x7F as `\x` and two digits, and each other byte as it is.
 pub fn escaped(alloc: Global, bytes: &[u8]) -> Result<Vec<u8>, NoMemory>
     ensures { IfOk result (λ text. text.items ≡ escaped bytes.now) }

@@ -58,7 +58,7 @@ impl FieldName {
         Ok(FieldName { printed })
     }
 
-    /// What is printed before the value, behind a text.
+    /// What is printed before the value, after a text.
     pub fn behind(&self, alloc: Global, lead: &[u8]) -> Result<PreparedText, NoMemory>
         ensures { IfOk result (λ ready. ready ≡ lead.now ++ field_text self.now) }
     {
@@ -115,7 +115,7 @@ impl Eq for FieldName {
     ghost laws = { nat_list_eq_equiv };
 }
 
-/// What is printed before a value, behind a text.
+/// What is printed before a value, after a text.
 fn ready_behind(alloc: Global, lead: &[u8], name: &[u8]) -> Result<PreparedText, NoMemory>
     ensures { IfOk result (λ ready. ready ≡ lead.now ++ field_text name.now) }
 {

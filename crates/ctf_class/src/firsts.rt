@@ -10,7 +10,7 @@ use ctf_list::NoMemory;
 use std::alloc::Global;
 use std::collections::BTreeMap;
 
-/// Where the first of each name stands.
+/// Where the first of each name is.
 #[derive(Drop)]
 pub struct Firsts {
     pub places: BTreeMap<Vec<u8>, usize>,

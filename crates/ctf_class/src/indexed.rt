@@ -19,7 +19,7 @@ pub trait HasId {
         ensures { result ≡ id_of self.now };
 }
 
-/// Where the first item of each number stands.
+/// Where the first item of each number is.
 #[derive(Drop)]
 enum Places {
     /// The items have the numbers 0, 1, 2 and so on.
@@ -68,7 +68,7 @@ impl<T: HasId> Indexed<T> {
         self.items.as_slice()
     }
 
-    /// Where the first item of a number stands.
+    /// Where the first item of a number is.
     #[inline(always)]
     pub fn place(&self, id: u64) -> Option<usize>
         ensures { IfSome result (λ place. slice_get self.now place ≡

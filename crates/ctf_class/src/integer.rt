@@ -12,7 +12,7 @@ pub enum Base {
     Hexadecimal,
 }
 
-/// What is known of an integer but where it stands (CTF 1.8.3, section 4.1.5).
+/// What is known of an integer but where it is (CTF 1.8.3, section 4.1.5).
 #[derive(Clone, Copy)]
 pub struct Integer {
     pub size: Width,

@@ -14,13 +14,13 @@ use std::marker::Model;
 #[derive(Drop)]
 enum Search {
     /// No two labels cover one number. The labels' places in the order of their numbers; none where that is
-    /// the order in which they stand.
+    /// the order in which they are.
     Apart(List<usize>),
     /// One past the place of the last label before each of its name; 0 where there is none.
     Chained(List<usize>),
 }
 
-/// Labels in the order of their declaration. One name may stand more than once (CTF 1.8.3, section 4.1.8).
+/// Labels in the order of their declaration. One name may occur more than once (CTF 1.8.3, section 4.1.8).
 /// Contracts see the list of the labels.
 #[derive(Drop)]
 pub struct Labels {
@@ -43,7 +43,7 @@ impl Model for Labels {
 
 impl Labels {
     /// Labels that are found by the numbers that they cover. Of `n` labels, takes time like `n` times its
-    /// logarithm, and 8 bytes for each where they don't stand in the order of their numbers.
+    /// logarithm, and 8 bytes for each where they are not in the order of their numbers.
     pub fn new(alloc: Global, labels: List<Label>) -> Result<Labels, NoMemory>
         ensures { IfOk result (λ made. made ≡ labels) }
     {
@@ -59,7 +59,7 @@ impl Labels {
     }
 
     /// The place of the first label, from a place on, that is shown for a number: it covers the number, and no
-    /// label that stands before it and covers the number has its name. Where no number has two labels it is
+    /// label that is before it and covers the number has its name. Where no number has two labels it is
     /// found by halving, else by a walk.
     pub fn next_shown(&self, begin: usize, number: i128) -> Option<usize>
         ensures next { FindsNext self.now number begin result }

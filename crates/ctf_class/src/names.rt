@@ -21,7 +21,7 @@ enum Places {
     /// By a walk.
     Few,
     /// By halving: no two are the same. The names' places in the order of their bytes; none where that is the order in
-    /// which they stand.
+    /// which they are.
     Ranked(List<usize>),
     /// By a map of their bytes, which takes ten times as much memory.
     Sorted(Firsts),

@@ -1,4 +1,4 @@
-//! Integers that are printed as they stand.
+//! Integers that are printed as they are.
 
 use crate::integer::Integer;
 use crate::ready::PreparedText;
@@ -8,7 +8,7 @@ use ctf_bits::Window;
 #[derive(Drop)]
 pub struct PlainNumber {
     pub integer: Integer,
-    /// Where it stands behind that begin.
+    /// Where it is after that begin.
     pub window: Window,
     /// What is printed before it.
     pub ready: PreparedText,

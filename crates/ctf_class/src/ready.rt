@@ -13,7 +13,7 @@ use std::marker::Model;
 /// How many bytes of a text are written whatever its length is.
 const HEAD: usize = 24;
 
-/// A text in words of eight bytes, so that it is written by whole words. The first three stand in it, so that a
+/// A text in words of eight bytes, so that it is written by whole words. The first three are in it, so that a
 /// short text is written at once: no jump depends on its length. Contracts see its bytes.
 #[derive(Drop)]
 pub struct PreparedText {
@@ -21,7 +21,7 @@ pub struct PreparedText {
     first: u64,
     second: u64,
     third: u64,
-    /// The words behind these, which copies share; the last one is filled up.
+    /// The words after these, which copies share; the last one is filled up.
     rest: SharedWords,
     length: usize,
 }
@@ -65,7 +65,7 @@ impl PreparedText {
     }
 
     /// Writes the text at an index of a line that has room for it and for 24 bytes more, and gives the
-    /// index behind it. What stands behind it in the line may be any bytes.
+    /// index after it. What is after it in the line is unspecified.
     #[inline(always)]
     pub fn put(&self, line: &mut [u8], at: usize) -> usize
         requires { at + length self.now + 24 ≤ length line.old }
@@ -79,7 +79,7 @@ impl PreparedText {
         at + self.length
     }
 
-    /// Writes a text that is longer than the words that stand in it.
+    /// Writes a text that is longer than the words that are in it.
     #[inline(never)]
     fn put_long(&self, line: &mut [u8], at: usize) -> usize
         requires long { HEAD ≤ length self.now }
@@ -92,7 +92,7 @@ impl PreparedText {
         at + self.length
     }
 
-    /// Writes the words that stand in it. All are read before the first is written, so that two go at once.
+    /// Writes the words that are in it. All are read before the first is written, so that two go at once.
     #[inline(always)]
     fn put_head(&self, line: &mut [u8], at: usize)
         requires { at + HEAD ≤ length line.old }
@@ -132,7 +132,7 @@ fn word_at(words: &[u64], i: usize) -> u64
     }
 }
 
-/// The words behind the first three.
+/// The words after the first three.
 fn behind_head(words: &[u64]) -> &[u64]
     ensures { result.now ≡ drop 3 words.now }
 {

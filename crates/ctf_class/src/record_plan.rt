@@ -69,7 +69,7 @@ pub enum Many {
     Counted,
 }
 
-/// A field behind the numbers of a run.
+/// A field after the numbers of a run.
 #[derive(Drop)]
 pub struct Field {
     /// What is printed before its value.
@@ -79,8 +79,8 @@ pub struct Field {
     pub shown: Shown,
 }
 
-/// Integers in decimal, little endian, that stand one behind the other at fixed distances from a byte's first bit (CTF 1.8.3,
-/// section 4.1.5), and the field behind them, if there is one.
+/// Integers in decimal, little endian, that are one after the other at fixed distances from a byte's first bit (CTF 1.8.3,
+/// section 4.1.5), and the field after them, if there is one.
 #[derive(Drop)]
 pub struct Run {
     pub numbers: List<PlainNumber>,
@@ -91,7 +91,7 @@ pub struct Run {
     pub field: Option<Field>,
 }
 
-/// The fields of an event record's scopes behind its header (CTF 1.8.3, section 6), one after the other, if all of them are
+/// The fields of an event record's scopes after its header (CTF 1.8.3, section 6), one after the other, if all of them are
 /// structures that begin at a byte, of integers, enumerations, strings, and texts and arrays of integers whose length is
 /// fixed or the field before; else nothing.
 #[derive(Drop)]
@@ -251,7 +251,7 @@ impl Making {
         if self.count == 0 { b"{ " } else { b" }, { " }
     }
 
-    /// Adds the members of a scope behind its first. Whether that could be done.
+    /// Adds the members of a scope after its first. Whether that could be done.
     fn add_later(&mut self, alloc: Global, members: &[Member]) -> Result<bool, NoMemory>
         requires few { self.old.room ≤ 2 ^ 18 }
         requires near { self.old.span ≤ 2 ^ 33 }
@@ -375,7 +375,7 @@ impl Making {
         Ok(())
     }
 
-    /// A field behind the open run, which is whole then.
+    /// A field after the open run, which is whole then.
     fn add_field(&mut self, alloc: Global, field: Field) -> Result<(), NoMemory>
         requires short { length field.ready ≤ LONGEST_TEXT }
         requires few { self.old.room ≤ 2 ^ 18 }
@@ -395,7 +395,7 @@ impl Making {
     }
 }
 
-/// How a field of a class behind so many others of its structure is shown behind a run: an integer, an enumeration, a string,
+/// How a field of a class after so many others of its structure is shown after a run: an integer, an enumeration, a string,
 /// or a text or an array of integers whose length is fixed or the field before. It fails where no more owners of labels can
 /// be counted.
 fn shown_of(class: &Class, index: usize) -> Result<Option<Shown>, NoMemory>

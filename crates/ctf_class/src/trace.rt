@@ -43,7 +43,7 @@ pub struct StreamClass {
     event_header: Option<Class>,
     /// The stream event context.
     event_context: Option<Class>,
-    /// The clock of the stream, where a moving integer stands in its packet context or event header.
+    /// The clock of the stream, where a clock-mapped integer is in its packet context or event header.
     clock: Option<Clock>,
     /// In the order of the text.
     events: Indexed<EventClass>,
@@ -130,7 +130,7 @@ impl EventClass {
 
 impl StreamClass {
     /// A stream class of these parts, with plans of its event records as far as there is room for them. It fails where
-    /// memory is refused.
+    /// an allocation fails.
     pub fn new(
         alloc: Global,
         id: u64,

@@ -1,4 +1,4 @@
--- The value of a clock, and the time that it tells.
+-- The value of a clock, and the time that it gives.
 use Rattle.std.specs.Prelude.{ℕ, ℤ, pos, negsuc, ◌+ℤ◌, ◌*ℤ◌, ◌^◌, Bool, nat_lt, List, [], ◌∷◌, Option, Some, None, option_and_then, if◌then◌else◌}
 use Rattle.std.specs.Int.{int_div_euclid}
 use Rattle.ctf_class.specs.declared.trace.Clock.{Clock}
@@ -47,7 +47,7 @@ moment_at line value = if nat_lt value (2 ^ 64) then with_time value (time_of li
 abbrev pub advanced : Line → Moment → ℕ → ℕ → Option Moment
 advanced line from n x = moment_at line (least_from n from.cycles x)
 
--- the same of integers one after the other, each with its width
+-- the moment at which integers set the clock, one after the other, each with its width
 abbrev pub advanced_by : Line → Moment → List (ℕ × ℕ) → Option Moment
 advanced_by line from [] = Some from
 advanced_by line from (m ∷ ms) = option_and_then (λ next. advanced_by line next ms) (advanced line from m.0 m.1)

@@ -1,4 +1,4 @@
--- Numbers that are kept in so many bits and start again at 0 behind the largest.
+-- Numbers that are kept in so many bits and start again at 0 after the largest.
 use Rattle.std.specs.Prelude.{◌≡◌, ℕ, ◌+◌, ◌-◌, ◌%◌, ◌^◌, ◌≤◌, ◌&&◌, nat_le, ◌==◌, Option, Some, None, if◌then◌else◌}
 
 -- how many steps it takes upward from one number of n bits to another (own)

@@ -1,4 +1,4 @@
-//! Numbers that are kept in so many bits and start again at 0 behind the largest.
+//! Numbers that are kept in so many bits and start again at 0 after the largest.
 
 ghost use Rattle.std.specs.Prelude.{◌≡◌, ◌<◌, ◌^◌};
 ghost use Rattle.ctf_clock.specs.Counting as counting;
@@ -6,7 +6,7 @@ ghost use Rattle.ctf_clock.specs.Counting as counting;
 use ctf_class::Width;
 
 /// How many steps it takes upward from the low `width` bits of one number to those of another, where 0
-/// comes behind the largest.
+/// comes after the largest.
 pub fn steps_up(width: Width, from: u64, to: u64) -> u64
     ensures value { result ≡ counting.steps_up width from to }
     ensures bound { result < 2 ^ width }

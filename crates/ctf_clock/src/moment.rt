@@ -1,6 +1,6 @@
 //! Points in time.
 
-/// A value of a clock, and the time that it tells.
+/// A value of a clock, and the time that it gives.
 #[derive(Clone, Copy)]
 pub struct Moment {
     /// In cycles of the clock.

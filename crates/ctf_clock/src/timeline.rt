@@ -89,7 +89,7 @@ impl Timeline {
     }
 }
 
-/// The nanoseconds of so many cycles behind an offset, rounded down.
+/// The nanoseconds of so many cycles after an offset, rounded down.
 fn nanos_of(offset: i64, cycles: u64, frequency: Frequency) -> i128
     ensures value { result ≡ int_div_euclid ((offset +ℤ pos cycles) *ℤ pos 1000000000)
         (pos frequency) }

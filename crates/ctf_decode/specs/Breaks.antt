@@ -1,4 +1,4 @@
--- Where no value stands: the fault, and the place that a value would need.
+-- Where no value is: the fault, and the place that a value would need.
 use Rattle.std.specs.Prelude.{◌≡◌, ℕ, zero, suc, ◌+◌, ◌*◌, ◌<◌, ◌≤◌, List, [], ◌∷◌, ◌++◌, length, nat_eq, position, Option, Some, None, ◌⊎◌}
 use Rattle.std.specs.Int.{next_multiple_of}
 use Rattle.ctf_decode.specs.Values.{Val, count}
@@ -30,7 +30,7 @@ abbrev pub BreaksString : Input → ℕ → Fault → Type 0
 BreaksString c b f =
     (position (λ x. nat_eq x 0) (bytes_from c b) ≡ None) × (f ≡ past (b + 8 * (length (bytes_from c b) + 1)))
 
--- one of so many values breaks, and those before it stand
+-- one of so many values breaks, and those before it are there
 abbrev pub BreaksRow : Input → (ℕ → Val → ℕ → Type 0) → (ℕ → ℕ → Fault → Type 0) → ℕ → ℕ → ℕ → Fault → Type 0
 BreaksRow c R B zero p s f = ⊥
 BreaksRow c R B (suc n) p s f =
@@ -42,7 +42,7 @@ IsOption None f T = f ≡ no_option
 IsOption (Some i) f T = T i
 
 abbrev mutual
-  -- the fault f is that of the first value, in the order in which they begin, that does not stand, where s
+  -- the fault f is that of the first value, in the order in which they begin, that is not there, where s
   -- values were begun before p (own)
   pub Breaks : Form → Input → Env → ℕ → ℕ → Fault → Type 0
   Breaks (integer a i) c env p s f = Begins c s f (BreaksLeaf c (next_multiple_of p a + bits_of i) f)
@@ -59,7 +59,7 @@ abbrev mutual
   Breaks (text a many) c env p s f =
       Begins c s f (BreaksLeaf c (next_multiple_of p 8 + 8 * length_of many c.earlier env) f)
 
-  -- one of the members that are left breaks, and those before it stand
+  -- one of the members that are left breaks, and those before it are there
   pub BreaksMembers : Parts → Input → Env → List Val → ℕ → ℕ → Fault → Type 0
   BreaksMembers no_parts c env done p s f = ⊥
   BreaksMembers (part n k ps) c env done p s f =

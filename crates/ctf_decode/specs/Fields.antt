@@ -1,4 +1,4 @@
--- The numbers of a decoded value that tell an event record's class and time.
+-- The numbers of a decoded value that give an event record's class and time.
 use Rattle.std.specs.Prelude.{ℕ, zero, suc, ◌-◌, ◌^◌, ◌<◌, ◌≤◌, ℤ, pos, negsuc, List, [], ◌∷◌, ◌++◌, Option, Some, None, if◌then◌else◌, nat_lt, codes}
 use Rattle.std.specs.Str.{bytes_eq}
 use Rattle.ctf_class.specs.declared.integer.Integer.{Integer}

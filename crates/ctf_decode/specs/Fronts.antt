@@ -20,12 +20,12 @@ abbrev pub OnNeed : (ℕ → Type 0) → Front → Type 0
 OnNeed P (Done d) = Unit {0}
 OnNeed P (Need n) = P n
 
--- every packet with this beginning in which a value stands has a content of at least n bits (own)
+-- every packet with this beginning in which a value is there has a content of at least n bits (own)
 abbrev pub Needed : Form → List ℕ → Known → ℕ → ℕ → Type 0
 Needed k front known start n =
     (more : List ℕ) (whole : ℕ) (v : Val) (q : ℕ) → 8 * length front ≤ whole → Stands k (input_in (front ++ more) whole known) [] start v q → n ≤ whole
 
--- the fault that was told stands, unless memory ran out; a content that ends is none
+-- the reported fault is there, unless memory ran out; a content that ends is none
 abbrev pub ToldInFront : (Fault → Type 0) → DecodeFault → Type 0
 ToldInFront B (ContentEnds e) = ⊥
 ToldInFront B NoOption = B no_option

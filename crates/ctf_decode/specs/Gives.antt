@@ -14,17 +14,17 @@ Fails NoOption step = step ≡ Err no_option
 Fails TooManyValues step = step ≡ Err too_many
 Fails NoMemory step = Unit {0}
 
--- what stands is x, and decoding has come so far; or the fault is this
+-- what is there is x, and decoding has come so far; or the fault is this
 abbrev pub Gives : {A : Type 0} → Result (Unit {0}) Stopped → Cursor → A → Step A → Type 0
 Gives (Ok _) at x step = step ≡ Ok (x, at.end, at.spent)
 Gives (Err _) at x step = Fails at.fault step
 
--- the same of a value that stands behind others
+-- the value after others, and decoding has come so far; or the fault is this
 abbrev pub GivesNext : Result (Unit {0}) Stopped → Cursor → List Val → List Val → Step Val → Type 0
 GivesNext (Ok _) at done all step = (v : Val) × (all ≡ done ++ v ∷ []) × (step ≡ Ok (v, at.end, at.spent))
 GivesNext (Err _) at done all step = Fails at.fault step
 
--- the fault that was told stands, unless memory ran out
+-- the reported fault is there, unless memory ran out
 abbrev pub Told : (Fault → Type 0) → DecodeFault → Type 0
 Told B (ContentEnds e) = B (past e)
 Told B NoOption = B no_option

@@ -6,7 +6,7 @@ use Rattle.ctf_class.specs.declared.route.Scope.{Scope}
 use Rattle.ctf_decode.specs.Values.{Val, unsigned, signed, label}
 
 -- a packet's bytes, the place in bits where its content ends, the values of earlier scopes, and how many
--- values may stand
+-- values may be there
 pub record Input : Type 0 where
   pub packet : List ℕ
   pub content : ℕ

@@ -1,4 +1,4 @@
--- Which value stands at a place.
+-- Which value is at a place.
 use Rattle.std.specs.Prelude.{◌≡◌, ℕ, zero, suc, ◌+◌, ◌*◌, ◌/◌, ◌≤◌, not, List, [], ◌∷◌, ◌++◌, take, drop, nat_eq, position, Some}
 use Rattle.std.specs.Int.{next_multiple_of}
 use Rattle.std.specs.List.{take_while}
@@ -24,13 +24,13 @@ pub record StandsString (c : Input) (b : ℕ) (v : Val) (q : ℕ) : Type 0 where
 abbrev pub text_in : Input → ℕ → ℕ → Val
 text_in c b n = text_val (take_while (λ x. not (nat_eq x 0)) (take n (drop (b / 8) c.packet)))
 
--- so many values stand one after another, behind those that are done
+-- so many values are there one after another, after those that are done
 abbrev pub StandsRow : (ℕ → Val → ℕ → Type 0) → ℕ → List Val → ℕ → List Val → ℕ → Type 0
 StandsRow R zero done p vs q = (vs ≡ done) × (q ≡ p)
 StandsRow R (suc n) done p vs q = (v : Val) × (m : ℕ) × R p v m × StandsRow R n (done ++ v ∷ []) m vs q
 
 abbrev mutual
-  -- the value v of a class stands from p to q. Integers, enumerations and structures begin at the next
+  -- the value v of a class is there from p to q. Integers, enumerations and structures begin at the next
   -- multiple of their alignment, arrays of their element's, also where they have no element; texts at a
   -- whole byte; a variant is its option (CTF 1.8.3, sections 4.1.2, 4.1.5, 4.1.8 and 4.2)
   pub Stands : Form → Input → Env → ℕ → Val → ℕ → Type 0
@@ -51,7 +51,7 @@ abbrev mutual
       let b = next_multiple_of p 8 in
       let n = length_of many c.earlier env in Leaf c (b + 8 * n) (text_in c b n) v q
 
-  -- the members that are left stand behind those that are done, each seeing those before it
+  -- the members that are left are after those that are done, each seeing those before it
   pub StandsMembers : Parts → Input → Env → List Val → ℕ → List Val → ℕ → Type 0
   StandsMembers no_parts c env done p vs q = (vs ≡ done) × (q ≡ p)
   StandsMembers (part n k ps) c env done p vs q =

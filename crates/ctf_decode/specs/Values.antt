@@ -20,7 +20,7 @@ abbrev pub vals_of : List Val → Vals
 vals_of [] = no_vals
 vals_of (v ∷ vs) = more_vals v (vals_of vs)
 
--- how many values stand in a value: itself, and those in its parts; a text counts one (own)
+-- how many values are in a value: itself, and those in its parts; a text counts one (own)
 abbrev mutual
   pub count : Val → ℕ
   count (unsigned n) = 1

@@ -36,7 +36,7 @@ string_end b s bytes (Some n) = Ok (text_val (take n bytes), b + 8 * (n + 1), s 
 unfoldable pub string_at : Input → ℕ → ℕ → Step Val
 string_at c b s = string_end b s (bytes_from c b) (position (λ x. nat_eq x 0) (bytes_from c b))
 
--- so many values, one after another, behind those that are done
+-- so many values, one after another, after those that are done
 abbrev pub repeat : (ℕ → ℕ → Step Val) → ℕ → List Val → ℕ → ℕ → Step (List Val)
 repeat f zero done p s = Ok (done, p, s)
 repeat f (suc n) done p s = and_then (f p s) (λ v q t. repeat f n (done ++ v ∷ []) q t)
@@ -72,7 +72,7 @@ abbrev mutual
       let b = next_multiple_of p 8 in
       let n = length_of many c.earlier env in begin c s (leaf c (b + 8 * n) s (text_in c b n))
 
-  -- the members that are left, behind those that are done
+  -- the members that are left, after those that are done
   pub walk_members : Parts → Input → Env → List Val → ℕ → ℕ → Step (List Val)
   walk_members no_parts c env done p s = Ok (done, p, s)
   walk_members (part n k ps) c env done p s =

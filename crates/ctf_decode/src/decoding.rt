@@ -31,7 +31,7 @@ pub struct Decoded {
 /// again. The value of each scope that the class may name is in the packet's scopes, and so is how many values were begun
 /// before.
 ///
-/// At an error the value is any value: F6 with the place that the content does not reach, F8, F11, or
+/// At an error the value is unspecified: F6 with the place that the content does not reach, F8, F11, or
 /// `NoMemory`.
 #[inline(always)]
 pub fn decode_into(
@@ -71,7 +71,7 @@ pub fn decode_into(
     }
 }
 
-/// The value of a class that stands at the bit `start` of a packet. `content` is where the packet's
+/// The value of a class that is at the bit `start` of a packet. `content` is where the packet's
 /// content ends, in bits. The value of each scope that the class may name is in `scopes`, and so is how
 /// many values were begun before.
 ///

@@ -15,7 +15,7 @@ pub enum DecodeFault {
     /// F11: more than 16,777,216 values.
     #[error("too many values")]
     TooManyValues,
-    /// A growth was refused.
+    /// An allocation failed.
     #[error("no memory")]
     NoMemory,
 }

@@ -16,13 +16,13 @@ use std::alloc::Global;
 /// What a beginning of a packet holds.
 #[derive(Drop)]
 pub enum Front {
-    /// A value that stands there, and so in the whole packet.
+    /// A value that is there, and so in the whole packet.
     Done(Decoded),
-    /// More: every packet with this beginning in which a value stands has at least so many bits.
+    /// More: every packet with this beginning in which a value is there has at least so many bits.
     Need(u128),
 }
 
-/// The value of a class that stands at the bit `start` of a beginning of a packet, or how many bits of
+/// The value of a class that is at the bit `start` of a beginning of a packet, or how many bits of
 /// the packet are needed.
 ///
 /// An error is F8, F11, or `NoMemory`.

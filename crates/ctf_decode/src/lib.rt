@@ -1,4 +1,4 @@
-//! Values from bits: a value exactly where one stands, a fault exactly where one stands.
+//! Values from bits: a value exactly where one is, a fault exactly where one is.
 #![tactic(auto)]
 
 mod decoding;

@@ -26,7 +26,7 @@ pub fn moving(alloc: Global, class: &Class, value: &Value) -> Result<Vec<(u32, u
 }
 
 /// Makes what `moving` gives the vector, whatever it was before; its memory is used again. At an error
-/// the vector is any vector.
+/// the vector is unspecified.
 pub fn moving_into(
     class: &Class,
     value: &Value,
@@ -40,7 +40,7 @@ pub fn moving_into(
     put_moved(class, value, found)
 }
 
-/// Puts the moving integers of a value behind those that were found.
+/// Puts the clock-mapped integers of a value after those that were found.
 #[cycle(moved)]
 fn put_moved(class: &Class, value: &Value, found: &mut Vec<(u32, u64)>) -> Result<(), NoMemory>
     requires stamps { All IsStamp found.old.items }
@@ -146,7 +146,7 @@ fn put_chosen(
     put_moved(&options[i].class, inner, found)
 }
 
-/// Puts an integer that moves.
+/// Puts an integer, if it is clock-mapped.
 fn put_integer(
     integer: &Integer,
     value: &Value,

@@ -82,7 +82,7 @@ impl Cursor {
         self.stop(DecodeFault::ContentEnds(u128::from(end)))
     }
 
-    /// Stops where memory is refused.
+    /// Stops where an allocation fails.
     #[cold]
     #[inline(never)]
     pub fn stop_refused(&mut self) -> Stopped
@@ -110,7 +110,7 @@ impl Cursor {
     }
 }
 
-/// Where a field begins that is next behind a place, both in bits.
+/// Where a field begins that is next after a place, both in bits.
 pub fn begin_at(place: u64, align: Align) -> u64
     requires { place ≤ 2 ^ 62 }
     ensures value { result ≡ next_multiple_of place align }
@@ -119,7 +119,7 @@ pub fn begin_at(place: u64, align: Align) -> u64
     align.up(place)
 }
 
-/// Where a byte begins that is next behind a place, both in bits.
+/// Where a byte begins that is next after a place, both in bits.
 pub fn byte_at(place: u64) -> u64
     requires { place ≤ 2 ^ 62 }
     ensures value { result ≡ next_multiple_of place 8 }

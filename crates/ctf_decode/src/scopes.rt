@@ -9,7 +9,7 @@ use crate::value::Value;
 use ctf_class::Scope;
 use std::marker::Model;
 
-/// How many values may stand in one event record, and in one packet's header and context together.
+/// How many values may be in one event record, and in one packet's header and context together.
 pub const MOST_VALUES: u64 = 16_777_216;
 
 /// The values decoded so far, by scope, and how many values were begun for them. Contracts see both.
@@ -74,7 +74,7 @@ impl Scopes {
         self.exchange(scope, &mut value);
     }
 
-    /// The value of a scope, in place of the one that was there. Any value may be in `value` then: its
+    /// The value of a scope, in place of the one that was there. Afterwards `value` is unspecified; its
     /// memory can be used again.
     pub fn exchange(&mut self, scope: Scope, value: &mut Value)
         ensures { self.new ≡ with_value self.old scope value.old }
@@ -118,7 +118,7 @@ impl Scopes {
         }
     }
 
-    /// Leaves no value in a scope. Any value may be in `spare` then: its memory can be used again.
+    /// Leaves no value in a scope. Afterwards `spare` is unspecified; its memory can be used again.
     pub fn leave(&mut self, scope: Scope, spare: &mut Value)
         ensures { self.new ≡ without_value self.old scope }
     {

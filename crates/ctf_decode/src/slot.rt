@@ -51,7 +51,7 @@ impl Slot {
         }
     }
 
-    /// Makes this the value. Any value may be in `value` then.
+    /// Makes this the value. Afterwards `value` is unspecified.
     pub(crate) fn exchange(&mut self, value: &mut Value)
         ensures { self.new ≡ Some value.old }
     {
@@ -72,7 +72,7 @@ impl Slot {
         }
     }
 
-    /// Leaves no value. Any value may be in `spare` then.
+    /// Leaves no value. Afterwards `spare` is unspecified.
     pub(crate) fn leave(&mut self, spare: &mut Value)
         ensures { self.new ≡ None }
     {

@@ -2,7 +2,7 @@
 
 use ctf_list::{Boxed, List};
 
-/// A value of a field class. The parts of a group and of a list stand in the order of the class.
+/// A value of a field class. The parts of a group and of a list are in the order of the class.
 #[derive(Drop, PartialEq, Eq)]
 pub enum Value {
     /// CTF 1.8.3, section 4.1.5.

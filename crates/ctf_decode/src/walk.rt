@@ -215,7 +215,7 @@ fn each_member_into(
 }
 
 /// Makes the next member of a structure the value at an index, those before it being there. Mostly it is an
-/// integer, or else a string: two comparisons tell these apart, where many classes would be told by a table of jumps,
+/// integer, or else a string: two comparisons tell these apart, where many classes would be told apart by a table of jumps,
 /// which a processor foresees worse.
 #[cycle(walk)]
 #[inline(always)]

@@ -2,7 +2,7 @@
 use Rattle.std.specs.Prelude.{ℕ, ◌+◌, ◌*◌, ◌/◌, ◌%◌, ◌^◌, nat_lt}
 use mir.Val.{bool_byte}
 
--- the digits of a number below 10000 as they are printed, with zeros in front, the first in the lowest byte (own)
+-- the digits of a number below 10000 as they are printed, with leading zeros, the first in the lowest byte (own)
 abbrev pub four : ℕ → ℕ
 four n = 48 + n / 1000 + (48 + n / 100 % 10) * 2 ^ 8 + (48 + n / 10 % 10) * 2 ^ 16 + (48 + n % 10) * 2 ^ 24
 

@@ -16,7 +16,7 @@ const PAIRS: [u16; 100] = [
     0x3639, 0x3739, 0x3839, 0x3939,
 ];
 
-/// The two digits of a number below 100 as they are printed, with a zero in front where it has one: the first in the
+/// The two digits of a number below 100 as they are printed, with a leading zero where it has one: the first in the
 /// lower byte.
 #[inline(always)]
 pub fn two_digits(number: u32) -> u16

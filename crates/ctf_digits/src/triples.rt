@@ -120,8 +120,8 @@ const TRIPLES: [u32; 1000] = [
     0x393939,
 ];
 
-/// The three digits of a number below 1000 as they are printed, with zeros in front where it has fewer: the first in
-/// the lowest byte, and a zero byte behind them.
+/// The three digits of a number below 1000 as they are printed, with leading zeros where it has fewer: the first in
+/// the lowest byte, and a zero byte after them.
 #[inline(always)]
 pub fn three_digits(number: u32) -> u32
     requires { number < 1000 }

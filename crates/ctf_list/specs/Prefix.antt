@@ -1,4 +1,4 @@
--- The front of a list (own).
+-- The beginning of a list (own).
 use Rattle.std.specs.Prelude.{Bool, false, List, [], ◌∷◌}
 
 -- there is a first element, and it passes

@@ -1,5 +1,5 @@
 -- The grammar of TSDL (CTF 1.8.3, appendix C.2): which part of the tree a list of tokens spells,
--- by one case for each alternative, on the whole list. Above each part stand its alternatives as a
+-- by one case for each alternative, on the whole list. Above each part are its alternatives as a
 -- grammar writes them: quoted words are tokens, `{ x }` is any number of x, `[ x ]` none or one.
 use Rattle.std.specs.Prelude.{ℕ, true, false, List, [], ◌∷◌, ◌++◌, Option, Some, None}
 use Rattle.tsdl_text.specs.declared.token.Symbol.TheVariants as s
@@ -75,9 +75,9 @@ pub data AreTypewords : Words → List Token → Type 0 where
   more : {w : Token} {ws : Words} {ts : List Token} → IsTypeword w → AreTypewords ws ts → AreTypewords (w.text.now ∷ ws) (w ∷ ts)
 
 -- typename = `typeword { typeword }`, with a word other than `const`.
--- A typename is a whole run of typewords: behind it stands `:=`, `;` or `{`, which are none, or a
--- declarator. Before a declarator it lacks the run's last word, which is the declarator's name: behind
--- that name stands `[`, `,` or `;`. (`WholeRun` of the module Spelling says so of lists of tokens.)
+-- A typename is a whole run of typewords: after it comes `:=`, `;` or `{`, which are none, or a
+-- declarator. Before a declarator it lacks the run's last word, which is the declarator's name: after
+-- that name comes `[`, `,` or `;`. (`WholeRun` of the module Spelling says so of lists of tokens.)
 pub data IsTypename : Typename → List Token → Type 0 where
   typename : {w : Word} {ws : Words} {ts : List Token} → AreTypewords (w ∷ ws) ts → IsTypename (record { words = w ∷ ws }) ts
 

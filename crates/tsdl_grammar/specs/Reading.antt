@@ -63,7 +63,7 @@ path_at ts = do
   more ← all (begins s.Dot) dotted_at first.1
   Ok (first.0 ∷ more.0, more.1)
 
--- a constant behind its sign
+-- a constant after its sign
 unfoldable pub magnitude_at : Bool → Parse Number
 magnitude_at is_negative ts = do
   n ← constant_at ts
@@ -78,7 +78,7 @@ value_at (t ∷ ts) =
     if is_word t.kind then (path_at (t ∷ ts) >>= λ p. Ok (values.Name p.0, p.1))
     else (if is_string t.kind then Ok (values.Text (string_value t.text.now), ts) else (number_at (t ∷ ts) >>= λ n. Ok (values.Number n.0, n.1)))
 
--- a setting's rest, behind its name
+-- a setting's rest, after its name
 unfoldable pub setting_behind : Words → Parse Setting
 setting_behind n ts = do
   equals ← expect s.Equals ts
@@ -121,7 +121,7 @@ abbrev pub bound_by : Option ℕ → Token → List Token → Result (Length × 
 bound_by (Some n) t ts = Ok (lengths.Constant n, ts)
 bound_by None t ts = path_at (t ∷ ts) >>= λ p. Ok (lengths.Path p.0, p.1)
 
--- what stands in brackets
+-- what is in brackets
 unfoldable pub bound_at : Parse Length
 bound_at [] = Err bad
 bound_at (t ∷ ts) = bound_by (constant_of t.kind) t ts
@@ -252,7 +252,7 @@ string_at d ts = do
   rest ← expect s.String ts
   if begins s.OpenBrace rest then (attributes_at d rest >>= λ xs. Ok (classes.String xs.0, xs.1)) else Ok (classes.String [], rest)
 
--- a class with the declarators behind it
+-- a class with the declarators after it
 unfoldable pub class_declared : Specifier → Parse (Specifier × List Declarator)
 class_declared c ts = do
   ds ← declared_at ts
@@ -263,12 +263,12 @@ fields_behind c ts = do
   x ← class_declared c ts
   Ok (items.Fields x.0.0 x.0.1, x.1)
 
--- the semicolon behind a compound with a name and a body
+-- the semicolon after a compound with a name and a body
 unfoldable pub compound_behind : Specifier → Parse TypeDeclaration
 compound_behind (classes.Compound (Some n) c) ts = expect s.Semicolon ts >>= λ e. Ok (typedecls.Compound n c, e)
 compound_behind _ ts = Err bad
 
--- the name of an alias, behind its class
+-- the name of an alias, after its class
 unfoldable pub alias_name_at : Parse Typename
 alias_name_at ts = do
   a ← expect s.Assign ts
@@ -280,7 +280,7 @@ alias_name_at ts = do
 abbrev pub as_item : Result (TypeDeclaration × List Token) Refusal → Result (Item × List Token) Refusal
 as_item read = read >>= λ d. Ok (items.Types d.0, d.1)
 
--- The parts that bodies stand in, over the bodies.
+-- The parts that bodies are in, over the bodies.
 module _ (body : Parse (List Item)) where
   unfoldable pub struct_at : Parse Specifier
   struct_at ts = do

@@ -1,4 +1,4 @@
--- Parts of the grammar that stand any number of times, or not at all.
+-- Parts of the grammar that occur any number of times, or not at all.
 use Rattle.std.specs.Prelude.{List, [], ◌∷◌, ◌++◌, Option, Some, None}
 use Rattle.tsdl_text.specs.declared.token.Symbol.TheVariants as s
 use Rattle.tsdl_text.specs.declared.token.Token.{Token}

@@ -22,7 +22,7 @@ IsUnspelled ts = (tree : Tree) → Spells tree ts → ⊥
 abbrev pub OneTree : Type 0
 OneTree = (ts : List Token) (a b : Tree) → Spells a ts → Spells b ts → a ≡ b
 
--- how many typewords stand first
+-- how many typewords are first
 unfoldable pub run : List Token → ℕ
 run [] = 0
 run (t ∷ ts) = if is_typeword t.kind then suc (run ts) else 0

@@ -32,16 +32,16 @@ abbrev pub after : Symbol → List Token → Option (List Token)
 after a [] = None
 after a (t ∷ ts) = if is a t then Some ts else None
 
--- past that symbol, which must stand first
+-- past that symbol, which must be first
 unfoldable pub expect : Symbol → List Token → Result (List Token) Refusal
 expect a ts = or_bad (after a ts)
 
--- past that symbol where it stands first
+-- past that symbol where it is first
 unfoldable pub past : Symbol → List Token → List Token
 past a [] = []
 past a (t ∷ ts) = if is a t then ts else t ∷ ts
 
--- that symbol stands first
+-- that symbol is first
 abbrev pub begins : Symbol → List Token → Bool
 begins a [] = false
 begins a (t ∷ ts) = is a t
@@ -50,25 +50,25 @@ abbrev pub begins_identifier : List Token → Bool
 begins_identifier [] = false
 begins_identifier (t ∷ ts) = is_identifier t.kind
 
--- a struct, a variant or an enum stands first
+-- a struct, a variant or an enum is first
 abbrev pub begins_compound : List Token → Bool
 begins_compound ts = if begins s.Struct ts then true else (if begins s.Variant ts then true else begins s.Enum ts)
 
--- the labels of an enum, or the container before them, stand first
+-- the labels of an enum, or the container before them, are first
 abbrev pub begins_labels : List Token → Bool
 begins_labels ts = if begins s.Colon ts then true else begins s.OpenBrace ts
 
--- a declaration of names stands first
+-- a declaration of names is first
 abbrev pub begins_declaration : List Token → Bool
 begins_declaration [] = false
 begins_declaration (t ∷ ts) = opens_declaration t
 
--- what stands in braces goes on
+-- what is in braces goes on
 abbrev pub before_close : List Token → Bool
 before_close [] = false
 before_close (t ∷ ts) = not (is s.CloseBrace t)
 
--- a comma stands first, and it is not the last before the brace
+-- a comma is first, and it is not the last before the brace
 abbrev pub before_label : List Token → Bool
 before_label [] = false
 before_label (t ∷ ts) = if is s.Comma t then not (begins s.CloseBrace ts) else false

@@ -1,4 +1,4 @@
--- When each fault is told.
+-- When each fault is reported.
 use Rattle.std.specs.Prelude.{ℕ, ◌≤◌, List, Option, Some, None}
 use Rattle.tsdl_text.specs.declared.token.Token.{Token}
 use Rattle.tsdl_grammar.specs.Spelling.{IsUnspelled, last_line}
@@ -8,7 +8,7 @@ use Rattle.tsdl_parse.specs.declared.fault.SyntaxFault.{SyntaxFault}
 use Rattle.tsdl_parse.specs.declared.fault.SyntaxFault.TheVariants as fault
 
 -- No tree is spelled, and the line is one of the tokens' lines; or braces nest deeper than the limit.
--- Want of memory may come in the place of any answer.
+-- `NoMemory` may come in the place of any answer.
 abbrev pub IsCause : SyntaxFault → List Token → Type 0
 IsCause (fault.Syntax line) ts = IsUnspelled ts × (1 ≤ line) × (line ≤ last_line ts)
 IsCause fault.TooDeep ts = NestsDeeper BRACE_LIMIT ts

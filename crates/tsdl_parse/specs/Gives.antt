@@ -9,7 +9,7 @@ Fails failure.NoMemory read = Unit {0}
 Fails (failure.Syntax left) read = read ≡ Err bad
 Fails failure.Deep read = read ≡ Err deep
 
--- the same value as the view sees it, or the same refusal, unless memory was refused
+-- the same value as the view sees it, or the same refusal, unless an allocation failed
 abbrev pub Gives : {X Y : Type 0} → (X → Y) → Result X Failure → Result Y Refusal → Type 0
 Gives view (Ok x) read = read ≡ Ok (view x)
 Gives view (Err e) read = Fails e read

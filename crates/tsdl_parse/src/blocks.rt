@@ -1,4 +1,4 @@
-//! Blocks, and all that stands directly in the metadata.
+//! Blocks, and all that is directly in the metadata.
 
 ghost use Rattle.std.specs.Prelude.{◌≡◌, ◌<◌, ◌-◌, length, refl, IfOk};
 ghost use Rattle.tsdl_grammar.specs.Steps.{before_close, before_end, begins_declaration};
@@ -25,7 +25,7 @@ fn begins_declaration(tokens: &[Token<'_>]) -> bool
         || begins(Symbol::Typealias, tokens)
 }
 
-/// The rest of `name := class;`, behind the name.
+/// The rest of `name := class;`, after the name.
 #[tactic(auto, unfolding(tsdl_grammar::specs::Reading::class_behind))]
 fn class_behind<'t, 'a>(
     alloc: Global,
@@ -110,7 +110,7 @@ fn table_kind(token: &Token<'_>) -> Option<TableKind>
     None
 }
 
-/// `{ entries };` behind a block's word.
+/// `{ entries };` after a block's word.
 #[tactic(auto, unfolding(tsdl_grammar::specs::Reading::block_at))]
 fn block<'t, 'a>(
     alloc: Global,
@@ -129,7 +129,7 @@ fn block<'t, 'a>(
     Ok((Declaration::Block { kind, entries }, rest))
 }
 
-/// `{ settings };` behind a block's word.
+/// `{ settings };` after a block's word.
 #[tactic(auto, unfolding(tsdl_grammar::specs::Reading::table_at))]
 fn table<'t, 'a>(
     alloc: Global,

@@ -1,4 +1,4 @@
-//! Classes, and the declarations of names and fields that stand in their bodies.
+//! Classes, and the declarations of names and fields that are in their bodies.
 
 ghost use Rattle.std.specs.Prelude.{◌≡◌, ◌<◌, ◌≤◌, length, refl, IfOk};
 ghost use Rattle.tsdl_text.specs.declared.token.Symbol.TheVariants as s;
@@ -120,7 +120,7 @@ fn string<'t, 'a>(alloc: Global, depth: u32, tokens: &'t [Token<'a>]) -> Read<'t
     Ok((Specifier::String(settings), rest))
 }
 
-/// A class, and `declarator, ..;` behind it.
+/// A class, and `declarator, ..;` after it.
 #[tactic(auto, unfolding(tsdl_grammar::specs::Reading::class_declared))]
 fn class_declared<'t, 'a>(
     alloc: Global,
@@ -148,7 +148,7 @@ fn fields_behind<'t, 'a>(
     Ok((Item::Fields { class, declarators }, rest))
 }
 
-/// The semicolon behind a compound with a name and a body.
+/// The semicolon after a compound with a name and a body.
 #[tactic(auto, unfolding(tsdl_grammar::specs::Reading::compound_behind))]
 fn compound_behind<'t, 'a>(
     class: Specifier,
@@ -364,7 +364,7 @@ fn items<'t, 'a>(alloc: Global, depth: u32, tokens: &'t [Token<'a>]) -> Read<'t,
         found.push(next)?;
         rest = after;
     }
-    // The tree stands while classes are made of it: what is not needed is given back.
+    // The tree is there while classes are made of it: what is not needed is given back.
     found.shrink_to_fit();
     Ok((List::from_vec(found), rest))
 }

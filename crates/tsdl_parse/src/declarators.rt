@@ -15,7 +15,7 @@ use std::alloc::Global;
 use tsdl_text::{Kind, Symbol, Token};
 use tsdl_tree::{Declarator, Length};
 
-/// What stands in brackets: a constant or a path.
+/// What is in brackets: a constant or a path.
 #[tactic(auto, unfolding(tsdl_grammar::specs::Reading::bound_at))]
 fn bound<'t, 'a>(alloc: Global, tokens: &'t [Token<'a>]) -> Read<'t, 'a, Length>
     ensures reads { Gives (λ x. (x.0, x.1.now)) result (bound_at tokens.now) }

@@ -156,7 +156,7 @@ impl Part for NextLabel {
     ghost stops = { λ _. refl };
 }
 
-/// Labels in braces, with commas between them, of which one more may stand behind the last.
+/// Labels in braces, with commas between them, of which one more may be after the last.
 #[tactic(auto, unfolding(tsdl_grammar::specs::Reading::labels_at))]
 fn labels<'t, 'a>(alloc: Global, depth: u32, tokens: &'t [Token<'a>]) -> Read<'t, 'a, List<Label>>
     ensures reads { Gives (λ x. (x.0, x.1.now)) result (labels_at depth tokens.now) }

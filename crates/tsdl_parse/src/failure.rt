@@ -10,7 +10,7 @@ use tsdl_text::Token;
 /// Why tokens could not be read.
 #[derive(Drop)]
 pub(crate) enum Failure {
-    /// A growth was refused.
+    /// An allocation failed.
     NoMemory,
     /// No tree is spelled. So many tokens were left.
     Syntax(usize),
@@ -18,7 +18,7 @@ pub(crate) enum Failure {
     Deep,
 }
 
-/// What is read and the tokens behind it.
+/// What is read and the tokens after it.
 pub(crate) type Read<'t, 'a, T> = Result<(T, &'t [Token<'a>]), Failure>;
 
 impl From<NoMemory> for Failure {

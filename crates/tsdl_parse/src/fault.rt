@@ -15,7 +15,7 @@ pub enum SyntaxFault {
     /// R9: braces nest more than 64 deep.
     #[error("nested too deep")]
     TooDeep,
-    /// A growth was refused.
+    /// An allocation failed.
     #[error("no memory")]
     NoMemory,
 }

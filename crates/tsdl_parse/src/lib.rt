@@ -1,6 +1,6 @@
 //! From the tokens of TSDL metadata to the syntax tree that they spell.
 //!
-//! The tree stands in the crate `tsdl_tree`, and the grammar, as a relation between trees and lists of
+//! The tree is in the crate `tsdl_tree`, and the grammar, as a relation between trees and lists of
 //! tokens, in `tsdl_grammar`, whose laws are passed on here.
 #![tactic(auto)]
 

@@ -15,7 +15,7 @@ use std::alloc::Global;
 use tsdl_text::{LineNumber, Token};
 use tsdl_tree::Tree;
 
-/// How many braces may stand in one another, those of blocks, bodies, labels and attributes alike.
+/// How many braces may be in one another, those of blocks, bodies, labels and attributes alike.
 /// (Own, as a limit.)
 pub const BRACE_LIMIT: u32 = 64;
 
@@ -44,7 +44,7 @@ fn last_line(tokens: &[Token<'_>]) -> LineNumber
     }
 }
 
-/// The line at which so many tokens were left, but none behind the last token's.
+/// The line at which so many tokens were left, but none after the last token's.
 fn line_at(left: usize, tokens: &[Token<'_>]) -> LineNumber
     ensures first { 1 ≤ result }
     ensures last { result ≤ last_line tokens.now }
@@ -58,8 +58,8 @@ fn line_at(left: usize, tokens: &[Token<'_>]) -> LineNumber
 
 /// The tree that the tokens spell, by the grammar of TSDL (CTF 1.8.3, appendix C.2).
 ///
-/// It answers S2 where no tree is spelled, and R9 where more than [`BRACE_LIMIT`] braces stand in
-/// one another; where both are the case, either. Want of memory may come in the place of any answer.
+/// It answers S2 where no tree is spelled, and R9 where more than [`BRACE_LIMIT`] braces are in
+/// one another; where both are the case, either. `NoMemory` may come in the place of any answer.
 pub fn parse(alloc: Global, tokens: &[Token<'_>]) -> Result<Tree, SyntaxFault>
     ensures spelled { IfOk result (λ tree. Spells tree tokens.now) }
     ensures nested { IfOk result (λ tree. ¬ NestsDeeper BRACE_LIMIT tokens.now) }

@@ -1,4 +1,4 @@
-//! Parts of the grammar that stand any number of times, or not at all.
+//! Parts of the grammar that occur any number of times, or not at all.
 
 ghost use Rattle.std.specs.Prelude.{◌≡◌, ◌<◌, ◌≤◌, [], ◌∷◌, length, IfOk};
 ghost use Rattle.tsdl_grammar.specs.Steps.{all, optional};
@@ -10,7 +10,7 @@ use ctf_list::List;
 use std::alloc::{AllocError, Global};
 use tsdl_text::Token;
 
-/// A part of the grammar that stands any number of times, or not at all.
+/// A part of the grammar that occurs any number of times, or not at all.
 pub(crate) trait Part {
     ghost use Rattle.std.specs.Prelude.{Bool, false, List};
     ghost use Rattle.tsdl_text.specs.declared.token.Token.{Token};
@@ -54,7 +54,7 @@ pub(crate) fn room_for<T>(alloc: Global, comes: bool) -> Result<Vec<T>, AllocErr
     Vec::with_capacity(alloc, usize::from(comes))
 }
 
-/// What was found before, and then the parts that come next, one behind the other.
+/// What was found before, and then the parts that come next, one after the other.
 fn behind<'t, 'a, P: Part>(
     alloc: Global,
     found: Vec<P::Tree>,
@@ -71,12 +71,12 @@ fn behind<'t, 'a, P: Part>(
         found.push(next)?;
         rest = after;
     }
-    // The tree stands while classes are made of it: what is not needed is given back.
+    // The tree is there while classes are made of it: what is not needed is given back.
     found.shrink_to_fit();
     Ok((List::from_vec(found), rest))
 }
 
-/// The parts that come next, one behind the other.
+/// The parts that come next, one after the other.
 pub(crate) fn many<'t, 'a, P: Part>(
     alloc: Global,
     part: &P,
@@ -89,7 +89,7 @@ pub(crate) fn many<'t, 'a, P: Part>(
     behind(alloc, room_for(alloc, part.comes(tokens))?, part, tokens)
 }
 
-/// A part that was read, and then the parts that come next, one behind the other.
+/// A part that was read, and then the parts that come next, one after the other.
 pub(crate) fn more<'t, 'a, P: Part>(
     alloc: Global,
     first: P::Tree,

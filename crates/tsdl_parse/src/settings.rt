@@ -77,7 +77,7 @@ pub(crate) fn number<'t, 'a>(tokens: &'t [Token<'a>]) -> Read<'t, 'a, Number>
     magnitude(false, past(Symbol::Plus, tokens))
 }
 
-/// What stands behind the `=` of a setting.
+/// What is after the `=` of a setting.
 #[tactic(auto, unfolding(tsdl_grammar::specs::Reading::value_at))]
 fn value<'t, 'a>(alloc: Global, tokens: &'t [Token<'a>]) -> Read<'t, 'a, Value>
     ensures reads { Gives (λ x. (x.0, x.1.now)) result (value_at tokens.now) }
@@ -97,7 +97,7 @@ fn value<'t, 'a>(alloc: Global, tokens: &'t [Token<'a>]) -> Read<'t, 'a, Value>
     Ok((Value::Number(number), rest))
 }
 
-/// The rest of a setting, behind its name.
+/// The rest of a setting, after its name.
 #[tactic(auto, unfolding(tsdl_grammar::specs::Reading::setting_behind))]
 pub(crate) fn setting_behind<'t, 'a>(
     alloc: Global,

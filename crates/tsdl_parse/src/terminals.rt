@@ -75,7 +75,7 @@ pub(crate) fn begins(symbol: Symbol, tokens: &[Token<'_>]) -> bool
     }
 }
 
-/// Whether what stands in braces goes on.
+/// Whether what is in braces goes on.
 pub(crate) fn goes_on(tokens: &[Token<'_>]) -> bool
     ensures { result ≡ before_close tokens.now }
 {

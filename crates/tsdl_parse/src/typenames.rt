@@ -13,7 +13,7 @@ use std::alloc::{AllocError, Global};
 use tsdl_text::{Symbol, Token};
 use tsdl_tree::{Typename, Word};
 
-/// How many typewords stand first.
+/// How many typewords are first.
 fn run(tokens: &[Token<'_>]) -> usize
     ensures count { result ≡ run tokens.now }
     ensures within { result ≤ length tokens.now }

@@ -23,7 +23,7 @@ pub record IsPlain (b : ℕ) : Type 0 where
   pub no_backslash : b ≢ 92
   pub no_newline : b ≢ 10
 
--- the digits of a numeric escape, as many as stand there, up to a limit
+-- the digits of a numeric escape, as many as are there, up to a limit
 pub record IsNumeric (base most : ℕ) (digits after : List ℕ) (value : ℕ) : Type 0 where
   pub digits_of : AreDigits base digits
   pub few : length digits ≤ most

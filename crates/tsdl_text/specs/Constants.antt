@@ -18,7 +18,7 @@ is_suffix (a ∷ b ∷ []) = (is_u a && is_l b) || (is_l a && (b == a || is_u b)
 is_suffix (a ∷ b ∷ c ∷ []) = (is_u a && (is_l b && c == b)) || (is_l a && (b == a && is_u c))
 is_suffix (a ∷ b ∷ c ∷ d ∷ bytes) = false
 
--- The base of digits, and what stands before them: a first 0 makes them octal, `0x` or `0X` before
+-- The base of digits, and what is before them: a first 0 makes them octal, `0x` or `0X` before
 -- them hexadecimal.
 pub data Mark : ℕ → List ℕ → List ℕ → Type 0 where
   decimal : {first : ℕ} {digits : List ℕ} → first ≢ 48 → Mark 10 [] (first ∷ digits)

@@ -35,7 +35,7 @@ LinesNeverFall = (text : List ℕ) (tokens : List Lexeme) → Lexes text tokens 
 abbrev pub StringsStand : Type 0
 StringsStand = (slice values : List ℕ) → StandsFor slice values → string_value slice ≡ values
 
--- a token is told to be a symbol exactly where its kind is that symbol
+-- a token is said to be a symbol exactly where its kind is that symbol
 abbrev pub SymbolsAreCompared : Type 0
 SymbolsAreCompared = (symbol : Symbol) (kind : Kind) → (is_symbol symbol kind ≡ true) ↔ (kind ≡ kinds.Symbol symbol)
 

@@ -13,7 +13,7 @@ pub record HasEnds (order : Order) (rest : List ℕ) (ends : ℕ × ℕ) : Type 
   pub within_packet : ends.0 ≤ ends.1
   pub within : ends.1 ≤ length rest
 
--- a good packet of `len` bytes stands at the front of these
+-- a good packet of `len` bytes is at the beginning of these
 pub record BeginsPacket (order : Order) (id rest content : List ℕ) (len : ℕ) : Type 0 where
   pub good : IsPacket order id (record { bytes = take len rest; content = content })
   pub within : len ≤ length rest

@@ -53,7 +53,7 @@ pub record Packet : Type 0 where
   pub bytes : List ℕ
   pub content : List ℕ
 
--- a whole packet of this order and uuid, and its content, which begins behind the header
+-- a whole packet of this order and uuid, and its content, which begins after the header
 pub record IsPacket (order : Order) (id : List ℕ) (packet : Packet) : Type 0 where
   pub has_header : HEADER_LEN ≤ length packet.bytes
   pub has_magic : take 4 packet.bytes ≡ magic order
@@ -67,7 +67,7 @@ pub record IsPacket (order : Order) (id : List ℕ) (packet : Packet) : Type 0 w
   pub within : content_end ≤ length packet.bytes
   pub content_is : packet.content ≡ drop HEADER_LEN (take content_end packet.bytes)
 
--- the same before any bytes: what follows a packet says nothing of it
+-- a whole packet of this order and uuid, whatever bytes follow it
 abbrev pub Stands : Order → List ℕ → Packet → List ℕ → Type 0
 Stands order id packet after = IsPacket order id packet
 
@@ -121,7 +121,7 @@ header_fault order id rest =
 unfoldable pub first_fault : Order → List ℕ → List ℕ → Option MetaFault
 first_fault order id rest = or_else (header_fault order id rest) (if sizes_fit order rest then None else Some faults.CutShort)
 
--- behind as many good packets as there are, bytes are left, and this is the first check that they fail
+-- after as many good packets as there are, bytes are left, and this is the first check that they fail
 pub record IsBrokenBehind (order : Order) (bytes : List ℕ) (fault : MetaFault) : Type 0 where
   pub packets : List Packet
   pub rest : List ℕ
@@ -136,7 +136,7 @@ MetaBroken bytes fault =
     ((MOST_BYTES < length bytes) × (fault ≡ faults.TooLong))
     ⊎ ((length bytes ≤ MOST_BYTES) × ((order : Order) × (order_of bytes ≡ Some order) × IsBrokenBehind order bytes fault))
 
--- what a refusal says: nothing where memory was wanting
+-- what a refusal says: nothing where an allocation failed
 abbrev pub Refused : (MetaFault → Type 0) → MetaFault → Type 0
 Refused broken faults.NoMemory = Unit {0}
 Refused broken faults.CutShort = broken faults.CutShort

@@ -26,7 +26,7 @@ block_len (a ∷ text) = if bytes_eq (codes "*/") (take 2 (a ∷ text)) then Som
 abbrev pub line_len : List ℕ → ℕ
 line_len text = prefix_len (λ b. not (b == 10)) text
 
--- how many bytes a comment has, behind its first `/`
+-- how many bytes a comment has, after its first `/`
 unfoldable pub comment_len : List ℕ → Option ℕ
 comment_len [] = None
 comment_len (b ∷ text) =
@@ -69,7 +69,7 @@ unmarked_value base bytes =
     let value = number base (take count bytes) in
     if count == 0 || (not (is_suffix (drop count bytes)) || nat_le (2 ^ 64) value) then None else Some value
 
--- `0x` or `0X` stands at the front
+-- `0x` or `0X` is at the beginning
 abbrev pub is_hexadecimal : List ℕ → Bool
 is_hexadecimal [] = false
 is_hexadecimal (a ∷ []) = false
@@ -111,11 +111,11 @@ single b =
 abbrev pub begins_with : ℕ → List ℕ → Bool
 begins_with c text = begins (λ b. b == c) text
 
--- `...` stands at the front
+-- `...` is at the beginning
 abbrev pub is_ellipsis : List ℕ → Bool
 is_ellipsis text = begins_with 46 text && (begins_with 46 (drop 1 text) && begins_with 46 (drop 2 text))
 
--- `:=` stands at the front
+-- `:=` is at the beginning
 abbrev pub is_assign : List ℕ → Bool
 is_assign text = begins_with 58 text && begins_with 61 (drop 1 text)
 
@@ -123,7 +123,7 @@ abbrev pub first_single : List ℕ → Option Symbol
 first_single [] = None
 first_single (b ∷ text) = single b
 
--- the punctuator at the front, and how many bytes it has
+-- the next punctuator, and how many bytes it has
 unfoldable pub punctuator_at : List ℕ → Option (Symbol × ℕ)
 punctuator_at text =
     if is_ellipsis text then Some (symbols.Ellipsis, 3)
@@ -139,7 +139,7 @@ closing_len (suc turns) text =
     if begins_with 34 text then Some 1
     else option_and_then (λ x. option_map (λ n. x.1 + n) (closing_len turns (drop x.1 text))) (character_at text)
 
--- how many bytes a string has, behind its first quote
+-- how many bytes a string has, after its first quote
 unfoldable pub string_len : List ℕ → Option ℕ
 string_len text = closing_len (length text) text
 
@@ -149,7 +149,7 @@ string_len text = closing_len (length text) text
 unfoldable pub word_kind : List ℕ → Kind
 word_kind word = option_map_or kinds.Symbol (keyword_of word) kinds.Identifier
 
--- the kind of the token at the front, and how many bytes it has
+-- the kind of the next token, and how many bytes it has
 unfoldable pub token_at : List ℕ → Option (Kind × ℕ)
 token_at [] = None
 token_at (b ∷ text) =
@@ -166,7 +166,7 @@ skipped len = record { kind = None; len = len }
 abbrev pub token_of : Kind × ℕ → Extent
 token_of x = record { kind = Some x.0; len = x.1 }
 
--- the piece at the front: its kind, if it is a token, and how many bytes it has
+-- the next piece: its kind, if it is a token, and how many bytes it has
 unfoldable pub piece_at : List ℕ → Option Extent
 piece_at [] = None
 piece_at (b ∷ text) =

@@ -6,11 +6,11 @@ use Rattle.std.specs.Char.{is_digit}
 use Rattle.tsdl_text.specs.Bytes.{number}
 use Rattle.tsdl_text.specs.Characters.{simple_escape}
 
--- how many digits stand at the front, counting no further than a limit
+-- how many digits are at the beginning, counting no further than a limit
 abbrev pub digit_count : ℕ → ℕ → List ℕ → ℕ
 digit_count base most text = prefix_len (λ digit. is_digit digit base) (take most text)
 
--- the byte of a numeric escape and how many bytes it takes, `skipped` of which stand before its digits
+-- the byte of a numeric escape and how many bytes it takes, `skipped` of which are before its digits
 unfoldable pub numeric_at : ℕ → ℕ → ℕ → List ℕ → Option (ℕ × ℕ)
 numeric_at base most skipped text =
     let count = digit_count base most text in
@@ -30,12 +30,12 @@ character_at (b ∷ text) =
     if b == 92 then escape_at text
     else (if b == 34 || b == 10 then None else Some (b, 1))
 
--- what the characters at the front of a text stand for, as far as there are characters, at most `turns`
+-- what the characters at the beginning of a text stand for, as far as there are characters, at most `turns`
 unfoldable pub values : ℕ → List ℕ → List ℕ
 values zero text = []
 values (suc turns) text = option_map_or (λ x. x.0 ∷ values turns (drop x.1 text)) (character_at text) []
 
 -- The bytes that the slice of a string token spells, quotes taken off and escapes undone. At other
--- bytes: what the characters behind the first byte stand for, up to where no character stands.
+-- bytes: what the characters after the first byte stand for, up to where there is no character.
 unfoldable pub string_value : List ℕ → List ℕ
 string_value slice = values (length slice) (drop 1 slice)

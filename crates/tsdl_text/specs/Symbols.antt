@@ -87,7 +87,7 @@ is_keyword symbols.Complex = true
 is_keyword symbols.Imaginary = true
 is_keyword symbol = false
 
--- a keyword of C's types or `const`, which may stand in the name of a type
+-- a keyword of C's types or `const`, which may be in the name of a type
 abbrev pub is_type_keyword : Symbol → Bool
 is_type_keyword symbols.Const = true
 is_type_keyword symbols.Char = true

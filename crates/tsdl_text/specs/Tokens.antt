@@ -49,16 +49,16 @@ is_constant (kinds.Constant value) = true
 is_constant kinds.String = false
 is_constant (kinds.Symbol symbol) = false
 
--- These bytes are the token that stands before the bytes `after`: the longest one there, and no
+-- These bytes are the token that is before the bytes `after`: the longest one there, and no
 -- letter, digit or `_` follows a constant.
 pub record IsToken (kind : Kind) (bytes after : List ℕ) : Type 0 where
   pub spelled : Spells kind bytes
   pub longest : IsLongest bytes after
   pub apart : is_constant kind ≡ true → begins is_word_byte after ≡ false
 
--- ---- what stands between tokens
+-- ---- what is between tokens
 
--- A blank is one byte. A comment from `/*` ends at the first `*/` behind that, one from `//` at the
+-- A blank is one byte. A comment from `/*` ends at the first `*/` after that, one from `//` at the
 -- end of its line or of the text.
 pub data Skipped : List ℕ → List ℕ → Type 0 where
   blank : {b : ℕ} {after : List ℕ} → is_blank b ≡ true → Skipped (b ∷ []) after
@@ -72,7 +72,7 @@ pub record Piece : Type 0 where
   pub kind : Option Kind
   pub bytes : List ℕ
 
--- the piece stands before these bytes, which go on to the end of the text
+-- the piece is before these bytes, which go on to the end of the text
 abbrev pub Stands : Piece → List ℕ → Type 0
 Stands piece after = MatchOption piece.kind (Skipped piece.bytes after) (λ kind. IsToken kind piece.bytes after)
 
@@ -80,7 +80,7 @@ Stands piece after = MatchOption piece.kind (Skipped piece.bytes after) (λ kind
 abbrev pub joined : List Piece → List ℕ
 joined pieces = flat_map (λ (piece : Piece). piece.bytes) pieces
 
--- the pieces stand one after the other, the last before these bytes
+-- the pieces are one after the other, the last before these bytes
 abbrev pub AllPieces : List Piece → List ℕ → Type 0
 AllPieces pieces after = AllStand (λ (piece : Piece). piece.bytes) Stands pieces after
 
@@ -100,11 +100,11 @@ lexeme token = record { kind = token.kind; bytes = token.text.now; start = token
 abbrev pub newlines : List ℕ → ℕ
 newlines bytes = count_by (λ b. b == 10) bytes
 
--- the line of the place behind these bytes
+-- the line of the place after these bytes
 abbrev pub line_behind : List ℕ → ℕ
 line_behind front = 1 + newlines front
 
--- the tokens among pieces that stand behind the bytes `front`
+-- the tokens among pieces that are after the bytes `front`
 abbrev pub lexemes : List ℕ → List Piece → List Lexeme
 lexemes front [] = []
 lexemes front (piece ∷ pieces) =
@@ -129,7 +129,7 @@ pub record NoToken (text : List ℕ) (line : ℕ) : Type 0 where
   pub nothing : NothingStands (λ (piece : Piece). piece.bytes) Stands after
   pub line_is : line ≡ line_behind (joined pieces)
 
--- what a refusal of a text says: nothing where memory was wanting
+-- what a refusal of a text says: nothing where an allocation failed
 abbrev pub TokensRefused : List ℕ → MetaFault → Type 0
 TokensRefused text (faults.NoToken line) = NoToken text line
 TokensRefused text faults.NoMemory = Unit {0}

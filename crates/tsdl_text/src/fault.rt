@@ -30,7 +30,7 @@ pub enum MetaFault {
     /// S1: on this line there is a place at which no token, blank or comment begins.
     #[error("no token")]
     NoToken(LineNumber),
-    /// A growth was refused.
+    /// An allocation failed.
     #[error("no memory")]
     NoMemory,
 }

@@ -35,7 +35,7 @@ pub fn strings_stand()
     ensures { StringsStand }
 {}
 
-/// A token is told to be a symbol exactly where its kind is that symbol.
+/// A token is said to be a symbol exactly where its kind is that symbol.
 pub fn symbols_are_compared()
     ensures { SymbolsAreCompared }
 {}

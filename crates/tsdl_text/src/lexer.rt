@@ -45,7 +45,7 @@ fn is_word_byte(byte: u8) -> bool
     byte.is_ascii_alphanumeric() || byte == b'_'
 }
 
-/// How many bytes at the front may stand in a word.
+/// How many bytes at the beginning may be in a word.
 fn word_len(text: &[u8]) -> usize
     ensures len { result ≡ word_len text.now }
     ensures bound { result ≤ length text.now }
@@ -84,7 +84,7 @@ fn block_len(text: &[u8]) -> Option<usize>
     None
 }
 
-/// How many bytes a comment has behind its first `/`.
+/// How many bytes a comment has after its first `/`.
 #[tactic(auto, unfolding(crate::specs::Scanning::comment_len))]
 fn comment_len(text: &[u8]) -> Option<usize>
     ensures len { result ≡ comment_len text.now }
@@ -175,7 +175,7 @@ fn single(byte: u8) -> Option<Symbol>
     }
 }
 
-/// The punctuator at the front, the longest one, and its length.
+/// The next punctuator, the longest one, and its length.
 #[tactic(auto, unfolding(crate::specs::Scanning::punctuator_at))]
 fn punctuator(text: &[u8]) -> Option<(Symbol, usize)>
     ensures value { result ≡ punctuator_at text.now }
@@ -189,7 +189,7 @@ fn punctuator(text: &[u8]) -> Option<(Symbol, usize)>
     }
 }
 
-/// How many bytes a string has behind its first quote, with its last.
+/// How many bytes a string has after its first quote, with its last.
 fn string_len(text: &[u8]) -> Option<usize>
     ensures len { result ≡ string_len text.now }
     ensures bound { IfSome result (λ len. len ≤ length text.now) }
@@ -219,7 +219,7 @@ fn is_l(byte: u8) -> bool
     byte == b'l' || byte == b'L'
 }
 
-/// Whether this may stand behind the digits of a constant.
+/// Whether this may be after the digits of a constant.
 #[tactic(auto, unfolding(crate::specs::Constants::is_suffix))]
 fn is_suffix(bytes: &[u8]) -> bool
     ensures { result ≡ is_suffix bytes.now }
@@ -259,7 +259,7 @@ fn constant(bytes: &[u8]) -> Option<u64>
     }
 }
 
-/// The kind of the token at the front, and its length.
+/// The kind of the next token, and its length.
 #[tactic(auto, unfolding(crate::specs::Scanning::token_at))]
 fn token(text: &[u8]) -> Option<(Kind, usize)>
     ensures value { result ≡ token_at text.now }
@@ -283,7 +283,7 @@ fn token(text: &[u8]) -> Option<(Kind, usize)>
     }
 }
 
-/// The piece at the front.
+/// The next piece.
 #[tactic(auto, unfolding(crate::specs::Scanning::piece_at))]
 fn piece(text: &[u8]) -> Option<Extent>
     ensures value { result ≡ piece_at text.now }
@@ -316,7 +316,7 @@ fn newlines(bytes: &[u8]) -> usize
 
 /// The tokens of a text, in their order, each with its slice of the text, where it starts and on which
 /// line (CTF 1.8.3, C.1). It fails with the line of the first place at which no token, blank or comment
-/// begins (S1), and where memory is refused.
+/// begins (S1), and where an allocation fails.
 pub fn tokens<'a>(alloc: Global, text: &'a [u8]) -> Result<Vec<Token<'a>>, MetaFault>
     ensures { MatchResult result (λ found. Lexes text.now (map lexeme found.items))
         (TokensRefused text.now) }

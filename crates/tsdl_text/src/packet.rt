@@ -44,7 +44,7 @@ impl Order {
         }
     }
 
-    /// The order of the magic at the front, if it is there.
+    /// The order of the magic at the beginning, if it is there.
     #[tactic(auto, unfolding(crate::specs::Packets::order_of))]
     fn of(bytes: &[u8]) -> Option<Order>
         ensures { result ≡ order_of bytes.now }
@@ -101,7 +101,7 @@ fn header_fault(order: Order, id: &[u8], rest: &[u8]) -> Option<MetaFault>
     None
 }
 
-/// The content of the packet at the front, and how many bytes the packet has.
+/// The content of the next packet, and how many bytes the packet has.
 fn packet<'a>(order: Order, id: &[u8], rest: &'a [u8]) -> Result<(&'a [u8], usize), MetaFault>
     ensures { MatchResult result
         (λ found. BeginsPacket order id.now rest.now found.0.now found.1)
@@ -138,7 +138,7 @@ fn contents(alloc: Global, order: Order, bytes: &[u8]) -> Result<Vec<u8>, MetaFa
 
 /// The text of metadata, which is plain text or packets whose contents, joined, are the text
 /// (CTF 1.8.3, 7.1). It fails where the bytes are more than 67,108,864 (M6) or a packet is not good (M1
-/// to M5), and where memory is refused.
+/// to M5), and where an allocation fails.
 pub fn metadata_text(alloc: Global, bytes: &[u8]) -> Result<Vec<u8>, MetaFault>
     ensures { MatchResult result (λ text. MetaText bytes.now text.items) (MetaRefused bytes.now) }
 {

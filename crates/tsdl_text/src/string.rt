@@ -21,7 +21,7 @@ pub(crate) fn digit_value(byte: u8) -> u8
     }
 }
 
-/// How many digits of a base stand at the front, counting no further than `most`.
+/// How many digits of a base are at the beginning, counting no further than `most`.
 pub(crate) fn digit_count(base: u8, most: usize, text: &[u8]) -> usize
     ensures count { result ≡ digit_count base most text.now }
     ensures bound { result ≤ length text.now }
@@ -48,7 +48,7 @@ pub(crate) fn number(base: u64, digits: &[u8]) -> Option<u64>
     Some(value)
 }
 
-/// The byte of an escape by digits, of which `skipped` bytes stand before the digits, and its length.
+/// The byte of an escape by digits, of which `skipped` bytes are before the digits, and its length.
 #[tactic(auto, unfolding(crate::specs::Strings::numeric_at))]
 fn numeric(base: u8, most: usize, skipped: usize, text: &[u8]) -> Option<(u8, usize)>
     requires base { 1 ≤ base }
@@ -115,7 +115,7 @@ pub(crate) fn character(text: &[u8]) -> Option<(u8, usize)>
     }
 }
 
-/// The bytes that the slice of a string token stands for. It fails where memory is refused.
+/// The bytes that the slice of a string token stands for. It fails where an allocation fails.
 pub(crate) fn string_value(alloc: Global, slice: &[u8]) -> Result<Vec<u8>, NoMemory>
     ensures { IfOk result (λ value. value.items ≡ string_value slice.now) }
 {

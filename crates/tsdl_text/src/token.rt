@@ -10,7 +10,7 @@ use crate::string::string_value;
 use ctf_list::NoMemory;
 use std::alloc::Global;
 
-/// A token that is always spelled the same: first the keywords, of which the last thirteen may stand
+/// A token that is always spelled the same: first the keywords, of which the last thirteen may be
 /// in the name of a type, then the punctuators.
 #[derive(Clone, Copy)]
 pub enum Symbol {
@@ -141,7 +141,7 @@ impl Symbol {
         )
     }
 
-    /// Whether this is a keyword that may stand in the name of a type.
+    /// Whether this is a keyword that may be in the name of a type.
     fn is_type_keyword(self) -> bool
         ensures { result ≡ is_type_keyword self }
     {
@@ -208,7 +208,7 @@ impl Token<'_> {
         }
     }
 
-    /// Whether this may stand in the name of a type: an identifier, `const` or a keyword of C's types.
+    /// Whether this may be in the name of a type: an identifier, `const` or a keyword of C's types.
     pub fn is_typeword(&self) -> bool
         ensures { result ≡ is_typeword self.now.kind }
     {
@@ -237,7 +237,7 @@ impl Token<'_> {
     }
 
     /// The bytes that a string stands for, quotes taken off and escapes undone, and `None` for another
-    /// token. It fails where memory is refused.
+    /// token. It fails where an allocation fails.
     pub fn string(&self, alloc: Global) -> Result<Option<Vec<u8>>, NoMemory>
         // What the characters between the quotes stand for.
         ensures spelled { IfOk result (λ found. IfSome found

@@ -1,6 +1,6 @@
 //! The syntax tree of TSDL metadata (CTF 1.8.3, section 7 and appendix C.2).
 //!
-//! It stands apart from the grammar that says which tokens spell it, so that what reads a tree need not
+//! It is separate from the grammar that says which tokens spell it, so that what reads a tree need not
 //! wait for what makes one.
 #![tactic(auto)]
 

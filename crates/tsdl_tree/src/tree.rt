@@ -1,5 +1,5 @@
 //! A case for each alternative of the grammar. Comments, blanks, `const` and the quotes of strings are
-//! gone, and declarations stand in the order of the text.
+//! gone, and declarations are in the order of the text.
 
 use ctf_list::List;
 
@@ -22,7 +22,7 @@ pub struct Number {
     pub magnitude: u64,
 }
 
-/// What stands behind the `=` of a setting.
+/// What is after the `=` of a setting.
 #[derive(Drop)]
 pub enum Value {
     /// `8`, `+8` or `-8`
@@ -40,7 +40,7 @@ pub struct Setting {
     pub value: Value,
 }
 
-/// What stands between the brackets of a declarator.
+/// What is between the brackets of a declarator.
 #[derive(Drop)]
 pub enum Length {
     /// How many elements an array has.
@@ -70,7 +70,7 @@ pub struct Label {
     pub span: Option<Span>,
 }
 
-/// What stands behind the `:` of an enumeration.
+/// What is after the `:` of an enumeration.
 #[derive(Drop)]
 pub enum Container {
     /// `integer { settings }`
@@ -111,7 +111,7 @@ pub enum Specifier {
     Named(Reference),
 }
 
-/// The body of a compound, with what stands beside it.
+/// The body of a compound, with what is beside it.
 #[cycle(tree)]
 #[derive(Drop)]
 pub enum Compound {
@@ -132,7 +132,7 @@ pub enum Compound {
     },
 }
 
-/// What stands in the body of a structure or a variant.
+/// What is in the body of a structure or a variant.
 #[cycle(tree)]
 #[derive(Drop)]
 pub enum Item {
@@ -166,7 +166,7 @@ pub enum TypeDeclaration {
     },
 }
 
-/// What stands in the braces of a trace, a stream or an event.
+/// What is in the braces of a trace, a stream or an event.
 #[derive(Drop)]
 pub enum BlockEntry {
     /// `name = value;`
