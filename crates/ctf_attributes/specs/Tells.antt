@@ -1,4 +1,4 @@
--- What a function tells of settings: their value, or the first of what is wrong with them.
+-- What a function says of settings: their value, or the first of what is wrong with them.
 use Rattle.std.specs.Prelude.{◌≡◌, ◌⊎◌, ℕ, not, List, [], Option, Some, Result, Ok, Err}
 use Rattle.std.specs.Option.{option_map_or}
 use Rattle.ctf_meaning.specs.declared.fault.ResolveFault.{ResolveFault}
@@ -7,12 +7,12 @@ use Rattle.ctf_meaning.specs.There.{first}
 use Rattle.ctf_meaning.specs.Settings.{when}
 use Rattle.ctf_meaning.specs.Integers.{is_alignment}
 
--- Where nothing is wrong, the value; else the first fault, or that memory was refused.
+-- Where nothing is wrong, the value; else the first fault, or that an allocation failed.
 abbrev pub Tells : {V : Type 0} → List ResolveFault → (V → Type 0) → Result V ResolveFault → Type 0
 Tells faults IsValue (Ok v) = (faults ≡ []) × IsValue v
 Tells faults IsValue (Err fault) = (fault ≡ NoMemory) ⊎ (first faults ≡ Some fault)
 
--- The same of a function that takes no memory.
+-- Where nothing is wrong, the value; else the first fault: the function takes no memory.
 abbrev pub TellsFirst : {V : Type 0} → List ResolveFault → (V → Type 0) → Result V ResolveFault → Type 0
 TellsFirst faults IsValue (Ok v) = (faults ≡ []) × IsValue v
 TellsFirst faults IsValue (Err fault) = first faults ≡ Some fault

@@ -42,7 +42,7 @@ fn count(entries: &[BlockEntry], name: EntryName) -> usize
         .count()
 }
 
-/// Whether a name stands twice.
+/// Whether a name is there twice.
 fn is_twice(entries: &[BlockEntry], name: EntryName) -> bool
     ensures { result ≡ stands_twice (map entry_of entries.now) (words_of name) }
 {
@@ -73,7 +73,7 @@ fn has_value(entries: &[BlockEntry], name: EntryName) -> bool
     false
 }
 
-/// Fails with `Attribute` where one of these names stands twice.
+/// Fails with `Attribute` where one of these names is there twice.
 pub fn none_twice(entries: &[BlockEntry], names: &[EntryName]) -> Result<(), ResolveFault>
     ensures told { TellsFirst (flat_map
         (λ name. when (stands_twice (map entry_of entries.now) name) faults.Attribute)

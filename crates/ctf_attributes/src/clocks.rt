@@ -17,8 +17,7 @@ use tsdl_tree::Setting;
 /// Cycles a second of a clock that says nothing of it.
 const DEFAULT_FREQUENCY: u64 = 1_000_000_000;
 
-/// The clock of a `clock` block (CTF 1.8.3, section 8). It fails with `Attribute`, or where memory is
-/// refused.
+/// The clock of a `clock` block (CTF 1.8.3, section 8). It fails with `Attribute`, or where an allocation fails.
 pub fn clock(alloc: Global, settings: &[Setting]) -> Result<Clock, ResolveFault>
     ensures told { Tells (clock_faults settings.now) (λ clock. clock_by settings.now ≡ Some clock)
         result }

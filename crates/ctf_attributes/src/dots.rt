@@ -38,7 +38,7 @@ fn is_dotted(words: &[Word], text: &[u8]) -> bool
     rest.is_empty()
 }
 
-/// What stands behind a dot and a word.
+/// What is after a dot and a word.
 fn behind_dot<'a>(word: &[u8], text: &'a [u8]) -> Option<&'a [u8]>
     ensures { option_copied result ≡ meaning.behind (46 ∷ word.now) text.now }
 {
@@ -48,7 +48,7 @@ fn behind_dot<'a>(word: &[u8], text: &'a [u8]) -> Option<&'a [u8]>
     }
 }
 
-/// Words with dots between them. It fails where memory is refused.
+/// Words with dots between them. It fails where an allocation fails.
 pub fn join_words(alloc: Global, words: &[Word]) -> Result<List<u8>, NoMemory>
     ensures { IfOk result (λ text. text ≡ join_with_byte 46 words.now) }
 {
@@ -60,7 +60,7 @@ pub fn join_words(alloc: Global, words: &[Word]) -> Result<List<u8>, NoMemory>
     Ok(text)
 }
 
-/// Words with a dot before each, at the end of a text. It fails where memory is refused.
+/// Words with a dot before each, at the end of a text. It fails where an allocation fails.
 fn put_dotted(text: &mut List<u8>, words: &[Word]) -> Result<(), NoMemory>
     ensures { OnOk result (text.new ≡ text.old ++ dotted words.now) }
 {

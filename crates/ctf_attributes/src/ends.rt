@@ -3,14 +3,14 @@
 ghost use Rattle.std.specs.Prelude.{◌≡◌, reverse, option_map, option_copied};
 ghost use Rattle.ctf_meaning.specs.Integers as meaning;
 
-/// What stands behind a beginning.
+/// What is after a beginning.
 pub fn behind<'a>(beginning: &[u8], text: &'a [u8]) -> Option<&'a [u8]>
     ensures { option_copied result ≡ meaning.behind beginning.now text.now }
 {
     text.strip_prefix(beginning)
 }
 
-/// What stands before an end.
+/// What is before an end.
 pub fn before<'a>(end: &[u8], text: &'a [u8]) -> Option<&'a [u8]>
     ensures { option_copied result ≡
         option_map reverse (meaning.behind (reverse end.now) (reverse text.now)) }

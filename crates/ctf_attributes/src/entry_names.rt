@@ -1,4 +1,4 @@
-//! Names with a meaning that stand twice in a block, or have the wrong kind of entry.
+//! Names with a meaning that are there twice in a block, or have the wrong kind of entry.
 
 ghost use Rattle.std.specs.Prelude.{map};
 ghost use Rattle.tsdl_tree.specs.declared.tree.BlockKind.TheVariants as kind;
@@ -14,7 +14,7 @@ use crate::entry_name::EntryName::{
 use ctf_meaning::ResolveFault;
 use tsdl_tree::BlockEntry;
 
-/// Fails with `Attribute` where a name of a `trace` block stands twice or has the wrong kind of entry.
+/// Fails with `Attribute` where a name of a `trace` block is there twice or has the wrong kind of entry.
 pub fn check_trace(entries: &[BlockEntry]) -> Result<(), ResolveFault>
     ensures told { TellsFirst (entry_faults kind.Trace (map entry_of entries.now)) Nothing result }
 {
@@ -23,7 +23,7 @@ pub fn check_trace(entries: &[BlockEntry]) -> Result<(), ResolveFault>
     no_values(entries, &[PacketHeader])
 }
 
-/// Fails with `Attribute` where a name of a `stream` block stands twice or has the wrong kind of entry.
+/// Fails with `Attribute` where a name of a `stream` block is there twice or has the wrong kind of entry.
 pub fn check_stream(entries: &[BlockEntry]) -> Result<(), ResolveFault>
     ensures told { TellsFirst (entry_faults kind.Stream (map entry_of entries.now)) Nothing result }
 {
@@ -32,7 +32,7 @@ pub fn check_stream(entries: &[BlockEntry]) -> Result<(), ResolveFault>
     no_values(entries, &[PacketContext, EventHeader, EventContext])
 }
 
-/// Fails with `Attribute` where a name of an `event` block stands twice or has the wrong kind of entry.
+/// Fails with `Attribute` where a name of an `event` block is there twice or has the wrong kind of entry.
 pub fn check_event(entries: &[BlockEntry]) -> Result<(), ResolveFault>
     ensures told { TellsFirst (entry_faults kind.Event (map entry_of entries.now)) Nothing result }
 {

@@ -29,7 +29,7 @@ pub struct Event {
 }
 
 impl Event {
-    /// The settings of an event. It fails with `Attribute`, or where memory is refused.
+    /// The settings of an event. It fails with `Attribute`, or where an allocation fails.
     pub fn read(alloc: Global, entries: &[BlockEntry]) -> Result<Event, ResolveFault>
         ensures told { Tells (block_faults (Block kind.Event (map entry_of entries.now)))
             (IsEvent (map entry_of entries.now)) result }

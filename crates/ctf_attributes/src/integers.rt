@@ -11,7 +11,7 @@ use std::alloc::Global;
 use tsdl_tree::Setting;
 
 /// The integer of these settings (CTF 1.8.3, section 4.1.5). It fails with `Attribute`, with
-/// `SizeOrAlignment` where a number is out of its range, or where memory is refused.
+/// `SizeOrAlignment` where a number is out of its range, or where an allocation fails.
 pub fn integer(alloc: Global, settings: &[Setting]) -> Result<DeclaredInteger, ResolveFault>
     ensures told { Tells (integer_faults settings.now)
         (λ integer. integer ≡ integer_of settings.now) result }

@@ -12,7 +12,7 @@ use ctf_meaning::ResolveFault;
 use std::alloc::Global;
 
 /// The labels of an enumeration with their numbers (CTF 1.8.3, section 4.1.8). It fails with `Attribute`, or
-/// where memory is refused.
+/// where an allocation fails.
 pub fn labels(alloc: Global, labels: &[tsdl_tree::Label]) -> Result<List<Label>, ResolveFault>
     ensures told { Tells (label_faults labels.now) (λ numbered. numbered ≡ labels_of labels.now)
         result }

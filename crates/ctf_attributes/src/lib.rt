@@ -2,7 +2,7 @@
 //! structures, and the settings of clocks, of blocks and of the environment (CTF 1.8.3, sections 4, 7.4 and
 //! 8).
 //!
-//! What is meant, and what is wrong, is defined in `ctf_meaning`. Of what is wrong each function tells the
+//! What is meant, and what is wrong, is defined in `ctf_meaning`. Of what is wrong each function reports the
 //! first.
 #![tactic(auto)]
 

@@ -29,7 +29,7 @@ fn count(settings: &[Setting], name: &[u8]) -> usize
         .count()
 }
 
-/// Fails with `Attribute` where a name stands twice.
+/// Fails with `Attribute` where a name is there twice.
 pub fn once(settings: &[Setting], name: &[u8]) -> Result<(), ResolveFault>
     ensures told { TellsFirst (repeated settings.now name.now) Nothing result }
 {
@@ -39,7 +39,7 @@ pub fn once(settings: &[Setting], name: &[u8]) -> Result<(), ResolveFault>
     Ok(())
 }
 
-/// Fails with `Attribute` where one of these names stands twice.
+/// Fails with `Attribute` where one of these names is there twice.
 pub fn each_once(settings: &[Setting], names: &[&[u8]]) -> Result<(), ResolveFault>
     ensures told { TellsFirst (flat_map (repeated settings.now) (map (λ name. name.now) names.now))
         Nothing result }

@@ -9,7 +9,7 @@ use crate::value::has_no_number;
 use ctf_meaning::ResolveFault;
 use tsdl_tree::Setting;
 
-/// Fails with `Attribute` where a `-` stands before a constant above 2^63.
+/// Fails with `Attribute` where a `-` is before a constant above 2^63.
 pub fn number_in(setting: &Setting) -> Result<(), ResolveFault>
     ensures told { Tells (minus_faults (setting.now ∷ [])) Nothing result }
     ensures fault { IfErr result (λ fault. fault ≡ faults.Attribute) }
@@ -20,7 +20,7 @@ pub fn number_in(setting: &Setting) -> Result<(), ResolveFault>
     Ok(())
 }
 
-/// Fails with `Attribute` where a `-` stands before a constant above 2^63 in one of the settings.
+/// Fails with `Attribute` where a `-` is before a constant above 2^63 in one of the settings.
 pub fn numbers(settings: &[Setting]) -> Result<(), ResolveFault>
     ensures told { Tells (minus_faults settings.now) Nothing result }
     ensures fault { IfErr result (λ fault. fault ≡ faults.Attribute) }

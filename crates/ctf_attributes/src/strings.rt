@@ -10,7 +10,7 @@ use crate::lookup::once;
 use ctf_meaning::ResolveFault;
 use tsdl_tree::Setting;
 
-/// Fails with `Attribute` where the encoding of a string stands twice or is none (CTF 1.8.3, section 4.2.5).
+/// Fails with `Attribute` where the encoding of a string is there twice or is none (CTF 1.8.3, section 4.2.5).
 pub fn string(settings: &[Setting]) -> Result<(), ResolveFault>
     ensures told { Tells (string_faults settings.now) Nothing result }
     ensures fault { IfErr result (λ fault. fault ≡ faults.Attribute) }

@@ -39,7 +39,7 @@ pub struct Trace {
 }
 
 impl Trace {
-    /// The settings of a trace. It fails with `Attribute`, or where memory is refused.
+    /// The settings of a trace. It fails with `Attribute`, or where an allocation fails.
     pub fn read(alloc: Global, entries: &[BlockEntry]) -> Result<Trace, ResolveFault>
         ensures told { Tells (block_faults (Block kind.Trace (map entry_of entries.now)))
             (IsTrace (map entry_of entries.now)) result }
@@ -91,7 +91,7 @@ fn uuid(alloc: Global, entries: &[BlockEntry]) -> Result<Option<[u8; 16]>, Resol
     Ok(Some(uuid))
 }
 
-/// The UUID that a value reads as. It fails where memory is refused.
+/// The UUID that a value reads as. It fails where an allocation fails.
 fn read_uuid(alloc: Global, value: &Value) -> Result<Option<[u8; 16]>, NoMemory>
     ensures { IfOk result (λ uuid. uuid ≡ uuid_of value.now) }
 {

@@ -15,7 +15,7 @@ use tsdl_tree::{Number, Value};
 /// The largest magnitude of a negative number.
 const LARGEST_NEGATIVE: u64 = 1 << 63;
 
-/// The number of a constant; `None` where a `-` stands before one above 2^63.
+/// The number of a constant; `None` where a `-` is before one above 2^63.
 pub fn number_by(constant: Number) -> Option<i128>
     ensures value { result ≡ settings.number_by constant }
     ensures bounded { IfSome result (λ number. number <ℤ pos (2 ^ 64)) }
@@ -94,7 +94,7 @@ fn is_word(value: &Value, word: &[u8]) -> bool
     }
 }
 
-/// The text of a value; a constant has none. It fails where memory is refused.
+/// The text of a value; a constant has none. It fails where an allocation fails.
 pub fn text(alloc: Global, value: &Value) -> Result<Option<List<u8>>, NoMemory>
     ensures { IfOk result (λ text. text ≡ settings.text_of value.now) }
 {
@@ -105,8 +105,7 @@ pub fn text(alloc: Global, value: &Value) -> Result<Option<List<u8>>, NoMemory>
     }
 }
 
-/// The text of a value that must be there and have one. It fails with `Attribute`, or where memory is
-/// refused.
+/// The text of a value that must be there and have one. It fails with `Attribute`, or where an allocation fails.
 pub fn required_text(alloc: Global, value: Option<&Value>) -> Result<List<u8>, ResolveFault>
     ensures told { Tells (when
         (is_none (option_and_then settings.text_of (option_copied value.entry))) faults.Attribute)

@@ -29,7 +29,7 @@ named_class c = (c.name.now, known c.class)
 abbrev pub held : BlockNames → List CodeClass → Held
 held names classes = record { own = names_in names; classes = map named_class classes }
 
--- the classes of a block, behind some entries and then others
+-- the classes of a block, after some entries and then others
 abbrev pub from_held : Seen → Held → List BlockEntry → Told (List NamedClass)
 from_held outer before entries = entries_told outer before entries >>= λ after. Ok after.classes
 
@@ -41,7 +41,7 @@ classes_told outer entries = from_held outer (record { own = nothing_seen; class
 abbrev pub placed_seen : ScopeShape → Placed
 placed_seen s = (s.scope, known s.shape)
 
--- what stands behind some declarations
+-- what is known after some declarations
 abbrev pub walked : DeclaredSoFar → Walked
 walked c = record { own = names_in c.names; nodes = c.nodes; rows = map (map placed_seen) c.rows.items }
 
@@ -55,7 +55,7 @@ pub record Remembers (earlier : Earlier) (before : List Declaration) : Type 0 wh
 abbrev pub row_told : Seen → BlockKind → List BlockEntry → Told (List Placed)
 row_told outer which entries = classes_told outer entries >>= λ classes. Ok (placed which classes)
 
--- The scopes of each declaration, or the fault that is told, unless memory was refused.
+-- The scopes of each declaration, or the fault that is reported, unless an allocation failed.
 abbrev pub FindsRows : Told Walked → Result (List (List ScopeShape)) ResolveFault → Type 0
 FindsRows told (Ok rows) = (w : Walked) × (told ≡ Ok w) × (map (map placed_seen) rows ≡ w.rows)
 FindsRows told (Err fault) = (fault ≡ NoMemory) ⊎ (told ≡ Err fault)

@@ -9,7 +9,7 @@ use Rattle.ctf_meaning.specs.Written.{Form, Item}
 use Rattle.ctf_meaning.specs.Parts.{Given}
 use Rattle.ctf_meaning.specs.Reading.{Body, compound_by, item_by, form_by, type_by}
 
--- a compound, given the name that stands beside it
+-- a compound, given the name that is beside it
 abbrev pub body_form : Compound → Body
 body_form = fold-Compound Body Item Form Item compound_by item_by form_by type_by
 

@@ -2,7 +2,7 @@
 use Rattle.std.specs.Prelude.{ℕ, ◌+◌, List, [], ◌∷◌, ◌++◌, map, flat_map}
 use Rattle.ctf_meaning.specs.Name.{Word, Name, Plain, Struct, Variant, Enum}
 
--- each byte as one more than it is, and 0 behind them
+-- each byte as one more than it is, and 0 after them
 abbrev pub word_key : Word → List ℕ
 word_key word = map (λ b. b + 1) word ++ 0 ∷ []
 

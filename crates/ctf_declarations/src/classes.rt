@@ -108,7 +108,7 @@ fn body(alloc: Global, outer: &Visible<'_>, items: &[Item]) -> Result<Vec<Field>
     Ok(fields)
 }
 
-/// Puts the members of an item behind those before it, and its names beside those before it.
+/// Puts the members of an item after those before it, and its names beside those before it.
 #[cycle(classes)]
 fn member(
     alloc: Global,

@@ -169,7 +169,7 @@ pub fn has_deep(class: &Known, declarators: &[Declarator]) -> bool
     declarators.iter().any(|declarator| class.is_too_deep_with(declarator.lengths.as_slice()))
 }
 
-/// Puts a member of the class for each declarator behind the fields.
+/// Puts a member of the class for each declarator after the fields.
 pub fn push_fields(
     alloc: Global,
     class: &Known,

@@ -1,4 +1,4 @@
-//! What is kept of the declarations before: of what no second may stand.
+//! What is kept of the declarations before: of what no second may be there.
 
 ghost use Rattle.std.specs.Prelude.{◌≡◌, ◌++◌, [], ◌∷◌, Some, List, OnOk, map, nat_eq, filter_map};
 ghost use Rattle.std.specs.List.{list_any};

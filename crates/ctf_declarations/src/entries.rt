@@ -40,7 +40,7 @@ pub fn classes_in<'a>(
     Ok(classes)
 }
 
-/// Puts the class or the names of an entry behind those before it.
+/// Puts the class or the names of an entry after those before it.
 fn entry_in<'a>(
     alloc: Global,
     outer: &Visible<'_>,

@@ -40,7 +40,7 @@ fn word_key(alloc: Global, kind: u16, word: &[u8]) -> Result<Vec<u16>, AllocErro
     Ok(key)
 }
 
-/// Puts a word behind a key.
+/// Puts a word after a key.
 fn push_word(key: &mut Vec<u16>, word: &[u8]) -> Result<(), AllocError>
     ensures { OnOk result (key.new.items ≡ key.old.items ++ word_key word.now) }
 {

@@ -1,5 +1,5 @@
-//! The declarations of a syntax tree from its beginning, with the names that stand: the classes of the scopes of
-//! each declaration, or the first fault that a declaration has by itself and by what stands before it (CTF 1.8.3,
+//! The declarations of a syntax tree from its beginning, with the names known so far: the classes of the scopes of
+//! each declaration, or the first fault that a declaration has by itself and by what is before it (CTF 1.8.3,
 //! sections 4, 7 and 8).
 #![tactic(auto)]
 

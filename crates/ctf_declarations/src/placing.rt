@@ -89,7 +89,7 @@ fn placed_class(
     }
 }
 
-/// Puts the class of a scope behind those before it.
+/// Puts the class of a scope after those before it.
 fn place(
     alloc: Global,
     classes: &[NamedClass<'_>],
@@ -125,7 +125,7 @@ pub fn placed_classes(
 }
 
 /// Fails with `Attribute` where the class of a scope is no structure, and with `FloatingPoint` where a
-/// floating-point class stands in it.
+/// floating-point class is in it.
 fn check(class: &Known) -> Result<(), ResolveFault>
     ensures { Tells (scope_faults (known class.now)) Nothing result }
 {

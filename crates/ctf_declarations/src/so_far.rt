@@ -1,4 +1,4 @@
-//! Declarations, one behind another.
+//! Declarations, one after another.
 
 ghost use Rattle.std.specs.Prelude.{◌≡◌, ◌≤◌, ◌++◌, ◌+◌, [], ◌∷◌, Ok, List, OnOk, map, sum, nat_lt};
 ghost use Rattle.ctf_meaning.specs.declared.fault.ResolveFault.TheVariants as faults;
@@ -28,7 +28,7 @@ use tsdl_tree::{BlockEntry, BlockKind, Declaration, Setting, TableKind, TypeDecl
 /// How many classes the scopes of a trace may have.
 const MOST_NODES: u32 = 1_048_576;
 
-/// What stands behind some declarations: the names of the text, how many classes the scopes have, and the scopes
+/// What is known after some declarations: the names of the text, how many classes the scopes have, and the scopes
 /// of each declaration.
 #[derive(Drop)]
 pub struct DeclaredSoFar {
@@ -38,7 +38,7 @@ pub struct DeclaredSoFar {
 }
 
 impl DeclaredSoFar {
-    /// What stands before all declarations.
+    /// What is known before all declarations.
     pub fn new(alloc: Global) -> DeclaredSoFar
         ensures { walked result ≡ start }
     {
@@ -114,7 +114,7 @@ fn block_row(
     placed_classes(alloc, kind, classes.as_slice())
 }
 
-/// A block behind other declarations.
+/// A block after other declarations.
 fn block(
     alloc: Global,
     so_far: &mut DeclaredSoFar,
@@ -133,7 +133,7 @@ fn block(
     so_far.push_row(row)
 }
 
-/// A clock, an environment or a call site behind other declarations.
+/// A clock, an environment or a call site after other declarations.
 fn table(
     alloc: Global,
     so_far: &mut DeclaredSoFar,
@@ -165,7 +165,7 @@ fn text_types(
     types(alloc, &outer, names, declaration)
 }
 
-/// A declaration of names behind other declarations.
+/// A declaration of names after other declarations.
 fn names(
     alloc: Global,
     so_far: &mut DeclaredSoFar,
@@ -180,7 +180,7 @@ fn names(
     Ok(())
 }
 
-/// A declaration behind others.
+/// A declaration after others.
 pub fn declaration(
     alloc: Global,
     so_far: &mut DeclaredSoFar,

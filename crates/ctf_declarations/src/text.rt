@@ -16,8 +16,8 @@ use tsdl_tree::Tree;
 pub type Rows = List<List<ScopeShape>>;
 
 /// The classes that the declarations of a text give to scopes, in the order of the text (CTF 1.8.3, sections 4,
-/// 7 and 8). It fails with the first fault of a declaration by itself and by what stands before it: R1 to R5,
-/// R8 or R9; or where memory is refused. Of `n` names, takes time like `n` times its logarithm.
+/// 7 and 8). It fails with the first fault of a declaration by itself and by what is before it: R1 to R5,
+/// R8 or R9; or where an allocation fails. Of `n` names, takes time like `n` times its logarithm.
 pub fn scope_classes(alloc: Global, tree: &Tree) -> Result<Rows, ResolveFault>
     ensures { FindsRows (text_told (written tree.now)) result }
 {

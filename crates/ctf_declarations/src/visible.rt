@@ -17,7 +17,7 @@ pub struct BlockNames {
     classes: BTreeMap<Vec<u16>, Known>,
 }
 
-/// The names that a class sees: those of the block in which it stands, and those around it. Inner names hide
+/// The names that a class sees: those of the block in which it is, and those around it. Inner names hide
 /// outer ones (CTF 1.8.3, section 7.3.1).
 #[derive(Drop)]
 pub enum Visible<'a> {

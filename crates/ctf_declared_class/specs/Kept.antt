@@ -7,7 +7,7 @@ use Rattle.ctf_declared_class.specs.declared.facts.Facts.{Facts}
 use Rattle.ctf_declared_class.specs.Stopped.{stopped}
 use Rattle.ctf_declared_class.specs.Views.{shape}
 
--- of a class: its alignment, its depth and its nodes, and whether a floating-point class stands in it
+-- of a class: its alignment, its depth and its nodes, and whether a floating-point class is in it
 pub record Keeps (s : plain.Shape) (facts : Facts) : Type 0 where
   pub aligned : facts.align ≡ align_of s
   pub deep : facts.depth ≡ stopped (depth_of s)

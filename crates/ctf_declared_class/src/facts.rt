@@ -5,7 +5,7 @@ ghost use Rattle.ctf_declared_class.specs.Stopped.{stopped};
 
 use ctf_class::Align;
 
-/// What is kept with a class, or with classes that stand beside one another.
+/// What is kept with a class, or with classes that are beside one another.
 #[derive(Clone, Copy)]
 pub struct Facts {
     /// In bits.
@@ -14,7 +14,7 @@ pub struct Facts {
     pub depth: u32,
     /// Stops at the largest number.
     pub nodes: u32,
-    /// Whether a floating-point class stands somewhere in it.
+    /// Whether a floating-point class is somewhere in it.
     pub has_float: bool,
 }
 

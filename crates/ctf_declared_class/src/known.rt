@@ -130,7 +130,7 @@ impl Known {
         Ok(Known::with_facts(alloc, Shape::Variant { tag, options }, facts)?)
     }
 
-    /// The class with the lengths behind a name: `a[2][3]` is two arrays of three. A text may write far more
+    /// The class with the lengths after a name: `a[2][3]` is two arrays of three. A text may write far more
     /// lengths than a class may have, and letting go of a class takes a call for each level in it, so
     /// `is_too_deep_with` is asked first.
     pub fn arrays(&self, alloc: Global, lengths: &[Length]) -> Result<Known, NoMemory>
@@ -200,7 +200,7 @@ impl Known {
         }
     }
 
-    /// Whether a floating-point class stands somewhere in it.
+    /// Whether a floating-point class is somewhere in it.
     pub fn has_float(&self) -> bool
         ensures { result ≡ plain.has_float (known self.now) }
     {
@@ -214,7 +214,7 @@ impl Known {
         self.facts.depth > MOST_DEEP
     }
 
-    /// Whether the class with the lengths behind a name is deeper than classes may be. Nothing is made.
+    /// Whether the class with the lengths after a name is deeper than classes may be. Nothing is made.
     pub fn is_too_deep_with(&self, lengths: &[Length]) -> bool
         ensures { result ≡ nat_lt most_deep (depth_of (plain.arrays lengths.now (known self.now))) }
     {

@@ -44,7 +44,7 @@ pub enum Shape {
     },
 }
 
-/// The members of a structure or the options of a variant: each has a name and a class, which stand at
+/// The members of a structure or the options of a variant: each has a name and a class, which are at
 /// one place.
 #[cycle(shape)]
 #[derive(Drop)]

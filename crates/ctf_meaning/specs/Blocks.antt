@@ -1,4 +1,4 @@
--- The blocks of the metadata, each by itself: which settings and classes stand in it. (CTF 1.8.3, sections 7.4 and 8,
+-- The blocks of the metadata, each by itself: which settings and classes are in it. (CTF 1.8.3, sections 7.4 and 8,
 -- appendix C.2.)
 use Rattle.std.specs.Prelude.{ℕ, nat_eq, nat_lt, Bool, true, false, not, ◌||◌, if◌then◌else◌, List, [], ◌∷◌, ◌++◌, map, length, Option, Some, None, option_and_then, is_none, codes, filter, filter_map, flat_map}
 use Rattle.std.specs.List.{list_any, enumerate_from}
@@ -69,7 +69,7 @@ abbrev pub is_class_of : Words → BlockEntry → Bool
 is_class_of name (Classed words form) = same_words words name
 is_class_of name _ = false
 
--- A name with a meaning that stands twice in one block, whatever its entries are: R3 (own).
+-- A name with a meaning that is there twice in one block, whatever its entries are: R3 (own).
 abbrev pub stands_twice : List BlockEntry → Words → Bool
 stands_twice entries name = nat_lt 1 (length (filter (λ e. is_value_of name e || is_class_of name e) entries))
 

@@ -1,4 +1,4 @@
--- Clocks, and which integers move one. (CTF 1.8.3, section 8.)
+-- Clocks, and which integers set one. (CTF 1.8.3, section 8.)
 use Rattle.std.specs.Prelude.{ℕ, ◌^◌, nat_eq, nat_lt, Bool, true, false, not, ◌&&◌, if◌then◌else◌, List, [], ◌∷◌, ◌++◌, Option, Some, None, option_and_then, is_none, codes, find, ℤ, pos, negsuc, flat_map}
 use Rattle.std.specs.Option.{option_or, option_map_or}
 use Rattle.tsdl_tree.specs.declared.tree.Setting.{Setting}
@@ -77,17 +77,17 @@ is_stamp_in _ spot = false
 abbrev pub is_stamp : Spot → DeclaredInteger → Bool
 is_stamp spot i = is_none i.clock && not i.is_signed && is_stamp_in spot.scope spot
 
--- the clock to which an integer is mapped where it stands
+-- the clock to which an integer is mapped at its place
 abbrev pub clock_at : List Clock → Spot → DeclaredInteger → Option Clock
 clock_at clocks spot i = option_or (option_and_then (clock_named clocks) i.clock) (if is_stamp spot i then only_clock clocks else None)
 
--- Moving are the mapped integers of the packet context, without a `timestamp_end` at its top, and of the event header; a
--- signed one too (own).
+-- A clock is set by the mapped integers of the packet context, without a `timestamp_end` at its top, and of the event
+-- header; a signed one sets it too (own).
 abbrev pub moves_in : Scope → Spot → Bool
 moves_in EventHeader spot = true
 moves_in PacketContext spot = not (spot.is_top && is_called spot (codes "timestamp_end"))
 moves_in _ spot = false
 
--- the clock that an integer moves where it stands
+-- the clock that an integer sets at its place
 abbrev pub moved_clock : List Clock → Spot → DeclaredInteger → Option Clock
 moved_clock clocks spot i = if moves_in spot.scope spot then clock_at clocks spot i else None

@@ -46,7 +46,7 @@ trace_entries (Block Trace entries) = Some entries
 trace_entries _ = None
 
 module _ (text : List Declaration) where
-  -- what a scope's class is where it stands, if the scope is declared
+  -- what a scope's class is at its place, if the scope is declared
   abbrev pub scope_class : Order → Home → Scope → Option (Option Class)
   scope_class order home scope = if_there (class_at order (clocks_of text) (spot_of text home scope)) (scope_of text home scope)
 
@@ -63,7 +63,7 @@ module _ (text : List Declaration) where
   event_in order stream (k, Block Event entries) = if is_in_stream text stream entries then Some (event_class order k entries) else None
   event_in order stream _ = None
 
-  -- A stream class has its events in the order of the text, and the clock that its integers move.
+  -- A stream class has its events in the order of the text, and the clock that its integers set.
   abbrev pub stream_class : Order → Stream → Option StreamClass
   stream_class order stream = do
     packet_context ← scope_class order (home_of_stream text stream.block) PacketContext
@@ -95,10 +95,10 @@ module _ (text : List Declaration) where
   abbrev pub class_of_text : Option TraceClass
   class_of_text = first (filter_map trace_entries text) >>= trace_class
 
--- The text denotes the trace class: no fault stands, and each class is what its declaration means where it stands.
+-- The text denotes the trace class: there is no fault, and each class is what its declaration means at its place.
 abbrev pub Denotes : Tree → TraceClass → Type 0
 Denotes tree t = (faults (written tree) ≡ []) × (class_of_text (written tree) ≡ Some t)
 
--- The fault is one of those of which one is told.
+-- The fault is one of those of which one is reported.
 abbrev pub Faulty : Tree → ResolveFault → Type 0
 Faulty tree fault = Contains (faults (written tree)) fault

@@ -1,4 +1,4 @@
--- The faults of a text, and of which of them one is told (own).
+-- The faults of a text, and of which of them one is reported (own).
 use Rattle.std.specs.Prelude.{ℕ, Bool, false, not, List, [], ◌∷◌, ◌++◌, map, take, Option, Some, None, is_none, flat_map}
 use Rattle.std.specs.List.{list_any}
 use Rattle.std.specs.Option.{option_map_or}
@@ -33,7 +33,7 @@ first_faults ([] ∷ more) = first_faults more
 first_faults ((f ∷ fs) ∷ more) = f ∷ fs
 
 module _ (text : List Declaration) where
-  -- The own faults of a declaration are those that it has by itself and by what stands before it.
+  -- The own faults of a declaration are those that it has by itself and by what is before it.
   abbrev pub own_faults : ℕ × Declaration → List ResolveFault
   own_faults (k, d) =
       faults_within (entries_in text) k d
@@ -42,7 +42,7 @@ module _ (text : List Declaration) where
       ++ flat_map scope_faults (classes_at text k d)
       ++ node_faults text most_nodes k
 
-  -- the faults of a block's scopes where they stand: lengths, tags and mappings
+  -- the faults of a block's scopes at their places: lengths, tags and mappings
   abbrev pub scope_links : Home → BlockKind → List ResolveFault
   scope_links home which =
       flat_map (λ scope. option_map_or (link_faults_at (clocks_of text) (spot_of text home scope)) (scope_of text home scope) []) (own_scopes which)
@@ -54,26 +54,26 @@ module _ (text : List Declaration) where
       (stream_of text entries)
       (Attribute ∷ [])
 
-  -- The link faults of a declaration are those that it has by what stands elsewhere, in any order.
+  -- The link faults of a declaration are those that it has by what is elsewhere, in any order.
   abbrev pub link_faults : ℕ × Declaration → List ResolveFault
   link_faults (k, Block Trace entries) = scope_links (record { trace = Some k; stream = None; event = None }) Trace
   link_faults (k, Block Stream entries) = scope_links (home_of_stream text (Some k)) Stream
   link_faults (k, Block Event entries) = event_links k entries ++ scope_links (home_of_event text k entries) Event
   link_faults _ = []
 
-  -- the clocks that the integers of a stream's classes move
+  -- the clocks that the integers of a stream's classes set
   abbrev pub clocks_moved : Option ℕ → List Clock
   clocks_moved block = flat_map
       (λ scope. option_map_or (moved_clocks (clocks_of text) (spot_of text (home_of_stream text block) scope)) (scope_of text (home_of_stream text block) scope) [])
       (own_scopes Stream)
 
-  -- The faults of the whole trace: no `trace` block, R3; several moving clocks in a stream, R7.
+  -- The faults of the whole trace: no `trace` block, R3; several clocks that the integers of a stream set, R7.
   abbrev pub whole_faults : List ResolveFault
   whole_faults =
       when (is_none (trace_of text)) Attribute
       ++ flat_map (λ s. when (has_other (clocks_moved s.block)) SeveralClocks) (streams text)
 
-  -- The faults of which one is told: of the first declaration with an own fault; else of the first with a link fault; else
+  -- The faults of which one is reported: of the first declaration with an own fault; else of the first with a link fault; else
   -- of the whole.
   abbrev pub faults : List ResolveFault
   faults = first_faults (map own_faults (numbered text) ++ map link_faults (numbered text) ++ whole_faults ∷ [])

@@ -30,7 +30,7 @@ base_of value =
     (if says value (codes "8" ∷ codes "octal" ∷ codes "oct" ∷ codes "o" ∷ []) || is_count 8 value then Some Octal else
     (if says value (codes "2" ∷ codes "binary" ∷ codes "b" ∷ []) || is_count 2 value then Some Binary else None)))
 
--- what stands behind a beginning
+-- what is after a beginning
 abbrev pub behind : Word → Word → Option Word
 behind [] text = Some text
 behind (b ∷ bs) [] = None

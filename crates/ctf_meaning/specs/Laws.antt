@@ -18,20 +18,20 @@ use Rattle.ctf_meaning.specs.Denotes.{Denotes, Faulty}
 abbrev pub OneClass : Type 0
 OneClass = (tree : Tree) (s t : TraceClass) → Denotes tree s → Denotes tree t → s ≡ t
 
--- A text denotes no trace class where a fault of it is told.
+-- A text denotes no trace class where it has a fault that may be reported.
 abbrev pub NeverBoth : Type 0
 NeverBoth = (tree : Tree) (t : TraceClass) (fault : ResolveFault) → Denotes tree t → Faulty tree fault → ⊥
 
--- A text denotes a trace class, or a fault of it is told.
+-- A text denotes a trace class, or has a fault that may be reported.
 abbrev pub ClassOrFault : Type 0
 ClassOrFault = (tree : Tree) → ((t : TraceClass) × Denotes tree t) ⊎ ((fault : ResolveFault) × Faulty tree fault)
 
--- A fault that is told is one of a rule: want of memory is none.
+-- A fault that may be reported is one of a rule: `NoMemory` is none.
 abbrev pub FaultsAreNamed : Type 0
 FaultsAreNamed = (tree : Tree) → Faulty tree NoMemory → ⊥
 
--- What stands before a part decides what the part means: each of these is the same by the entries of the parts before it
--- and by all entries of the text. What a name means where the part stands:
+-- What is before a part decides what the part means: each of these is the same by the entries of the parts before it
+-- and by all entries of the text. What a name means where the part is:
 abbrev pub NamesReadEarlier : Type 0
 NamesReadEarlier =
     (text : List Declaration) (earlier later : List Located) (p : Located) (name : Name) →
@@ -56,7 +56,7 @@ FaultsReadEarlier =
 abbrev pub HasNoOwnFault : List Declaration → Type 0
 HasNoOwnFault text = flat_map (own_faults text) (numbered text) ≡ []
 
--- Where no own fault stands, each class that is written is known.
+-- Where there is no own fault, each class that is written is known.
 abbrev pub EachHasShape : Type 0
 EachHasShape =
     (text : List Declaration) → HasNoOwnFault text →
@@ -64,7 +64,7 @@ EachHasShape =
     located_from 0 text ≡ earlier ++ p ∷ later → class_of p.1 ≡ Some form →
     (shape : Shape) × (shape_of (entries_in text) p.0 form ≡ Some shape)
 
--- Where no own fault stands, a structure has the members, and a variant the options, that are written in its body.
+-- Where there is no own fault, a structure has the members, and a variant the options, that are written in its body.
 abbrev pub KeepsMembers : Type 0
 KeepsMembers =
     (text : List Declaration) → HasNoOwnFault text →
@@ -72,7 +72,7 @@ KeepsMembers =
     located_from 0 text ≡ earlier ++ p ∷ later → class_of p.1 ≡ Some form →
     map (λ f. f.name) (fields_by (shape_named (entries_in text)) p.0 0 (items_of form)) ≡ flat_map field_names (body_of form)
 
--- Where no own fault stands, no class that is written is deeper than the limit.
+-- Where there is no own fault, no class that is written is deeper than the limit.
 abbrev pub DepthBounded : Type 0
 DepthBounded =
     (text : List Declaration) → HasNoOwnFault text →

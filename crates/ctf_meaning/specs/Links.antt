@@ -1,4 +1,4 @@
--- A class where it stands in a scope: its paths are resolved and its clock is known. (CTF 1.8.3, sections 4, 7.3.2 and 8.)
+-- A class at its place in a scope: its paths are resolved and its clock is known. (CTF 1.8.3, sections 4, 7.3.2 and 8.)
 use Rattle.std.specs.Prelude.{Bool, false, ◌&&◌, ◌==◌, if◌then◌else◌, List, [], ◌∷◌, ◌++◌, Option, Some, None, unwrap_or, option_map, option_and_then, is_some, is_none, flat_map, filter_map}
 use Rattle.std.specs.Option.{option_map_or}
 use Rattle.ctf_bits.specs.declared.number.Order.{Order}
@@ -22,12 +22,12 @@ use Rattle.ctf_meaning.specs.Shapes.{Shape, Field, Members, integer, float, stri
 use Rattle.ctf_meaning.specs.Paths.{Spot, at_member, below, member_named, length_at, tag_at}
 use Rattle.ctf_meaning.specs.Clocks.{clock_named, moved_clock}
 
--- A class that stands somewhere, with its spot.
+-- A class, with the spot where it is.
 abbrev pub Standing : Type 0
 Standing = Spot × Shape
 
 abbrev mutual
-  -- A class and all in it, where they stand.
+  -- A class and all in it, at their places.
   pub standing : Spot → Shape → List Standing
   standing spot (struct align members) = (spot, struct align members) ∷ standing_members spot [] members
   standing spot (variant tag options) = (spot, variant tag options) ∷ standing_options (below spot) options
@@ -35,7 +35,7 @@ abbrev mutual
   standing spot (sequence path element) = (spot, sequence path element) ∷ standing (below spot) element
   standing spot shape = (spot, shape) ∷ []
 
-  -- the members of a structure behind some earlier ones
+  -- the members of a structure after some earlier ones
   pub standing_members : Spot → List Field → Members → List Standing
   standing_members spot earlier no_member = []
   standing_members spot earlier (member word shape more) =
@@ -66,7 +66,7 @@ mapping_faults clocks (spot, shape) =
 abbrev pub link_faults_at : List Clock → Spot → Shape → List ResolveFault
 link_faults_at clocks spot shape = flat_map (λ p. path_faults p ++ mapping_faults clocks p) (standing spot shape)
 
--- The clocks that a class at a spot moves, those of each integer in it: an enumeration's container moves none.
+-- The clocks that a class at a spot sets, those of each integer in it: an enumeration's container sets none.
 abbrev pub moved_by : List Clock → Standing → Option Clock
 moved_by clocks (spot, integer i) = moved_clock clocks spot i
 moved_by clocks _ = None
@@ -125,7 +125,7 @@ module _ (order : Order) (clocks : List Clock) where
       Some (class_by (sequence path element) (array_kind (lengths.Field route) element c))
     class_at spot float = None
 
-    -- the members of a structure behind some earlier ones
+    -- the members of a structure after some earlier ones
     pub members_at : Spot → List Field → Members → Option (List Member)
     members_at spot earlier no_member = Some []
     members_at spot earlier (member word shape more) = do

@@ -18,7 +18,7 @@ pub record Entry : Type 0 where
 abbrev pub same_place : Place → Place → Bool
 same_place = pointwise nat_eq
 
--- The first entry of the name that an earlier part of the block declares: a name is seen behind its declaration alone.
+-- The first entry of the name that an earlier part of the block declares: a name is seen after its declaration alone.
 -- (Of two, which is R2, the first counts: own.)
 abbrev pub earlier_entry : List Entry → Place → ℕ → Name → Option Entry
 earlier_entry entries block number name =
@@ -48,7 +48,7 @@ entries_of earlier (number ∷ block, part) =
       shape = option_map (arrays g.lengths) (option_and_then (shape_of earlier (number ∷ block)) (class_of part));
     }) (given_of part)
 
--- The entries of some parts behind earlier ones. The parts stand in the order in which they end, so that each entry is
+-- The entries of some parts after earlier ones. The parts are in the order in which they end, so that each entry is
 -- made from those before it.
 abbrev pub entries_behind : List Entry → List Located → List Entry
 entries_behind earlier [] = earlier

@@ -1,4 +1,4 @@
--- What is wrong with a part of the text by itself and by what stands before it.
+-- What is wrong with a part of the text by itself and by what is before it.
 -- (CTF 1.8.3, sections 4 and 7.3; which rule is which fault is own.)
 use Rattle.std.specs.Prelude.{ℕ, nat_lt, Bool, false, not, ◌||◌, List, [], ◌∷◌, ◌++◌, map, Option, Some, None, is_none, is_some, flat_map, option_and_then}
 use Rattle.std.specs.List.{list_any}
@@ -77,7 +77,7 @@ module _ (entries : List Entry) where
       unknown_faults at form ++ member_faults form ++ attribute_faults form ++ no_integer_faults at form ++ label_faults form ++ align_faults form
 
   -- A class deeper than 64, with the arrays of each name that it is given: R9. A member's own arrays lie in the compound
-  -- around it, which is deeper and stands in the same declaration.
+  -- around it, which is deeper and is in the same declaration.
   abbrev pub is_deep : Shape → List Length → Bool
   is_deep shape lengths = nat_lt most_deep (depth_of (arrays lengths shape))
 

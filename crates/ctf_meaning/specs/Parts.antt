@@ -37,7 +37,7 @@ pub record Given : Type 0 where
 abbrev plainly : Name → Given
 plainly name = record { name = name; lengths = [] }
 
--- A compound with a name and a body declares its name in the scope in which it stands.
+-- A compound with a name and a body declares its name in the scope in which it is.
 abbrev pub own_name : Form → List Given
 own_name (Struct (Some word) is align) = plainly (name.Struct word) ∷ []
 own_name (Variant (Some word) tag is) = plainly (name.Variant word) ∷ []
@@ -61,7 +61,7 @@ given_of (of_block (Classed words form)) = own_name form
 given_of (of_block (Declared item)) = given_in item
 given_of (of_body item) = given_in item
 
--- the settings that stand in a part, outside of its own parts, those with no meaning among them
+-- the settings that are in a part, outside of its own parts, those with no meaning among them
 abbrev settings_in_container : Option Container → List Setting
 settings_in_container (Some (container.Integer settings)) = settings
 settings_in_container _ = []
@@ -78,7 +78,7 @@ settings_in (of_text (Table kind settings)) = settings
 settings_in (of_block (Assigned setting)) = setting ∷ []
 settings_in part = option_map_or settings_in_form (class_of part) []
 
--- A part with its place. The parts of a text are listed in the order of their ends: what is in a part stands before it.
+-- A part with its place. The parts of a text are listed in the order of their ends: what is in a part is before it.
 abbrev pub Located : Type 0
 Located = Place × Part
 

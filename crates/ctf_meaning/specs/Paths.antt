@@ -34,13 +34,13 @@ words_of EventContext = codes "event" ∷ codes "context" ∷ []
 words_of EventFields = codes "event" ∷ codes "fields" ∷ []
 
 -- A structure in which a path may begin: its scope; its name from that scope down, where structures alone lead to it; and
--- those of its members that stand before the path.
+-- those of its members that are before the path.
 pub record Frame : Type 0 where
   pub scope : Scope
   pub name : Option Words
   pub fields : List Field
 
--- Where a class stands: in which scope; in which structures, inner to outer; behind which scopes, the nearest first; as
+-- Where a class is: in which scope; in which structures, inner to outer; after which scopes, the nearest first; as
 -- the member of which name; whether as a member of the scope's own structure; and its name from the scope down, where
 -- structures alone lead to it.
 pub record Spot : Type 0 where
@@ -99,18 +99,18 @@ field_at fields (word ∷ next ∷ words) = do
 abbrev pub route_from : Origin → Found → Route × Shape
 route_from origin found = (record { origin = origin; steps = found.0 }, found.1)
 
--- the words behind a beginning
+-- the words after a beginning
 abbrev pub behind_words : Words → Words → Option Words
 behind_words [] words = Some words
 behind_words (a ∷ more) [] = None
 behind_words (a ∷ more) (b ∷ words) = if same_word a b then behind_words more words else None
 
--- the scope whose name a path begins with, and the words behind it
+-- the scope whose name a path begins with, and the words after it
 abbrev pub scope_named : Words → Option (Scope × Words)
 scope_named path = first (filter_map (λ scope. option_map (λ words. (scope, words)) (behind_words (words_of scope) path)) scopes)
 
 -- A path that begins with a scope's name names a field of an earlier scope, or an earlier one of its own. It may lead into
--- a structure in which it stands itself, to a member before it.
+-- a structure in which it is itself, to a member before it.
 abbrev pub found_below : Scope → Words → Origin × Frame → Option (Route × Shape)
 found_below scope words (origin, frame) = if nat_eq (rank frame.scope) (rank scope)
     then (do
@@ -132,7 +132,7 @@ found_near spot path = do
   found ← field_at p.1.fields path
   Some (route_from p.0 found)
 
--- what a path finds from where it stands
+-- what a path finds from where it is
 abbrev pub found_at : Spot → Words → Option (Route × Shape)
 found_at spot path = option_map_or (λ p. first (filter_map (found_below p.0 p.1) (frames spot))) (scope_named path) (found_near spot path)
 

@@ -16,7 +16,7 @@ use Rattle.ctf_meaning.specs.Name.{Word}
 use Rattle.ctf_meaning.specs.Name as name
 use Rattle.ctf_meaning.specs.Written.{Form, Item, BlockEntry, Declaration, Integer, Float, String, Struct, Variant, Enum, Named, Fields, Alias, Definition, Compound, Assigned, Classed, Declared, Block, Table, Names, items_from}
 
--- a compound, given the name that stands beside its body
+-- a compound, given the name that is beside its body
 abbrev pub Body : Type 0
 Body = Option Word → Form
 

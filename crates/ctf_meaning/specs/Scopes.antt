@@ -68,7 +68,7 @@ module _ (text : List Declaration) where
   abbrev pub node_faults : ℕ → ℕ → List ResolveFault
   node_faults limit k = when (not (nat_lt limit (nodes_before k)) && nat_lt limit (nodes_before (suc k))) TooDeep
 
-  -- The class of a scope, by the blocks that declare it. Blocks stand in any order.
+  -- The class of a scope, by the blocks that declare it. Blocks are in any order.
   abbrev pub scope_of : Home → Scope → Option Shape
   scope_of home scope = option_and_then (λ k. scope_at k scope) (in_home home (block_of scope))
 
@@ -76,6 +76,6 @@ module _ (text : List Declaration) where
   abbrev pub frames_before : Home → Scope → List Frame
   frames_before home scope = filter_map (λ s. option_and_then (frame_by s) (scope_of home s)) (reverse (take (rank scope) scopes))
 
-  -- the spot of a scope's class, behind the scopes before it
+  -- the spot of a scope's class, after the scopes before it
   abbrev pub spot_of : Home → Scope → Spot
   spot_of home scope = record { scope = scope; around = []; before = frames_before home scope; member = None; is_top = false; name = Some [] }

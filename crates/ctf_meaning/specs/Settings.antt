@@ -12,7 +12,7 @@ use Rattle.ctf_meaning.specs.declared.fault.ResolveFault.{ResolveFault}
 use Rattle.ctf_meaning.specs.declared.fault.ResolveFault.TheVariants.{Attribute}
 use Rattle.ctf_meaning.specs.Name.{Word, Words, same_word, same_words}
 
--- Faults are a list, since a declaration can have several, of which any one is told (own).
+-- Faults are a list, since a declaration can have several, of which any one is reported (own).
 abbrev pub when : Bool → ResolveFault → List ResolveFault
 when true fault = fault ∷ []
 when false fault = []

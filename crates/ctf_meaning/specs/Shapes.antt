@@ -94,7 +94,7 @@ abbrev mutual
   nodes_of_members (member word shape more) = nodes_of shape + nodes_of_members more
 
 abbrev mutual
-  -- a floating-point class stands somewhere in it
+  -- a floating-point class is somewhere in it
   pub has_float : Shape → Bool
   has_float float = true
   has_float (struct align members) = has_float_member members

@@ -1,7 +1,7 @@
 -- Values that may be missing.
 use Rattle.std.specs.Prelude.{List, [], ◌∷◌, Option, Some, None, option_map, option_and_then}
 
--- the one behind the other, where both are there: `do` is written with it
+-- the one after the other, where both are there: `do` is written with it
 infixl 10 ◌>>=◌
 abbrev pub ◌>>=◌ : {A B : Type 0} → Option A → (A → Option B) → Option B
 a >>= f = option_and_then f a

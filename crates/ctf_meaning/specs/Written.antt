@@ -21,10 +21,10 @@ mutual
     Variant : Option Word → Option Words → Items → Form
     -- its name, its container, and its labels
     Enum : Option Word → Option Container → List Label → Form
-    -- a name, and the tag that is written behind a variant's
+    -- a name, and the tag that is written after a variant's
     Named : Name → Option Words → Form
 
-  -- What stands in the body of a structure or a variant: members or options of a class, or a declaration of names.
+  -- What is in the body of a structure or a variant: members or options of a class, or a declaration of names.
   pub data Item : Type 0 where
     Fields : Form → List Declarator → Item
     -- `typealias class := words;`
@@ -38,7 +38,7 @@ mutual
     no_item : Items
     some_items : Item → Items → Items
 
--- what stands in the braces of a trace, a stream or an event
+-- what is in the braces of a trace, a stream or an event
 pub data BlockEntry : Type 0 where
   -- `name = value;`
   Assigned : Setting → BlockEntry

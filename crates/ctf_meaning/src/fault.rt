@@ -13,10 +13,10 @@ pub enum ResolveFault {
     /// R2: a name is declared twice in one scope, or two members or options have one name.
     #[error("name declared twice")]
     DeclaredTwice,
-    /// R3: an attribute is missing, stands twice, or is none of its values.
+    /// R3: an attribute is missing, is there twice, or is none of its values.
     #[error("attribute missing or impossible")]
     Attribute,
-    /// R4: a floating-point class stands in a scope.
+    /// R4: a floating-point class is in a scope.
     #[error("floating-point class")]
     FloatingPoint,
     /// R5: a size or an alignment is out of its range.
@@ -25,16 +25,16 @@ pub enum ResolveFault {
     /// R6: the field of a length or a tag is not found, or is of another class.
     #[error("length or tag not found or not fitting")]
     LengthOrTag,
-    /// R7: a clock is not declared, or the integers of a stream class move several.
+    /// R7: a clock is not declared, or the integers of a stream class set several.
     #[error("clock unknown or several clocks")]
     Clock,
-    /// R8: a trace block, an id or the name of a clock stands twice.
+    /// R8: a trace block, an id or the name of a clock is there twice.
     #[error("id or block twice")]
     Twice,
     /// R9: a class is deeper than 64, or the scopes have more than 1,048,576 classes.
     #[error("nested too deep or too many classes")]
     TooDeep,
-    /// A growth was refused.
+    /// An allocation failed.
     #[error("no memory")]
     NoMemory,
 }

@@ -7,22 +7,22 @@ pub fn one_class()
     ensures { OneClass }
 {}
 
-/// A text denotes no trace class where a fault of it is told.
+/// A text denotes no trace class where it has a fault that may be reported.
 pub fn never_both()
     ensures { NeverBoth }
 {}
 
-/// A text denotes a trace class, or a fault of it is told.
+/// A text denotes a trace class, or has a fault that may be reported.
 pub fn class_or_fault()
     ensures { ClassOrFault }
 {}
 
-/// A fault that is told is one of a rule: want of memory is none.
+/// A fault that may be reported is one of a rule: `NoMemory` is none.
 pub fn faults_are_named()
     ensures { FaultsAreNamed }
 {}
 
-/// What a name means at a part depends on what stands before the part alone.
+/// What a name means at a part depends on what is before the part alone.
 pub fn names_read_earlier()
     ensures { NamesReadEarlier }
 {}
@@ -37,17 +37,17 @@ pub fn faults_read_earlier()
     ensures { FaultsReadEarlier }
 {}
 
-/// Where no own fault stands, each class that is written is known.
+/// Where there is no own fault, each class that is written is known.
 pub fn each_has_shape()
     ensures { EachHasShape }
 {}
 
-/// Where no own fault stands, structures and variants have the members and options that are written.
+/// Where there is no own fault, structures and variants have the members and options that are written.
 pub fn keeps_members()
     ensures { KeepsMembers }
 {}
 
-/// Where no own fault stands, no class is deeper than 64.
+/// Where there is no own fault, no class is deeper than 64.
 pub fn depth_bounded()
     ensures { DepthBounded }
 {}

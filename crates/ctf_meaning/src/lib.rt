@@ -1,5 +1,5 @@
 //! What the syntax tree of a metadata text means: the classes of its trace, or the faults by which it has
-//! none (CTF 1.8.3, sections 4 to 8). Nothing here resolves a tree: the definition stands in `specs/`, and
+//! none (CTF 1.8.3, sections 4 to 8). Nothing here resolves a tree: the definition is in `specs/`, and
 //! the functions state its laws.
 #![tactic(auto)]
 

@@ -1,4 +1,4 @@
--- The declarations of a text from its beginning on: the names and the scopes' classes that stand, until a fault is told.
+-- The declarations of a text from its beginning on: the names and the scopes' classes known so far, until a fault is reported.
 use Rattle.std.specs.Prelude.{ℕ, ◌+◌, nat_lt, List, [], ◌∷◌, ◌++◌, map, sum, flat_map, filter_map, find, Option, Ok, option_map}
 use Rattle.std.specs.Option.{option_or}
 use Rattle.tsdl_tree.specs.declared.tree.BlockKind.{BlockKind}
@@ -53,7 +53,7 @@ placed_in classes scope = option_map (λ shape. (scope, shape)) (option_or (clas
 abbrev pub placed : BlockKind → List NamedClass → List Placed
 placed which classes = filter_map (placed_in classes) (own_scopes which)
 
--- What stands behind some declarations: the names of the text, how many classes the scopes have, and the scopes of each
+-- What is known after some declarations: the names of the text, how many classes the scopes have, and the scopes of each
 -- declaration.
 pub record Walked : Type 0 where
   pub own : Seen
@@ -74,7 +74,7 @@ scopes_told walked scopes =
     (unless (when (nat_lt most_nodes (walked.nodes + sum (map (λ p. nodes_of p.1) scopes))) TooDeep)
     (Ok (record { own = walked.own; nodes = walked.nodes + sum (map (λ p. nodes_of p.1) scopes); rows = walked.rows ++ scopes ∷ [] })))
 
--- a declaration behind others
+-- a declaration after others
 abbrev pub declaration_told : List Declaration → Walked → Declaration → Told Walked
 declaration_told before walked (Block which entries) =
     unless (block_faults (Block which entries))

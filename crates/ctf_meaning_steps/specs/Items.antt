@@ -10,7 +10,7 @@ use Rattle.ctf_meaning_steps.specs.Told.{Told, ◌>>=◌, unless}
 use Rattle.ctf_meaning_steps.specs.Seen.{Seen, nothing_seen, within, declare}
 use Rattle.ctf_meaning_steps.specs.Classes.{integer_told, string_told, enum_told, named_told, compound_told, fields_told, field_faults}
 
--- the names of a block behind an item, and the class that is written in the item
+-- the names of a block after an item, and the class that is written in the item
 pub record Made : Type 0 where
   pub shape : Shape
   pub own : Seen
@@ -38,7 +38,7 @@ abbrev mutual
   item_told outer own (Definition form declarators) = shape_told (within own outer) form >>= made_by own (Definition form declarators)
   item_told outer own (Compound form) = shape_told (within own outer) form >>= made_by own (Compound form)
 
-  -- The members of a body, behind some that stand before. None is deeper than classes may be: the compound around it is
+  -- The members of a body, after some earlier ones. None is deeper than classes may be: the compound around it is
   -- deeper still.
   pub body_told : Seen → Seen → List Field → Items → Told (List Field)
   body_told outer own fields no_item = Ok fields

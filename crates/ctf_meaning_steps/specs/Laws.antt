@@ -1,4 +1,4 @@
--- Going through a text from its beginning tells what the text means.
+-- Going through a text from its beginning gives what the text means.
 use Rattle.std.specs.Prelude.{◌≡◌, ℕ, false, List, [], map, flat_map, find, nat_eq, slice_get, Option, Some, option_map, option_and_then, Ok, Err, Contains}
 use Rattle.ctf_bits.specs.declared.number.Order.{Order}
 use Rattle.ctf_class.specs.declared.class.Class.{Class}
@@ -28,7 +28,7 @@ WalkFindsScopes =
     (text : List Declaration) (walked : Walked) → text_told text ≡ Ok walked →
     (flat_map (own_faults text) (numbered text) ≡ []) × ((k : ℕ) (scope : Scope) → scope_at text k scope ≡ class_in_row walked.rows k scope)
 
--- A fault that is told on the way is an own fault of the first declaration that has one.
+-- A fault that is reported on the way is an own fault of the first declaration that has one.
 abbrev pub WalkTellsOwn : Type 0
 WalkTellsOwn =
     (text : List Declaration) (fault : ResolveFault) → text_told text ≡ Err fault →
@@ -40,7 +40,7 @@ LinkingGivesClass =
     (order : Order) (clocks : List Clock) (spot : Spot) (shape : Shape) (c : Class) → class_told order clocks spot shape ≡ Ok c →
     (link_faults_at clocks spot shape ≡ []) × (class_at order clocks spot shape ≡ Some c)
 
--- A fault that it tells is one of them, where no float stands in the shape.
+-- A fault that it reports is one of them, where no float is in the shape.
 abbrev pub LinkingTellsFault : Type 0
 LinkingTellsFault =
     (order : Order) (clocks : List Clock) (spot : Spot) (shape : Shape) (fault : ResolveFault) →

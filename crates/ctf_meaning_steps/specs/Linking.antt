@@ -1,4 +1,4 @@
--- The class that a shape is where it stands, or the first of its lengths, tags and mappings that fails.
+-- The class that a shape is at its place, or the first of its lengths, tags and mappings that fails.
 -- (CTF 1.8.3, sections 4, 7.3.2 and 8.)
 use Rattle.std.specs.Prelude.{false, List, [], ◌∷◌, ◌++◌, is_some, Ok, Err}
 use Rattle.ctf_bits.specs.declared.number.Order.{Order}
@@ -37,7 +37,7 @@ module _ (order : Order) (clocks : List Clock) where
         Ok (class_by (sequence path element) (array_kind (lengths.Field route) element c))
     class_told spot float = Err FloatingPoint
 
-    -- the members of a structure behind some earlier ones
+    -- the members of a structure after some earlier ones
     pub members_told : Spot → List Field → Members → Told (List Member)
     members_told spot earlier no_member = Ok []
     members_told spot earlier (member word shape more) =

@@ -17,7 +17,7 @@ Seen = Name → Option Shape
 abbrev pub nothing_seen : Seen
 nothing_seen name = None
 
--- the names of a block, and behind them those around it
+-- the names of a block, and after them those around it
 abbrev pub within : Seen → Seen → Seen
 within own outer name = option_or (own name) (outer name)
 

@@ -1,4 +1,4 @@
--- A value, or the fault of which one is told.
+-- A value, or the fault that is reported.
 use Rattle.std.specs.Prelude.{◌≡◌, ◌⊎◌, List, [], ◌∷◌, Option, Some, None, Result, Ok, Err}
 use Rattle.ctf_meaning.specs.declared.fault.ResolveFault.{ResolveFault}
 use Rattle.ctf_meaning.specs.declared.fault.ResolveFault.TheVariants.{NoMemory}
@@ -22,7 +22,7 @@ abbrev pub there_or : {A : Type 0} → ResolveFault → Option A → Told A
 there_or fault None = Err fault
 there_or fault (Some a) = Ok a
 
--- what code answers that goes so far: the value, or the fault that is told, unless memory was refused
+-- what code answers that goes so far: the value, or the fault that is reported, unless an allocation failed
 abbrev pub Follows : {A V : Type 0} → Told A → (V → A) → Result V ResolveFault → Type 0
 Follows told view (Ok v) = told ≡ Ok (view v)
 Follows told view (Err fault) = (fault ≡ NoMemory) ⊎ (told ≡ Err fault)

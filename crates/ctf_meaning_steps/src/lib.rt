@@ -1,5 +1,5 @@
-//! How the syntax tree of a metadata text is gone through from its beginning, with the names that stand
-//! before each place, and that this tells what the text means. The way stands in `specs/`; the functions
+//! How the syntax tree of a metadata text is gone through from its beginning, with the names that are
+//! before each place, and that this gives what the text means. The way is in `specs/`; the functions
 //! state its laws.
 #![tactic(auto)]
 

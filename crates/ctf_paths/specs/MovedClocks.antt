@@ -1,4 +1,4 @@
--- Which clocks integers move, as far as it matters.
+-- Which clocks integers set, as far as it matters.
 use Rattle.std.specs.Prelude.{◌≡◌, List, [], ◌∷◌, ◌++◌, option_copied}
 use Rattle.ctf_class.specs.declared.trace.Clock.{Clock}
 use Rattle.ctf_meaning.specs.There.{first}
@@ -8,12 +8,12 @@ use Rattle.ctf_meaning.specs.Links.{moved_clocks}
 use Rattle.ctf_meaning.specs.Faults.{has_other}
 use Rattle.ctf_paths.specs.declared.moved.Moved.{Moved}
 
--- what is kept of some moved clocks: the first, and whether another has another name
+-- what is kept of some clocks that are set: the first, and whether another has another name
 pub record Tells (moved : Moved) (clocks : List Clock) : Type 0 where
   pub first : first clocks ≡ option_copied moved.first
   pub other : has_other clocks ≡ moved.has_other
 
--- those of members or options, each behind the earlier ones
+-- those of members or options, each after the earlier ones
 abbrev pub each_moved : (List Field → Field → List Clock) → List Field → List Field → List Clock
 each_moved at earlier [] = []
 each_moved at earlier (f ∷ fs) = at earlier f ++ each_moved at (earlier ++ f ∷ []) fs

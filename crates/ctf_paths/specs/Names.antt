@@ -6,7 +6,7 @@ use Rattle.ctf_paths.specs.declared.name.Absolute.{Absolute}
 use Rattle.ctf_paths.specs.declared.trail.Trail.{Trail, fold-Trail}
 use Rattle.ctf_paths.specs.declared.trail.Trail.TheOpen.{Trail-F}
 
--- a scope, and the words behind its name
+-- a scope, and the words after its name
 abbrev pub absolute : Absolute → Scope × Words
 absolute a = (a.scope, a.words.now)
 

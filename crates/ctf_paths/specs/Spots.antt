@@ -1,4 +1,4 @@
--- Where a class stands, as the code keeps it.
+-- Where a class is, as the code keeps it.
 use Rattle.std.specs.Prelude.{List, [], ◌∷◌, map, take, Some, None, option_copied, false}
 use Rattle.ctf_class.specs.declared.route.Scope.{Scope}
 use Rattle.ctf_meaning.specs.Shapes.{Field, fields_in}
@@ -15,7 +15,7 @@ use Rattle.ctf_paths.specs.declared.spot.Spot.{Spot}
 abbrev pub earlier_by : Earlier → paths.Frame
 earlier_by e = record { scope = e.scope; name = Some []; fields = fields_in (members e.members.now) }
 
--- a structure with those of its members that stand before a path
+-- a structure with those of its members that are before a path
 abbrev pub frame_by : Frame → paths.Frame
 frame_by f = record { scope = f.scope; name = name_of f.name; fields = take f.count (fields_in (members f.members.now)) }
 
@@ -41,6 +41,6 @@ spot_by s = record {
 abbrev pub frame_in : paths.Spot → List Field → paths.Frame
 frame_in spot earlier = record { scope = spot.scope; name = spot.name; fields = earlier }
 
--- the spot of a scope's own class, behind the structures of the scopes before
+-- the spot of a scope's own class, after the structures of the scopes before
 abbrev pub scope_spot : Scope → List paths.Frame → paths.Spot
 scope_spot scope before = record { scope = scope; around = []; before = before; member = None; is_top = false; name = Some [] }

@@ -11,7 +11,7 @@ use Rattle.ctf_meaning.specs.Links.{named_by}
 use Rattle.ctf_meaning_steps.specs.Told.{Told, ◌>>=◌}
 use Rattle.ctf_meaning_steps.specs.Linking.{class_told}
 
--- each behind the earlier ones
+-- each after the earlier ones
 abbrev pub each_told : (List Field → Field → Told Member) → List Field → List Field → Told (List Member)
 each_told at earlier [] = Ok []
 each_told at earlier (f ∷ fs) = at earlier f >>= λ m. each_told at (earlier ++ f ∷ []) fs >>= λ ms. Ok (m ∷ ms)

@@ -1,4 +1,4 @@
-//! The clocks of a trace, and which of them an integer moves.
+//! The clocks of a trace, and which of them an integer sets.
 
 ghost use Rattle.std.specs.Prelude.{◌≡◌, map, slice_get, IfOk, option_copied};
 ghost use Rattle.ctf_paths.specs.Spots.{spot_by};
@@ -65,7 +65,7 @@ impl<'a> Clocks<'a> {
         }
     }
 
-    /// The clock to which an integer is mapped where it stands.
+    /// The clock to which an integer is mapped at its place.
     fn clock_at(&self, spot: &Spot<'_>, integer: &DeclaredInteger) -> Option<&Clock>
         ensures { option_copied result ≡
             meaning.clock_at self.now.clocks.now (spot_by spot.now) integer.now }
@@ -82,7 +82,7 @@ impl<'a> Clocks<'a> {
         }
     }
 
-    /// The clock that an integer moves where it stands.
+    /// The clock that an integer sets at its place.
     pub fn moved_clock(&self, spot: &Spot<'_>, integer: &DeclaredInteger) -> Option<&Clock>
         ensures { option_copied result ≡
             meaning.moved_clock self.now.clocks.now (spot_by spot.now) integer.now }
@@ -149,7 +149,7 @@ fn is_stamp_in(spot: &Spot<'_>) -> bool
     }
 }
 
-/// Whether mapped integers move here.
+/// Whether mapped integers set their clock here.
 fn moves_in(spot: &Spot<'_>) -> bool
     ensures { let s = spot_by spot.now in result ≡ meaning.moves_in s.scope s }
 {

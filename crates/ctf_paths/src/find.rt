@@ -82,7 +82,7 @@ fn member_of<'a>(shape: &'a Shape, word: &[u8]) -> Option<(usize, &'a Shape)>
 }
 
 /// The class to which words lead from one, down through structures only. The places on the way are
-/// put behind the steps.
+/// put after the steps.
 fn down<'a>(
     steps: &mut List<u32>,
     shape: &'a Shape,
@@ -169,7 +169,7 @@ fn rank(scope: Scope) -> u32
     }
 }
 
-/// The field that words behind the name of a scope name, where they lead into this structure.
+/// The field that words after the name of a scope name, where they lead into this structure.
 fn found_below<'a>(
     alloc: Global,
     scope: Scope,
@@ -310,7 +310,7 @@ fn found_near<'a>(
     }
 }
 
-/// What the words behind the name of a scope find.
+/// What the words after the name of a scope find.
 fn found_from_scope<'a>(
     alloc: Global,
     spot: &Spot<'a>,
@@ -326,7 +326,7 @@ fn found_from_scope<'a>(
     }
 }
 
-/// What a path finds from where it stands (CTF 1.8.3, section 7.3.2).
+/// What a path finds from where it is (CTF 1.8.3, section 7.3.2).
 pub fn found_at<'a>(
     alloc: Global,
     spot: &Spot<'a>,

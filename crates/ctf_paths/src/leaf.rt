@@ -15,7 +15,7 @@ use ctf_class::{Align, Class, Integer, Kind, Labels};
 use ctf_list::Shared;
 use ctf_meaning::{DeclaredInteger, ResolveFault};
 
-/// An integer where it stands, in the byte order of the trace where none is written.
+/// An integer at its place, in the byte order of the trace where none is written.
 fn integer_at_place(order: Order, is_moving: bool, integer: &DeclaredInteger) -> Integer
     ensures { result ≡ links.placed order is_moving integer.now }
 {

@@ -1,7 +1,7 @@
-//! Classes where they stand in a scope: the paths of their lengths and tags lead to fields, their clocks are
+//! Classes at their places in a scope: the paths of their lengths and tags lead to fields, their clocks are
 //! known, and the byte order is the trace's where none is written (CTF 1.8.3, sections 4, 7.3.2 and 8).
 //!
-//! What a class is where it stands is defined in `ctf_meaning`, and step by step in `ctf_meaning_steps`.
+//! What a class is at its place is defined in `ctf_meaning`, and step by step in `ctf_meaning_steps`.
 #![tactic(auto)]
 
 mod clocks;

@@ -1,4 +1,4 @@
-//! Classes where they stand.
+//! Classes at their places.
 
 ghost use Rattle.std.specs.Prelude.{◌≡◌, ◌<◌, [], Some, length, take, slice_get};
 ghost use Rattle.ctf_meaning.specs.Shapes.{Field, struct, variant, array, sequence, fields_in};
@@ -31,7 +31,7 @@ pub struct Linker<'a> {
     pub clocks: &'a Clocks<'a>,
 }
 
-/// The class that a shape is where it stands.
+/// The class that a shape is at its place.
 #[cycle(link)]
 pub fn class_of(linker: &Linker<'_>, spot: &Spot<'_>, shape: &Shape) -> Result<Class, ResolveFault>
     ensures { Follows (class_told linker.now.order linker.now.clocks.now.clocks.now

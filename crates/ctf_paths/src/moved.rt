@@ -1,4 +1,4 @@
-//! Which clocks the integers of a stream's classes move.
+//! Which clocks the integers of a stream's classes set.
 
 ghost use Rattle.std.specs.Prelude.{◌≡◌, ◌<◌, ◌∷◌, ◌++◌, List, [], Some, length, take, slice_get, option_copied};
 ghost use Rattle.std.specs.List.{cons_option};
@@ -14,7 +14,7 @@ use crate::spot::Spot;
 use ctf_class::Clock;
 use ctf_declared_class::{Members, Shape};
 
-/// What is kept of the clocks that integers move (CTF 1.8.3, section 8).
+/// What is kept of the clocks that integers set (CTF 1.8.3, section 8).
 #[derive(Clone, Copy)]
 pub struct Moved<'a> {
     /// The first of them.
@@ -24,7 +24,7 @@ pub struct Moved<'a> {
 }
 
 impl<'a> Moved<'a> {
-    /// No clock is moved.
+    /// No clock is set.
     pub fn none() -> Moved<'a>
         ensures { Tells result [] }
     {
@@ -63,7 +63,7 @@ impl<'a> Moved<'a> {
     }
 }
 
-/// The clocks that the integers of a shape move where it stands, behind those moved so far.
+/// The clocks that the integers of a shape set at its place, after those set so far.
 #[cycle(moved)]
 pub fn moved_in<'a>(
     clocks: &'a Clocks<'_>,

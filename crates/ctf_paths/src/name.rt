@@ -22,11 +22,11 @@ const SCOPES: [Scope; 6] = [
 #[derive(Drop)]
 pub struct Absolute<'a> {
     pub scope: Scope,
-    /// What stands behind that name.
+    /// What is after that name.
     pub words: &'a [Word],
 }
 
-/// The words behind a first one.
+/// The words after a first one.
 pub fn behind_word<'a>(word: &[u8], path: &'a [Word]) -> Option<&'a [Word]>
     ensures { option_copied result ≡ behind_words (word.now ∷ []) path.now }
 {
@@ -36,14 +36,14 @@ pub fn behind_word<'a>(word: &[u8], path: &'a [Word]) -> Option<&'a [Word]>
     }
 }
 
-/// The words behind two.
+/// The words after two.
 fn behind_two<'a>(first: &[u8], second: &[u8], path: &'a [Word]) -> Option<&'a [Word]>
     ensures { option_copied result ≡ behind_words (first.now ∷ second.now ∷ []) path.now }
 {
     behind_word(second, behind_word(first, path)?)
 }
 
-/// The words behind three.
+/// The words after three.
 fn behind_three<'a>(
     first: &[u8],
     second: &[u8],
@@ -56,7 +56,7 @@ fn behind_three<'a>(
     behind_word(third, behind_two(first, second, path)?)
 }
 
-/// The words behind the name of a scope.
+/// The words after the name of a scope.
 fn behind_scope<'a>(scope: Scope, path: &'a [Word]) -> Option<&'a [Word]>
     ensures { option_copied result ≡ behind_words (words_of scope) path.now }
 {
@@ -70,7 +70,7 @@ fn behind_scope<'a>(scope: Scope, path: &'a [Word]) -> Option<&'a [Word]>
     }
 }
 
-/// The scope whose name a path begins with, and the words behind it (CTF 1.8.3, section 7.3.2).
+/// The scope whose name a path begins with, and the words after it (CTF 1.8.3, section 7.3.2).
 pub fn scope_named<'a>(path: &'a [Word]) -> Option<Absolute<'a>>
     ensures { option_map absolute result ≡ paths.scope_named path.now }
 {

@@ -56,7 +56,7 @@ fn labels_in<'a>(shape: &'a Shape) -> Option<&'a Shared<Labels>>
     }
 }
 
-/// Where the field stands that says a sequence's length (CTF 1.8.3, section 4.2.4).
+/// Where the field is that says a sequence's length (CTF 1.8.3, section 4.2.4).
 pub fn length_at(alloc: Global, spot: &Spot<'_>, path: &[Word]) -> Result<Route, ResolveFault>
     ensures { Follows (there_or LengthOrTag (paths.length_at (spot_by spot.now) path.now))
         (λ route. route) result }

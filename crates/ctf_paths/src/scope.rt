@@ -17,7 +17,7 @@ use ctf_class::{Class, Scope};
 use ctf_declared_class::Shape;
 use ctf_meaning::ResolveFault;
 
-/// The class that a shape is as the structure of a scope, behind the structures of the scopes before, the
+/// The class that a shape is as the structure of a scope, after the structures of the scopes before, the
 /// nearest first: its paths lead to fields, and its clocks are known. Else the first of its lengths and
 /// tags that is not found or does not fit, or of its mappings to an unknown clock (CTF 1.8.3, sections 4,
 /// 7.3.2 and 8). A class of more than 2^32 - 1 parts is refused as too large for the memory.
@@ -35,7 +35,7 @@ pub fn scope_class(
     class_of(linker, &spot, shape)
 }
 
-/// The clocks that the integers of a scope's structure move, behind those moved so far (CTF 1.8.3, section
+/// The clocks that the integers of a scope's structure set, after those set so far (CTF 1.8.3, section
 /// 8).
 pub fn scope_moved<'a>(
     clocks: &'a Clocks<'_>,

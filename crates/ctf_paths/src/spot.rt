@@ -1,4 +1,4 @@
-//! Where a class stands.
+//! Where a class is.
 
 ghost use Rattle.std.specs.Prelude.{◌≡◌, List, [], ◌∷◌, map, take};
 ghost use Rattle.ctf_meaning.specs.Shapes.{Field, fields_in};
@@ -24,7 +24,7 @@ pub struct Frame<'a> {
     /// Its name from the scope down.
     pub name: Trail<'a>,
     pub members: &'a Members,
-    /// How many of its members stand before the path.
+    /// How many of its members are before the path.
     pub count: usize,
 }
 
@@ -35,7 +35,7 @@ pub enum Around<'a> {
     Inside(Frame<'a>, &'a Around<'a>),
 }
 
-/// Where a class stands.
+/// Where a class is.
 #[derive(Drop)]
 pub struct Spot<'a> {
     pub scope: Scope,
@@ -106,7 +106,7 @@ impl<'a> Spot<'a> {
         }
     }
 
-    /// What stands around a member of the structure here, behind so many others.
+    /// What is around a member of the structure here, after so many others.
     pub fn around(&self, members: &'a Members, count: usize) -> Around<'a>
         ensures { let s = spot_by self.now in
             frames_around result ≡
@@ -121,7 +121,7 @@ impl<'a> Spot<'a> {
         Around::Inside(frame, self.around)
     }
 
-    /// The spot of a member of the structure here, by what stands around it.
+    /// The spot of a member of the structure here, by what is around it.
     pub fn member<'b>(&'b self, around: &'b Around<'b>, word: &'b [u8]) -> Spot<'b>
         ensures { let s = spot_by self.now in
             (earlier : List Field) → frames_around around.now ≡ frame_in s earlier ∷ s.around →

@@ -18,7 +18,7 @@ pub enum Trail<'a> {
     Member(&'a [u8], &'a Trail<'a>),
 }
 
-/// What stands behind the name of a class.
+/// What is after the name of a class.
 pub fn behind_trail<'a>(trail: &Trail<'_>, path: &'a [Word]) -> Option<&'a [Word]>
     ensures { option_copied result ≡
         option_and_then (λ name. behind_words name path.now) (name_of trail.now) }

@@ -30,7 +30,7 @@ joined_all [] events = []
 joined_all (h ∷ hs) [] = []
 joined_all (h ∷ hs) (es ∷ ess) = joined h es ∷ joined_all hs ess
 
--- what stands in the rows
+-- what is in the rows
 abbrev pub head_in : Linked → Option StreamHead
 head_in (linked.Stream head) = Some head
 head_in _ = None

@@ -29,7 +29,7 @@ module _ (text : List Declaration) (order : Order) where
     pub clean : scope_links text (home_of_stream text (Some k)) StreamKind ≡ []
     pub head : IsHead text order (record { block = Some k; id = id }) h
 
--- the clock that the integers of a stream block move
+-- the clock that the integers of a stream block set
 pub record IsMoved (text : List Declaration) (k : ℕ) (moved : MovedClock) : Type 0 where
   pub clock : moved.clock ≡ first (clocks_moved text (Some k))
   pub several : moved.has_several ≡ has_other (clocks_moved text (Some k))

@@ -29,7 +29,7 @@ pub record IsWalked (text : List Declaration) (rows : List (List Placed)) : Type
   pub told : text_told text ≡ Ok walked
   pub same : rows ≡ walked.rows
 
--- a class only where the text denotes it, a fault only where it is one that is told
+-- a class only where the text denotes it, a fault only where it is one that may be reported
 abbrev pub Resolves : List Declaration → Result TraceClass ResolveFault → Type 0
 Resolves text (Ok t) = (faults text ≡ []) × (class_of_text text ≡ Some t)
 Resolves text (Err fault) = (fault ≡ NoMemory) ⊎ Contains (faults text) fault

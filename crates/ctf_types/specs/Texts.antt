@@ -38,7 +38,7 @@ pub record IsText (text : List Declaration) (known : Text) : Type 0 where
   pub settled : AreSettled text
   pub fields : (k : ℕ) (entries : List BlockEntry) → slice_get text k ≡ Some (Block Event entries) → (shape : Shape) × (scope_at text k EventFields ≡ Some shape)
 
--- the faults of a scope's class where it stands
+-- the faults of a scope's class at its place
 abbrev pub scope_fails : List Declaration → meaning.Home → Scope → List ResolveFault
 scope_fails text home scope = option_map_or (link_faults_at (clocks_of text) (spot_of text home scope)) (scope_of text home scope) []
 
@@ -47,6 +47,6 @@ pub record IsScopeLinked (text : List Declaration) (order : Order) (home : meani
   pub clean : scope_fails text home scope ≡ []
   pub made : scope_class text order home scope ≡ Some c
 
--- the clocks that the integers of a scope's class move
+-- the clocks that the integers of a scope's class set
 abbrev pub scope_moves : List Declaration → meaning.Home → Scope → List Clock
 scope_moves text home scope = option_map_or (moved_clocks (clocks_of text) (spot_of text home scope)) (scope_of text home scope) []

@@ -26,7 +26,7 @@ use tsdl_tree::BlockEntry;
 
 impl<'a> Text<'a> {
     /// What an event block gives. It fails with `Attribute` where its stream is unknown, with `Twice` where
-    /// an event of its id stands before in the stream, and where a length, a tag or a clock of its classes
+    /// an event of its id is before it in the stream, and where a length, a tag or a clock of its classes
     /// is not found.
     pub fn event_row(
         &self,

@@ -33,7 +33,7 @@ impl Parts {
         })
     }
 
-    /// Puts what one more declaration gives behind what others gave.
+    /// Puts what one more declaration gives after what others gave.
     pub fn put(&mut self, row: Linked) -> Result<(), NoMemory>
         requires { IsBelow (length self.old.events) row }
         ensures parted { (rows : List row_of) → IsParted rows self.old →
@@ -60,7 +60,7 @@ fn empty_lists(alloc: Global, count: usize) -> Result<List<List<EventClass>>, No
     Ok(lists)
 }
 
-/// Puts an event behind those at a place.
+/// Puts an event after those at a place.
 fn push_at(
     lists: &mut List<List<EventClass>>,
     place: usize,

@@ -1,4 +1,4 @@
-//! The ids of events that stand before.
+//! The ids of the events before.
 
 ghost use Rattle.std.specs.Prelude.{◌≡◌, ◌⊎◌, ◌<◌, ◌^◌, ◌&&◌, ◌||◌, ℕ, true, false, nat_eq, MatchResult, OnOk};
 ghost use Rattle.ctf_meaning.specs.declared.fault.ResolveFault.TheVariants as fault;

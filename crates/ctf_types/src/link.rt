@@ -25,9 +25,9 @@ use std::alloc::{AllocError, Global};
 /// The clock of a stream class.
 #[derive(Drop)]
 pub struct MovedClock {
-    /// The first that its integers move.
+    /// The first that its integers set.
     pub clock: Option<Clock>,
-    /// Whether they move one of another name too.
+    /// Whether they set one of another name too.
     pub has_several: bool,
 }
 
@@ -102,7 +102,7 @@ impl<'a> Text<'a> {
         })
     }
 
-    /// The clocks that the integers of a scope move, behind those moved so far.
+    /// The clocks that the integers of a scope set, after those set so far.
     fn clocks_of_scope(
         &self,
         alloc: Global,

@@ -15,13 +15,13 @@ pub struct StreamHead {
     pub event_header: Option<Class>,
     /// The stream event context.
     pub event_context: Option<Class>,
-    /// The clock that its integers move, where they move one.
+    /// The clock that its integers set, where they set one.
     pub clock: Option<Clock>,
-    /// Whether they move a clock of another name too.
+    /// Whether they set a clock of another name too.
     pub has_several: bool,
 }
 
-/// What a declaration gives to the trace class, its classes where they stand.
+/// What a declaration gives to the trace class, its classes at their places.
 #[derive(Drop)]
 pub enum Linked {
     /// A trace block: the class of the packet header.

@@ -30,8 +30,8 @@ use std::alloc::Global;
 use tsdl_tree::{Declaration, Tree};
 
 /// The trace class of a syntax tree (CTF 1.8.3, sections 2 to 8). It fails with a fault of the tree (R1 to
-/// R9): of those that a declaration has by itself and by what stands before it, else of those by what stands
-/// elsewhere, else of those of the whole; or where memory is refused.
+/// R9): of those that a declaration has by itself and by what is before it, else of those by what is elsewhere,
+/// else of those of the whole; or where an allocation fails.
 pub fn resolve(alloc: Global, tree: &Tree) -> Result<TraceClass, ResolveFault>
     ensures { MatchResult result (Denotes tree.now) (λ f. (f ≡ fault.NoMemory) ⊎
         Faulty tree.now f) }
@@ -137,7 +137,7 @@ fn or_plain(heads: List<StreamHead>) -> Result<List<StreamHead>, NoMemory>
     Ok(heads)
 }
 
-/// Whether the integers of a stream move several clocks.
+/// Whether the integers of a stream set several clocks.
 fn has_several(heads: &[StreamHead]) -> bool
     ensures { result ≡ list_any (λ h. h.has_several) heads.now }
 {

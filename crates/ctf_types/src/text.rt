@@ -1,4 +1,4 @@
-//! Classes of scopes where they stand.
+//! Classes of scopes at their places.
 
 ghost use Rattle.std.specs.Prelude.{◌≡◌, ◌⊎◌, List, map, option_map, option_and_then, option_copied, Contains, IfOk, MatchResult};
 ghost use Rattle.ctf_meaning.specs.declared.fault.ResolveFault.TheVariants as fault;
@@ -79,7 +79,7 @@ impl<'a> Text<'a> {
         Ok(found)
     }
 
-    /// The class of a scope where it stands, where one is declared.
+    /// The class of a scope at its place, where one is declared.
     pub fn class(
         &self,
         alloc: Global,
