@@ -1,5 +1,5 @@
 -- What headers and contexts of packets take at least.
-use Rattle.std.proofs.Common.{◌≡◌, ◌==◌, ℕ, ◌+◌, ◌*◌, ◌≤◌, Bool, true, false, List, [], ◌∷◌, map, Option, Some, None, Result, Ok, option_map, if◌then◌else◌, refl, sym, ap, subst, ◌∙◌, arith}
+use Rattle.std.proofs.Common.{◌≡◌, ◌==◌, ℕ, ◌+◌, ◌*◌, ◌≤◌, Bool, true, false, List, [], ◌∷◌, map, Option, Some, None, Ok, option_map, if◌then◌else◌, refl, sym, ap, subst, ◌∙◌, arith}
 use Rattle.std.specs.Option.{option_and_then}
 use Rattle.std.specs.Prelude.{codes, unwrap_or, IfSome}
 use Rattle.ctf_class.specs.Items.{only_item}
@@ -19,7 +19,7 @@ use Rattle.ctf_decode.proofs.Sound.{walk_is}
 use Rattle.ctf_packet.specs.Classes.{Classes, StreamForm, TraceForm, stream_form, trace_form}
 use Rattle.ctf_packet.specs.Packets.{front, unless, or_fault, same_stream, stream_named, stream_of, stream_checked}
 use Rattle.ctf_packet.specs.Roles.{role, number_in, is_magic, uuid_field, is_of_trace}
-use Rattle.ctf_packet.specs.Scopes.{◌>>=◌, Stood, no_values}
+use Rattle.ctf_packet.specs.Scopes.{◌>>=◌, no_values}
 use Rattle.ctf_packet.specs.Views.{values_of}
 use Rattle.ctf_packet.specs.declared.fault.StreamFault.TheVariants as faults
 use Rattle.ctf_packet.specs.declared.reached.Reached.{Reached}

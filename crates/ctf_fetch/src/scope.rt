@@ -82,7 +82,8 @@ fn scope_at_hand(
     requires start { next.now.end ≤ min (8 * length bytes.now) longest }
     ensures puts { (more : List ℕ) →
         let asked = scope_asked next.now (bytes.now ++ more) scopes.old in
-        IfSome result (λ end. PutsAsked next.now.scope (values_of scopes.old) asked end scopes.new) }
+        let before = values_of scopes.old in
+        IfSome result (λ end. PutsAsked next.now.scope before asked end scopes.new) }
     ensures within { IfSome result (λ end. end ≤ min (8 * length bytes.now) longest) }
     ensures forward { IfSome result (λ end. next.now.end ≤ end) }
     ensures none { IfNone result (scopes.new ≡ scopes.old) }

@@ -193,8 +193,8 @@ pub fn put_short(bytes: &[u8], count: usize, buffer: &mut Vec<u8>, at: usize) ->
     put_window(bytes, count, line, at + 1)
 }
 
-/// Writes the first sixteen to thirty-two of some bytes, which are shown as they are, in quotes at an index of a buffer that has
-/// room, and gives the index after them. The second of two windows is written over the quote after the first.
+/// Writes the first sixteen to thirty-two of some bytes, which are shown as they are, in quotes at an index of a buffer that
+/// has room, and gives the index after them. The second of two windows is written over the quote after the first.
 #[inline(always)]
 pub fn put_longer(bytes: &[u8], count: usize, buffer: &mut Vec<u8>, at: usize) -> usize
     requires plain { All (λ byte. shown_byte byte ≡ byte ∷ []) (take count bytes.now) }

@@ -163,7 +163,8 @@ fn read_values<'a>(
 ) -> Result<EventRecord<'a>, StreamFault>
     requires start { head.end ≤ at.now.packet.now.content }
     requires behind { at.now.place ≤ head.end }
-    ensures values { let stream = at.now.packet.now.stream.now in let event = head.entry.event.now in
+    ensures values { let stream = at.now.packet.now.stream.now in
+        let event = head.entry.event.now in
         MakesValues stream head.entry (bodied (option_map form stream.event_context)
         (option_map form event.context) (form event.fields) at.now.bytes.now
         at.now.packet.now.content (values_of scopes.old) head.entry.end scopes.old.spent)
@@ -295,8 +296,9 @@ fn put_scopes(
     requires start { told.head.end ≤ content.now.end }
     requires few { told.spent ≤ MOST_VALUES }
     ensures puts { let event = told.entry.head.event.now in let packet = content.now in
-        IfSome result (λ s. PutsBody scopes.now stream.now event part.now packet.bytes.now packet.end
-        told.entry.head.end told.entry.spent s.place (take s.end line.new.bytes.items)) }
+        IfSome result (λ s. PutsBody scopes.now stream.now event part.now packet.bytes.now
+        packet.end told.entry.head.end told.entry.spent s.place
+        (take s.end line.new.bytes.items)) }
     ensures within { IfSome result (λ s. s.place ≤ content.now.end) }
     ensures held { IfSome result (λ s. s.end ≤ vec_len line.new.bytes) }
 {

@@ -85,8 +85,8 @@ impl<'a> Packet<'a> {
             scopes.now bytes.now (Ok (Some front))) }
         ensures written { (shift : Shift) →
             self.old.opened.timeline ≡ (stream_form shift self.old.opened.stream.now).line →
-            IfSome result (HoldsFront writes shift scopes.now bytes.now part.now line.new.bytes.items
-            self.new) }
+            IfSome result
+            (HoldsFront writes shift scopes.now bytes.now part.now line.new.bytes.items self.new) }
         ensures room { IfSome result (λ _. room_in self.new < room_in self.old) }
         ensures opened { self.new.opened ≡ self.old.opened }
         ensures short { self.new.short ≡ self.old.short }

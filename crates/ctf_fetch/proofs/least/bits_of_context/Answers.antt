@@ -1,4 +1,4 @@
-use Rattle.std.proofs.Common.{rules, ◌≡◌, Some, option_copied, sym, ap, ◌∙◌}
+use Rattle.std.proofs.Common.{◌≡◌, Some, option_copied, sym, ap, ◌∙◌}
 use Rattle.ctf_class.specs.Items.{only_item}
 use Rattle.ctf_fetch.proofs.Fronts.{any_takes, only_takes}
 use Rattle.ctf_fetch.proofs.least.bits_of_context.Goals as goal

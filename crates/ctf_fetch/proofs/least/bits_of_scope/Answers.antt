@@ -1,4 +1,4 @@
-use Rattle.std.proofs.Common.{rules, ◌≡◌, Some, sym, ap, subst, option_map, option_copied}
+use Rattle.std.proofs.Common.{Some, sym, subst, option_map, option_copied}
 use Rattle.ctf_decode.specs.Views.{form}
 use Rattle.ctf_fetch.specs.Demand.{ScopeTakes}
 use Rattle.ctf_fetch.proofs.Fronts.{scope_forward, known_takes}

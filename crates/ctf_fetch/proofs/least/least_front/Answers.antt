@@ -1,4 +1,4 @@
-use Rattle.std.proofs.Common.{rules, ◌≡◌, arith}
+use Rattle.std.proofs.Common.{arith}
 use Rattle.ctf_fetch.proofs.Fronts.{front_takes}
 use Rattle.ctf_fetch.proofs.least.least_front.Goals as goal
 

@@ -1,4 +1,4 @@
-use Rattle.std.proofs.Common.{rules, ◌≡◌, ◌==◌, Some, ap, sym, ◌∙◌}
+use Rattle.std.proofs.Common.{◌≡◌, ◌==◌, Some, ap, sym, ◌∙◌}
 use Rattle.ctf_class.specs.declared.field_name.PrintedName.{PrintedName}
 use Rattle.ctf_class.specs.RoleNames.{role_of, role_number}
 use Rattle.ctf_class.proofs.RoleLemmas.{own_role}
