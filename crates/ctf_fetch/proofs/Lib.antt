@@ -6,3 +6,4 @@ mod Opening
 mod Sizing
 mod Fetched
 mod Fronts
+pub mod Longer

@@ -16,6 +16,9 @@ const NEAR: usize = 65_536;
 /// How many bytes of a longer way are asked for at the most before as many came.
 const FIRST: usize = 4_096;
 
+/// How many bytes more there is room for, so that also a packet's last numbers are read eight bytes at a time.
+const PADDING: usize = 8;
+
 /// The bytes of a packet that came so far. Contracts see them.
 #[derive(Drop)]
 pub struct Buffer {
@@ -60,6 +63,14 @@ impl Buffer {
         &self.bytes[..self.filled]
     }
 
+    /// The bytes, and mostly eight more, which mean nothing.
+    pub fn padded(&self) -> &[u8]
+        ensures { take (length self.now) result.now ≡ self.now }
+    {
+        let end = (self.filled + PADDING).min(self.bytes.len());
+        &self.bytes[..end]
+    }
+
     /// How many bytes there are.
     pub fn len(&self) -> usize
         ensures { result ≡ length self.now }
@@ -74,11 +85,11 @@ impl Buffer {
         self.filled = 0;
     }
 
-    /// Keeps the memory of its bytes alone.
+    /// Keeps the memory of its bytes alone, and of the padding.
     pub(crate) fn fit(&mut self)
         ensures { self.new ≡ self.old }
     {
-        keep_first(&mut self.bytes, self.filled);
+        keep_first(&mut self.bytes, self.filled + PADDING);
     }
 
     /// Takes bytes of a source until there are `target`, or it ends.
@@ -131,7 +142,7 @@ impl Buffer {
         ensures first { take (length self.old) self.new ≡ self.old }
     {
         grow(&mut self.bytes, self.filled, target)?;
-        let end = self.bytes.len().min(target);
+        let end = (self.bytes.len() - PADDING).min(target);
         match take_behind(source, &mut self.bytes, self.filled, end) {
             Err(_) => Ok(Some(Ending::Failed)),
             Ok(0) => Ok(Some(Ending::Clean)),
@@ -169,21 +180,21 @@ fn take_behind<S: Source>(
     source.take(&mut bytes[filled..end])
 }
 
-/// Makes room for some bytes after the first ones: up to `target` where that is near, else for as many as came, `FIRST` at
-/// least.
+/// Makes room for some bytes after the first ones, and for the padding: up to `target` where that is near, else for as many
+/// as came, `FIRST` at least.
 fn grow(bytes: &mut Vec<u8>, filled: usize, target: usize) -> Result<(), StreamFault>
     requires few { filled < target }
     requires there { filled ≤ length bytes.old.items }
     ensures first { take filled bytes.new.items ≡ take filled bytes.old.items }
     ensures there { filled ≤ length bytes.new.items }
-    ensures room { OnOk result (filled < length bytes.new.items) }
+    ensures room { OnOk result (filled + PADDING < length bytes.new.items) }
     ensures near { target ≤ filled + 65536 →
-        length bytes.new.items ≤ max (length bytes.old.items) target }
-    ensures far { filled + 65536 < target →
-        length bytes.new.items ≤ max (length bytes.old.items) (filled + max filled 4096) }
+        length bytes.new.items ≤ max (length bytes.old.items) (target + PADDING) }
+    ensures far { filled + 65536 < target → length bytes.new.items ≤
+        max (length bytes.old.items) (filled + max filled 4096 + PADDING) }
     ensures refused { IfErr result (λ fault. fault ≡ NoMemory) }
 {
-    if filled < bytes.len() {
+    if filled + PADDING < bytes.len() {
         return Ok(());
     }
     let left = target - filled;
@@ -192,7 +203,7 @@ fn grow(bytes: &mut Vec<u8>, filled: usize, target: usize) -> Result<(), StreamF
     } else {
         filled.max(FIRST).min(left)
     };
-    match bytes.resize(filled + more, 0) {
+    match bytes.resize((filled + more).saturating_add(PADDING), 0) {
         Ok(()) => Ok(()),
         Err(_) => Err(StreamFault::NoMemory),
     }

@@ -38,7 +38,7 @@ pub(crate) struct Reach {
 /// such records: `from` has the place after the header, in bits from the packet's first one, how many values were begun
 /// before, and the index, in bytes. What is before the index is kept, and the buffer grows where it has no room.
 ///
-/// `None` where there is no plan, where the record has a fault or ends in the last eight bytes of the content, and where
+/// `None` where there is no plan, where the record has a fault, where fewer than eight bytes are after a run of it, and where
 /// an allocation fails; the buffer is then unspecified.
 #[inline(always)]
 pub fn put_planned_record(
@@ -138,7 +138,7 @@ fn put_run(
     ensures held { IfSome result (λ text. text ≤ vec_len buffer.new) }
 {
     let begin = reach.place;
-    if begin % 8 != 0 || run.span + 64 > packet.end - begin {
+    if begin % 8 != 0 || !packet.has_window_at(begin + run.span) {
         return None;
     }
     if with_room(run.room, buffer, at).is_err() {

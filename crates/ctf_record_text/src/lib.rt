@@ -2,8 +2,10 @@
 #![tactic(auto)]
 
 mod header;
+mod part;
 mod record;
 mod short;
 
+pub use part::PacketPart;
 pub use record::{LineBuffer, LineRecord, next_line, written_line};
 pub use short::{ShortHeader, short_header};

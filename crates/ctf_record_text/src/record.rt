@@ -13,6 +13,7 @@ ghost use Rattle.ctf_record_text.specs.Making.{Made, Makes, MakesValues, PutsBod
 ghost use Rattle.ctf_record_text.specs.Shorts.{IsShortOf};
 
 use crate::header::{PlannedHead, ToldHead, told_by_class, told_head};
+use crate::part::PacketPart;
 use crate::short::ShortHeader;
 use ctf_class::{Class, StreamClass};
 use ctf_decode::{MOST_VALUES, Scopes};
@@ -26,11 +27,14 @@ use std::alloc::Global;
 /// streams.
 const LONGEST_KEPT: usize = 65_536;
 
-/// The buffer of event records' texts, and memory for what their scopes give to lengths and tags after them.
+/// The buffer of event records' texts, with what those of a packet share, and memory for what their scopes give to lengths
+/// and tags after them.
 #[derive(Drop)]
 pub struct LineBuffer {
     /// It begins with the text of the last event record that was written. The bytes after it are unspecified.
     pub bytes: Vec<u8>,
+    /// The text of the packet in the lines of its event records.
+    pub part: PacketPart,
     stream_context: Members,
     event_context: Members,
     fields: Members,
@@ -41,6 +45,7 @@ impl LineBuffer {
     pub fn new(alloc: Global) -> LineBuffer {
         LineBuffer {
             bytes: Vec::new(alloc),
+            part: PacketPart::new(alloc),
             stream_context: Members::none(),
             event_context: Members::none(),
             fields: Members::none(),
@@ -57,9 +62,9 @@ pub struct LineRecord<'a> {
 }
 
 /// The event record at a place (CTF 1.8.3, section 6), if it can be shown without its values. The values of the packet's
-/// header and context are in `scopes`, and `part` is the text of the packet in the lines of its event records. The header is
-/// decoded by `short`, which `short_header` gave for its stream class, or by its class where that is not given. The text of the
-/// record is at the beginning of `line` then: the host, the name and the scopes.
+/// header and context are in `scopes`. The header is decoded by `short`, which `short_header` gave for its stream class, or by
+/// its class where that is not given. The text of the record is at the beginning of `line` then: the host, the name, the part
+/// that the lines of the packet share, and the scopes.
 ///
 /// `None` where the header can't be decoded so, where `put_standing` gives no text, where the record has a fault, and where
 /// an allocation fails. The line is unspecified then.
@@ -67,7 +72,6 @@ pub struct LineRecord<'a> {
 pub fn written_line<'a>(
     alloc: Global,
     at: &RecordPlace<'_, 'a>,
-    part: &[u8],
     scopes: &Scopes,
     short: Option<&ShortHeader>,
     line: &mut LineBuffer,
@@ -75,7 +79,8 @@ pub fn written_line<'a>(
     requires short { IsShortOf at.now.packet.now.stream.now (option_copied short) }
     ensures makes { (shift : Shift) → IsTimed shift at.now.packet.now → IfSome result (λ r.
         Made at.now.packet.now.stream.now (record_there shift (values_of scopes.now) at.now)
-        part.now scopes.now line.new.bytes.items r.record r.text) }
+        line.old.part scopes.now line.new.bytes.items r.record r.text) }
+    ensures part { line.new.part ≡ line.old.part }
     ensures within { IfSome result (λ r. r.record.end ≤ at.now.packet.now.content) }
     ensures forward { IfSome result (λ r. at.now.place < r.record.end) }
     ensures text { IfSome result (λ r. IfSome r.text (λ end. end ≤ vec_len line.new.bytes)) }
@@ -83,28 +88,28 @@ pub fn written_line<'a>(
     keep_short(alloc, line);
     let planned = told_head(at, short)?;
     let head = planned.told.head;
-    let standing = put_planned_body(at, planned, part, scopes, line)?;
+    let standing = put_planned_body(at, planned, scopes, line)?;
     Some(with_text(head, standing))
 }
 
 /// The event record at a place (CTF 1.8.3, section 6), of which `written_line` made no text by its class. The values of the
-/// packet's header and context are in `scopes`, and `part` is their text in the lines of the packet's event records. Where the
-/// class of the header alone was in the way, the text of the record is at the start of `line` then: the host, the name and the
-/// scopes. Elsewhere the record's values are in `scopes`. The memory of `scratch` is used.
+/// packet's header and context are in `scopes`. Where the class of the header alone was in the way, the text of the record is at
+/// the start of `line` then, as `written_line` makes it. Elsewhere the record's values are in `scopes`. The memory of `scratch`
+/// is used.
 ///
 /// An error is the first fault of the record: F6 to F11, or `NoMemory`.
 #[inline(never)]
 pub fn next_line<'a>(
     alloc: Global,
     at: &RecordPlace<'_, 'a>,
-    part: &[u8],
     scratch: &mut Scratch,
     scopes: &mut Scopes,
     line: &mut LineBuffer,
 ) -> Result<LineRecord<'a>, StreamFault>
     ensures makes { (shift : Shift) → IsTimed shift at.now.packet.now →
         Makes at.now.packet.now.stream.now (record_there shift (values_of scopes.old) at.now)
-        part.now scopes.new line.new.bytes.items result }
+        line.old.part scopes.new line.new.bytes.items result }
+    ensures part { line.new.part ≡ line.old.part }
     ensures within { IfOk result (λ r. r.record.end ≤ at.now.packet.now.content) }
     ensures forward { IfOk result (λ r. at.now.place < r.record.end) }
     ensures packet { OnOk result
@@ -120,7 +125,7 @@ pub fn next_line<'a>(
             head,
             spent: scopes.spent(),
         };
-        if let Some(standing) = put_record(at, told, part, &*scopes, line) {
+        if let Some(standing) = put_record(at, told, &*scopes, line) {
             return Ok(with_text(head, standing));
         }
     }
@@ -147,7 +152,9 @@ fn with_text<'a>(head: Head<'a>, standing: Standing) -> LineRecord<'a>
 
 /// Gives the memory of a long buffer back.
 #[inline(always)]
-fn keep_short(alloc: Global, line: &mut LineBuffer) {
+fn keep_short(alloc: Global, line: &mut LineBuffer)
+    ensures { line.new.part ≡ line.old.part }
+{
     if line.bytes.len() > LONGEST_KEPT {
         line.bytes = Vec::new(alloc);
     }
@@ -193,23 +200,23 @@ fn read_values<'a>(
 fn put_planned_body<'a>(
     at: &RecordPlace<'_, 'a>,
     planned: PlannedHead<'a>,
-    part: &[u8],
     scopes: &Scopes,
     line: &mut LineBuffer,
 ) -> Option<Standing>
     requires plan { PlansRecords at.now.packet.now planned }
     requires start { planned.told.head.end ≤ at.now.packet.now.content }
     requires few { planned.told.spent ≤ MOST_VALUES }
-    ensures puts { IfSome result (λ s. PutsRecord scopes.now at.now planned.entry.told part.now
+    ensures puts { IfSome result (λ s. PutsRecord scopes.now at.now planned.entry.told line.old.part
         s.place (take s.end line.new.bytes.items)) }
+    ensures part { line.new.part ≡ line.old.part }
     ensures within { IfSome result (λ s. s.place ≤ at.now.packet.now.content) }
     ensures forward { IfSome result (λ s. at.now.place < s.place) }
     ensures held { IfSome result (λ s. s.end ≤ vec_len line.new.bytes) }
 {
-    if let Some(all) = put_by_plan(at, planned, part, &mut line.bytes) {
+    if let Some(all) = put_by_plan(at, planned, line.part.as_slice(), &mut line.bytes) {
         return Some(all);
     }
-    put_record(at, planned.told, part, scopes, line)
+    put_record(at, planned.told, scopes, line)
 }
 
 /// Writes the text of the event record at a place at the beginning of a line, by the plan alone.
@@ -259,14 +266,14 @@ fn put_by_plan<'a>(
 fn put_record(
     at: &RecordPlace<'_, '_>,
     told: ToldHead<'_>,
-    part: &[u8],
     scopes: &Scopes,
     line: &mut LineBuffer,
 ) -> Option<Standing>
     requires start { told.head.end ≤ at.now.packet.now.content }
     requires few { told.spent ≤ MOST_VALUES }
-    ensures puts { IfSome result (λ s. PutsRecord scopes.now at.now told.entry part.now s.place
+    ensures puts { IfSome result (λ s. PutsRecord scopes.now at.now told.entry line.old.part s.place
         (take s.end line.new.bytes.items)) }
+    ensures part { line.new.part ≡ line.old.part }
     ensures within { IfSome result (λ s. s.place ≤ at.now.packet.now.content) }
     ensures forward { IfSome result (λ s. at.now.place < s.place) }
     ensures held { IfSome result (λ s. s.end ≤ vec_len line.new.bytes) }
@@ -275,7 +282,7 @@ fn put_record(
         bytes: at.bytes,
         end: at.packet.content,
     };
-    let all = put_scopes(at.packet.stream, &content, told, part, scopes, line)?;
+    let all = put_scopes(at.packet.stream, &content, told, scopes, line)?;
     if all.place <= at.place {
         return None;
     }
@@ -289,21 +296,21 @@ fn put_scopes(
     stream: &StreamClass,
     content: &Content<'_>,
     told: ToldHead<'_>,
-    part: &[u8],
     scopes: &Scopes,
     line: &mut LineBuffer,
 ) -> Option<Standing>
     requires start { told.head.end ≤ content.now.end }
     requires few { told.spent ≤ MOST_VALUES }
     ensures puts { let event = told.entry.head.event.now in let packet = content.now in
-        IfSome result (λ s. PutsBody scopes.now stream.now event part.now packet.bytes.now
+        IfSome result (λ s. PutsBody scopes.now stream.now event line.old.part packet.bytes.now
         packet.end told.entry.head.end told.entry.spent s.place
         (take s.end line.new.bytes.items)) }
+    ensures part { line.new.part ≡ line.old.part }
     ensures within { IfSome result (λ s. s.place ≤ content.now.end) }
     ensures held { IfSome result (λ s. s.end ≤ vec_len line.new.bytes) }
 {
     let event = told.head.event;
-    let Ok(end) = put_front(&event.heading, part, &mut line.bytes, 0) else {
+    let Ok(end) = put_front(&event.heading, line.part.as_slice(), &mut line.bytes, 0) else {
         return None;
     };
     let front = Standing {

@@ -236,7 +236,7 @@ fn is_id(name: &[u8]) -> bool
 }
 
 /// Decodes a header of such a class, at a place in bits from the packet's first one, where the clock came so far. `None` where
-/// its tag is none of these numbers, where it has a fault, and where it ends in the last eight bytes of the content.
+/// its tag is none of these numbers, where it has a fault, and where fewer than eight bytes are after it.
 #[inline(always)]
 pub(crate) fn tell_short(
     timeline: &Timeline,
@@ -255,7 +255,7 @@ pub(crate) fn tell_short(
 {
     let begin = short.align.up(place);
     let end = begin + short.end;
-    if end + 64 > packet.end {
+    if !packet.has_window_at(end) {
         return None;
     }
     let first = (begin / 8) as usize;

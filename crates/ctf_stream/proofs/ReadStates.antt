@@ -35,24 +35,22 @@ module _ (cut : PacketStart) (ending : Ending) (left : List ℕ) (bytes : List �
   inside taken held p is stands = subst (StandsAt cut bytes taken) is stands
 
   -- an item of the packet at hand
-  pub takes_item : (held : Option Packet) (known after : Known) (given : List ℕ) (p q : Packet) (found : Option Front) (front : Front) → held ≡ Some p → q.opened ≡ p.opened → packet_values (values_of after) ≡ packet_values (values_of known) → given ≡ bytes → found ≡ Some front
-      → TakesItem cut.shift (follows known p) (left_in cut.shift known given (follows known p) p) q after given (Ok found)
+  pub takes_item : (held : Option Packet) (known after : Known) (p q : Packet) (found : Option Front) (front : Front) → held ≡ Some p → q.opened ≡ p.opened → packet_values (values_of after) ≡ packet_values (values_of known) → found ≡ Some front
+      → TakesItem cut.shift (follows known p) (left_in cut.shift known bytes (follows known p) p) q after bytes (Ok found)
       → coming_at cut ending left known bytes held ≡ before (item_in cut.shift after bytes q front ∷ []) (coming_at cut ending left after bytes (Some q))
-  takes_item held known after given p q found front is same values bytes_are item takes =
-      let taken = subst (λ b. TakesItem cut.shift (follows known p) (left_in cut.shift known b (follows known p) p) q after b (Ok (Some front))) bytes_are
-      (subst (λ o. TakesItem cut.shift (follows known p) (left_in cut.shift known given (follows known p) p) q after given (Ok o)) item takes) in
+  takes_item held known after p q found front is same values item takes =
+      let taken = subst (λ o. TakesItem cut.shift (follows known p) (left_in cut.shift known bytes (follows known p) p) q after bytes (Ok o)) item takes in
       ap (coming_at cut ending left known bytes) is ∙ taken ∙ ap (λ f. before (item_in cut.shift after bytes q front ∷ []) (left_in cut.shift after bytes f q)) (same_follows known after p q same values)
 
   -- the packet at hand is over
-  pub is_over : (next : PacketStart) (held : Option Packet) (known after : Known) (given : List ℕ) (p q : Packet) (found : Option Front) (reached : Reached) → held ≡ Some p → q.opened ≡ p.opened → given ≡ bytes → found ≡ None
-      → TakesItem cut.shift (follows known p) (left_in cut.shift known given (follows known p) p) q after given (Ok found)
+  pub is_over : (next : PacketStart) (held : Option Packet) (known after : Known) (p q : Packet) (found : Option Front) (reached : Reached) → held ≡ Some p → q.opened ≡ p.opened → found ≡ None
+      → TakesItem cut.shift (follows known p) (left_in cut.shift known bytes (follows known p) p) q after bytes (Ok found)
       → ((shift : Shift) (values : Values) → reached ≡ packets.reached_behind (opened_of shift values q.opened) q.clock)
       → next.trace ≡ cut.trace → next.shift ≡ cut.shift → next.reached ≡ Some reached → next.at ≡ p.opened.end
       → coming_at cut ending left known bytes held ≡ from_bytes (trace_of next) ending next.reached next.at left
-  is_over next held known after given p q found reached is same bytes_are over takes behind trace shift was at =
+  is_over next held known after p q found reached is same over takes behind trace shift was at =
       let taken : left_in cut.shift known bytes (follows known p) p ≡ follows known p q.clock =
-      subst (λ b. left_in cut.shift known b (follows known p) p ≡ follows known p q.clock) bytes_are
-      (subst (λ o. TakesItem cut.shift (follows known p) (left_in cut.shift known given (follows known p) p) q after given (Ok o)) over takes) in
+      subst (λ o. TakesItem cut.shift (follows known p) (left_in cut.shift known bytes (follows known p) p) q after bytes (Ok o)) over takes in
       let said : packets.reached_behind (opened_in cut.shift known p.opened) q.clock ≡ reached = ap (λ o. packets.reached_behind (opened_in cut.shift known o) q.clock) (sym same) ∙ sym (behind cut.shift (packet_values (values_of known))) in
       let forms : trace_of cut ≡ trace_of next = (λ i. trace_form (sym shift i) ((sym trace i).now)) in
       ap (coming_at cut ending left known bytes) is ∙ taken

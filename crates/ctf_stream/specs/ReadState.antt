@@ -57,11 +57,11 @@ IsPartOf values text (Some p) = text ≡ packet_part p.opened.stream.now.packet_
 
 -- that of the packet at hand was made
 abbrev pub HasPart : ReadState → Type 0
-HasPart c = IsPartOf (packet_values (values_of c.scopes)) c.part c.packet
+HasPart c = IsPartOf (packet_values (values_of c.scopes)) c.line.part c.packet
 
 -- the text of the current event record was written, where that has no values
 abbrev pub HoldsIn : ReadState → Option Packet → Front → Type 0
-HoldsIn c (Some p) front = HoldsFront c.writes c.cut.shift c.scopes c.buffer c.part c.line.bytes.items p front
+HoldsIn c (Some p) front = HoldsFront c.writes c.cut.shift c.scopes c.buffer c.line.part c.line.bytes.items p front
 HoldsIn c None front = Unit {0}
 
 abbrev pub HoldsFound : ReadState → Option Front → Type 0

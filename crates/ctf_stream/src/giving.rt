@@ -38,7 +38,7 @@ impl<'a> ReadState<'a> {
         ensures packet { self.new.packet ≡ self.old.packet }
         ensures buffer { self.new.buffer ≡ self.old.buffer }
         ensures taken { self.new.taken ≡ self.old.taken }
-        ensures part { self.new.part ≡ self.old.part }
+        ensures part { self.new.line.part ≡ self.old.line.part }
         ensures writes { self.new.writes ≡ self.old.writes }
         ensures values { OnOk result (packet_values (values_of self.new.scopes) ≡
             packet_values (values_of self.old.scopes)) }

@@ -7,7 +7,6 @@ mod giving;
 mod item;
 mod owned;
 mod packet;
-mod part;
 mod read_state;
 mod reader;
 

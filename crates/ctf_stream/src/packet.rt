@@ -14,6 +14,7 @@ ghost use Rattle.ctf_stream.specs.Coming.{front_in, left_in, room_in, HoldsFront
 
 use ctf_clock::Moment;
 use ctf_decode::Scopes;
+use ctf_fetch::Buffer;
 use ctf_packet::{EventRecord, OpenPacket, RecordPlace, Scratch, StreamFault, next_record};
 use ctf_record_text::{LineBuffer, LineRecord, ShortHeader, next_line, written_line};
 use std::alloc::Global;
@@ -32,6 +33,16 @@ pub(crate) struct Packet<'a> {
     pub(crate) clock: Option<Moment>,
     /// Where the next event record begins, in bits from the packet's first one.
     pub(crate) place: u64,
+}
+
+/// What the items of a packet are read with.
+#[derive(Clone, Copy)]
+pub(crate) struct PacketInput<'r> {
+    pub(crate) alloc: Global,
+    /// The packet's bytes.
+    pub(crate) buffer: &'r Buffer,
+    /// Whether event records are asked for as texts.
+    pub(crate) writes: bool,
 }
 
 /// The current item of a packet.
@@ -60,40 +71,39 @@ pub(crate) struct WrittenRecord<'a> {
 }
 
 impl<'a> Packet<'a> {
-    /// The next item, if `writes` asks for texts, and it is an event record that can be shown without its values: then its text
-    /// is at the start of `line`. `scopes` has the values of the packet, and `part` is the text that the lines of the packet
-    /// share. Mostly that is the next item, so it is apart from `next`. Its header is read as a short one, or `by_class`.
+    /// The next item, if texts are asked for, and it is an event record that can be shown without its values: then its text is
+    /// at the start of `line`. `scopes` has the values of the packet. Mostly that is the next item, so it is apart from `next`.
+    /// Its header is read as a short one, or `by_class`.
     ///
-    /// `None` elsewhere: the packet is as it was then, and the line is unspecified.
+    /// `None` elsewhere: the packet is as it was then, and the line's text is unspecified.
     #[inline(always)]
     pub(crate) fn next_written(
         &mut self,
-        alloc: Global,
-        bytes: &[u8],
+        input: PacketInput<'_>,
         scopes: &Scopes,
-        writes: bool,
-        part: &[u8],
         by_class: bool,
         line: &mut LineBuffer,
     ) -> Option<Front<'a>>
-        requires within { Within bytes.now self.old }
+        requires within { Within input.buffer.now self.old }
         requires looked { IsShortOf self.old.opened.stream.now self.old.short }
-        ensures takes { (shift : Shift) (follows : Option Moment → Run Classes) →
+        ensures takes { let bytes = input.entry.buffer.now in
+            (shift : Shift) (follows : Option Moment → Run Classes) →
             self.old.opened.timeline ≡ (stream_form shift self.old.opened.stream.now).line →
             IfSome result (λ front.
-            TakesItem shift follows (left_in shift scopes.now bytes.now follows self.old) self.new
-            scopes.now bytes.now (Ok (Some front))) }
+            TakesItem shift follows (left_in shift scopes.now bytes follows self.old) self.new
+            scopes.now bytes (Ok (Some front))) }
         ensures written { (shift : Shift) →
             self.old.opened.timeline ≡ (stream_form shift self.old.opened.stream.now).line →
-            IfSome result
-            (HoldsFront writes shift scopes.now bytes.now part.now line.new.bytes.items self.new) }
+            IfSome result (HoldsFront input.entry.writes shift scopes.now input.entry.buffer.now
+            line.old.part line.new.bytes.items self.new) }
+        ensures part { line.new.part ≡ line.old.part }
         ensures room { IfSome result (λ _. room_in self.new < room_in self.old) }
         ensures opened { self.new.opened ≡ self.old.opened }
         ensures short { self.new.short ≡ self.old.short }
         ensures place { self.new.place ≤ self.new.opened.content }
         ensures none { IfNone result (self.new ≡ self.old) }
     {
-        if !writes || (self.short.is_none() && !by_class) {
+        if !input.writes || (self.short.is_none() && !by_class) {
             return None;
         }
         if self.lost.is_some() || self.dropped.is_some() || self.place >= self.opened.content {
@@ -103,42 +113,40 @@ impl<'a> Packet<'a> {
         let begin = self.place;
         let at = RecordPlace {
             packet: &self.opened,
-            bytes,
+            bytes: input.buffer.padded(),
             clock: before,
             place: begin,
         };
         let short = short_unless(&self.short, by_class);
-        let made = written_line(alloc, &at, part, scopes, short, line)?;
+        let made = written_line(input.alloc, &at, scopes, short, line)?;
         self.clock = made.record.clock;
         self.place = made.record.end;
         Some(front_of(made, before, begin))
     }
 
-    /// The next item, out of the packet's bytes; `None` after the last one. `scopes` has the values of the
-    /// packet, and of an event record then, unless `writes` asks for its text and this could be written at the start of
-    /// `line`; `part` is the text that the lines of the packet share. The memory of `scratch` is used.
+    /// The next item; `None` after the last one. `scopes` has the values of the packet, and of an event record then, unless its
+    /// text is asked for and could be written at the start of `line`. The memory of `scratch` is used.
     ///
     /// An error is the fault of the next event record: F6 to F11, or `NoMemory`.
     pub(crate) fn next(
         &mut self,
-        alloc: Global,
-        bytes: &[u8],
-        writes: bool,
-        part: &[u8],
+        input: PacketInput<'_>,
         scratch: &mut Scratch,
         scopes: &mut Scopes,
         line: &mut LineBuffer,
     ) -> Result<Option<Front<'a>>, StreamFault>
-        requires { Within bytes.now self.old }
-        ensures takes { (shift : Shift) (follows : Option Moment → Run Classes) →
+        requires { Within input.buffer.now self.old }
+        ensures takes { let bytes = input.entry.buffer.now in
+            (shift : Shift) (follows : Option Moment → Run Classes) →
             self.old.opened.timeline ≡ (stream_form shift self.old.opened.stream.now).line →
-            TakesItem shift follows (left_in shift scopes.old bytes.now follows self.old) self.new
-            scopes.new bytes.now result }
+            TakesItem shift follows (left_in shift scopes.old bytes follows self.old) self.new
+            scopes.new bytes result }
         ensures written { (shift : Shift) →
             self.old.opened.timeline ≡ (stream_form shift self.old.opened.stream.now).line →
             IfOk result (λ front.
-            IfSome front (HoldsFront writes shift scopes.new bytes.now part.now line.new.bytes.items
-            self.new)) }
+            IfSome front (HoldsFront input.entry.writes shift scopes.new input.entry.buffer.now
+            line.old.part line.new.bytes.items self.new)) }
+        ensures part { line.new.part ≡ line.old.part }
         ensures room { TakesRoom (room_in self.old) (room_in self.new) result }
         ensures opened { self.new.opened ≡ self.old.opened }
         ensures short { self.new.short ≡ self.old.short }
@@ -161,11 +169,11 @@ impl<'a> Packet<'a> {
         let begin = self.place;
         let at = RecordPlace {
             packet: &self.opened,
-            bytes,
+            bytes: input.buffer.padded(),
             clock: before,
             place: begin,
         };
-        let made = event_at(alloc, &at, writes, part, scratch, scopes, line)?;
+        let made = event_at(input, &at, scratch, scopes, line)?;
         self.clock = made.record.clock;
         self.place = made.record.end;
         Ok(Some(front_of(made, before, begin)))
@@ -177,28 +185,28 @@ impl<'a> Packet<'a> {
 /// An error is the fault of the record: F6 to F11, or `NoMemory`.
 #[inline(always)]
 fn event_at<'a>(
-    alloc: Global,
+    input: PacketInput<'_>,
     at: &RecordPlace<'_, 'a>,
-    writes: bool,
-    part: &[u8],
     scratch: &mut Scratch,
     scopes: &mut Scopes,
     line: &mut LineBuffer,
 ) -> Result<LineRecord<'a>, StreamFault>
     ensures makes { (shift : Shift) → IsTimed shift at.now.packet.now →
         Makes at.now.packet.now.stream.now (record_there shift (values_of scopes.old) at.now)
-        part.now scopes.new line.new.bytes.items result }
+        line.old.part scopes.new line.new.bytes.items result }
+    ensures part { line.new.part ≡ line.old.part }
     ensures within { IfOk result (λ r. r.record.end ≤ at.now.packet.now.content) }
     ensures forward { IfOk result (λ r. at.now.place < r.record.end) }
     ensures packet { OnOk result (packet_values (values_of scopes.new) ≡
         packet_values (values_of scopes.old)) }
     ensures text { IfOk result
-        (λ r. IfSome r.text (λ end. (end ≤ length line.new.bytes.items) × IsTrue writes)) }
+        (λ r. IfSome r.text
+        (λ end. (end ≤ length line.new.bytes.items) × IsTrue input.entry.writes)) }
 {
-    if writes {
-        return next_line(alloc, at, part, scratch, scopes, line);
+    if input.writes {
+        return next_line(input.alloc, at, scratch, scopes, line);
     }
-    let record = next_record(alloc, at, scratch, scopes)?;
+    let record = next_record(input.alloc, at, scratch, scopes)?;
     Ok(LineRecord { record, text: None })
 }
 

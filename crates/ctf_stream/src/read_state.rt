@@ -13,8 +13,7 @@ ghost use Rattle.ctf_fetch.specs.Fetching.{longest_bytes, most_taken};
 ghost use Rattle.ctf_stream.specs.ReadState.{coming_of, Stands, room_of, StepsWithin, Enters, EntersRoom, Advances, IsOfPacket, HasPart, HoldsIn, HoldsFound};
 
 use crate::item::{CurrentItem, Event, EventText, Gap, Item};
-use crate::packet::{Front, Packet};
-use crate::part::PacketPart;
+use crate::packet::{Front, Packet, PacketInput};
 use ctf_bits::Source;
 use ctf_class::{HasId, Scope};
 use ctf_decode::Scopes;
@@ -33,13 +32,11 @@ pub(crate) struct ReadState<'a> {
     pub(crate) buffer: Buffer,
     /// The values of the packet at hand, and of the current event record, if there is one.
     pub(crate) scopes: Scopes,
-    /// What the lines of its event records share.
-    pub(crate) part: PacketPart,
     /// Memory for the next event records.
     pub(crate) scratch: Scratch,
     /// Whether event records are read as texts, where they can.
     pub(crate) writes: bool,
-    /// The text of the current event record, if it was read as that.
+    /// The text of the current event record, if it was read as that, and what the lines of the packet share.
     pub(crate) line: LineBuffer,
     /// How many bytes were taken from the source.
     pub(crate) taken: u64,
@@ -59,7 +56,6 @@ impl<'a> ReadState<'a> {
             packet: None,
             buffer: Buffer::new(alloc),
             scopes: Scopes::new(),
-            part: PacketPart::new(alloc),
             scratch: Scratch::new(alloc),
             writes: false,
             line: LineBuffer::new(alloc),
@@ -80,7 +76,6 @@ impl<'a> ReadState<'a> {
         self.packet = None;
         self.buffer = Buffer::new(alloc);
         self.scopes = Scopes::new();
-        self.part = PacketPart::new(alloc);
         self.scratch = Scratch::new(alloc);
         self.line = LineBuffer::new(alloc);
     }
@@ -110,15 +105,12 @@ impl<'a> ReadState<'a> {
             None => return None,
             Some(packet) => packet,
         };
-        packet.next_written(
+        let input = PacketInput {
             alloc,
-            self.buffer.as_slice(),
-            &self.scopes,
-            self.writes,
-            self.part.as_slice(),
-            by_class,
-            &mut self.line,
-        )
+            buffer: &self.buffer,
+            writes: self.writes,
+        };
+        packet.next_written(input, &self.scopes, by_class, &mut self.line)
     }
 
     /// The next item, out of a source, where `next_written` gave none `by_class`. `None` where the stream ends.
@@ -165,6 +157,9 @@ impl<'a> ReadState<'a> {
                 Ok(false) => return Ok(None),
                 Ok(true) => {}
             }
+            if let Some(front) = self.next_written(alloc, false) {
+                return Ok(Some(front));
+            }
             if let Some(front) = self.next_written(alloc, true) {
                 return Ok(Some(front));
             }
@@ -205,7 +200,7 @@ impl<'a> ReadState<'a> {
             Ok(None) => Ok(false),
             Ok(Some(opened)) => {
                 let context = self.scopes.get(Scope::PacketContext);
-                match self.part.make(opened.stream.packet_context(), context) {
+                match self.line.part.make(opened.stream.packet_context(), context) {
                     Err(_) => return Err(StreamFault::NoMemory),
                     Ok(()) => {}
                 }
@@ -243,15 +238,12 @@ impl<'a> ReadState<'a> {
             None => return Ok(None),
             Some(packet) => packet,
         };
-        match packet.next(
+        let input = PacketInput {
             alloc,
-            self.buffer.as_slice(),
-            self.writes,
-            self.part.as_slice(),
-            &mut self.scratch,
-            &mut self.scopes,
-            &mut self.line,
-        ) {
+            buffer: &self.buffer,
+            writes: self.writes,
+        };
+        match packet.next(input, &mut self.scratch, &mut self.scopes, &mut self.line) {
             Err(fault) => Err(fault),
             Ok(Some(front)) => Ok(Some(front)),
             Ok(None) => {
@@ -287,7 +279,7 @@ impl<'a> ReadState<'a> {
                 class: record.event,
                 moment: record.clock,
                 scopes: &self.scopes,
-                part: Some(self.part.as_slice()),
+                part: Some(self.line.part.as_slice()),
             }))),
             Front::Written(written) => Some(CurrentItem::Text(EventText {
                 moment: written.event.clock,

@@ -31,7 +31,7 @@ returns-in-None-clause-puts c = λ slots others takes.
     let after = take c.put_run_numbers-text.result c.put_run_numbers-text.new.buffer.items in
     let numbers = c.as_slice.result.now in
     let starts : 8 * (place / 8) ≡ place = omega (arith, c.if-begin-ne0.false) in
-    let within : place + run.span ≤ content = omega (arith, c.if-run-packet.false, c.requires.start) in
+    let within : place + run.span ≤ content = search rules in
     let kept : line ≡ before = search rules in
     let all = run_numbers slots takes.0 run.numbers numbers run.span (place / 8) place content c.args.reach.now.more None bytes before line after takes.1 c.as_slice.ensures (no_number run.numbers bytes (place / 8)) starts within kept c.put_run_numbers-text.ensures.text in
     (all.0, all.1 ∙ ap (λ xs. all.0 ++ xs) (behind_none takes.0 others run.field c.in-None.is takes.2), all.2)
@@ -56,7 +56,7 @@ returns-in-Some-clause-puts c = λ slots others takes.
     let numbers = c.as_slice.result.now in
     let first = place / 8 in
     let starts : 8 * first ≡ place = omega (arith, c.if-begin-ne0.false) in
-    let within : place + run.span ≤ content = omega (arith, c.if-run-packet.false, c.requires.start) in
+    let within : place + run.span ≤ content = search rules in
     let kept : line ≡ before = search rules in
     let one = behind_some takes.0 others run.field c.in-Some.field c.in-Some.is takes.2 in
     let mid : Option ℕ → Reached = λ last. numbers_to (place + run.span) more last text in

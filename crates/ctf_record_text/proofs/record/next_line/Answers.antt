@@ -12,7 +12,7 @@ returns-in_err-head-clause-makes c = λ shift timed.
     let old = values_of c.args.scopes.now in
     let f = c.in_err-head.field-0.0 in
     let is : c.from_residual.result ≡ Err f = search rules in
-    subst (λ r. Makes o.stream.now (record_there shift old at) c.args.part.now c.next_head.new.scopes c.keep_short.new.line.bytes.items r) (sym is)
+    subst (λ r. Makes o.stream.now (record_there shift old at) c.args.line.now.part c.next_head.new.scopes c.keep_short.new.line.bytes.items r) (sym is)
     (no_head shift o old at.bytes.now at.clock at.place c.next_head.new.scopes f (c.in_err-head.ensures.puts shift timed))
 
 pub returns-in-Some-clause-makes : goal.returns-in-Some-clause-makes
@@ -25,10 +25,11 @@ returns-in-Some-clause-makes c = λ shift timed.
     let standing = c.in-Some.standing in
     let items = c.put_record.new.line.bytes.items in
     let text = take standing.end items in
-    let body = subst (λ n. PutsBody known o.stream.now head.event.now c.args.part.now at.bytes.now o.content head.end n standing.place text) c.spent.ensures.value c.in-Some.ensures.puts in
+    let puts = rw c.keep_short.ensures at c.in-Some.ensures.puts in
+    let body = subst (λ n. PutsBody known o.stream.now head.event.now c.args.line.now.part at.bytes.now o.content head.end n standing.place text) c.spent.ensures.value puts in
     let made = c.with_text.result.record in
-    subst (λ t. Made o.stream.now (record_there shift old at) c.args.part.now known items made t) (sym c.with_text.ensures.text)
-    (text_made shift o old at.bytes.now c.args.part.now at.clock at.place head (values_of known) known.spent known text standing.place made (refl, refl) (c.in_ok-head.ensures.puts shift timed) body c.in-Some.ensures.forward c.with_text.ensures.record)
+    subst (λ t. Made o.stream.now (record_there shift old at) c.args.line.now.part known items made t) (sym c.with_text.ensures.text)
+    (text_made shift o old at.bytes.now c.args.line.now.part at.clock at.place head (values_of known) known.spent known text standing.place made (refl, refl) (c.in_ok-head.ensures.puts shift timed) body c.in-Some.ensures.forward c.with_text.ensures.record)
 
 pub returns-in_err-record-clause-makes : goal.returns-in_err-record-clause-makes
 returns-in_err-record-clause-makes c = λ shift timed.
@@ -38,8 +39,8 @@ returns-in_err-record-clause-makes c = λ shift timed.
     let f = c.in_err-record.field-0.0 in
     let is : c.from_residual-in_err-record.result ≡ Err f = search rules in
     let known = c.next_head.new.scopes in
-    subst (λ r. Makes o.stream.now (record_there shift old at) c.args.part.now c.read_values.new.scopes c.if-is_none.line.bytes.items r) (sym is)
-    (fault_made shift o old at.bytes.now c.args.part.now at.clock at.place c.in_ok-head.head (values_of known) known.spent c.read_values.new.scopes f (c.in_ok-head.ensures.puts shift timed) c.in_err-record.ensures.values)
+    subst (λ r. Makes o.stream.now (record_there shift old at) c.args.line.now.part c.read_values.new.scopes c.if-is_none.line.bytes.items r) (sym is)
+    (fault_made shift o old at.bytes.now c.args.line.now.part at.clock at.place c.in_ok-head.head (values_of known) known.spent c.read_values.new.scopes f (c.in_ok-head.ensures.puts shift timed) c.in_err-record.ensures.values)
 
 pub returns-clause-makes : goal.returns-clause-makes
 returns-clause-makes c = λ shift timed.
@@ -47,4 +48,4 @@ returns-clause-makes c = λ shift timed.
     let o = at.packet.now in
     let old = values_of c.args.scopes.now in
     let known = c.next_head.new.scopes in
-    value_made shift o old at.bytes.now c.args.part.now at.clock at.place c.in_ok-head.head (values_of known) known.spent c.read_values.new.scopes c.in_ok-record.record (c.in_ok-head.ensures.puts shift timed) c.in_ok-record.ensures.values
+    value_made shift o old at.bytes.now c.args.line.now.part at.clock at.place c.in_ok-head.head (values_of known) known.spent c.read_values.new.scopes c.in_ok-record.record (c.in_ok-head.ensures.puts shift timed) c.in_ok-record.ensures.values

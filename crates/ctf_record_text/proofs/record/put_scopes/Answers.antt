@@ -14,6 +14,7 @@ returns-clause-puts c =
     let context_of_event : option_copied c.as_ref-context.result ≡ told.head.event.now.context = search rules in
     let own = rw context_of_event at c.in_ok-own.ensures.puts in
     let all = c.in_ok-all.all in
+    let begins = rw c.as_slice.ensures at c.in-Ok.ensures.text in
     let text = take all.end c.put_standing.new.buffer.items in
-    puts_body c.args.scopes.now c.clear.new.self c.clear-2.new.self c.put_scope.new.last c.put_scope-2.new.last c.put_standing.new.last stream told.head.event.now c.args.part.now packet.bytes.now packet.end front c.in_ok-shared.shared c.in_ok-own.own all.place all.spent (take c.in-Ok.end c.put_front.new.buffer.items) _ _ text
-    c.clear.ensures c.clear-2.ensures c.in-Ok.ensures.text shared own c.in_ok-all.ensures.puts
+    puts_body c.args.scopes.now c.clear.new.self c.clear-2.new.self c.put_scope.new.last c.put_scope-2.new.last c.put_standing.new.last stream told.head.event.now c.args.line.now.part packet.bytes.now packet.end front c.in_ok-shared.shared c.in_ok-own.own all.place all.spent (take c.in-Ok.end c.put_front.new.buffer.items) _ _ text
+    c.clear.ensures c.clear-2.ensures begins shared own c.in_ok-all.ensures.puts

@@ -1,4 +1,4 @@
-use Rattle.std.proofs.Common.{◌≡◌, ◌+◌, ◌≤◌, refl, sym, ap, ◌∙◌, arith}
+use Rattle.std.proofs.Common.{◌≡◌, ◌+◌, ◌≤◌, refl, sym, ap, ◌∙◌, arith, rules}
 use Rattle.ctf_bits.specs.Number.{number}
 use Rattle.ctf_clock.specs.Clock.{advanced}
 use Rattle.ctf_decode.specs.Input.{bits_of}
@@ -19,7 +19,7 @@ returns-clause-tells c = λ class is.
     let none : begin + 0 ≡ begin = omega arith in
     let id_is : id ≡ number i.order bytes begin (bits_of i) = read_so short.tag_window i bytes _ begin 0 id c.in_ok-id.ensures.value read.tag read.tag_order starts ∙ ap (λ b. number i.order bytes b (bits_of i)) none in
     let n_is = read_so short.stamp_window j bytes _ begin short.stamp_place n c.in_ok-number.ensures.value read.stamp read.stamp_order starts in
-    let within : begin + short.end ≤ c.args.packet.now.end = omega (arith, c.if-end-packet.false) in
+    let within : begin + short.end ≤ c.args.packet.now.end = search rules in
     tells_short c.args.timeline.now short class bytes c.args.packet.now.end c.args.place c.args.clock c.in_ok-clock.clock begin (begin + short.end) id n is
     c.up-begin.ensures.value c.up-begin.ensures.least.multiple refl within
     id_is c.if-id-short.false c.if-id-short-2.false n_is (ap (λ w. advanced c.args.timeline.now c.args.clock w n) (sym c.bits.ensures.value) ∙ sym c.in_ok-clock.ensures)

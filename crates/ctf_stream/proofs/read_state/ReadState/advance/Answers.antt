@@ -36,6 +36,20 @@ returns-in-Some-clause-advances g c = λ tells.
     let enters = entered (g.S.Source.ending c.loop-fault.source) ending left after middle entered_at c.in-Ok-true.field-0 (before.ending tells) c.in-Ok-true.field-0-test (c.in-Ok-true.ensures.enters (before.tells tells)) in
     also_before _ (coming_of ending after entered_at) (coming_of ending after new) new.cut new.scopes new.buffer new.packet after c.in-Some.front (steps.0 ∙ enters) (c.in-Some.ensures.advances ending after)
 
+pub returns-in-Some-next_written-clause-advances : goal.returns-in-Some-next_written-clause-advances
+returns-in-Some-next_written-clause-advances g c = λ tells.
+    let ending = g.S.Source.ending c.args.source.now in
+    let left = g.S.Source.left c.loop-fault.source in
+    let middle = c.step_within.new.self in
+    let entered_at = c.enter.new.self in
+    let after = g.S.Source.left c.enter.new.source in
+    let new = c.next_written-in-loop-fault.new.self in
+    let before = c.loop-fault.invariant in
+    let steps = stepped _ (coming_of ending left c.loop-fault.self) (coming_of ending left middle) middle.cut middle.scopes middle.buffer middle.packet c.in-Ok-None.field-0 (before.coming tells) c.in-Ok-None.field-0-is (c.in-Ok-None.ensures.steps ending left) in
+    let enters = entered (g.S.Source.ending c.loop-fault.source) ending left after middle entered_at c.in-Ok-true.field-0 (before.ending tells) c.in-Ok-true.field-0-test (c.in-Ok-true.ensures.enters (before.tells tells)) in
+    let tried = ap (coming_of ending after) (sym (if_none c.next_written.result _ c.in_default.is c.next_written.ensures.none)) in
+    also_before _ (coming_of ending after c.next_written.new.self) (coming_of ending after new) new.cut new.scopes new.buffer new.packet after c.in-Some-next_written.front (steps.0 ∙ enters ∙ tried) (c.in-Some-next_written.ensures.advances ending after)
+
 pub loop-fault-preserved : goal.loop-fault-preserved
 loop-fault-preserved g c =
     let ending = g.S.Source.ending c.args.source.now in
@@ -49,7 +63,7 @@ loop-fault-preserved g c =
       ending = λ h. c.enter.ensures.same_end (before.tells h) ∙ before.ending h;
       coming = (λ h.
           let steps = stepped _ (coming_of ending left c.loop-fault.self) (coming_of ending left middle) middle.cut middle.scopes middle.buffer middle.packet c.in-Ok-None.field-0 (before.coming h) c.in-Ok-None.field-0-is (c.in-Ok-None.ensures.steps ending left) in
-          steps.0 ∙ entered (g.S.Source.ending c.loop-fault.source) ending left after middle new c.in-Ok-true.field-0 (before.ending h) c.in-Ok-true.field-0-test (c.in-Ok-true.ensures.enters (before.tells h)) ∙ ap (coming_of ending after) (sym (if_none c.next_written.result _ c.in_default.is c.next_written.ensures.none)));
+          steps.0 ∙ entered (g.S.Source.ending c.loop-fault.source) ending left after middle new c.in-Ok-true.field-0 (before.ending h) c.in-Ok-true.field-0-test (c.in-Ok-true.ensures.enters (before.tells h)) ∙ ap (coming_of ending after) (sym (if_none c.next_written.result _ c.in_default.is c.next_written.ensures.none)) ∙ ap (coming_of ending after) (sym (if_none c.next_written-in-loop-fault.result _ c.in_default-next_written.is c.next_written-in-loop-fault.ensures.none)));
       counted = (λ h. search rules);
       forward = search rules;
       trace = search rules;

@@ -14,7 +14,7 @@ use std::marker::Model;
 /// The part that the lines of a packet's event records share, in memory that is kept from packet to packet.
 /// Contracts see its text.
 #[derive(Drop)]
-pub(crate) struct PacketPart {
+pub struct PacketPart {
     /// After the text come unspecified bytes.
     bytes: Vec<u8>,
     end: usize,
@@ -32,7 +32,7 @@ impl Model for PacketPart {
 
 impl PacketPart {
     /// No text. No memory is taken.
-    pub(crate) fn new(alloc: Global) -> PacketPart
+    pub fn new(alloc: Global) -> PacketPart
         ensures { result ≡ [] }
     {
         PacketPart {
@@ -41,12 +41,10 @@ impl PacketPart {
         }
     }
 
-    /// Makes the text of a packet context.
-    pub(crate) fn make(
-        &mut self,
-        class: Option<&Class>,
-        context: Option<&Value>,
-    ) -> Result<(), NoMemory>
+    /// Makes the text of a packet context (CTF 1.8.3, section 5.2) in place of the one before.
+    ///
+    /// It fails where an allocation fails, and the text is then unspecified.
+    pub fn make(&mut self, class: Option<&Class>, context: Option<&Value>) -> Result<(), NoMemory>
         ensures { OnOk result (self.new ≡
             packet_part (option_copied class.entry)
             (option_map val (option_copied context.entry))) }
@@ -57,7 +55,7 @@ impl PacketPart {
     }
 
     /// The text.
-    pub(crate) fn as_slice(&self) -> &[u8]
+    pub fn as_slice(&self) -> &[u8]
         ensures { result.now ≡ self.now }
     {
         &self.bytes[..self.end]
