@@ -1,5 +1,5 @@
 -- A packet that was fetched.
-use Rattle.std.proofs.Common.{◌≡◌, ℕ, ◌+◌, ◌-◌, ◌<◌, ◌≤◌, false, List, [], ◌∷◌, ◌++◌, length, take, drop, nat_lt, Option, Some, Ok, if◌then◌else◌, sym, ap, ◌∙◌, arith, length-append}
+use Rattle.std.proofs.Common.{◌≡◌, ℕ, ◌+◌, ◌-◌, ◌<◌, ◌≤◌, false, List, [], ◌∷◌, ◌++◌, length, take, drop, nat_lt, Option, Some, Ok, Err, inl, inr, if◌then◌else◌, sym, ap, ◌∙◌, arith, length-append}
 use Rattle.std.proofs.lemmas.Bool.Decides.{nat_tests}
 use Rattle.std.proofs.Math.Seq.{take-append_seam, drop-append_seam}
 use Rattle.ctf_bits.specs.declared.source.Ending.{Ending}
@@ -8,9 +8,10 @@ use Rattle.ctf_packet.specs.Classes.{Classes, TraceForm}
 use Rattle.ctf_packet.specs.Packets.{Opened, open_at, reached_behind}
 use Rattle.ctf_packet.specs.Items.{Run, stops, longest_stream, opened, from_packet, from_bytes}
 use Rattle.ctf_packet.specs.declared.reached.Reached.{Reached}
+use Rattle.ctf_packet.specs.declared.fault.StreamFault.{StreamFault}
 use Rattle.ctf_packet.specs.declared.fault.StreamFault.TheVariants as faults
 use Rattle.ctf_packet.proofs.Cutting.{goes_on}
-use Rattle.ctf_fetch.specs.Fetching.{behind_packet}
+use Rattle.ctf_fetch.specs.Fetching.{behind_packet, OrNoMemory}
 
 module _ (trace : TraceForm Classes) (ending : Ending) (reached : Option Reached) (at : ℕ) where
   -- what follows a packet of what is left
@@ -33,3 +34,8 @@ module _ (trace : TraceForm Classes) (ending : Ending) (reached : Option Reached
       opens left (let n = ap length same in let m = length-append bytes rest in omega (arith, n, m, some)) near ∙ ap (opened at left (behind left)) is
       ∙ ap (λ l. from_packet packet l (behind left packet)) front
       ∙ ap (λ l. from_packet packet bytes (λ clock. from_bytes trace ending (Some (reached_behind packet clock)) packet.end l)) behind_is
+
+  pub not_fetched : (left : List ℕ) (fault : StreamFault) → 0 < length left → at ≤ longest_stream → OrNoMemory (λ f. open_at trace ending reached at left ≡ Err f) fault
+      → OrNoMemory (λ f. from_bytes trace ending reached at left ≡ stops (Some f) at) fault
+  not_fetched left fault some near (inl refused) = inl refused
+  not_fetched left fault some near (inr is) = inr (opens left some near ∙ ap (opened at left (behind left)) is)

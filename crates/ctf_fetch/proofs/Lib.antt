@@ -1,3 +1,4 @@
+mod Keeping
 mod Bytes
 mod Parts
 mod Taking

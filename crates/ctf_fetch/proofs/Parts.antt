@@ -1,5 +1,5 @@
 -- What is decoded while the bytes of a packet come.
-use Rattle.std.proofs.Common.{◌≡◌, ℕ, suc, ◌+◌, ◌-◌, ◌*◌, ◌/◌, ◌<◌, ◌≤◌, false, cond, List, [], ◌∷◌, ◌++◌, length, take, drop, get_or, map, Some, None, Ok, Err, inl, inr, refl, sym, ap, subst, ◌∙◌, arith, nat_lt, nat_eq, length-append, length-drop, take-take}
+use Rattle.std.proofs.Common.{◌≡◌, ℕ, suc, ◌+◌, ◌-◌, ◌*◌, ◌/◌, ◌<◌, ◌≤◌, false, cond, List, [], ◌∷◌, ◌++◌, length, take, drop, get_or, map, Some, None, Ok, Err, inl, inr, refl, sym, ap, subst, ◌∙◌, arith, nat_lt, nat_eq, length-append, length-drop}
 use Rattle.std.specs.Prelude.{min, max, position, Result, IfOk}
 use Rattle.std.specs.Int.{next_multiple_of}
 use Rattle.std.specs.List.{position_or_len}
@@ -42,11 +42,6 @@ grown_more before after more first =
     ap (λ l. l ++ more) (grown_all before after first) ∙ append_assoc before (drop (length before) after) more
 
 -- bytes that begin with bytes that begin with these
-pub took : (before between after : List ℕ) → length before ≤ length between → take (length before) between ≡ before → take (length between) after ≡ between
-    → take (length before) after ≡ before
-took before between after less first second =
-    sym (take-take (length before) (length between) after less) ∙ ap (take (length before)) second ∙ first
-
 module _ (k : Form) (env : Env) (known : Known) (p s : ℕ) where
   abbrev pub at : List ℕ → Step Val
   at bytes = walk k (there bytes known) env p s

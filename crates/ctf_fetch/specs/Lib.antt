@@ -1,4 +1,5 @@
 pub mod Filling
+pub mod Keeping
 pub mod Fetching
 pub mod Openings
 pub mod Demand

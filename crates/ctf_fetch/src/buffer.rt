@@ -4,6 +4,7 @@ ghost use Rattle.std.specs.Prelude.{◌≡◌, ◌≤◌, ◌<◌, ◌+◌, [], 
 ghost use Rattle.ctf_bits.specs.declared.source.Ending.TheVariants.{Clean, Failed};
 ghost use Rattle.ctf_packet.specs.declared.fault.StreamFault.TheVariants.{NoMemory};
 ghost use Rattle.ctf_fetch.specs.Filling.{Fills, Counts};
+ghost use Rattle.ctf_fetch.specs.Keeping.{KeepsBytes};
 
 use ctf_bits::{Ending, Source, SourceFault};
 use ctf_packet::StreamFault;
@@ -99,16 +100,11 @@ impl Buffer {
         target: usize,
     ) -> Result<Filled, StreamFault>
         requires { length self.old ≤ target }
-        ensures tells { IsTrue (S.tells source.old) → IsTrue (S.tells source.new) }
-        ensures same_end { IsTrue (S.tells source.old) → S.ending source.new ≡ S.ending source.old }
-        ensures kept { IsTrue (S.tells source.old) →
-            self.new ++ S.left source.new ≡ self.old ++ S.left source.old }
+        ensures keeps { KeepsBytes S.Source source.old source.new self.old self.new }
         ensures fills { IsTrue (S.tells source.old) →
             Fills (S.ending source.old) (S.left source.new) result }
         ensures counts { Counts target (length self.new) result }
-        ensures grown { length self.old ≤ length self.new }
         ensures bounded { length self.new ≤ target }
-        ensures first { take (length self.old) self.new ≡ self.old }
         ensures refused { IfErr result (λ fault. fault ≡ NoMemory) }
     {
         while self.filled < target {
@@ -126,10 +122,7 @@ impl Buffer {
         target: usize,
     ) -> Result<Option<Ending>, StreamFault>
         requires { length self.old < target }
-        ensures tells { IsTrue (S.tells source.old) → IsTrue (S.tells source.new) }
-        ensures same_end { IsTrue (S.tells source.old) → S.ending source.new ≡ S.ending source.old }
-        ensures kept { IsTrue (S.tells source.old) →
-            self.new ++ S.left source.new ≡ self.old ++ S.left source.old }
+        ensures keeps { KeepsBytes S.Source source.old source.new self.old self.new }
         ensures ended { IsTrue (S.tells source.old) →
             IfOk result (λ ended.
             IfSome ended (λ e. (e ≡ S.ending source.old) × (S.left source.new ≡ []))) }
@@ -137,9 +130,7 @@ impl Buffer {
         ensures refused { IfErr result (λ fault. fault ≡ NoMemory) }
         ensures nothing { IfOk result
             (λ ended. IfSome ended (λ _. length self.old ≡ length self.new)) }
-        ensures grown { length self.old ≤ length self.new }
         ensures bounded { length self.new ≤ target }
-        ensures first { take (length self.old) self.new ≡ self.old }
     {
         grow(&mut self.bytes, self.filled, target)?;
         let end = (self.bytes.len() - PADDING).min(target);

@@ -12,8 +12,10 @@ ghost use Rattle.ctf_fetch.specs.Fetching.{longest_bytes, OrNoMemory, Fetches, F
 ghost use Rattle.ctf_packet.specs.declared.fault.StreamFault.TheVariants.{NoMemory};
 ghost use Rattle.ctf_fetch.specs.Demand.{FrontTakes};
 ghost use Rattle.ctf_fetch.specs.Openings.{want_of, FitsOpening, TakesWhole, TakesRest, TakesSized, Opens};
+ghost use Rattle.ctf_fetch.specs.Keeping.{Keeps};
 
 use crate::buffer::{Buffer, Filled};
+use crate::intake::Intake;
 use crate::least::least_front;
 use crate::scope::{NextScope, scope_on_demand};
 use ctf_bits::{Ending, Source};
@@ -59,44 +61,35 @@ pub(crate) struct Opening<'a> {
 }
 
 /// Takes the bytes of a packet of a size, in bytes.
-fn fill_whole<S: Source>(
-    source: &mut S,
-    buffer: &mut Buffer,
-    count: usize,
-) -> Result<(), StreamFault>
-    requires { length buffer.old ≤ count }
-    ensures tells { IsTrue (S.tells source.old) → IsTrue (S.tells source.new) }
-    ensures same_end { IsTrue (S.tells source.old) → S.ending source.new ≡ S.ending source.old }
-    ensures kept { IsTrue (S.tells source.old) →
-        buffer.new ++ S.left source.new ≡ buffer.old ++ S.left source.old }
-    ensures takes { IsTrue (S.tells source.old) →
-        TakesWhole (S.ending source.old) count buffer.new (S.left source.new) result }
-    ensures whole { OnOk result (length buffer.new ≡ count) }
-    ensures few { length buffer.new ≤ count }
+fn fill_whole<S: Source>(intake: &mut Intake<'_, S>, count: usize) -> Result<(), StreamFault>
+    requires { length intake.old.buffer.now ≤ count }
+    ensures keeps { Keeps S.Source intake.old intake.new }
+    ensures takes { IsTrue (S.tells intake.old.source.now) →
+        TakesWhole (S.ending intake.old.source.now) count intake.new.buffer.now
+        (S.left intake.new.source.now) result }
+    ensures whole { OnOk result (length intake.new.buffer.now ≡ count) }
+    ensures few { length intake.new.buffer.now ≤ count }
 {
-    match buffer.fill(source, count)? {
+    match intake.fill(count)? {
         Filled::Whole => Ok(()),
         Filled::Ended(ending) => Err(cut_short(ending)),
     }
 }
 
 /// Takes all bytes that are left, if a packet can have as many. How the stream ends.
-fn fill_rest<S: Source>(source: &mut S, buffer: &mut Buffer) -> Result<Ending, StreamFault>
-    requires { length buffer.old ≤ longest_bytes }
-    ensures tells { IsTrue (S.tells source.old) → IsTrue (S.tells source.new) }
-    ensures same_end { IsTrue (S.tells source.old) → S.ending source.new ≡ S.ending source.old }
-    ensures kept { IsTrue (S.tells source.old) →
-        buffer.new ++ S.left source.new ≡ buffer.old ++ S.left source.old }
-    ensures takes { IsTrue (S.tells source.old) →
-        TakesRest (S.ending source.old) buffer.new (S.left source.new) result }
-    ensures whole { OnOk result (length buffer.new ≤ longest_bytes) }
-    ensures few { length buffer.new ≤ longest_bytes + 1 }
-    ensures grown { length buffer.old ≤ length buffer.new }
+fn fill_rest<S: Source>(intake: &mut Intake<'_, S>) -> Result<Ending, StreamFault>
+    requires { length intake.old.buffer.now ≤ longest_bytes }
+    ensures keeps { Keeps S.Source intake.old intake.new }
+    ensures takes { IsTrue (S.tells intake.old.source.now) →
+        TakesRest (S.ending intake.old.source.now) intake.new.buffer.now
+        (S.left intake.new.source.now) result }
+    ensures whole { OnOk result (length intake.new.buffer.now ≤ longest_bytes) }
+    ensures few { length intake.new.buffer.now ≤ longest_bytes + 1 }
 {
-    match buffer.fill(source, LONGEST_BYTES + 1)? {
+    match intake.fill(LONGEST_BYTES + 1)? {
         Filled::Whole => Err(StreamFault::ImpossibleSizes),
         Filled::Ended(ending) => {
-            buffer.fit();
+            intake.buffer.fit();
             Ok(ending)
         }
     }
@@ -166,7 +159,8 @@ impl<'a> PacketStart<'a> {
         ensures few { length buffer.new ≤ longest_bytes + 1 }
         ensures last { 2 ^ 60 < self.now.at → length buffer.new ≤ 1 }
     {
-        match self.take_first(source, buffer)? {
+        let mut intake = Intake { source, buffer };
+        match self.take_first(&mut intake)? {
             Some(Ending::Clean) => return Ok(None),
             Some(Ending::Failed) => return Err(StreamFault::ReadFailed),
             None => {}
@@ -174,7 +168,7 @@ impl<'a> PacketStart<'a> {
         if self.at > LONGEST_STREAM {
             return Err(StreamFault::StreamTooLong);
         }
-        match self.open(alloc, source, buffer, scopes) {
+        match self.open(alloc, &mut intake, scopes) {
             Ok(packet) => Ok(Some(packet)),
             Err(fault) => Err(fault),
         }
@@ -184,21 +178,18 @@ impl<'a> PacketStart<'a> {
     /// no byte more.
     fn take_first<S: Source>(
         &self,
-        source: &mut S,
-        buffer: &mut Buffer,
+        intake: &mut Intake<'_, S>,
     ) -> Result<Option<Ending>, StreamFault>
-        requires empty { buffer.old ≡ [] }
-        ensures tells { IsTrue (S.tells source.old) → IsTrue (S.tells source.new) }
-        ensures same_end { IsTrue (S.tells source.old) → S.ending source.new ≡ S.ending source.old }
-        ensures kept { IsTrue (S.tells source.old) →
-            buffer.new ++ S.left source.new ≡ buffer.old ++ S.left source.old }
-        ensures ended { IsTrue (S.tells source.old) →
+        requires empty { intake.old.buffer.now ≡ [] }
+        ensures keeps { Keeps S.Source intake.old intake.new }
+        ensures ended { IsTrue (S.tells intake.old.source.now) →
             IfOk result (λ ended.
-            IfSome ended (λ e. (e ≡ S.ending source.old) × (S.left source.new ≡ []))) }
-        ensures nothing { IfOk result (λ ended. IfSome ended (λ _. buffer.new ≡ [])) }
-        ensures some { IfOk result (λ ended. ended ≡ None → 0 < length buffer.new) }
-        ensures few { length buffer.new ≤ max 1 self.now.least }
-        ensures last { 2 ^ 60 < self.now.at → length buffer.new ≤ 1 }
+            IfSome ended (λ e. (e ≡ S.ending intake.old.source.now) ×
+            (S.left intake.new.source.now ≡ []))) }
+        ensures nothing { IfOk result (λ ended. IfSome ended (λ _. intake.new.buffer.now ≡ [])) }
+        ensures some { IfOk result (λ ended. ended ≡ None → 0 < length intake.new.buffer.now) }
+        ensures few { length intake.new.buffer.now ≤ max 1 self.now.least }
+        ensures last { 2 ^ 60 < self.now.at → length intake.new.buffer.now ≤ 1 }
         ensures refused { IfErr result (λ fault. fault ≡ NoMemory) }
     {
         let count = if self.at > LONGEST_STREAM {
@@ -206,8 +197,8 @@ impl<'a> PacketStart<'a> {
         } else {
             self.least.max(1)
         };
-        match buffer.fill(source, count)? {
-            Filled::Ended(ending) if buffer.len() == 0 => Ok(Some(ending)),
+        match intake.fill(count)? {
+            Filled::Ended(ending) if intake.len() == 0 => Ok(Some(ending)),
             _ => Ok(None),
         }
     }
@@ -216,28 +207,24 @@ impl<'a> PacketStart<'a> {
     fn open<S: Source>(
         &self,
         alloc: Global,
-        source: &mut S,
-        buffer: &mut Buffer,
+        intake: &mut Intake<'_, S>,
         scopes: &mut Scopes,
     ) -> Result<OpenPacket<'a>, StreamFault>
         requires at { self.now.at ≤ 2 ^ 60 }
-        requires some { 0 < length buffer.old }
-        requires few { length buffer.old ≤ max 1 self.now.least }
-        ensures tells { IsTrue (S.tells source.old) → IsTrue (S.tells source.new) }
-        ensures same_end { IsTrue (S.tells source.old) → S.ending source.new ≡ S.ending source.old }
-        ensures kept { IsTrue (S.tells source.old) →
-            buffer.new ++ S.left source.new ≡ buffer.old ++ S.left source.old }
+        requires some { 0 < length intake.old.buffer.now }
+        requires few { length intake.old.buffer.now ≤ max 1 self.now.least }
+        ensures keeps { Keeps S.Source intake.old intake.new }
         ensures opens { let cut = self.now in
-            IsTrue (S.tells source.old) →
+            IsTrue (S.tells intake.old.source.now) →
             Opens cut.shift scopes.new
-            (open_at (trace_form cut.shift cut.trace.now) (S.ending source.old) cut.reached
-            cut.at (buffer.old ++ S.left source.old)) result }
-        ensures at { IfOk result (FetchedAt self.now.at buffer.new self.now.shift) }
+            (open_at (trace_form cut.shift cut.trace.now) (S.ending intake.old.source.now)
+            cut.reached cut.at (intake.old.buffer.now ++ S.left intake.old.source.now)) result }
+        ensures at { IfOk result (FetchedAt self.now.at intake.new.buffer.now self.now.shift) }
         ensures alone { OnOk result (packet_values (values_of scopes.new) ≡ values_of scopes.new) }
-        ensures few { length buffer.new ≤ longest_bytes + 1 }
+        ensures few { length intake.new.buffer.now ≤ longest_bytes + 1 }
     {
-        let opening = self.begin(alloc, source, buffer, scopes)?;
-        match fill_sizes(source, buffer, opening) {
+        let opening = self.begin(alloc, intake, scopes)?;
+        match fill_sizes(intake, opening) {
             Err(fault) => Err(fault),
             Ok(sizes) => {
                 let Begun { stream, first } = opening.begun;
@@ -252,30 +239,28 @@ impl<'a> PacketStart<'a> {
     fn begin<S: Source>(
         &self,
         alloc: Global,
-        source: &mut S,
-        buffer: &mut Buffer,
+        intake: &mut Intake<'_, S>,
         scopes: &mut Scopes,
     ) -> Result<Opening<'a>, StreamFault>
-        requires some { 0 < length buffer.old }
-        requires few { length buffer.old ≤ max 1 self.now.least }
-        ensures tells { IsTrue (S.tells source.old) → IsTrue (S.tells source.new) }
-        ensures same_end { IsTrue (S.tells source.old) → S.ending source.new ≡ S.ending source.old }
-        ensures kept { IsTrue (S.tells source.old) →
-            buffer.new ++ S.left source.new ≡ buffer.old ++ S.left source.old }
+        requires some { 0 < length intake.old.buffer.now }
+        requires few { length intake.old.buffer.now ≤ max 1 self.now.least }
+        ensures keeps { Keeps S.Source intake.old intake.new }
         ensures asks { let cut = self.now in
             IfOk result (λ opening.
-            wants.wanted (trace_form cut.shift cut.trace.now) cut.reached buffer.new ≡
+            wants.wanted (trace_form cut.shift cut.trace.now) cut.reached intake.new.buffer.now ≡
             want_of cut.shift scopes.new opening opening.sizes) }
         ensures faulty { let cut = self.now in
-            IsTrue (S.tells source.old) →
+            IsTrue (S.tells intake.old.source.now) →
             IfErr result (OrNoMemory
             (λ fault. open_at (trace_form cut.shift cut.trace.now)
-            (S.ending source.old) cut.reached cut.at (buffer.new ++ S.left source.new) ≡
-            Err fault)) }
-        ensures fits { IfOk result (λ opening. FitsOpening (length buffer.new) opening.sizes) }
-        ensures first { IfOk result (λ opening. opening.begun.first ≤ 8 * length buffer.new) }
-        ensures some { 0 < length buffer.new }
-        ensures few { length buffer.new ≤ longest_bytes }
+            (S.ending intake.old.source.now) cut.reached cut.at
+            (intake.new.buffer.now ++ S.left intake.new.source.now) ≡ Err fault)) }
+        ensures fits { IfOk result
+            (λ opening. FitsOpening (length intake.new.buffer.now) opening.sizes) }
+        ensures first { IfOk result
+            (λ opening. opening.begun.first ≤ 8 * length intake.new.buffer.now) }
+        ensures some { 0 < length intake.new.buffer.now }
+        ensures few { length intake.new.buffer.now ≤ longest_bytes }
     {
         let mut scratch = forget(scopes);
         let header = NextScope {
@@ -284,7 +269,7 @@ impl<'a> PacketStart<'a> {
             end: 0,
             alloc,
         };
-        let end = scope_on_demand(&header, source, buffer, &mut scratch.header, scopes)?;
+        let end = scope_on_demand(&header, intake, &mut scratch.header, scopes)?;
         let reached = self.reached.as_ref();
         let stream = stream_checked(self.trace, reached, scopes.get(Scope::PacketHeader))?;
         let context = NextScope {
@@ -293,7 +278,7 @@ impl<'a> PacketStart<'a> {
             end,
             alloc,
         };
-        let first = scope_on_demand(&context, source, buffer, &mut scratch.context, scopes)?;
+        let first = scope_on_demand(&context, intake, &mut scratch.context, scopes)?;
         match judge_sizes(Begun { stream, first }, scopes.get(Scope::PacketContext))? {
             Want::Rest(begun) => Ok(Opening { begun, sizes: None }),
             Want::Whole(begun, sizes) => {
@@ -327,37 +312,34 @@ fn forget(scopes: &mut Scopes) -> PacketScratch
 
 /// Takes the bytes of a packet with this opening. Its sizes.
 fn fill_sizes<S: Source>(
-    source: &mut S,
-    buffer: &mut Buffer,
+    intake: &mut Intake<'_, S>,
     opening: Opening<'_>,
 ) -> Result<Sizes, StreamFault>
-    requires fits { FitsOpening (length buffer.old) opening.sizes }
-    requires few { length buffer.old ≤ longest_bytes }
+    requires fits { FitsOpening (length intake.old.buffer.now) opening.sizes }
+    requires few { length intake.old.buffer.now ≤ longest_bytes }
     requires possible { IfSome opening.sizes (λ sizes. are_possible sizes opening.begun.first ≡
         true) }
-    ensures tells { IsTrue (S.tells source.old) → IsTrue (S.tells source.new) }
-    ensures same_end { IsTrue (S.tells source.old) → S.ending source.new ≡ S.ending source.old }
-    ensures kept { IsTrue (S.tells source.old) →
-        buffer.new ++ S.left source.new ≡ buffer.old ++ S.left source.old }
-    ensures few { length buffer.new ≤ longest_bytes + 1 }
-    ensures takes { IsTrue (S.tells source.old) →
-        TakesSized (S.ending source.old) opening.entry.begun.first buffer.new
-        (S.left source.new) opening.entry.sizes result }
-    ensures fitting { IfOk result (Fitting opening.entry.begun.first (length buffer.new)) }
-    ensures packet { IfOk result (λ sizes. sizes.packet ≡ 8 * length buffer.new) }
+    ensures keeps { Keeps S.Source intake.old intake.new }
+    ensures few { length intake.new.buffer.now ≤ longest_bytes + 1 }
+    ensures takes { IsTrue (S.tells intake.old.source.now) →
+        TakesSized (S.ending intake.old.source.now) opening.entry.begun.first intake.new.buffer.now
+        (S.left intake.new.source.now) opening.entry.sizes result }
+    ensures fitting { IfOk result
+        (Fitting opening.entry.begun.first (length intake.new.buffer.now)) }
+    ensures packet { IfOk result (λ sizes. sizes.packet ≡ 8 * length intake.new.buffer.now) }
 {
     match opening.sizes {
         Some(sizes) => {
-            match fill_whole(source, buffer, (sizes.packet / 8) as usize) {
+            match fill_whole(intake, (sizes.packet / 8) as usize) {
                 Err(fault) => Err(fault),
                 Ok(()) => Ok(sizes),
             }
         }
         None => {
             let first = opening.begun.first;
-            match fill_rest(source, buffer) {
+            match fill_rest(intake) {
                 Err(fault) => Err(fault),
-                Ok(ending) => sizes_checked(None, None, ending, buffer.as_slice(), first),
+                Ok(ending) => sizes_checked(None, None, ending, intake.as_slice(), first),
             }
         }
     }

@@ -6,8 +6,9 @@ ghost use Rattle.std.specs.Prelude.{◌≡◌, ◌+◌, ◌*◌, ◌≤◌, ◌+
 ghost use Rattle.ctf_packet.specs.Scopes.{longest};
 ghost use Rattle.ctf_fetch.specs.Demand.{found_at, members_at, elements_at, options_at, IsFound, Failed};
 ghost use Rattle.ctf_fetch.specs.Fetching.{longest_bytes, OrNoMemory};
+ghost use Rattle.ctf_fetch.specs.Keeping.{Keeps};
 
-use crate::buffer::Buffer;
+use crate::intake::Intake;
 use crate::least::least_end;
 use crate::needed::{leaf_on_demand, opening_end, string_on_demand, whole_on_demand};
 use ctf_bits::Source;
@@ -35,41 +36,35 @@ pub(crate) struct Place<'a> {
 pub(crate) fn value_on_demand<S: Source>(
     class: &Class,
     place: &Place<'_>,
-    source: &mut S,
-    buffer: &mut Buffer,
+    intake: &mut Intake<'_, S>,
 ) -> Result<Decoded, StreamFault>
-    requires start { place.now.end ≤ min (8 * length buffer.old) longest }
-    requires few { length buffer.old ≤ longest_bytes }
-    ensures tells { IsTrue (S.tells source.old) → IsTrue (S.tells source.new) }
-    ensures same_end { IsTrue (S.tells source.old) → S.ending source.new ≡ S.ending source.old }
-    ensures kept { IsTrue (S.tells source.old) →
-        buffer.new ++ S.left source.new ≡ buffer.old ++ S.left source.old }
-    ensures first { take (length buffer.old) buffer.new ≡ buffer.old }
-    ensures grown { length buffer.old ≤ length buffer.new }
-    ensures few { length buffer.new ≤ longest_bytes }
-    ensures value { IfOk result (IsFound (found_at class.now place.now buffer.new)) }
-    ensures within { IfOk result (λ d. d.end ≤ min (8 * length buffer.new) longest) }
+    requires start { place.now.end ≤ min (8 * length intake.old.buffer.now) longest }
+    requires few { length intake.old.buffer.now ≤ longest_bytes }
+    ensures keeps { Keeps S.Source intake.old intake.new }
+    ensures few { length intake.new.buffer.now ≤ longest_bytes }
+    ensures value { IfOk result (IsFound (found_at class.now place.now intake.new.buffer.now)) }
+    ensures within { IfOk result (λ d. d.end ≤ min (8 * length intake.new.buffer.now) longest) }
     ensures forward { IfOk result (λ d. place.now.end ≤ d.end) }
-    ensures near { IfOk result
-        (λ d. 8 * length buffer.new ≤ max (8 * length buffer.old) (d.end + 7)) }
-    ensures faulty { let all = buffer.new ++ S.left source.new in
-        IsTrue (S.tells source.old) →
+    ensures near { IfOk result (λ d.
+        8 * length intake.new.buffer.now ≤ max (8 * length intake.old.buffer.now) (d.end + 7)) }
+    ensures faulty { let all = intake.new.buffer.now ++ S.left intake.new.source.now in
+        IsTrue (S.tells intake.old.source.now) →
         IfErr result (OrNoMemory
-        (Failed (S.ending source.old) (found_at class.now place.now all))) }
+        (Failed (S.ending intake.old.source.now) (found_at class.now place.now all))) }
 {
     if let Some(end) = least_end(class, place) {
-        return whole_on_demand(class, end, place, source, buffer);
+        return whole_on_demand(class, end, place, intake);
     }
     match &class.kind {
         Kind::Structure { members } => {
-            let inner = opening_end(class.align, place, source, buffer)?;
-            members_on_demand(members.as_slice(), &inner, source, buffer)
+            let inner = opening_end(class.align, place, intake)?;
+            members_on_demand(members.as_slice(), &inner, intake)
         }
         Kind::Array { length, element } => {
             let element = element.get();
             let count = length_at(length, place.scopes, place.frame);
-            let inner = opening_end(element.align, place, source, buffer)?;
-            elements_on_demand(element, count, &inner, source, buffer)
+            let inner = opening_end(element.align, place, intake)?;
+            elements_on_demand(element, count, &inner, intake)
         }
         Kind::Variant {
             tag,
@@ -77,12 +72,12 @@ pub(crate) fn value_on_demand<S: Source>(
             options,
         } => {
             let chosen = option_at(tag, choices, place.scopes, place.frame);
-            option_on_demand(options.as_slice(), chosen, place, source, buffer)
+            option_on_demand(options.as_slice(), chosen, place, intake)
         }
-        Kind::String => string_on_demand(class, place, source, buffer),
-        Kind::Integer(_) => leaf_on_demand(class, place, source, buffer),
-        Kind::Enumeration { container, labels } => { leaf_on_demand(class, place, source, buffer) }
-        Kind::Text { length } => leaf_on_demand(class, place, source, buffer),
+        Kind::String => string_on_demand(class, place, intake),
+        Kind::Integer(_) => leaf_on_demand(class, place, intake),
+        Kind::Enumeration { container, labels } => { leaf_on_demand(class, place, intake) }
+        Kind::Text { length } => leaf_on_demand(class, place, intake),
     }
 }
 
@@ -91,27 +86,21 @@ pub(crate) fn value_on_demand<S: Source>(
 fn members_on_demand<S: Source>(
     members: &[Member],
     place: &Place<'_>,
-    source: &mut S,
-    buffer: &mut Buffer,
+    intake: &mut Intake<'_, S>,
 ) -> Result<Decoded, StreamFault>
-    requires start { place.now.end ≤ min (8 * length buffer.old) longest }
-    requires few { length buffer.old ≤ longest_bytes }
-    ensures tells { IsTrue (S.tells source.old) → IsTrue (S.tells source.new) }
-    ensures same_end { IsTrue (S.tells source.old) → S.ending source.new ≡ S.ending source.old }
-    ensures kept { IsTrue (S.tells source.old) →
-        buffer.new ++ S.left source.new ≡ buffer.old ++ S.left source.old }
-    ensures first { take (length buffer.old) buffer.new ≡ buffer.old }
-    ensures grown { length buffer.old ≤ length buffer.new }
-    ensures few { length buffer.new ≤ longest_bytes }
-    ensures value { IfOk result (IsFound (members_at members.now place.now buffer.new)) }
-    ensures within { IfOk result (λ d. d.end ≤ min (8 * length buffer.new) longest) }
+    requires start { place.now.end ≤ min (8 * length intake.old.buffer.now) longest }
+    requires few { length intake.old.buffer.now ≤ longest_bytes }
+    ensures keeps { Keeps S.Source intake.old intake.new }
+    ensures few { length intake.new.buffer.now ≤ longest_bytes }
+    ensures value { IfOk result (IsFound (members_at members.now place.now intake.new.buffer.now)) }
+    ensures within { IfOk result (λ d. d.end ≤ min (8 * length intake.new.buffer.now) longest) }
     ensures forward { IfOk result (λ d. place.now.end ≤ d.end) }
-    ensures near { IfOk result
-        (λ d. 8 * length buffer.new ≤ max (8 * length buffer.old) (d.end + 7)) }
-    ensures faulty { let all = buffer.new ++ S.left source.new in
-        IsTrue (S.tells source.old) →
+    ensures near { IfOk result (λ d.
+        8 * length intake.new.buffer.now ≤ max (8 * length intake.old.buffer.now) (d.end + 7)) }
+    ensures faulty { let all = intake.new.buffer.now ++ S.left intake.new.source.now in
+        IsTrue (S.tells intake.old.source.now) →
         IfErr result (OrNoMemory
-        (Failed (S.ending source.old) (members_at members.now place.now all))) }
+        (Failed (S.ending intake.old.source.now) (members_at members.now place.now all))) }
 {
     let mut values = List::new(place.alloc);
     let mut end = place.end;
@@ -125,7 +114,7 @@ fn members_on_demand<S: Source>(
             end,
             spent,
         };
-        let next = value_on_demand(&member.class, &inner, source, buffer)?;
+        let next = value_on_demand(&member.class, &inner, intake)?;
         end = next.end;
         spent = next.spent;
         let Ok(()) = values.push(next.value) else {
@@ -142,27 +131,22 @@ fn elements_on_demand<S: Source>(
     element: &Class,
     count: u64,
     place: &Place<'_>,
-    source: &mut S,
-    buffer: &mut Buffer,
+    intake: &mut Intake<'_, S>,
 ) -> Result<Decoded, StreamFault>
-    requires start { place.now.end ≤ min (8 * length buffer.old) longest }
-    requires few { length buffer.old ≤ longest_bytes }
-    ensures tells { IsTrue (S.tells source.old) → IsTrue (S.tells source.new) }
-    ensures same_end { IsTrue (S.tells source.old) → S.ending source.new ≡ S.ending source.old }
-    ensures kept { IsTrue (S.tells source.old) →
-        buffer.new ++ S.left source.new ≡ buffer.old ++ S.left source.old }
-    ensures first { take (length buffer.old) buffer.new ≡ buffer.old }
-    ensures grown { length buffer.old ≤ length buffer.new }
-    ensures few { length buffer.new ≤ longest_bytes }
-    ensures value { IfOk result (IsFound (elements_at element.now count place.now buffer.new)) }
-    ensures within { IfOk result (λ d. d.end ≤ min (8 * length buffer.new) longest) }
+    requires start { place.now.end ≤ min (8 * length intake.old.buffer.now) longest }
+    requires few { length intake.old.buffer.now ≤ longest_bytes }
+    ensures keeps { Keeps S.Source intake.old intake.new }
+    ensures few { length intake.new.buffer.now ≤ longest_bytes }
+    ensures value { let found = elements_at element.now count place.now intake.new.buffer.now in
+        IfOk result (IsFound found) }
+    ensures within { IfOk result (λ d. d.end ≤ min (8 * length intake.new.buffer.now) longest) }
     ensures forward { IfOk result (λ d. place.now.end ≤ d.end) }
-    ensures near { IfOk result
-        (λ d. 8 * length buffer.new ≤ max (8 * length buffer.old) (d.end + 7)) }
-    ensures faulty { let all = buffer.new ++ S.left source.new in
-        IsTrue (S.tells source.old) →
+    ensures near { IfOk result (λ d.
+        8 * length intake.new.buffer.now ≤ max (8 * length intake.old.buffer.now) (d.end + 7)) }
+    ensures faulty { let all = intake.new.buffer.now ++ S.left intake.new.source.now in
+        IsTrue (S.tells intake.old.source.now) →
         IfErr result (OrNoMemory
-        (Failed (S.ending source.old) (elements_at element.now count place.now all))) }
+        (Failed (S.ending intake.old.source.now) (elements_at element.now count place.now all))) }
 {
     let mut values = List::new(place.alloc);
     let mut end = place.end;
@@ -175,7 +159,7 @@ fn elements_on_demand<S: Source>(
             end,
             spent,
         };
-        let next = value_on_demand(element, &inner, source, buffer)?;
+        let next = value_on_demand(element, &inner, intake)?;
         end = next.end;
         spent = next.spent;
         let Ok(()) = values.push(next.value) else {
@@ -192,27 +176,22 @@ fn option_on_demand<S: Source>(
     options: &[Member],
     chosen: Option<usize>,
     place: &Place<'_>,
-    source: &mut S,
-    buffer: &mut Buffer,
+    intake: &mut Intake<'_, S>,
 ) -> Result<Decoded, StreamFault>
-    requires start { place.now.end ≤ min (8 * length buffer.old) longest }
-    requires few { length buffer.old ≤ longest_bytes }
-    ensures tells { IsTrue (S.tells source.old) → IsTrue (S.tells source.new) }
-    ensures same_end { IsTrue (S.tells source.old) → S.ending source.new ≡ S.ending source.old }
-    ensures kept { IsTrue (S.tells source.old) →
-        buffer.new ++ S.left source.new ≡ buffer.old ++ S.left source.old }
-    ensures first { take (length buffer.old) buffer.new ≡ buffer.old }
-    ensures grown { length buffer.old ≤ length buffer.new }
-    ensures few { length buffer.new ≤ longest_bytes }
-    ensures value { IfOk result (IsFound (options_at options.now chosen place.now buffer.new)) }
-    ensures within { IfOk result (λ d. d.end ≤ min (8 * length buffer.new) longest) }
+    requires start { place.now.end ≤ min (8 * length intake.old.buffer.now) longest }
+    requires few { length intake.old.buffer.now ≤ longest_bytes }
+    ensures keeps { Keeps S.Source intake.old intake.new }
+    ensures few { length intake.new.buffer.now ≤ longest_bytes }
+    ensures value { let found = options_at options.now chosen place.now intake.new.buffer.now in
+        IfOk result (IsFound found) }
+    ensures within { IfOk result (λ d. d.end ≤ min (8 * length intake.new.buffer.now) longest) }
     ensures forward { IfOk result (λ d. place.now.end ≤ d.end) }
-    ensures near { IfOk result
-        (λ d. 8 * length buffer.new ≤ max (8 * length buffer.old) (d.end + 7)) }
-    ensures faulty { let all = buffer.new ++ S.left source.new in
-        IsTrue (S.tells source.old) →
+    ensures near { IfOk result (λ d.
+        8 * length intake.new.buffer.now ≤ max (8 * length intake.old.buffer.now) (d.end + 7)) }
+    ensures faulty { let all = intake.new.buffer.now ++ S.left intake.new.source.now in
+        IsTrue (S.tells intake.old.source.now) →
         IfErr result (OrNoMemory
-        (Failed (S.ending source.old) (options_at options.now chosen place.now all))) }
+        (Failed (S.ending intake.old.source.now) (options_at options.now chosen place.now all))) }
 {
     if place.spent >= MOST_VALUES {
         return Err(StreamFault::TooManyValues);
@@ -230,7 +209,7 @@ fn option_on_demand<S: Source>(
         end: place.end,
         spent: place.spent + 1,
     };
-    let next = value_on_demand(&options[i].class, &inner, source, buffer)?;
+    let next = value_on_demand(&options[i].class, &inner, intake)?;
     let Ok(value) = Boxed::new(place.alloc, next.value) else {
         return Err(StreamFault::NoMemory);
     };

@@ -5,61 +5,50 @@ ghost use Rattle.ctf_packet.specs.Scopes.{longest};
 ghost use Rattle.ctf_packet.specs.declared.fault.StreamFault.TheVariants.{NoMemory};
 ghost use Rattle.ctf_fetch.specs.Fetching.{longest_bytes};
 ghost use Rattle.ctf_fetch.specs.Openings.{TakesMore};
+ghost use Rattle.ctf_fetch.specs.Keeping.{Keeps};
 
-use crate::buffer::{Buffer, Filled};
+use crate::buffer::Filled;
+use crate::intake::Intake;
 use ctf_bits::Source;
 use ctf_packet::{LONGEST_PACKET, StreamFault, cut_short};
 
 /// Takes the bytes of a packet up to a bit that its header or context reaches.
 pub(crate) fn fill_front<S: Source>(
-    source: &mut S,
-    buffer: &mut Buffer,
+    intake: &mut Intake<'_, S>,
     bits: u128,
 ) -> Result<(), StreamFault>
-    requires beyond { min (8 * length buffer.old) longest < bits }
-    ensures tells { IsTrue (S.tells source.old) → IsTrue (S.tells source.new) }
-    ensures same_end { IsTrue (S.tells source.old) → S.ending source.new ≡ S.ending source.old }
-    ensures kept { IsTrue (S.tells source.old) →
-        buffer.new ++ S.left source.new ≡ buffer.old ++ S.left source.old }
-    ensures takes { IsTrue (S.tells source.old) →
-        TakesMore (S.ending source.old) bits buffer.new (S.left source.new) result }
-    ensures bits { OnOk result (length buffer.new ≡ (bits + 7) / 8) }
+    requires beyond { min (8 * length intake.old.buffer.now) longest < bits }
+    ensures keeps { Keeps S.Source intake.old intake.new }
+    ensures takes { IsTrue (S.tells intake.old.source.now) →
+        TakesMore (S.ending intake.old.source.now) bits intake.new.buffer.now
+        (S.left intake.new.source.now) result }
+    ensures bits { OnOk result (length intake.new.buffer.now ≡ (bits + 7) / 8) }
     ensures bounded { OnOk result (bits ≤ longest) }
-    ensures first { take (length buffer.old) buffer.new ≡ buffer.old }
-    ensures grown { length buffer.old ≤ length buffer.new }
-    ensures few { length buffer.old ≤ longest_bytes → length buffer.new ≤ longest_bytes }
+    ensures few { length intake.old.buffer.now ≤ longest_bytes →
+        length intake.new.buffer.now ≤ longest_bytes }
 {
     if bits > u128::from(LONGEST_PACKET) {
         return Err(StreamFault::ImpossibleSizes);
     }
     let bytes = (bits as usize).div_ceil(8);
-    match buffer.fill(source, bytes)? {
+    match intake.fill(bytes)? {
         Filled::Whole => Ok(()),
         Filled::Ended(ending) => Err(cut_short(ending)),
     }
 }
 
 /// Takes the bytes of a packet up to a bit that its header or context reaches at least, as far as its stream has them.
-pub(crate) fn fill_ahead<S: Source>(
-    source: &mut S,
-    buffer: &mut Buffer,
-    end: u64,
-) -> Result<(), StreamFault>
+pub(crate) fn fill_ahead<S: Source>(intake: &mut Intake<'_, S>, end: u64) -> Result<(), StreamFault>
     requires end { end ≤ longest }
-    requires few { length buffer.old ≤ longest_bytes }
-    ensures tells { IsTrue (S.tells source.old) → IsTrue (S.tells source.new) }
-    ensures same_end { IsTrue (S.tells source.old) → S.ending source.new ≡ S.ending source.old }
-    ensures kept { IsTrue (S.tells source.old) →
-        buffer.new ++ S.left source.new ≡ buffer.old ++ S.left source.old }
-    ensures first { take (length buffer.old) buffer.new ≡ buffer.old }
-    ensures grown { length buffer.old ≤ length buffer.new }
-    ensures few { length buffer.new ≤ longest_bytes }
-    ensures near { 8 * length buffer.new ≤ max (8 * length buffer.old) (end + 7) }
+    requires few { length intake.old.buffer.now ≤ longest_bytes }
+    ensures keeps { Keeps S.Source intake.old intake.new }
+    ensures few { length intake.new.buffer.now ≤ longest_bytes }
+    ensures near { 8 * length intake.new.buffer.now ≤ max (8 * length intake.old.buffer.now) (end + 7) }
     ensures refused { IfErr result (λ fault. fault ≡ NoMemory) }
 {
     let bytes = (end as usize).div_ceil(8);
-    if bytes > buffer.len() {
-        buffer.fill(source, bytes)?;
+    if bytes > intake.len() {
+        intake.fill(bytes)?;
     }
     Ok(())
 }

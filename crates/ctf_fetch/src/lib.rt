@@ -5,6 +5,7 @@ mod buffer;
 mod cut;
 mod demand;
 mod fill;
+mod intake;
 mod least;
 mod needed;
 mod scope;

@@ -8,10 +8,11 @@ ghost use Rattle.ctf_packet.specs.Scopes.{longest};
 ghost use Rattle.ctf_class.specs.declared.class.Kind.TheVariants.{String};
 ghost use Rattle.ctf_fetch.specs.Demand.{found_at, text_at, IsFound, Failed, IsOpened, FailsToOpen, EndsNear, EndsAtLeast};
 ghost use Rattle.ctf_fetch.specs.Fetching.{longest_bytes, OrNoMemory};
+ghost use Rattle.ctf_fetch.specs.Keeping.{Keeps};
 
-use crate::buffer::Buffer;
 use crate::demand::Place;
 use crate::fill::{fill_ahead, fill_front};
+use crate::intake::Intake;
 use ctf_bits::{Source, up};
 use ctf_class::{Align, Class};
 use ctf_decode::{DecodeFault, Decoded, MOST_VALUES, Packet, Reached, decode_within};
@@ -23,35 +24,30 @@ use ctf_packet::{StreamFault, front_content};
 pub(crate) fn opening_end<'a, S: Source>(
     align: Align,
     place: &Place<'a>,
-    source: &mut S,
-    buffer: &mut Buffer,
+    intake: &mut Intake<'_, S>,
 ) -> Result<Place<'a>, StreamFault>
-    requires start { place.now.end ≤ min (8 * length buffer.old) longest }
-    requires few { length buffer.old ≤ longest_bytes }
-    ensures tells { IsTrue (S.tells source.old) → IsTrue (S.tells source.new) }
-    ensures same_end { IsTrue (S.tells source.old) → S.ending source.new ≡ S.ending source.old }
-    ensures kept { IsTrue (S.tells source.old) →
-        buffer.new ++ S.left source.new ≡ buffer.old ++ S.left source.old }
-    ensures first { take (length buffer.old) buffer.new ≡ buffer.old }
-    ensures grown { length buffer.old ≤ length buffer.new }
-    ensures few { length buffer.new ≤ longest_bytes }
+    requires start { place.now.end ≤ min (8 * length intake.old.buffer.now) longest }
+    requires few { length intake.old.buffer.now ≤ longest_bytes }
+    ensures keeps { Keeps S.Source intake.old intake.new }
+    ensures few { length intake.new.buffer.now ≤ longest_bytes }
     ensures opens { IfOk result (IsOpened place.now (next_multiple_of place.now.end align)) }
-    ensures within { IfOk result (λ inner. inner.end ≤ min (8 * length buffer.new) longest) }
+    ensures within { IfOk result
+        (λ inner. inner.end ≤ min (8 * length intake.new.buffer.now) longest) }
     ensures forward { IfOk result (λ inner. place.now.end ≤ inner.end) }
-    ensures near { IfOk result
-        (λ inner. 8 * length buffer.new ≤ max (8 * length buffer.old) (inner.end + 7)) }
-    ensures faulty { let all = buffer.new ++ S.left source.new in
-        IsTrue (S.tells source.old) →
+    ensures near { IfOk result (λ inner.
+        8 * length intake.new.buffer.now ≤ max (8 * length intake.old.buffer.now) (inner.end + 7)) }
+    ensures faulty { let all = intake.new.buffer.now ++ S.left intake.new.source.now in
+        IsTrue (S.tells intake.old.source.now) →
         IfErr result (OrNoMemory
-        (FailsToOpen (S.ending source.old) place.now (next_multiple_of place.now.end align)
-        all)) }
+        (FailsToOpen (S.ending intake.old.source.now) place.now
+        (next_multiple_of place.now.end align) all)) }
 {
     if place.spent >= MOST_VALUES {
         return Err(StreamFault::TooManyValues);
     }
     let end = align.up(place.end);
-    if end > front_content(buffer.as_slice()) {
-        fill_front(source, buffer, u128::from(end))?;
+    if end > front_content(intake.as_slice()) {
+        fill_front(intake, u128::from(end))?;
     }
     Ok(Place {
         alloc: place.alloc,
@@ -66,32 +62,26 @@ pub(crate) fn opening_end<'a, S: Source>(
 pub(crate) fn leaf_on_demand<S: Source>(
     class: &Class,
     place: &Place<'_>,
-    source: &mut S,
-    buffer: &mut Buffer,
+    intake: &mut Intake<'_, S>,
 ) -> Result<Decoded, StreamFault>
-    requires start { place.now.end ≤ min (8 * length buffer.old) longest }
-    requires few { length buffer.old ≤ longest_bytes }
-    ensures tells { IsTrue (S.tells source.old) → IsTrue (S.tells source.new) }
-    ensures same_end { IsTrue (S.tells source.old) → S.ending source.new ≡ S.ending source.old }
-    ensures kept { IsTrue (S.tells source.old) →
-        buffer.new ++ S.left source.new ≡ buffer.old ++ S.left source.old }
-    ensures first { take (length buffer.old) buffer.new ≡ buffer.old }
-    ensures grown { length buffer.old ≤ length buffer.new }
-    ensures few { length buffer.new ≤ longest_bytes }
-    ensures value { IfOk result (IsFound (found_at class.now place.now buffer.new)) }
-    ensures within { IfOk result (λ d. d.end ≤ min (8 * length buffer.new) longest) }
+    requires start { place.now.end ≤ min (8 * length intake.old.buffer.now) longest }
+    requires few { length intake.old.buffer.now ≤ longest_bytes }
+    ensures keeps { Keeps S.Source intake.old intake.new }
+    ensures few { length intake.new.buffer.now ≤ longest_bytes }
+    ensures value { IfOk result (IsFound (found_at class.now place.now intake.new.buffer.now)) }
+    ensures within { IfOk result (λ d. d.end ≤ min (8 * length intake.new.buffer.now) longest) }
     ensures forward { IfOk result (λ d. place.now.end ≤ d.end) }
-    ensures near { IfOk result
-        (λ d. 8 * length buffer.new ≤ max (8 * length buffer.old) (d.end + 7)) }
-    ensures faulty { let all = buffer.new ++ S.left source.new in
-        IsTrue (S.tells source.old) →
+    ensures near { IfOk result (λ d.
+        8 * length intake.new.buffer.now ≤ max (8 * length intake.old.buffer.now) (d.end + 7)) }
+    ensures faulty { let all = intake.new.buffer.now ++ S.left intake.new.source.now in
+        IsTrue (S.tells intake.old.source.now) →
         IfErr result (OrNoMemory
-        (Failed (S.ending source.old) (found_at class.now place.now all))) }
+        (Failed (S.ending intake.old.source.now) (found_at class.now place.now all))) }
 {
     loop {
-        match decode_at(class, place, buffer.as_slice()) {
+        match decode_at(class, place, intake.as_slice()) {
             Ok(decoded) => return Ok(decoded),
-            Err(DecodeFault::ContentEnds(bits)) => fill_front(source, buffer, bits)?,
+            Err(DecodeFault::ContentEnds(bits)) => fill_front(intake, bits)?,
             Err(DecodeFault::NoOption) => return Err(StreamFault::NoOption),
             Err(DecodeFault::TooManyValues) => return Err(StreamFault::TooManyValues),
             Err(DecodeFault::NoMemory) => return Err(StreamFault::NoMemory),
@@ -104,32 +94,26 @@ pub(crate) fn whole_on_demand<S: Source>(
     class: &Class,
     end: u64,
     place: &Place<'_>,
-    source: &mut S,
-    buffer: &mut Buffer,
+    intake: &mut Intake<'_, S>,
 ) -> Result<Decoded, StreamFault>
-    requires start { place.now.end ≤ min (8 * length buffer.old) longest }
-    requires few { length buffer.old ≤ longest_bytes }
+    requires start { place.now.end ≤ min (8 * length intake.old.buffer.now) longest }
+    requires few { length intake.old.buffer.now ≤ longest_bytes }
     requires least { EndsAtLeast class.now place.now end }
     requires end { end ≤ longest }
-    ensures tells { IsTrue (S.tells source.old) → IsTrue (S.tells source.new) }
-    ensures same_end { IsTrue (S.tells source.old) → S.ending source.new ≡ S.ending source.old }
-    ensures kept { IsTrue (S.tells source.old) →
-        buffer.new ++ S.left source.new ≡ buffer.old ++ S.left source.old }
-    ensures first { take (length buffer.old) buffer.new ≡ buffer.old }
-    ensures grown { length buffer.old ≤ length buffer.new }
-    ensures few { length buffer.new ≤ longest_bytes }
-    ensures value { IfOk result (IsFound (found_at class.now place.now buffer.new)) }
-    ensures within { IfOk result (λ d. d.end ≤ min (8 * length buffer.new) longest) }
+    ensures keeps { Keeps S.Source intake.old intake.new }
+    ensures few { length intake.new.buffer.now ≤ longest_bytes }
+    ensures value { IfOk result (IsFound (found_at class.now place.now intake.new.buffer.now)) }
+    ensures within { IfOk result (λ d. d.end ≤ min (8 * length intake.new.buffer.now) longest) }
     ensures forward { IfOk result (λ d. place.now.end ≤ d.end) }
     ensures near { IfOk result (λ d.
-        8 * length buffer.new ≤ max (8 * length buffer.old) (d.end + 7)) }
-    ensures faulty { let all = buffer.new ++ S.left source.new in
+        8 * length intake.new.buffer.now ≤ max (8 * length intake.old.buffer.now) (d.end + 7)) }
+    ensures faulty { let all = intake.new.buffer.now ++ S.left intake.new.source.now in
         let found = found_at class.now place.now all in
-        IsTrue (S.tells source.old) →
-        IfErr result (OrNoMemory (Failed (S.ending source.old) found)) }
+        IsTrue (S.tells intake.old.source.now) →
+        IfErr result (OrNoMemory (Failed (S.ending intake.old.source.now) found)) }
 {
-    fill_ahead(source, buffer, end)?;
-    leaf_on_demand(class, place, source, buffer)
+    fill_ahead(intake, end)?;
+    leaf_on_demand(class, place, intake)
 }
 
 /// The value of a class at a place in these bytes.
@@ -154,59 +138,46 @@ fn decode_at(class: &Class, place: &Place<'_>, bytes: &[u8]) -> Result<Decoded, 
 pub(crate) fn string_on_demand<S: Source>(
     class: &Class,
     place: &Place<'_>,
-    source: &mut S,
-    buffer: &mut Buffer,
+    intake: &mut Intake<'_, S>,
 ) -> Result<Decoded, StreamFault>
-    requires start { place.now.end ≤ min (8 * length buffer.old) longest }
-    requires few { length buffer.old ≤ longest_bytes }
+    requires start { place.now.end ≤ min (8 * length intake.old.buffer.now) longest }
+    requires few { length intake.old.buffer.now ≤ longest_bytes }
     requires string { class.now.kind ≡ String }
-    ensures tells { IsTrue (S.tells source.old) → IsTrue (S.tells source.new) }
-    ensures same_end { IsTrue (S.tells source.old) → S.ending source.new ≡ S.ending source.old }
-    ensures kept { IsTrue (S.tells source.old) →
-        buffer.new ++ S.left source.new ≡ buffer.old ++ S.left source.old }
-    ensures first { take (length buffer.old) buffer.new ≡ buffer.old }
-    ensures grown { length buffer.old ≤ length buffer.new }
-    ensures few { length buffer.new ≤ longest_bytes }
-    ensures value { IfOk result (IsFound (found_at class.now place.now buffer.new)) }
-    ensures within { IfOk result (λ d. d.end ≤ min (8 * length buffer.new) longest) }
+    ensures keeps { Keeps S.Source intake.old intake.new }
+    ensures few { length intake.new.buffer.now ≤ longest_bytes }
+    ensures value { IfOk result (IsFound (found_at class.now place.now intake.new.buffer.now)) }
+    ensures within { IfOk result (λ d. d.end ≤ min (8 * length intake.new.buffer.now) longest) }
     ensures forward { IfOk result (λ d. place.now.end ≤ d.end) }
-    ensures near { IfOk result
-        (λ d. 8 * length buffer.new ≤ max (8 * length buffer.old) (d.end + 7)) }
-    ensures faulty { let all = buffer.new ++ S.left source.new in
-        IsTrue (S.tells source.old) →
+    ensures near { IfOk result (λ d.
+        8 * length intake.new.buffer.now ≤ max (8 * length intake.old.buffer.now) (d.end + 7)) }
+    ensures faulty { let all = intake.new.buffer.now ++ S.left intake.new.source.now in
+        IsTrue (S.tells intake.old.source.now) →
         IfErr result (OrNoMemory
-        (Failed (S.ending source.old) (found_at class.now place.now all))) }
+        (Failed (S.ending intake.old.source.now) (found_at class.now place.now all))) }
 {
     if place.spent >= MOST_VALUES {
         return Err(StreamFault::TooManyValues);
     }
-    take_text(place, source, buffer)?;
-    leaf_on_demand(class, place, source, buffer)
+    take_text(place, intake)?;
+    leaf_on_demand(class, place, intake)
 }
 
 /// Takes bytes until one of a string at a place is zero.
-fn take_text<S: Source>(
-    place: &Place<'_>,
-    source: &mut S,
-    buffer: &mut Buffer,
-) -> Result<(), StreamFault>
+fn take_text<S: Source>(place: &Place<'_>, intake: &mut Intake<'_, S>) -> Result<(), StreamFault>
     requires begun { place.now.spent < MOST_VALUES }
-    requires start { place.now.end ≤ min (8 * length buffer.old) longest }
-    requires few { length buffer.old ≤ longest_bytes }
-    ensures tells { IsTrue (S.tells source.old) → IsTrue (S.tells source.new) }
-    ensures same_end { IsTrue (S.tells source.old) → S.ending source.new ≡ S.ending source.old }
-    ensures kept { IsTrue (S.tells source.old) →
-        buffer.new ++ S.left source.new ≡ buffer.old ++ S.left source.old }
-    ensures first { take (length buffer.old) buffer.new ≡ buffer.old }
-    ensures grown { length buffer.old ≤ length buffer.new }
-    ensures few { length buffer.new ≤ longest_bytes }
-    ensures near { OnOk result (EndsNear place.now (length buffer.old) buffer.new) }
-    ensures faulty { let all = buffer.new ++ S.left source.new in
-        IsTrue (S.tells source.old) →
-        IfErr result (OrNoMemory (Failed (S.ending source.old) (text_at place.now all))) }
+    requires start { place.now.end ≤ min (8 * length intake.old.buffer.now) longest }
+    requires few { length intake.old.buffer.now ≤ longest_bytes }
+    ensures keeps { Keeps S.Source intake.old intake.new }
+    ensures few { length intake.new.buffer.now ≤ longest_bytes }
+    ensures near { OnOk result
+        (EndsNear place.now (length intake.old.buffer.now) intake.new.buffer.now) }
+    ensures faulty { let all = intake.new.buffer.now ++ S.left intake.new.source.now in
+        IsTrue (S.tells intake.old.source.now) →
+        IfErr result (OrNoMemory
+        (Failed (S.ending intake.old.source.now) (text_at place.now all))) }
 {
     let mut next = (up(place.end, 8) / 8) as usize;
-    while text_byte(place, next, source, buffer)? != 0 {
+    while text_byte(place, next, intake)? != 0 {
         next += 1;
     }
     Ok(())
@@ -216,31 +187,26 @@ fn take_text<S: Source>(
 fn text_byte<S: Source>(
     place: &Place<'_>,
     next: usize,
-    source: &mut S,
-    buffer: &mut Buffer,
+    intake: &mut Intake<'_, S>,
 ) -> Result<u8, StreamFault>
     requires begun { place.now.spent < MOST_VALUES }
-    requires few { length buffer.old ≤ longest_bytes }
-    requires asks { length buffer.old ≤ next →
-        text_at place.now buffer.old ≡ Err (past (8 * (next + 1))) }
-    ensures tells { IsTrue (S.tells source.old) → IsTrue (S.tells source.new) }
-    ensures same_end { IsTrue (S.tells source.old) → S.ending source.new ≡ S.ending source.old }
-    ensures kept { IsTrue (S.tells source.old) →
-        buffer.new ++ S.left source.new ≡ buffer.old ++ S.left source.old }
-    ensures first { take (length buffer.old) buffer.new ≡ buffer.old }
-    ensures grown { length buffer.old ≤ length buffer.new }
-    ensures few { length buffer.new ≤ longest_bytes }
-    ensures byte { IfOk result (λ byte. byte ≡ get_or buffer.new next 0) }
-    ensures there { OnOk result (next < length buffer.new) }
-    ensures near { (before : ℕ) → EndsNear place.now before buffer.old →
-        OnOk result (EndsNear place.now before buffer.new) }
-    ensures faulty { let all = buffer.new ++ S.left source.new in
-        IsTrue (S.tells source.old) →
-        IfErr result (OrNoMemory (Failed (S.ending source.old) (text_at place.now all))) }
+    requires few { length intake.old.buffer.now ≤ longest_bytes }
+    requires asks { length intake.old.buffer.now ≤ next →
+        text_at place.now intake.old.buffer.now ≡ Err (past (8 * (next + 1))) }
+    ensures keeps { Keeps S.Source intake.old intake.new }
+    ensures few { length intake.new.buffer.now ≤ longest_bytes }
+    ensures byte { IfOk result (λ byte. byte ≡ get_or intake.new.buffer.now next 0) }
+    ensures there { OnOk result (next < length intake.new.buffer.now) }
+    ensures near { (before : ℕ) → EndsNear place.now before intake.old.buffer.now →
+        OnOk result (EndsNear place.now before intake.new.buffer.now) }
+    ensures faulty { let all = intake.new.buffer.now ++ S.left intake.new.source.now in
+        IsTrue (S.tells intake.old.source.now) →
+        IfErr result (OrNoMemory
+        (Failed (S.ending intake.old.source.now) (text_at place.now all))) }
 {
-    if next < buffer.len() {
-        return Ok(buffer.as_slice()[next]);
+    if next < intake.len() {
+        return Ok(intake.as_slice()[next]);
     }
-    fill_front(source, buffer, 8 * (next as u128 + 1))?;
-    Ok(buffer.as_slice()[next])
+    fill_front(intake, 8 * (next as u128 + 1))?;
+    Ok(intake.as_slice()[next])
 }

@@ -6,10 +6,11 @@ ghost use Rattle.ctf_packet.specs.Views.{values_of};
 ghost use Rattle.ctf_packet_demand.specs.Gives.{PutsAsked};
 ghost use Rattle.ctf_fetch.specs.Asking.{scope_asked, scope_found, FailsAs};
 ghost use Rattle.ctf_fetch.specs.Fetching.{longest_bytes, OrNoMemory};
+ghost use Rattle.ctf_fetch.specs.Keeping.{Keeps};
 
-use crate::buffer::Buffer;
 use crate::demand::{Place, value_on_demand};
 use crate::fill::fill_ahead;
+use crate::intake::Intake;
 use crate::least::least_end;
 use ctf_bits::Source;
 use ctf_class::{Class, Scope};
@@ -32,39 +33,33 @@ pub(crate) struct NextScope<'a> {
 /// An error is its fault: F1, F5, F8, F11 or F13; or `NoMemory`.
 pub(crate) fn scope_on_demand<S: Source>(
     next: &NextScope<'_>,
-    source: &mut S,
-    buffer: &mut Buffer,
+    intake: &mut Intake<'_, S>,
     spare: &mut Value,
     scopes: &mut Scopes,
 ) -> Result<u64, StreamFault>
-    requires start { next.now.end ≤ min (8 * length buffer.old) longest }
-    requires few { length buffer.old ≤ longest_bytes }
-    ensures tells { IsTrue (S.tells source.old) → IsTrue (S.tells source.new) }
-    ensures same_end { IsTrue (S.tells source.old) → S.ending source.new ≡ S.ending source.old }
-    ensures kept { IsTrue (S.tells source.old) →
-        buffer.new ++ S.left source.new ≡ buffer.old ++ S.left source.old }
-    ensures first { take (length buffer.old) buffer.new ≡ buffer.old }
-    ensures grown { length buffer.old ≤ length buffer.new }
-    ensures few { length buffer.new ≤ longest_bytes }
+    requires start { next.now.end ≤ min (8 * length intake.old.buffer.now) longest }
+    requires few { length intake.old.buffer.now ≤ longest_bytes }
+    ensures keeps { Keeps S.Source intake.old intake.new }
+    ensures few { length intake.new.buffer.now ≤ longest_bytes }
     ensures puts { (more : List ℕ) →
-        let asked = scope_asked next.now (buffer.new ++ more) scopes.old in
+        let asked = scope_asked next.now (intake.new.buffer.now ++ more) scopes.old in
         IfOk result (λ end. PutsAsked next.now.scope (values_of scopes.old) asked end scopes.new) }
-    ensures within { IfOk result (λ end. end ≤ min (8 * length buffer.new) longest) }
+    ensures within { IfOk result (λ end. end ≤ min (8 * length intake.new.buffer.now) longest) }
     ensures forward { IfOk result (λ end. next.now.end ≤ end) }
-    ensures near { IfOk result
-        (λ end. 8 * length buffer.new ≤ max (8 * length buffer.old) (end + 7)) }
-    ensures faulty { let found = scope_found (S.ending source.old) next.now
-        (buffer.new ++ S.left source.new) scopes.old in
-        IsTrue (S.tells source.old) → IfErr result (OrNoMemory (FailsAs found)) }
+    ensures near { IfOk result (λ end.
+        8 * length intake.new.buffer.now ≤ max (8 * length intake.old.buffer.now) (end + 7)) }
+    ensures faulty { let found = scope_found (S.ending intake.old.source.now) next.now
+        (intake.new.buffer.now ++ S.left intake.new.source.now) scopes.old in
+        IsTrue (S.tells intake.old.source.now) → IfErr result (OrNoMemory (FailsAs found)) }
 {
     match next.class {
         None => {
             scopes.take(next.scope);
             Ok(next.end)
         }
-        Some(class) => match scope_at_hand(class, next, buffer.as_slice(), spare, scopes) {
+        Some(class) => match scope_at_hand(class, next, intake.as_slice(), spare, scopes) {
             Some(end) => Ok(end),
-            None => class_on_demand(class, next, source, buffer, spare, scopes),
+            None => class_on_demand(class, next, intake, spare, scopes),
         },
     }
 }
@@ -109,31 +104,25 @@ fn scope_at_hand(
 fn class_on_demand<S: Source>(
     class: &Class,
     next: &NextScope<'_>,
-    source: &mut S,
-    buffer: &mut Buffer,
+    intake: &mut Intake<'_, S>,
     spare: &mut Value,
     scopes: &mut Scopes,
 ) -> Result<u64, StreamFault>
     requires class { next.now.class ≡ Some class }
-    requires start { next.now.end ≤ min (8 * length buffer.old) longest }
-    requires few { length buffer.old ≤ longest_bytes }
-    ensures tells { IsTrue (S.tells source.old) → IsTrue (S.tells source.new) }
-    ensures same_end { IsTrue (S.tells source.old) → S.ending source.new ≡ S.ending source.old }
-    ensures kept { IsTrue (S.tells source.old) →
-        buffer.new ++ S.left source.new ≡ buffer.old ++ S.left source.old }
-    ensures first { take (length buffer.old) buffer.new ≡ buffer.old }
-    ensures grown { length buffer.old ≤ length buffer.new }
-    ensures few { length buffer.new ≤ longest_bytes }
+    requires start { next.now.end ≤ min (8 * length intake.old.buffer.now) longest }
+    requires few { length intake.old.buffer.now ≤ longest_bytes }
+    ensures keeps { Keeps S.Source intake.old intake.new }
+    ensures few { length intake.new.buffer.now ≤ longest_bytes }
     ensures puts { (more : List ℕ) →
-        let asked = scope_asked next.now (buffer.new ++ more) scopes.old in
+        let asked = scope_asked next.now (intake.new.buffer.now ++ more) scopes.old in
         IfOk result (λ end. PutsAsked next.now.scope (values_of scopes.old) asked end scopes.new) }
-    ensures within { IfOk result (λ end. end ≤ min (8 * length buffer.new) longest) }
+    ensures within { IfOk result (λ end. end ≤ min (8 * length intake.new.buffer.now) longest) }
     ensures forward { IfOk result (λ end. next.now.end ≤ end) }
-    ensures near { IfOk result
-        (λ end. 8 * length buffer.new ≤ max (8 * length buffer.old) (end + 7)) }
-    ensures faulty { let found = scope_found (S.ending source.old) next.now
-        (buffer.new ++ S.left source.new) scopes.old in
-        IsTrue (S.tells source.old) → IfErr result (OrNoMemory (FailsAs found)) }
+    ensures near { IfOk result (λ end.
+        8 * length intake.new.buffer.now ≤ max (8 * length intake.old.buffer.now) (end + 7)) }
+    ensures faulty { let found = scope_found (S.ending intake.old.source.now) next.now
+        (intake.new.buffer.now ++ S.left intake.new.source.now) scopes.old in
+        IsTrue (S.tells intake.old.source.now) → IfErr result (OrNoMemory (FailsAs found)) }
 {
     let place = Place {
         alloc: next.alloc,
@@ -143,12 +132,12 @@ fn class_on_demand<S: Source>(
         spent: scopes.spent(),
     };
     let Some(least) = least_end(class, &place) else {
-        return parts_on_demand(class, next, source, buffer, scopes);
+        return parts_on_demand(class, next, intake, scopes);
     };
-    fill_ahead(source, buffer, least)?;
-    match scope_at_hand(class, next, buffer.as_slice(), spare, scopes) {
+    fill_ahead(intake, least)?;
+    match scope_at_hand(class, next, intake.as_slice(), spare, scopes) {
         Some(end) => Ok(end),
-        None => parts_on_demand(class, next, source, buffer, scopes),
+        None => parts_on_demand(class, next, intake, scopes),
     }
 }
 
@@ -156,30 +145,24 @@ fn class_on_demand<S: Source>(
 fn parts_on_demand<S: Source>(
     class: &Class,
     next: &NextScope<'_>,
-    source: &mut S,
-    buffer: &mut Buffer,
+    intake: &mut Intake<'_, S>,
     scopes: &mut Scopes,
 ) -> Result<u64, StreamFault>
     requires class { next.now.class ≡ Some class }
-    requires start { next.now.end ≤ min (8 * length buffer.old) longest }
-    requires few { length buffer.old ≤ longest_bytes }
-    ensures tells { IsTrue (S.tells source.old) → IsTrue (S.tells source.new) }
-    ensures same_end { IsTrue (S.tells source.old) → S.ending source.new ≡ S.ending source.old }
-    ensures kept { IsTrue (S.tells source.old) →
-        buffer.new ++ S.left source.new ≡ buffer.old ++ S.left source.old }
-    ensures first { take (length buffer.old) buffer.new ≡ buffer.old }
-    ensures grown { length buffer.old ≤ length buffer.new }
-    ensures few { length buffer.new ≤ longest_bytes }
+    requires start { next.now.end ≤ min (8 * length intake.old.buffer.now) longest }
+    requires few { length intake.old.buffer.now ≤ longest_bytes }
+    ensures keeps { Keeps S.Source intake.old intake.new }
+    ensures few { length intake.new.buffer.now ≤ longest_bytes }
     ensures puts { (more : List ℕ) →
-        let asked = scope_asked next.now (buffer.new ++ more) scopes.old in
+        let asked = scope_asked next.now (intake.new.buffer.now ++ more) scopes.old in
         IfOk result (λ end. PutsAsked next.now.scope (values_of scopes.old) asked end scopes.new) }
-    ensures within { IfOk result (λ end. end ≤ min (8 * length buffer.new) longest) }
+    ensures within { IfOk result (λ end. end ≤ min (8 * length intake.new.buffer.now) longest) }
     ensures forward { IfOk result (λ end. next.now.end ≤ end) }
-    ensures near { IfOk result
-        (λ end. 8 * length buffer.new ≤ max (8 * length buffer.old) (end + 7)) }
-    ensures faulty { let found = scope_found (S.ending source.old) next.now
-        (buffer.new ++ S.left source.new) scopes.old in
-        IsTrue (S.tells source.old) → IfErr result (OrNoMemory (FailsAs found)) }
+    ensures near { IfOk result (λ end.
+        8 * length intake.new.buffer.now ≤ max (8 * length intake.old.buffer.now) (end + 7)) }
+    ensures faulty { let found = scope_found (S.ending intake.old.source.now) next.now
+        (intake.new.buffer.now ++ S.left intake.new.source.now) scopes.old in
+        IsTrue (S.tells intake.old.source.now) → IfErr result (OrNoMemory (FailsAs found)) }
 {
     let place = Place {
         alloc: next.alloc,
@@ -188,7 +171,7 @@ fn parts_on_demand<S: Source>(
         end: next.end,
         spent: scopes.spent(),
     };
-    let decoded = value_on_demand(class, &place, source, buffer)?;
+    let decoded = value_on_demand(class, &place, intake)?;
     scopes.put(next.scope, decoded.value);
     scopes.set_spent(decoded.spent);
     Ok(decoded.end)

@@ -16,7 +16,7 @@ returns-in-Some-scope_at_hand-clause-near g c =
     let next = c.args.next.now in
     let class = form c.args.class.now in
     let known = c.args.scopes.now in
-    let bytes = c.fill_ahead.new.buffer in
+    let bytes = c.fill_ahead.new.intake.buffer.now in
     let put = rw (c.as_slice.ensures, append-nil bytes) at (c.in-Some-scope_at_hand.ensures.puts []) in
     let found = put_found next class (ap form_of c.requires.class) known bytes c.in-Some-scope_at_hand.end c.scope_at_hand.new.scopes put in
     let behind = c.in-Some.ensures.least bytes found.0 ((λ i. walk class (there bytes known) (env-Top i) next.end (c.spent.ensures.value i)) ∙ found.1) in
@@ -32,11 +32,11 @@ returns-in-None-clause-near g c =
     let next = c.args.next.now in
     let class = form c.args.class.now in
     let known = c.args.scopes.now in
-    let bytes = c.parts_on_demand-in-None.new.buffer in
+    let bytes = c.parts_on_demand-in-None.new.intake.buffer.now in
     let ends = λ (x : Val × ℕ × ℕ) (found : walk class (there bytes known) [] next.end known.spent ≡ Ok x). c.in-Some.ensures.least bytes x ((λ i. walk class (there bytes known) (env-Top i) next.end (c.spent.ensures.value i)) ∙ found) in
     let put = rw (c.in-None.ensures.none, append-nil bytes) at (c.parts_on_demand-in-None.ensures.puts []) in
-    near_put next class (ap form_of c.requires.class) known bytes c.in-Some.least (8 * length c.args.buffer.now) (8 * length c.fill_ahead.new.buffer) (8 * length bytes) ends c.in_ok-fill_ahead.ensures.near c.parts_on_demand-in-None.result c.parts_on_demand-in-None.new.scopes put c.parts_on_demand-in-None.ensures.near
+    near_put next class (ap form_of c.requires.class) known bytes c.in-Some.least (8 * length c.args.intake.now.buffer.now) (8 * length c.fill_ahead.new.intake.buffer.now) (8 * length bytes) ends c.in_ok-fill_ahead.ensures.near c.parts_on_demand-in-None.result c.parts_on_demand-in-None.new.scopes put c.parts_on_demand-in-None.ensures.near
 
 pub returns-in-None-clause-faulty : goal.returns-in-None-clause-faulty
 returns-in-None-clause-faulty g c = λ tells.
-    rw (c.in-None.ensures.none, c.fill_ahead.ensures.same_end tells) at (c.parts_on_demand-in-None.ensures.faulty (c.fill_ahead.ensures.tells tells))
+    rw (c.in-None.ensures.none, c.fill_ahead.ensures.keeps.bytes.same_end tells) at (c.parts_on_demand-in-None.ensures.faulty (c.fill_ahead.ensures.keeps.bytes.tells tells))

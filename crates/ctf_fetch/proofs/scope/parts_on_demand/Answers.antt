@@ -15,7 +15,7 @@ use Rattle.ctf_fetch.proofs.scope.parts_on_demand.Goals as goal
 pub set_spent-requires : goal.set_spent-requires
 set_spent-requires g c =
     let decoded = c.in_ok-decoded.decoded in
-    few_values (form c.args.class.now) (env Top) c.args.scopes.now c.args.next.now.end c.spent.result c.value_on_demand.new.buffer (val decoded.value, decoded.end, decoded.spent) c.in_ok-decoded.ensures.value
+    few_values (form c.args.class.now) (env Top) c.args.scopes.now c.args.next.now.end c.spent.result c.value_on_demand.new.intake.buffer.now (val decoded.value, decoded.end, decoded.spent) c.in_ok-decoded.ensures.value
 
 pub returns-clause-puts : goal.returns-clause-puts
 returns-clause-puts g c = λ more.
@@ -23,7 +23,7 @@ returns-clause-puts g c = λ more.
     let known = c.args.scopes.now in
     let decoded = c.in_ok-decoded.decoded in
     let class = form c.args.class.now in
-    let bytes = c.value_on_demand.new.buffer in
+    let bytes = c.value_on_demand.new.intake.buffer.now in
     let found : walk class (there bytes known) [] next.end known.spent ≡ Ok (val decoded.value, decoded.end, decoded.spent) = rw (env-Top, c.spent.ensures.value) at c.in_ok-decoded.ensures.value in
     let also = found_more class [] known next.end known.spent bytes more (val decoded.value, decoded.end, decoded.spent) found in
     scope_puts next class (ap form_of c.requires.class) known (bytes ++ more) decoded.value decoded.end decoded.spent c.set_spent.new.self also
@@ -35,8 +35,8 @@ returns-in_err-decoded-clause-faulty g c = λ tells.
     let known = c.args.scopes.now in
     let fault = c.in_err-decoded.field-0.0 in
     let class = form c.args.class.now in
-    let all = c.value_on_demand.new.buffer ++ g.S.Source.left c.value_on_demand.new.source in
-    let ending = g.S.Source.ending c.args.source.now in
+    let all = c.value_on_demand.new.intake.buffer.now ++ g.S.Source.left c.value_on_demand.new.intake.source.now in
+    let ending = g.S.Source.ending c.args.intake.now.source.now in
     let told : OrNoMemory (Failed ending (walk class (there all known) [] next.end known.spent)) fault = rw (env-Top, c.spent.ensures.value) at (c.in_err-decoded.ensures.faulty tells) in
     let short = scope_short next class (ap form_of c.requires.class) known all ending fault told in
     let e : c.from_residual.result ≡ Err fault = search rules in

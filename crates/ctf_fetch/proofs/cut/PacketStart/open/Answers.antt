@@ -14,20 +14,20 @@ pub fill_sizes-requires-clause-possible : goal.fill_sizes-requires-clause-possib
 fill_sizes-requires-clause-possible g c =
     let cut = c.args.self.now in
     let opening = c.in_ok-opening.opening in
-    told_possible (trace_form cut.shift cut.trace.now) cut.reached cut.shift c.begin.new.scopes opening c.begin.new.buffer opening.sizes c.in_ok-opening.ensures.asks
+    told_possible (trace_form cut.shift cut.trace.now) cut.reached cut.shift c.begin.new.scopes opening c.begin.new.intake.buffer.now opening.sizes c.in_ok-opening.ensures.asks
 
 pub returns-in-Err-clause-opens : goal.returns-in-Err-clause-opens
 returns-in-Err-clause-opens g c = λ tells.
     let cut = c.args.self.now in
     let trace = trace_form cut.shift cut.trace.now in
     let opening = c.in_ok-opening.opening in
-    let left = g.S.Source.left c.begin.new.source in
-    let after = g.S.Source.left c.fill_sizes.new.source in
-    let also = c.begin.ensures.tells tells in
-    let ending = g.S.Source.ending c.args.source.now in
-    let told = no_sizes trace cut.reached cut.shift c.begin.new.scopes opening c.begin.new.buffer ending cut.at left c.fill_sizes.new.buffer after (c.fill_sizes.ensures.kept also) opening.sizes c.in-Err.fault c.in_ok-opening.ensures.asks
-    (subst (λ e. TakesSized e opening.begun.first c.fill_sizes.new.buffer after opening.sizes (Err c.in-Err.fault)) (c.begin.ensures.same_end tells) (c.in-Err.ensures.takes also)) in
-    subst (λ l. OrNoMemory (λ f. open_at trace ending cut.reached cut.at l ≡ Err f) c.in-Err.fault) (c.begin.ensures.kept tells) told
+    let left = g.S.Source.left c.begin.new.intake.source.now in
+    let after = g.S.Source.left c.fill_sizes.new.intake.source.now in
+    let also = c.begin.ensures.keeps.bytes.tells tells in
+    let ending = g.S.Source.ending c.args.intake.now.source.now in
+    let told = no_sizes trace cut.reached cut.shift c.begin.new.scopes opening c.begin.new.intake.buffer.now ending cut.at left c.fill_sizes.new.intake.buffer.now after (c.fill_sizes.ensures.keeps.bytes.kept also) opening.sizes c.in-Err.fault c.in_ok-opening.ensures.asks
+    (subst (λ e. TakesSized e opening.begun.first c.fill_sizes.new.intake.buffer.now after opening.sizes (Err c.in-Err.fault)) (c.begin.ensures.keeps.bytes.same_end tells) (c.in-Err.ensures.takes also)) in
+    subst (λ l. OrNoMemory (λ f. open_at trace ending cut.reached cut.at l ≡ Err f) c.in-Err.fault) (c.begin.ensures.keeps.bytes.kept tells) told
 
 pub returns-in-Ok-clause-opens : goal.returns-in-Ok-clause-opens
 returns-in-Ok-clause-opens g c = λ tells.
@@ -36,13 +36,13 @@ returns-in-Ok-clause-opens g c = λ tells.
     let opening = c.in_ok-opening.opening in
     let sizes = c.in-Ok.sizes in
     let values = values_of c.begin.new.scopes in
-    let left = g.S.Source.left c.begin.new.source in
-    let after = g.S.Source.left c.fill_sizes.new.source in
-    let also = c.begin.ensures.tells tells in
-    let ending = g.S.Source.ending c.args.source.now in
-    let placed_is = sizes_place trace cut.reached cut.shift c.begin.new.scopes opening c.begin.new.buffer ending cut.at left c.fill_sizes.new.buffer after (c.fill_sizes.ensures.kept also) opening.sizes sizes c.in_ok-opening.ensures.asks
-    (subst (λ e. TakesSized e opening.begun.first c.fill_sizes.new.buffer after opening.sizes (Ok sizes)) (c.begin.ensures.same_end tells) (c.in-Ok.ensures.takes also)) c.in-Ok.ensures.packet in
-    opens_placed cut.shift c.begin.new.scopes _ _ c.packet_of_sizes.result (ap (open_at trace ending cut.reached cut.at) (sym (c.begin.ensures.kept tells)) ∙ placed_is)
+    let left = g.S.Source.left c.begin.new.intake.source.now in
+    let after = g.S.Source.left c.fill_sizes.new.intake.source.now in
+    let also = c.begin.ensures.keeps.bytes.tells tells in
+    let ending = g.S.Source.ending c.args.intake.now.source.now in
+    let placed_is = sizes_place trace cut.reached cut.shift c.begin.new.scopes opening c.begin.new.intake.buffer.now ending cut.at left c.fill_sizes.new.intake.buffer.now after (c.fill_sizes.ensures.keeps.bytes.kept also) opening.sizes sizes c.in_ok-opening.ensures.asks
+    (subst (λ e. TakesSized e opening.begun.first c.fill_sizes.new.intake.buffer.now after opening.sizes (Ok sizes)) (c.begin.ensures.keeps.bytes.same_end tells) (c.in-Ok.ensures.takes also)) c.in-Ok.ensures.packet in
+    opens_placed cut.shift c.begin.new.scopes _ _ c.packet_of_sizes.result (ap (open_at trace ending cut.reached cut.at) (sym (c.begin.ensures.keeps.bytes.kept tells)) ∙ placed_is)
     (subst (λ r. Exactly (opened_of cut.shift values) c.packet_of_sizes.result (placed (stream_form cut.shift opening.begun.stream.now) r cut.at values opening.begun.first sizes)) c.as_ref-reached.ensures.value
     (c.packet_of_sizes.ensures.exactly values (ap (option_map val) (sym c.get-context.ensures))))
 
@@ -50,5 +50,5 @@ pub returns-in-Ok-clause-alone : goal.returns-in-Ok-clause-alone
 returns-in-Ok-clause-alone g c =
     let cut = c.args.self.now in
     let opening = c.in_ok-opening.opening in
-    let alone = told_alone (trace_form cut.shift cut.trace.now) cut.reached cut.shift c.begin.new.scopes opening c.begin.new.buffer opening.sizes c.in_ok-opening.ensures.asks in
+    let alone = told_alone (trace_form cut.shift cut.trace.now) cut.reached cut.shift c.begin.new.scopes opening c.begin.new.intake.buffer.now opening.sizes c.in_ok-opening.ensures.asks in
     on_ok c.packet_of_sizes.result _ alone
