@@ -138,7 +138,11 @@ fn put_run(
     ensures held { IfSome result (λ text. text ≤ vec_len buffer.new) }
 {
     let begin = reach.place;
-    if begin % 8 != 0 || !packet.has_window_at(begin + run.span) {
+    if begin % 8 != 0 {
+        return None;
+    }
+    // Mostly so many bits of the content are after it that the packet's bytes need no look.
+    if run.span + 64 > packet.end - begin && !packet.has_window_at(begin + run.span) {
         return None;
     }
     if with_room(run.room, buffer, at).is_err() {

@@ -255,7 +255,8 @@ pub(crate) fn tell_short(
 {
     let begin = short.align.up(place);
     let end = begin + short.end;
-    if !packet.has_window_at(end) {
+    // Mostly so many bits of the content are after it that the packet's bytes need no look.
+    if end + 64 > packet.end && !packet.has_window_at(end) {
         return None;
     }
     let first = (begin / 8) as usize;
