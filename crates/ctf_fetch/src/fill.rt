@@ -43,7 +43,8 @@ pub(crate) fn fill_ahead<S: Source>(intake: &mut Intake<'_, S>, end: u64) -> Res
     requires few { length intake.old.buffer.now ≤ longest_bytes }
     ensures keeps { Keeps S.Source intake.old intake.new }
     ensures few { length intake.new.buffer.now ≤ longest_bytes }
-    ensures near { 8 * length intake.new.buffer.now ≤ max (8 * length intake.old.buffer.now) (end + 7) }
+    ensures near { 8 * length intake.new.buffer.now ≤
+        max (8 * length intake.old.buffer.now) (end + 7) }
     ensures refused { IfErr result (λ fault. fault ≡ NoMemory) }
 {
     let bytes = (end as usize).div_ceil(8);
