@@ -23,8 +23,8 @@ use ctf_class::{Scope, TraceClass};
 use ctf_clock::Shift;
 use ctf_decode::{Scopes, Value};
 use ctf_packet::{
-    OpenPacket, Reached, Sizes, StreamFault, cut_short, packet_of_sizes, sizes_checked,
-    stream_checked,
+    OpenPacket, PacketPlace, Reached, Sizes, StreamFault, cut_short, packet_of_sizes,
+    sizes_checked, stream_checked,
 };
 use ctf_packet_demand::{Begun, Want, judge_sizes};
 use std::alloc::Global;
@@ -228,9 +228,13 @@ impl<'a> PacketStart<'a> {
             Err(fault) => Err(fault),
             Ok(sizes) => {
                 let Begun { stream, first } = opening.begun;
-                let reached = self.reached.as_ref();
+                let place = PacketPlace {
+                    shift: self.shift,
+                    reached: self.reached.as_ref(),
+                    start: self.at,
+                };
                 let context = scopes.get(Scope::PacketContext);
-                packet_of_sizes(stream, self.shift, reached, self.at, context, first, sizes)
+                packet_of_sizes(stream, &place, context, first, sizes)
             }
         }
     }

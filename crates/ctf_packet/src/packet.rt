@@ -10,6 +10,7 @@ ghost use Rattle.ctf_packet.specs.Gives.{Exactly, Placed};
 
 use crate::clock::{clock_before, clock_behind, clock_until, discarded_since, lost_since};
 use crate::fault::StreamFault;
+use crate::packet_place::PacketPlace;
 use crate::reached::Reached;
 use crate::roles::{field_of_role, number_of};
 use crate::sizes::{LONGEST_PACKET, Sizes};
@@ -77,32 +78,31 @@ fn discarded_before(reached: Option<&Reached>) -> Option<u64>
     }
 }
 
-/// A packet of these sizes at a place of its stream, whose context ends at the bit `first` and has this
-/// value.
+/// The packet of these sizes, in bits, at a place of its stream. Its context has this value and ends at the bit `first`
+/// of the packet.
 ///
 /// F9 exactly where its clock is refused.
 #[tactic(auto, unfolding(crate::specs::Packets::placed))]
 pub fn packet_of_sizes<'a>(
     stream: &'a StreamClass,
-    shift: Shift,
-    reached: Option<&Reached>,
-    start: u64,
+    place: &PacketPlace<'_>,
     context: Option<&Value>,
     first: u64,
     sizes: Sizes,
 ) -> Result<OpenPacket<'a>, StreamFault>
-    requires start { start ≤ 2 ^ 62 }
     requires packet { sizes.packet ≤ LONGEST_PACKET }
-    ensures exactly { (values : Values) →
+    ensures exactly { let at = place.now in
+        (values : Values) →
         values.packet_context ≡ option_map val (option_copied context.entry) →
-        Exactly (opened_of shift values) result
-        (packets.placed (stream_form shift stream.now) (option_copied reached.entry) start values
+        Exactly (opened_of at.shift values) result
+        (packets.placed (stream_form at.shift stream.now) (option_copied at.reached) at.start values
         first sizes) }
     ensures line { IfOk result
-        (λ packet. packet.timeline ≡ (stream_form shift packet.stream.now).line) }
-    ensures places { IfOk result (Placed start first sizes) }
+        (λ packet. packet.timeline ≡ (stream_form place.now.shift packet.stream.now).line) }
+    ensures places { IfOk result (Placed place.now.start first sizes) }
 {
-    let timeline = timeline_of(stream, shift);
+    let timeline = timeline_of(stream, place.shift);
+    let reached = place.reached;
     let before = clock_before(timeline.as_ref(), reached)?;
     let class = stream.packet_context();
     let clock = clock_behind(timeline.as_ref(), before, class, context)?;
@@ -115,8 +115,8 @@ pub fn packet_of_sizes<'a>(
     Ok(OpenPacket {
         stream,
         timeline,
-        start,
-        end: start + sizes.packet / 8,
+        start: place.start,
+        end: place.start + sizes.packet / 8,
         first,
         content: sizes.content,
         before,

@@ -43,7 +43,7 @@ returns-in-Ok-clause-opens g c = λ tells.
     let placed_is = sizes_place trace cut.reached cut.shift c.begin.new.scopes opening c.begin.new.intake.buffer.now ending cut.at left c.fill_sizes.new.intake.buffer.now after (c.fill_sizes.ensures.keeps.bytes.kept also) opening.sizes sizes c.in_ok-opening.ensures.asks
     (subst (λ e. TakesSized e opening.begun.first c.fill_sizes.new.intake.buffer.now after opening.sizes (Ok sizes)) (c.begin.ensures.keeps.bytes.same_end tells) (c.in-Ok.ensures.takes also)) c.in-Ok.ensures.packet in
     opens_placed cut.shift c.begin.new.scopes _ _ c.packet_of_sizes.result (ap (open_at trace ending cut.reached cut.at) (sym (c.begin.ensures.keeps.bytes.kept tells)) ∙ placed_is)
-    (subst (λ r. Exactly (opened_of cut.shift values) c.packet_of_sizes.result (placed (stream_form cut.shift opening.begun.stream.now) r cut.at values opening.begun.first sizes)) c.as_ref-reached.ensures.value
+    (subst (λ r. Exactly (opened_of cut.shift values) c.packet_of_sizes.result (placed (stream_form cut.shift opening.begun.stream.now) r cut.at values opening.begun.first sizes)) c.as_ref.ensures.value
     (c.packet_of_sizes.ensures.exactly values (ap (option_map val) (sym c.get-context.ensures))))
 
 pub returns-in-Ok-clause-alone : goal.returns-in-Ok-clause-alone
