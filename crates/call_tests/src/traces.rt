@@ -14,7 +14,8 @@ use crate::classes::{members_of, put_class, scope};
 use crate::plans::put_runs;
 use crate::row::Row;
 use ctf_class::{
-    Class, EventClass, HasId, Heading, Indexed, PlanRoom, PlannedEvent, StreamClass, TraceClass,
+    Class, EventClass, HasId, Heading, Indexed, PlanRoom, PlannedEvent, StreamClass, StreamParts,
+    TraceClass,
 };
 use ctf_list::{List, NoMemory};
 use std::alloc::Global;
@@ -105,18 +106,15 @@ fn add_stream(
             add_event(alloc, &mut events, id, "tick", 0, FIELDS)?;
         }
     }
-    let events = Indexed::new(alloc, events)?;
-    let (packet, header, context) = (scope(packet), scope(header), scope(context));
-    let stream = StreamClass::new(
-        alloc,
+    let parts = StreamParts {
         id,
-        packet,
-        header,
-        context,
-        None,
-        events,
-        &mut PlanRoom::new(),
-    )?;
+        packet_context: scope(packet),
+        event_header: scope(header),
+        event_context: scope(context),
+        clock: None,
+        events: Indexed::new(alloc, events)?,
+    };
+    let stream = StreamClass::new(alloc, parts, &mut PlanRoom::new())?;
     Ok(streams.push(stream)?)
 }
 

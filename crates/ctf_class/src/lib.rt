@@ -51,5 +51,5 @@ pub use record_plan::{Field, Integers, Labelled, Many, RecordPlan, Run, Shown};
 pub use role::Role;
 pub use route::{Length, Origin, Route, Scope};
 pub use span::{Choice, Label, Span};
-pub use trace::{Clock, EventClass, PlannedEvent, StreamClass, TraceClass};
+pub use trace::{Clock, EventClass, PlannedEvent, StreamClass, StreamParts, TraceClass};
 pub use width::Width;

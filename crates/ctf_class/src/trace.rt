@@ -35,19 +35,29 @@ pub struct EventClass {
     pub fields: Class,
 }
 
+/// The parts of a stream class (CTF 1.8.3, sections 3 and 7.4).
+#[derive(Drop)]
+pub struct StreamParts {
+    /// The number that packet headers name it by (CTF 1.8.3, section 5.1).
+    pub id: u64,
+    /// The class of the packet context (CTF 1.8.3, section 5.2).
+    pub packet_context: Option<Class>,
+    /// The class of the event header (CTF 1.8.3, section 6.1).
+    pub event_header: Option<Class>,
+    /// The class of the stream event context (CTF 1.8.3, section 6.2).
+    pub event_context: Option<Class>,
+    /// The clock of the stream (CTF 1.8.3, section 8), where a clock-mapped integer is in its packet context or event
+    /// header.
+    pub clock: Option<Clock>,
+    /// The event classes (CTF 1.8.3, section 6), in the order of the text.
+    pub events: Indexed<EventClass>,
+}
+
 /// A stream class (CTF 1.8.3, sections 3 and 7.4). Contracts see its parts; with them it keeps the plans of its event records.
 #[derive(Drop)]
 pub struct StreamClass {
-    id: u64,
-    packet_context: Option<Class>,
-    event_header: Option<Class>,
-    /// The stream event context.
-    event_context: Option<Class>,
-    /// The clock of the stream, where a clock-mapped integer is in its packet context or event header.
-    clock: Option<Clock>,
-    /// In the order of the text.
-    events: Indexed<EventClass>,
-    /// In the same order.
+    parts: StreamParts,
+    /// In the order of the event classes.
     plans: List<RecordPlan>,
 }
 
@@ -68,15 +78,16 @@ impl Model for StreamClass {
     ghost coded = { Prim.hlevel (codes, kinds.the_row.coded) };
 
     ghost view = { λ stream. record {
-      id = stream.id;
-      packet_context = stream.packet_context;
-      event_header = stream.event_header;
-      event_context = stream.event_context;
-      clock = stream.clock;
-      events = stream.events;
+      id = stream.parts.id;
+      packet_context = stream.parts.packet_context;
+      event_header = stream.parts.event_header;
+      event_context = stream.parts.event_context;
+      clock = stream.parts.clock;
+      events = stream.parts.events;
     } };
 
-    ghost invariant = { λ stream. ArePlans stream.event_context stream.events stream.plans };
+    ghost invariant = { λ stream.
+        ArePlans stream.parts.event_context stream.parts.events stream.plans };
 }
 
 /// A trace class (CTF 1.8.3, sections 2 and 7.4).
@@ -101,7 +112,7 @@ impl HasId for StreamClass {
     ghost id_of = { λ stream. stream.id };
 
     fn id(&self) -> u64 {
-        self.id
+        self.parts.id
     }
 }
 
@@ -133,41 +144,29 @@ impl StreamClass {
     /// an allocation fails.
     pub fn new(
         alloc: Global,
-        id: u64,
-        packet_context: Option<Class>,
-        event_header: Option<Class>,
-        event_context: Option<Class>,
-        clock: Option<Clock>,
-        events: Indexed<EventClass>,
+        parts: StreamParts,
         room: &mut PlanRoom,
     ) -> Result<StreamClass, NoMemory>
         ensures { IfOk result (λ stream. stream ≡
             record {
-              id = id;
-              packet_context = packet_context;
-              event_header = event_header;
-              event_context = event_context;
-              clock = clock;
-              events = events;
+              id = parts.id;
+              packet_context = parts.packet_context;
+              event_header = parts.event_header;
+              event_context = parts.event_context;
+              clock = parts.clock;
+              events = parts.events;
             }) }
     {
-        let plans = plans_of(alloc, event_context.as_ref(), events.as_slice(), room)?;
-        Ok(StreamClass {
-            id,
-            packet_context,
-            event_header,
-            event_context,
-            clock,
-            events,
-            plans,
-        })
+        let event_context = parts.event_context.as_ref();
+        let plans = plans_of(alloc, event_context, parts.events.as_slice(), room)?;
+        Ok(StreamClass { parts, plans })
     }
 
     /// The event classes, in the order of the text.
     pub fn events(&self) -> &[EventClass]
         ensures { result.now ≡ self.now.events }
     {
-        self.events.as_slice()
+        self.parts.events.as_slice()
     }
 
     /// The first event class of an id, with the plan of its records.
@@ -179,8 +178,8 @@ impl StreamClass {
             (λ p. IsPlanOf (scopes_of self.now.event_context p.event.now.context p.event.now.fields)
             p.plan.now) }
     {
-        let place = self.events.place(id)?;
-        let event = self.events.as_slice().get(place)?;
+        let place = self.parts.events.place(id)?;
+        let event = self.parts.events.as_slice().get(place)?;
         let plan = self.plans.as_slice().get(place)?;
         Some(PlannedEvent { event, plan })
     }
@@ -189,14 +188,14 @@ impl StreamClass {
     pub fn event(&self, id: u64) -> Option<&EventClass>
         ensures { option_copied result ≡ first_of_id (λ event. event.id) id self.now.events }
     {
-        self.events.get(id)
+        self.parts.events.get(id)
     }
 
     /// The event class, where there is just one.
     pub fn only(&self) -> Option<&EventClass>
         ensures { option_copied result ≡ only_item self.now.events }
     {
-        self.events.only()
+        self.parts.events.only()
     }
 
     /// The event class, where there is just one, with the plan of its records.
@@ -207,7 +206,7 @@ impl StreamClass {
             (λ p. IsPlanOf (scopes_of self.now.event_context p.event.now.context p.event.now.fields)
             p.plan.now) }
     {
-        let event = self.events.only()?;
+        let event = self.parts.events.only()?;
         let plan = self.plans.as_slice().first()?;
         Some(PlannedEvent { event, plan })
     }
@@ -216,28 +215,28 @@ impl StreamClass {
     pub fn clock(&self) -> Option<&Clock>
         ensures { option_copied result ≡ self.now.clock }
     {
-        self.clock.as_ref()
+        self.parts.clock.as_ref()
     }
 
     /// The class of the packet context.
     pub fn packet_context(&self) -> Option<&Class>
         ensures { option_copied result ≡ self.now.packet_context }
     {
-        self.packet_context.as_ref()
+        self.parts.packet_context.as_ref()
     }
 
     /// The class of the event header.
     pub fn event_header(&self) -> Option<&Class>
         ensures { option_copied result ≡ self.now.event_header }
     {
-        self.event_header.as_ref()
+        self.parts.event_header.as_ref()
     }
 
     /// The class of the stream event context.
     pub fn event_context(&self) -> Option<&Class>
         ensures { option_copied result ≡ self.now.event_context }
     {
-        self.event_context.as_ref()
+        self.parts.event_context.as_ref()
     }
 }
 

@@ -3,7 +3,7 @@
 ghost use Rattle.std.specs.Prelude.{◌≡◌, IfOk};
 ghost use Rattle.ctf_types.specs.Gathered.{joined};
 
-use ctf_class::{Class, Clock, EventClass, Indexed, PlanRoom, StreamClass};
+use ctf_class::{Class, Clock, EventClass, Indexed, PlanRoom, StreamClass, StreamParts};
 use ctf_list::NoMemory;
 use std::alloc::Global;
 
@@ -44,15 +44,14 @@ impl StreamHead {
     ) -> Result<StreamClass, NoMemory>
         ensures { IfOk result (λ stream. stream ≡ joined self events) }
     {
-        StreamClass::new(
-            alloc,
-            self.id,
-            self.packet_context,
-            self.event_header,
-            self.event_context,
-            self.clock,
+        let parts = StreamParts {
+            id: self.id,
+            packet_context: self.packet_context,
+            event_header: self.event_header,
+            event_context: self.event_context,
+            clock: self.clock,
             events,
-            room,
-        )
+        };
+        StreamClass::new(alloc, parts, room)
     }
 }
