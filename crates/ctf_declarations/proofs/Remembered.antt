@@ -21,7 +21,7 @@ use Rattle.ctf_class.specs.declared.trace.Clock.{Clock}
 use Rattle.tsdl_tree.specs.declared.tree.Setting.{Setting}
 use Rattle.tsdl_tree.specs.declared.tree.TableKind.TheVariants as table
 use Rattle.ctf_declarations.specs.DeclaredSoFar.{Remembers}
-use Rattle.ctf_declarations.specs.declared.earlier.Earlier.{Earlier}
+use Rattle.ctf_declarations.specs.declared.declared_once.DeclaredOnce.{DeclaredOnce}
 
 pub or_false : (b : Bool) → b ≡ (b || false)
 or_false true = refl
@@ -46,9 +46,9 @@ mapped_more p h before d =
     ∙ list_any-append p (filter_map h before) (filter_map h (d ∷ []))
     ∙ ap (λ b. list_any p (filter_map h before) || b) (one_any p (h d) h d refl)
 
-module _ (e : Earlier) (before : List Declaration) (d : Declaration) (r : Remembers e before) where
+module _ (e : DeclaredOnce) (before : List Declaration) (d : Declaration) (r : Remembers e before) where
   -- with what a declaration adds
-  pub remembered : (after : Earlier) →
+  pub remembered : (after : DeclaredOnce) →
       after.has_trace ≡ (e.has_trace || is_trace d) →
       ((id : ℕ) → contains nat_cmp after.streams id ≡ (contains nat_cmp e.streams id || option_map_or (nat_eq id) (stream_id_of d) false)) →
       ((name : Word) → contains_by (λ k. slice_cmp nat_cmp name k.items) after.clocks ≡ (contains_by (λ k. slice_cmp nat_cmp name k.items) e.clocks || option_map_or (λ c. same_word c.name name) (clock_of d) false)) →

@@ -19,7 +19,7 @@ use Rattle.ctf_declarations.specs.declared.visible.BlockNames.{BlockNames}
 use Rattle.ctf_declarations.specs.declared.entries.NamedClass.{NamedClass as CodeClass}
 use Rattle.ctf_declarations.specs.declared.placing.ScopeShape.{ScopeShape}
 use Rattle.ctf_declarations.specs.declared.so_far.DeclaredSoFar.{DeclaredSoFar}
-use Rattle.ctf_declarations.specs.declared.earlier.Earlier.{Earlier}
+use Rattle.ctf_declarations.specs.declared.declared_once.DeclaredOnce.{DeclaredOnce}
 
 -- a class under its name in a block
 abbrev pub named_class : CodeClass → NamedClass
@@ -46,7 +46,7 @@ abbrev pub walked : DeclaredSoFar → Walked
 walked c = record { own = names_in c.names; nodes = c.nodes; rows = map (map placed_seen) c.rows.items }
 
 -- of the declarations before: whether one is a trace, which ids the streams have, and which names the clocks
-pub record Remembers (earlier : Earlier) (before : List Declaration) : Type 0 where
+pub record Remembers (earlier : DeclaredOnce) (before : List Declaration) : Type 0 where
   pub traces : earlier.has_trace ≡ list_any is_trace before
   pub streams : (id : ℕ) → contains nat_cmp earlier.streams id ≡ list_any (nat_eq id) (filter_map stream_id_of before)
   pub clocks : (name : Word) → contains_by (λ k. slice_cmp nat_cmp name k.items) earlier.clocks ≡ list_any (λ c. same_word c.name name) (clocks_of before)

@@ -4,8 +4,8 @@
 #![tactic(auto)]
 
 mod classes;
+mod declared_once;
 mod declaring;
-mod earlier;
 mod entries;
 mod entry_name;
 mod keys;

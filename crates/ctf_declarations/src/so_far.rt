@@ -16,7 +16,7 @@ ghost use Rattle.ctf_declarations.specs.Members.{names_told};
 ghost use Rattle.ctf_declarations.specs.DeclaredSoFar.{walked, placed_seen, row_told, Remembers};
 
 use crate::classes::types;
-use crate::earlier::Earlier;
+use crate::declared_once::DeclaredOnce;
 use crate::entries::classes_in;
 use crate::placing::{ScopeShape, check_all, placed_classes};
 use crate::visible::{BlockNames, Visible};
@@ -118,7 +118,7 @@ fn block_row(
 fn block(
     alloc: Global,
     so_far: &mut DeclaredSoFar,
-    earlier: &mut Earlier,
+    earlier: &mut DeclaredOnce,
     kind: BlockKind,
     entries: &[BlockEntry],
 ) -> Result<(), ResolveFault>
@@ -137,7 +137,7 @@ fn block(
 fn table(
     alloc: Global,
     so_far: &mut DeclaredSoFar,
-    earlier: &mut Earlier,
+    earlier: &mut DeclaredOnce,
     kind: TableKind,
     settings: &[Setting],
 ) -> Result<(), ResolveFault>
@@ -184,7 +184,7 @@ fn names(
 pub fn declaration(
     alloc: Global,
     so_far: &mut DeclaredSoFar,
-    earlier: &mut Earlier,
+    earlier: &mut DeclaredOnce,
     declaration: &Declaration,
 ) -> Result<(), ResolveFault>
     ensures told { (before : List written.Declaration) → Remembers earlier.old before →

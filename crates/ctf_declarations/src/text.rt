@@ -4,7 +4,7 @@ ghost use Rattle.ctf_meaning.specs.Reading.{written};
 ghost use Rattle.ctf_meaning_steps.specs.Blocks.{text_told};
 ghost use Rattle.ctf_declarations.specs.DeclaredSoFar.{FindsRows};
 
-use crate::earlier::Earlier;
+use crate::declared_once::DeclaredOnce;
 use crate::placing::ScopeShape;
 use crate::so_far::{DeclaredSoFar, declaration};
 use ctf_list::List;
@@ -22,7 +22,7 @@ pub fn scope_classes(alloc: Global, tree: &Tree) -> Result<Rows, ResolveFault>
     ensures { FindsRows (text_told (written tree.now)) result }
 {
     let mut so_far = DeclaredSoFar::new(alloc);
-    let mut earlier = Earlier::new(alloc);
+    let mut earlier = DeclaredOnce::new(alloc);
     for item in tree.declarations.as_slice() {
         declaration(alloc, &mut so_far, &mut earlier, item)?;
     }

@@ -5,14 +5,14 @@ use Rattle.ctf_meaning.specs.Shapes.{Field, fields_in}
 use Rattle.ctf_meaning.specs.Paths as paths
 use Rattle.ctf_declared_class.specs.Views.{members}
 use Rattle.ctf_paths.specs.Names.{name_of}
-use Rattle.ctf_paths.specs.declared.spot.Earlier.{Earlier}
+use Rattle.ctf_paths.specs.declared.spot.EarlierStructure.{EarlierStructure}
 use Rattle.ctf_paths.specs.declared.spot.Frame.{Frame}
 use Rattle.ctf_paths.specs.declared.spot.Around.{Around, fold-Around}
 use Rattle.ctf_paths.specs.declared.spot.Around.TheOpen.{Around-F}
 use Rattle.ctf_paths.specs.declared.spot.Spot.{Spot}
 
 -- the structure of a scope before, which has no scope's name in its own
-abbrev pub earlier_by : Earlier → paths.Frame
+abbrev pub earlier_by : EarlierStructure → paths.Frame
 earlier_by e = record { scope = e.scope; name = Some []; fields = fields_in (members e.members.now) }
 
 -- a structure with those of its members that are before a path

@@ -11,7 +11,7 @@ ghost use Rattle.ctf_paths.specs.Spots.{frame_by, earlier_by, frames_around, spo
 ghost use Rattle.ctf_paths.specs.Finding.{class_named, further, down, enclosing, of_scopes, found_by, start_by};
 
 use crate::name::scope_named;
-use crate::spot::{Around, Earlier, Frame, Spot};
+use crate::spot::{Around, EarlierStructure, Frame, Spot};
 use crate::trail::behind_trail;
 use ctf_class::{Origin, Route, Scope};
 use ctf_declared_class::{Members, Shape};
@@ -217,7 +217,7 @@ fn below_before<'a>(
     alloc: Global,
     scope: Scope,
     words: &[Word],
-    before: &'a [Earlier<'a>],
+    before: &'a [EarlierStructure<'a>],
 ) -> Result<Option<Found<'a>>, NoMemory>
     ensures { IfOk result (λ found. option_map found_by found ≡
         first (filter_map (paths.found_below scope words.now)
@@ -268,7 +268,7 @@ fn start_around<'a>(
 }
 
 /// The nearest scope before that has such a member.
-fn start_before<'a>(path: &[Word], before: &'a [Earlier<'a>]) -> Option<Start<'a>>
+fn start_before<'a>(path: &[Word], before: &'a [EarlierStructure<'a>]) -> Option<Start<'a>>
     ensures { option_map start_by result ≡
         find (λ p. paths.has_member path.now p.1) (of_scopes (map earlier_by before.now)) }
 {

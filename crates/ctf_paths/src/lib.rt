@@ -20,4 +20,4 @@ pub use clocks::Clocks;
 pub use link::Linker;
 pub use moved::Moved;
 pub use scope::{scope_class, scope_moved};
-pub use spot::Earlier;
+pub use spot::EarlierStructure;

@@ -12,7 +12,7 @@ ghost use Rattle.ctf_paths.specs.MovedClocks.{Tells};
 use crate::clocks::Clocks;
 use crate::link::{Linker, class_of};
 use crate::moved::{Moved, moved_in};
-use crate::spot::{Around, Earlier, Spot};
+use crate::spot::{Around, EarlierStructure, Spot};
 use ctf_class::{Class, Scope};
 use ctf_declared_class::Shape;
 use ctf_meaning::ResolveFault;
@@ -24,7 +24,7 @@ use ctf_meaning::ResolveFault;
 pub fn scope_class(
     linker: &Linker<'_>,
     scope: Scope,
-    before: &[Earlier<'_>],
+    before: &[EarlierStructure<'_>],
     shape: &Shape,
 ) -> Result<Class, ResolveFault>
     ensures { Follows (class_told linker.now.order linker.now.clocks.now.clocks.now
@@ -40,7 +40,7 @@ pub fn scope_class(
 pub fn scope_moved<'a>(
     clocks: &'a Clocks<'_>,
     scope: Scope,
-    before: &[Earlier<'_>],
+    before: &[EarlierStructure<'_>],
     shape: &Shape,
     moved: Moved<'a>,
 ) -> Moved<'a>

@@ -12,7 +12,7 @@ use ctf_declared_class::Members;
 
 /// The structure of a scope that is decoded before.
 #[derive(Clone, Copy)]
-pub struct Earlier<'a> {
+pub struct EarlierStructure<'a> {
     pub scope: Scope,
     pub members: &'a Members,
 }
@@ -41,7 +41,7 @@ pub struct Spot<'a> {
     pub scope: Scope,
     pub around: &'a Around<'a>,
     /// The structures of the scopes before, the nearest first.
-    pub before: &'a [Earlier<'a>],
+    pub before: &'a [EarlierStructure<'a>],
     /// The name of the member that the class is.
     pub member: Option<&'a [u8]>,
     /// Whether it is a member of the scope's own structure.
@@ -50,7 +50,7 @@ pub struct Spot<'a> {
     pub name: Trail<'a>,
 }
 
-impl<'a> Earlier<'a> {
+impl<'a> EarlierStructure<'a> {
     /// The whole structure, in which a path may begin.
     pub fn frame(&self) -> Frame<'a>
         ensures { frame_by result ≡ earlier_by self.now }
@@ -78,7 +78,11 @@ impl<'a> Around<'a> {
 
 impl<'a> Spot<'a> {
     /// The spot of a scope's own class.
-    pub fn scope(scope: Scope, around: &'a Around<'a>, before: &'a [Earlier<'a>]) -> Spot<'a>
+    pub fn scope(
+        scope: Scope,
+        around: &'a Around<'a>,
+        before: &'a [EarlierStructure<'a>],
+    ) -> Spot<'a>
         requires { frames_around around.now ≡ [] }
         ensures { spot_by result ≡ scope_spot scope (map earlier_by before.now) }
     {

@@ -15,7 +15,7 @@ use Rattle.ctf_meaning.specs.Settings.{when}
 use Rattle.ctf_meaning.specs.Streams.{Stream, numbered, streams, stream_by, trace_of}
 use Rattle.ctf_meaning.specs.Faults.{clocks_moved, has_other, faults}
 use Rattle.ctf_meaning.specs.Denotes.{event_in, class_of_text}
-use Rattle.ctf_types.specs.declared.gather.Parts.{Parts}
+use Rattle.ctf_types.specs.declared.gather.TraceParts.{TraceParts}
 use Rattle.ctf_types.specs.declared.linked.StreamHead.{StreamHead}
 use Rattle.ctf_types.specs.declared.trace.TraceAt.{TraceAt}
 use Rattle.ctf_types.specs.Gathered.{joined_all, heads_in}
@@ -62,7 +62,7 @@ module _ (text : List Declaration) (order : Order) where
   are_events (s ∷ ss) (es ∷ ess) l h = (h 0 s refl, are_events ss ess (let z : length ess ≡ length ss = grind (arith, l) in z) (λ j t e. h (suc j) t e))
 
 -- the parts of a text whose declarations have no faults
-module _ (text : List Declaration) (trace : Option TraceAt) (host : Option Word) (parts : Parts) (f : IsFinished text trace host parts) where
+module _ (text : List Declaration) (trace : Option TraceAt) (host : Option Word) (parts : TraceParts) (f : IsFinished text trace host parts) where
   pub links : HasNoLink text
   links = linked_clean text f.order (numbered text) f.given.rows f.given.linked
 

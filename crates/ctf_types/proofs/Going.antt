@@ -8,7 +8,7 @@ use Rattle.ctf_meaning.specs.Written.{Declaration}
 use Rattle.ctf_meaning.specs.Reading.{declaration_of}
 use Rattle.ctf_meaning.specs.Streams.{numbered, streams}
 use Rattle.ctf_meaning.specs.Faults.{link_faults, first_faults}
-use Rattle.ctf_types.specs.declared.gather.Parts.{Parts}
+use Rattle.ctf_types.specs.declared.gather.TraceParts.{TraceParts}
 use Rattle.ctf_types.specs.declared.linked.Linked.{Linked}
 use Rattle.ctf_types.specs.Gathered.{IsLinked, AreLinked}
 use Rattle.ctf_types.specs.Gone.{AllGiven}
@@ -30,7 +30,7 @@ module _ (text : List Declaration) (order : Order) where
   linked_clean (p ∷ ps) (r ∷ rows) h = ap (λ xs. xs ++ flat_map (link_faults text) ps) h.0.clean ∙ linked_clean ps rows h.1
 
 -- what the declarations before a number give
-pub record Gone (ds : List TreeDeclaration) (order : Order) (i : ℕ) (parts : Parts) : Type 0 where
+pub record Gone (ds : List TreeDeclaration) (order : Order) (i : ℕ) (parts : TraceParts) : Type 0 where
   pub before : List (ℕ × Declaration)
   pub rows : List Linked
   pub whole : before ++ from ds i ≡ numbered (map declaration_of ds)
@@ -38,10 +38,10 @@ pub record Gone (ds : List TreeDeclaration) (order : Order) (i : ℕ) (parts : P
   pub parted : IsParted rows parts
   pub lists : length parts.events ≡ length (streams (map declaration_of ds))
 
-pub none_gone : (ds : List TreeDeclaration) (order : Order) (parts : Parts) → IsParted [] parts → length parts.events ≡ length (streams (map declaration_of ds)) → Gone ds order 0 parts
+pub none_gone : (ds : List TreeDeclaration) (order : Order) (parts : TraceParts) → IsParted [] parts → length parts.events ≡ length (streams (map declaration_of ds)) → Gone ds order 0 parts
 none_gone ds order parts parted lists = record { before = []; rows = []; whole = refl; linked = tt; parted = parted; lists = lists }
 
-pub one_gone : (ds : List TreeDeclaration) (order : Order) (i : ℕ) (d : TreeDeclaration) (row : Linked) (old new : Parts) → i < length ds → d ≡ get_or ds i d → (g : Gone ds order i old) →
+pub one_gone : (ds : List TreeDeclaration) (order : Order) (i : ℕ) (d : TreeDeclaration) (row : Linked) (old new : TraceParts) → i < length ds → d ≡ get_or ds i d → (g : Gone ds order i old) →
     IsLinked (map declaration_of ds) order (i, declaration_of d) row → IsParted (g.rows ++ row ∷ []) new → length new.events ≡ length old.events → Gone ds order (i + 1) new
 one_gone ds order i d row old new l e g linked parted lists = record {
   before = g.before ++ (i, declaration_of d) ∷ [];
@@ -52,7 +52,7 @@ one_gone ds order i d row old new l e g linked parted lists = record {
   lists = lists ∙ g.lists;
 }
 
-pub all_gone : (ds : List TreeDeclaration) (order : Order) (i : ℕ) (parts : Parts) → length ds ≤ i → Gone ds order i parts → AllGiven (map declaration_of ds) order parts
+pub all_gone : (ds : List TreeDeclaration) (order : Order) (i : ℕ) (parts : TraceParts) → length ds ≤ i → Gone ds order i parts → AllGiven (map declaration_of ds) order parts
 all_gone ds order i parts end g = record {
   rows = g.rows;
   linked = subst (λ ps. AreLinked (map declaration_of ds) order ps g.rows) (sym (append-nil g.before) ∙ ap (λ xs. g.before ++ xs) (sym (from_end ds i end)) ∙ g.whole) g.linked;
@@ -60,7 +60,7 @@ all_gone ds order i parts end g = record {
   lists = g.lists;
 }
 
-pub told_here : (ds : List TreeDeclaration) (order : Order) (i : ℕ) (d : TreeDeclaration) (parts : Parts) (f : ResolveFault) → i < length ds → d ≡ get_or ds i d → Gone ds order i parts →
+pub told_here : (ds : List TreeDeclaration) (order : Order) (i : ℕ) (d : TreeDeclaration) (parts : TraceParts) (f : ResolveFault) → i < length ds → d ≡ get_or ds i d → Gone ds order i parts →
     Contains (link_faults (map declaration_of ds) (i, declaration_of d)) f → Contains (first_faults (map (link_faults (map declaration_of ds)) (numbered (map declaration_of ds)))) f
 told_here ds order i d parts f l e g told =
     subst (λ ps. Contains (first_faults (map (link_faults (map declaration_of ds)) ps)) f) (ap (λ xs. g.before ++ xs) (sym (from_next ds i d l e)) ∙ g.whole)

@@ -6,7 +6,7 @@ use Rattle.std.proofs.lemmas.List.Elements.{filter_map-append}
 use Rattle.std.proofs.lemmas.List.{get_or-set_same, get_or-set_other, get_or-replicate, length-set, length-replicate}
 use Rattle.ctf_class.specs.declared.class.Class.{Class}
 use Rattle.ctf_class.specs.declared.trace.EventClass.{EventClass}
-use Rattle.ctf_types.specs.declared.gather.Parts.{Parts}
+use Rattle.ctf_types.specs.declared.gather.TraceParts.{TraceParts}
 use Rattle.ctf_types.specs.declared.linked.StreamHead.{StreamHead}
 use Rattle.ctf_types.specs.declared.linked.Linked.{Linked}
 use Rattle.ctf_types.specs.declared.linked.Linked.TheVariants as linked
@@ -22,11 +22,11 @@ adds_one : {B : Type 0} (f : Linked → Option B) (rows : List Linked) (row : Li
 adds_one f rows row xs b one e =
     ap (λ ys. ys ++ b ∷ []) e ∙ sym (filter_map-append f rows (row ∷ []) ∙ ap (λ o. filter_map f rows ++ cons_option o []) one)
 
-no_events : (rows : List Linked) (row : Linked) (parts : Parts) → ((j : ℕ) → event_at j row ≡ None) → IsParted rows parts →
+no_events : (rows : List Linked) (row : Linked) (parts : TraceParts) → ((j : ℕ) → event_at j row ≡ None) → IsParted rows parts →
     (j : ℕ) → j < length parts.events → get_or parts.events j [] ≡ events_at j (rows ++ row ∷ [])
 no_events rows row parts none p j l = adds_none (event_at j) rows row (get_or parts.events j []) (none j) (p.events j l)
 
-pub with_trace : (rows : List Linked) (header : Option Class) (parts : Parts) → IsParted rows parts →
+pub with_trace : (rows : List Linked) (header : Option Class) (parts : TraceParts) → IsParted rows parts →
     IsParted (rows ++ linked.Trace header ∷ []) (record { headers = parts.headers ++ header ∷ []; heads = parts.heads; events = parts.events })
 with_trace rows header parts p = record {
   headers = adds_one header_in rows (linked.Trace header) parts.headers header refl p.headers;
@@ -34,7 +34,7 @@ with_trace rows header parts p = record {
   events = no_events rows (linked.Trace header) parts (λ j. refl) p;
 }
 
-pub with_stream : (rows : List Linked) (head : StreamHead) (parts : Parts) → IsParted rows parts →
+pub with_stream : (rows : List Linked) (head : StreamHead) (parts : TraceParts) → IsParted rows parts →
     IsParted (rows ++ linked.Stream head ∷ []) (record { headers = parts.headers; heads = parts.heads ++ head ∷ []; events = parts.events })
 with_stream rows head parts p = record {
   headers = adds_none header_in rows (linked.Stream head) parts.headers refl p.headers;
@@ -42,14 +42,14 @@ with_stream rows head parts p = record {
   events = no_events rows (linked.Stream head) parts (λ j. refl) p;
 }
 
-pub with_other : (rows : List Linked) (parts : Parts) → IsParted rows parts → IsParted (rows ++ linked.Other ∷ []) parts
+pub with_other : (rows : List Linked) (parts : TraceParts) → IsParted rows parts → IsParted (rows ++ linked.Other ∷ []) parts
 with_other rows parts p = record {
   headers = adds_none header_in rows linked.Other parts.headers refl p.headers;
   heads = adds_none head_in rows linked.Other parts.heads refl p.heads;
   events = no_events rows linked.Other parts (λ j. refl) p;
 }
 
-pub with_event : (rows : List Linked) (place : ℕ) (e : EventClass) (parts : Parts) → place < length parts.events → IsParted rows parts →
+pub with_event : (rows : List Linked) (place : ℕ) (e : EventClass) (parts : TraceParts) → place < length parts.events → IsParted rows parts →
     IsParted (rows ++ linked.Event place e ∷ []) (record { headers = parts.headers; heads = parts.heads; events = set parts.events place (get_or parts.events place [] ++ e ∷ []) })
 with_event rows place e parts below p = record {
   headers = adds_none header_in rows (linked.Event place e) parts.headers refl p.headers;

@@ -9,7 +9,7 @@ use Rattle.ctf_meaning.specs.Written.{Declaration}
 use Rattle.ctf_meaning.specs.Faults.{faults}
 use Rattle.ctf_meaning.specs.Denotes.{class_of_text, host_of}
 use Rattle.ctf_meaning_steps.specs.Blocks.{Placed, Walked, text_told}
-use Rattle.ctf_types.specs.declared.gather.Parts.{Parts}
+use Rattle.ctf_types.specs.declared.gather.TraceParts.{TraceParts}
 use Rattle.ctf_types.specs.declared.linked.StreamHead.{StreamHead}
 use Rattle.ctf_types.specs.declared.trace.TraceAt.{TraceAt}
 use Rattle.ctf_types.specs.Gone.{AllGiven}
@@ -35,7 +35,7 @@ Resolves text (Ok t) = (faults text ≡ []) × (class_of_text text ≡ Some t)
 Resolves text (Err fault) = (fault ≡ NoMemory) ⊎ Contains (faults text) fault
 
 -- all parts of a text without faults of declarations are there
-pub record IsFinished (text : List Declaration) (trace : Option TraceAt) (host : Option Word) (parts : Parts) : Type 0 where
+pub record IsFinished (text : List Declaration) (trace : Option TraceAt) (host : Option Word) (parts : TraceParts) : Type 0 where
   pub own : HasNoOwn text
   pub traced : IsTraceOf text trace
   pub hosted : host ≡ host_of text

@@ -20,13 +20,13 @@ use Rattle.ctf_meaning_steps.specs.Laws.{class_in_row}
 use Rattle.ctf_declarations.specs.DeclaredSoFar.{placed_seen}
 use Rattle.ctf_types.specs.Whole.{HasNoOwn, AreSettled, ArePlaced, stream_at}
 use Rattle.ctf_types.specs.declared.home.Home.{Home}
-use Rattle.ctf_types.specs.declared.text.Text.{Text}
+use Rattle.ctf_types.specs.declared.text.KnownText.{KnownText}
 
 abbrev pub home_by : Home → meaning.Home
 home_by home = record { trace = home.trace; stream = home.stream; event = home.event }
 
 -- the text is the one whose declarations were gone through
-pub record IsText (text : List Declaration) (known : Text) : Type 0 where
+pub record IsText (text : List Declaration) (known : KnownText) : Type 0 where
   pub own : HasNoOwn text
   pub scopes : (k : ℕ) (scope : Scope) → scope_at text k scope ≡ class_in_row (map (map placed_seen) known.rows.now) k scope
   pub clocks : known.clocks.now.clocks.now ≡ clocks_of text

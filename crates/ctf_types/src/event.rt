@@ -16,7 +16,7 @@ ghost use Rattle.ctf_types.specs.Texts.{IsText, home_by};
 use crate::home::Home;
 use crate::ids::Ids;
 use crate::linked::Linked;
-use crate::text::Text;
+use crate::text::KnownText;
 use ctf_attributes::Event;
 use ctf_class::{EventClass, Heading, Scope};
 use ctf_list::List;
@@ -24,7 +24,7 @@ use ctf_meaning::ResolveFault;
 use std::alloc::{AllocError, Global};
 use tsdl_tree::BlockEntry;
 
-impl<'a> Text<'a> {
+impl<'a> KnownText<'a> {
     /// What an event block gives. It fails with `Attribute` where its stream is unknown, with `Twice` where
     /// an event of its id is before it in the stream, and where a length, a tag or a clock of its classes
     /// is not found.

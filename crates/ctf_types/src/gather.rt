@@ -11,7 +11,7 @@ use std::alloc::Global;
 
 /// What declarations give, by where it goes.
 #[derive(Drop)]
-pub struct Parts {
+pub struct TraceParts {
     /// The class of the packet header, of each trace block.
     pub headers: List<Option<Class>>,
     /// The streams without their events.
@@ -20,13 +20,13 @@ pub struct Parts {
     pub events: List<List<EventClass>>,
 }
 
-impl Parts {
+impl TraceParts {
     /// Nothing yet, of so many streams.
-    pub fn new(alloc: Global, count: usize) -> Result<Parts, NoMemory>
+    pub fn new(alloc: Global, count: usize) -> Result<TraceParts, NoMemory>
         ensures parted { IfOk result (λ parts. IsParted [] parts) }
         ensures lists { IfOk result (λ parts. length parts.events ≡ count) }
     {
-        Ok(Parts {
+        Ok(TraceParts {
             headers: List::new(alloc),
             heads: List::new(alloc),
             events: empty_lists(alloc, count)?,

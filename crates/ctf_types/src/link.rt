@@ -15,7 +15,7 @@ ghost use Rattle.ctf_types.specs.Links.{IsHeader, HasHead, IsMoved, stream_said}
 use crate::home::Home;
 use crate::linked::StreamHead;
 use crate::streams::StreamAt;
-use crate::text::Text;
+use crate::text::KnownText;
 use ctf_class::{Class, Clock, Scope};
 use ctf_list::NoMemory;
 use ctf_meaning::ResolveFault;
@@ -31,7 +31,7 @@ pub struct MovedClock {
     pub has_several: bool,
 }
 
-impl<'a> Text<'a> {
+impl<'a> KnownText<'a> {
     /// The class of the packet header, by a trace block.
     pub fn header(&self, alloc: Global, number: usize) -> Result<Option<Class>, ResolveFault>
         ghost text: { List WrittenDeclaration }

@@ -9,16 +9,20 @@ ghost use Rattle.ctf_meaning.specs.Written.{Declaration as WrittenDeclaration};
 ghost use Rattle.ctf_types.specs.Texts.{IsText};
 ghost use Rattle.ctf_types.specs.Gone.{AllGiven};
 
-use crate::gather::Parts;
+use crate::gather::TraceParts;
 use crate::ids::Ids;
-use crate::text::Text;
+use crate::text::KnownText;
 use ctf_meaning::ResolveFault;
 use std::alloc::Global;
 use tsdl_tree::Declaration;
 
-impl<'a> Text<'a> {
+impl<'a> KnownText<'a> {
     /// What the declarations give. It fails with a fault of the first whose links fail.
-    pub fn link(&self, alloc: Global, declarations: &[Declaration]) -> Result<Parts, ResolveFault>
+    pub fn link(
+        &self,
+        alloc: Global,
+        declarations: &[Declaration],
+    ) -> Result<TraceParts, ResolveFault>
         ghost text: { List WrittenDeclaration }
         requires written { text ≡ map declaration_of declarations.now }
         requires whole { IsText text self.now }
@@ -27,7 +31,7 @@ impl<'a> Text<'a> {
             (λ f. (f ≡ fault.NoMemory) ⊎
             Contains (first_faults (map (link_faults text) (numbered text))) f) }
     {
-        let mut parts = Parts::new(alloc, self.streams.as_slice().len())?;
+        let mut parts = TraceParts::new(alloc, self.streams.as_slice().len())?;
         let mut ids = Ids::new(alloc);
         for (number, declaration) in declarations.iter().enumerate() {
             let row = self.row(alloc, number, declaration, &mut ids)?;

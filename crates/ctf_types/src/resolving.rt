@@ -14,10 +14,10 @@ ghost use Rattle.ctf_types.specs.Resolved.{IsWalked, Resolves, IsFinished, or_pl
 
 use crate::clocks::clocks;
 use crate::event::copy_host;
-use crate::gather::Parts;
+use crate::gather::TraceParts;
 use crate::linked::StreamHead;
 use crate::streams::streams;
-use crate::text::Text;
+use crate::text::KnownText;
 use crate::trace::{TraceAt, trace};
 use ctf_attributes::host;
 use ctf_bits::Order;
@@ -58,7 +58,7 @@ fn resolve_walked(
     let clocks = clocks(alloc, declarations)?;
     let clocks = Clocks::new(alloc, clocks.as_slice())?;
     let host = host(declarations);
-    let text = Text {
+    let text = KnownText {
         rows,
         clocks: &clocks,
         order: order_of(trace),
@@ -97,7 +97,7 @@ fn trace_class_of(
     alloc: Global,
     trace: Option<TraceAt>,
     host: Option<&[u8]>,
-    parts: Parts,
+    parts: TraceParts,
 ) -> Result<TraceClass, ResolveFault>
     ghost text: { List WrittenDeclaration }
     requires { IsFinished text trace (option_copied host) parts }

@@ -11,7 +11,7 @@ ghost use Rattle.ctf_types.specs.Texts.{IsText};
 
 use crate::ids::Ids;
 use crate::linked::Linked;
-use crate::text::Text;
+use crate::text::KnownText;
 use ctf_attributes::stream_id;
 use ctf_meaning::ResolveFault;
 use std::alloc::Global;
@@ -25,7 +25,7 @@ struct TextBlock<'b> {
     entries: &'b [BlockEntry],
 }
 
-impl<'a> Text<'a> {
+impl<'a> KnownText<'a> {
     /// What a declaration gives.
     pub fn row(
         &self,

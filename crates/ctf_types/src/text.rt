@@ -17,12 +17,12 @@ use ctf_declarations::ScopeShape;
 use ctf_declared_class::{Known, Shape};
 use ctf_list::{List, NoMemory};
 use ctf_meaning::ResolveFault;
-use ctf_paths::{Clocks, Earlier, Linker, scope_class};
+use ctf_paths::{Clocks, EarlierStructure, Linker, scope_class};
 use std::alloc::Global;
 
 /// What is known of a text of which no declaration has a fault of its own.
 #[derive(Drop)]
-pub struct Text<'a> {
+pub struct KnownText<'a> {
     /// The scopes that each declaration gives classes to.
     pub rows: &'a [List<ScopeShape>],
     pub clocks: &'a Clocks<'a>,
@@ -34,7 +34,7 @@ pub struct Text<'a> {
     pub host: Option<&'a [u8]>,
 }
 
-impl<'a> Text<'a> {
+impl<'a> KnownText<'a> {
     /// The class that is declared for a scope.
     pub fn shape(&self, home: &Home, scope: Scope) -> Option<&'a Known>
         ghost text: { List WrittenDeclaration }
@@ -45,14 +45,14 @@ impl<'a> Text<'a> {
     }
 
     /// The structure of a scope.
-    fn structure(&self, home: &Home, scope: Scope) -> Option<Earlier<'a>>
+    fn structure(&self, home: &Home, scope: Scope) -> Option<EarlierStructure<'a>>
         ghost text: { List WrittenDeclaration }
         requires { IsText text self.now }
         ensures { option_map earlier_by result ≡
             option_and_then (frame_by scope) (scope_of text (home_by home.now) scope) }
     {
         match self.shape(home, scope)?.shape() {
-            Shape::Structure { members, .. } => Some(Earlier { scope, members }),
+            Shape::Structure { members, .. } => Some(EarlierStructure { scope, members }),
             _ => None,
         }
     }
@@ -63,7 +63,7 @@ impl<'a> Text<'a> {
         alloc: Global,
         home: &Home,
         scope: Scope,
-    ) -> Result<Vec<Earlier<'a>>, NoMemory>
+    ) -> Result<Vec<EarlierStructure<'a>>, NoMemory>
         ghost text: { List WrittenDeclaration }
         requires { IsText text self.now }
         ensures { IfOk result (λ found. map earlier_by found.items ≡

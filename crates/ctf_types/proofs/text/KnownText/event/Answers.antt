@@ -1,0 +1,14 @@
+use Rattle.std.proofs.lemmas.Result.{err_from_is_err_and}
+use Rattle.ctf_types.specs.Texts.{home_by}
+use Rattle.ctf_types.proofs.Heads.{widened, event_context_fails, fields_fail}
+use Rattle.ctf_types.proofs.text.KnownText.event.Goals as goal
+
+pub returns-in_err-context : goal.returns-in_err-context
+returns-in_err-context g c =
+    let p = err_from_is_err_and c.from_residual-in_err-context.result c.from_residual-in_err-context.ensures.1 in rw (p.1, p.2)
+    (widened c.in_err-context.field-0.0 (event_context_fails g.text c.args.self.now.order (home_by c.args.home.now) c.in_err-context.field-0.0) c.in_err-context.ensures)
+
+pub returns-in_err-fields : goal.returns-in_err-fields
+returns-in_err-fields g c =
+    let p = err_from_is_err_and c.from_residual-in_err-fields.result c.from_residual-in_err-fields.ensures.1 in rw (p.1, p.2)
+    (widened c.in_err-fields.field-0.0 (fields_fail g.text c.args.self.now.order (home_by c.args.home.now) c.in_err-fields.field-0.0) c.in_err-fields.ensures)

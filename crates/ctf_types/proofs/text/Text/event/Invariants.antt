@@ -1,4 +1,0 @@
-use Rattle.ctf_types.proofs.text.Text.event.Given as goal
-
-abbrev pub ghost-class : goal.ghost-class
-ghost-class g a = g.text

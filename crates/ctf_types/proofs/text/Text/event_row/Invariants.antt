@@ -1,4 +1,0 @@
-use Rattle.ctf_types.proofs.text.Text.event_row.Given as goal
-
-abbrev pub ghost-event : goal.ghost-event
-ghost-event g a = g.text

@@ -1,4 +1,0 @@
-use Rattle.ctf_types.proofs.text.Text.row.Given as goal
-
-abbrev pub ghost-block_row : goal.ghost-block_row
-ghost-block_row g a = g.text

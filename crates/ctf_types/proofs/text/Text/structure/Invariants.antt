@@ -1,4 +1,0 @@
-use Rattle.ctf_types.proofs.text.Text.structure.Given as goal
-
-abbrev pub ghost-shape : goal.ghost-shape
-ghost-shape g a = g.text
