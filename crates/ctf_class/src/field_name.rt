@@ -7,7 +7,7 @@ ghost use Rattle.std.specs.Cmp.Lexicographic.{pointwise, nat_list_eq_equiv};
 ghost use Rattle.ctf_class.specs.Names.{shown_name, field_text};
 ghost use Rattle.ctf_class.specs.RoleNames.{role_name};
 
-use crate::ready::PreparedText;
+use crate::prepared_text::PreparedText;
 use crate::role::{Role, role_of_name};
 use ctf_list::{List, NoMemory, Shared};
 use std::alloc::{AllocError, Global};

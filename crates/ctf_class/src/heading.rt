@@ -4,7 +4,7 @@ ghost use Rattle.std.specs.Prelude.{◌≡◌, IfOk, option_copied};
 ghost use Rattle.ctf_class.specs.HostAndName.{heading_text};
 
 use crate::escape::put_escaped;
-use crate::ready::PreparedText;
+use crate::prepared_text::PreparedText;
 use ctf_list::{List, NoMemory};
 use std::alloc::Global;
 use std::marker::Model;

@@ -6,7 +6,7 @@ ghost use Rattle.std.specs.Cmp.Lexicographic.{pointwise, nat_list_eq_equiv};
 ghost use Rattle.ctf_class.specs.Names.{label_text};
 
 use crate::escape::put_escaped;
-use crate::ready::PreparedText;
+use crate::prepared_text::PreparedText;
 use ctf_list::{List, NoMemory};
 use std::alloc::Global;
 use std::marker::Model;

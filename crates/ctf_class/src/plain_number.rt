@@ -1,7 +1,7 @@
 //! Integers that are printed as they are.
 
 use crate::integer::Integer;
-use crate::ready::PreparedText;
+use crate::prepared_text::PreparedText;
 use ctf_bits::Window;
 
 /// An integer in decimal, little endian, whose distance from the begin of its run is known (CTF 1.8.3, section 4.1.5).

@@ -13,7 +13,7 @@ use crate::class::{Class, Kind, Member};
 use crate::integer::{Base, Integer};
 use crate::labels::Labels;
 use crate::plain_number::PlainNumber;
-use crate::ready::PreparedText;
+use crate::prepared_text::PreparedText;
 use crate::route::Length;
 use ctf_bits::{Order, Window};
 use ctf_list::{List, NoMemory, Shared};

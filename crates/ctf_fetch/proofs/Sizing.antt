@@ -21,7 +21,7 @@ use Rattle.ctf_packet_demand.specs.Gives.{begun_of}
 use Rattle.ctf_packet_demand.proofs.Telling.{wants_tell}
 use Rattle.ctf_fetch.specs.Fetching.{longest_bytes, OrNoMemory, FetchedAt}
 use Rattle.ctf_fetch.specs.Openings.{want_of, TakesRest, TakesSized, Opens}
-use Rattle.ctf_fetch.specs.declared.cut.Opening.{Opening}
+use Rattle.ctf_fetch.specs.declared.packet_start.Opening.{Opening}
 
 abbrev laws : WantsTell Classes
 laws = wants_tell

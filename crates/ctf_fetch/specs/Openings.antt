@@ -15,7 +15,7 @@ use Rattle.ctf_packet.specs.declared.fault.StreamFault.TheVariants as faults
 use Rattle.ctf_packet_demand.specs.Wants as wants
 use Rattle.ctf_packet_demand.specs.Gives.{begun_of}
 use Rattle.ctf_fetch.specs.Fetching.{longest_bytes, OrNoMemory}
-use Rattle.ctf_fetch.specs.declared.cut.Opening.{Opening}
+use Rattle.ctf_fetch.specs.declared.packet_start.Opening.{Opening}
 
 -- the bytes up to a bit came; or the stream ends before, or no packet is so long
 abbrev pub TakesMore : Ending → ℕ → List ℕ → List ℕ → Result (Unit {0}) StreamFault → Type 0

@@ -2,13 +2,13 @@
 #![tactic(auto)]
 
 mod buffer;
-mod cut;
 mod demand;
 mod fill;
 mod intake;
 mod least;
 mod needed;
+mod packet_start;
 mod scope;
 
 pub use buffer::Buffer;
-pub use cut::PacketStart;
+pub use packet_start::PacketStart;

@@ -14,8 +14,8 @@ use Rattle.ctf_stream.specs.Peeked.{told}
 use Rattle.ctf_stream.specs.Reader as reader
 use Rattle.stream_laws.specs.Times.{is_before}
 use Rattle.ctf_merge.specs.Merged.{First, item, broken, nothing, later, least, with_first, first_of}
-use Rattle.ctf_stream.specs.declared.ahead.Peeked.{Peeked}
-use Rattle.ctf_stream.specs.declared.ahead.Peeked.TheVariants as aheads
+use Rattle.ctf_stream.specs.declared.peeked.Peeked.{Peeked}
+use Rattle.ctf_stream.specs.declared.peeked.Peeked.TheVariants as aheads
 use Rattle.ctf_merge.specs.Trees.{IsLow}
 use Rattle.ctf_merge.specs.Turns.{Turn, turn_cmp, turns_total, turn_at, turns_from}
 use Rattle.ctf_merge.proofs.Merging.{later_item}

@@ -9,8 +9,8 @@ use Rattle.std.specs.declared.cmp.Ordering.{Ordering}
 use Rattle.ctf_packet.specs.declared.fault.StreamFault.{StreamFault}
 use Rattle.ctf_stream.specs.Peeked.{told}
 use Rattle.ctf_stream.specs.Reader as reader
-use Rattle.ctf_stream.specs.declared.ahead.Peeked.{Peeked}
-use Rattle.ctf_stream.specs.declared.ahead.Peeked.TheVariants as aheads
+use Rattle.ctf_stream.specs.declared.peeked.Peeked.{Peeked}
+use Rattle.ctf_stream.specs.declared.peeked.Peeked.TheVariants as aheads
 
 -- the turn of a stream with a current item
 pub record Turn : Type 0 where

@@ -1,10 +1,10 @@
 //! A run over streams, an item at a time: what a log and its messages are.
 #![tactic(auto)]
 
-mod front;
 mod input;
 mod laws;
 mod log;
+mod next_item;
 mod opening;
 mod printing;
 mod session;

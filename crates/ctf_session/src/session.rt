@@ -10,9 +10,9 @@ ghost use Rattle.ctf_session.specs.Printing.{TellsFault};
 ghost use Rattle.ctf_session.specs.Steps.{answer_of, Tells, Steps, IsQuiet, IsRepeated, EndedBy, LeavesNothing, counts_by, CountsAfterStep, CountsAfter, SameForMessages, SettledBy, SettledByStep, IsNamedStep, IsNamed, Answered, RoomAfter, ReadersAfter, EndsBy};
 ghost use Rattle.ctf_session.specs.Writing.{written_by};
 
-use crate::front::{NextItem, front_time, print_front};
 use crate::input::Streams;
 use crate::log::Log;
+use crate::next_item::{NextItem, front_time, print_front};
 use crate::opening::open_all;
 use crate::printing::say;
 use crate::step::{Ending, Step, Stop};

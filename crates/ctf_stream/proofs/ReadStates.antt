@@ -18,7 +18,7 @@ use Rattle.ctf_stream.specs.Reader.{behind_ahead, with_ahead}
 use Rattle.ctf_stream.specs.Standing.{item_at}
 use Rattle.ctf_stream.specs.ReadState.{trace_of, coming_at, Inside, StandsAt, coming_of, StepsWithin, Enters, Advances}
 use Rattle.ctf_stream.specs.declared.read_state.ReadState.{ReadState}
-use Rattle.ctf_fetch.specs.declared.cut.PacketStart.{PacketStart}
+use Rattle.ctf_fetch.specs.declared.packet_start.PacketStart.{PacketStart}
 use Rattle.ctf_stream.specs.declared.packet.Packet.{Packet}
 use Rattle.ctf_stream.specs.declared.packet.Front.{Front}
 

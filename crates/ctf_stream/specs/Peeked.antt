@@ -6,8 +6,8 @@ use Rattle.ctf_stream.specs.Reader as reader
 use Rattle.ctf_stream.specs.declared.packet.Packet.{Packet}
 use Rattle.ctf_stream.specs.declared.packet.Front.{Front}
 use Rattle.ctf_stream.specs.declared.packet.Front.TheVariants as fronts
-use Rattle.ctf_stream.specs.declared.ahead.Peeked.{Peeked}
-use Rattle.ctf_stream.specs.declared.ahead.Peeked.TheVariants as aheads
+use Rattle.ctf_stream.specs.declared.peeked.Peeked.{Peeked}
+use Rattle.ctf_stream.specs.declared.peeked.Peeked.TheVariants as aheads
 
 abbrev pub told : reader.Peeked → Peeked
 told reader.start = aheads.Start

@@ -10,7 +10,7 @@ use Rattle.ctf_packet.specs.Views.{values_of, packet_values}
 use Rattle.ctf_packet.specs.declared.fault.StreamFault.{StreamFault}
 use Rattle.ctf_stream.specs.Coming.{opened_in, left_in, item_in, room_in, HoldsFront}
 use Rattle.ctf_fetch.specs.Fetching.{OrNoMemory, most_taken, behind_packet, FetchedAt}
-use Rattle.ctf_fetch.specs.declared.cut.PacketStart.{PacketStart}
+use Rattle.ctf_fetch.specs.declared.packet_start.PacketStart.{PacketStart}
 use Rattle.ctf_stream.specs.declared.packet.Packet.{Packet}
 use Rattle.ctf_stream.specs.declared.packet.Front.{Front}
 use Rattle.ctf_stream.specs.declared.read_state.ReadState.{ReadState}

@@ -1,6 +1,6 @@
 use Rattle.std.proofs.Common.{◌≡◌, set, sym, ap, ◌∙◌, subst, add-one, arith}
 use Rattle.ctf_stream.specs.Peeked.{told}
-use Rattle.ctf_stream.specs.declared.ahead.Peeked.{Peeked}
+use Rattle.ctf_stream.specs.declared.peeked.Peeked.{Peeked}
 use Rattle.ctf_merge.specs.Turns.{fault_at, turn_at}
 use Rattle.ctf_merge.proofs.Lining.{lined_more, broken_first}
 use Rattle.ctf_merge.proofs.merge.line_up_each.Goals as goal

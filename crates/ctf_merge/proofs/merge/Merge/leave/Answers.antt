@@ -2,7 +2,7 @@ use Rattle.std.proofs.Common.{◌≡◌, ◌<◌, ◌+◌, length, set, IsTrue, 
 use Rattle.ctf_packet.specs.declared.fault.StreamFault.{StreamFault}
 use Rattle.ctf_stream.specs.Peeked.{told}
 use Rattle.ctf_stream.specs.Reader.{IsFetched}
-use Rattle.ctf_stream.specs.declared.ahead.Peeked.{Peeked}
+use Rattle.ctf_stream.specs.declared.peeked.Peeked.{Peeked}
 use Rattle.ctf_merge.specs.Stages.{is_over, stage_of}
 use Rattle.ctf_merge.specs.Turns.{turn_at, fault_at}
 use Rattle.ctf_merge.proofs.Going.{each_at, each_set, map-kept, room-front, goes-item, leaves_one}

@@ -3,7 +3,7 @@ use Rattle.ctf_merge.specs.Merged.{First}
 use Rattle.ctf_packet.specs.declared.fault.StreamFault.{StreamFault}
 use Rattle.ctf_stream.specs.Peeked.{told}
 use Rattle.ctf_stream.specs.Reader.{IsFetched}
-use Rattle.ctf_stream.specs.declared.ahead.Peeked.{Peeked}
+use Rattle.ctf_stream.specs.declared.peeked.Peeked.{Peeked}
 use Rattle.ctf_merge.specs.Given.{Gives, GivesFirst, GivesRoom}
 use Rattle.ctf_merge.specs.Merges.{Merge, EachTells, LeavesFront, coming_of, room_of}
 use Rattle.ctf_merge.specs.Stages.{is_over, stage_of}

@@ -1,6 +1,6 @@
 use Rattle.std.proofs.Common.{◌∷◌, sym, arith}
 use Rattle.ctf_class.proofs.WordsLemmas.{length-text}
-use Rattle.ctf_class.proofs.ready.PreparedText.len.Goals as goal
+use Rattle.ctf_class.proofs.prepared_text.PreparedText.len.Goals as goal
 
 pub returns-clause-is : goal.returns-clause-is
 returns-clause-is c =

@@ -6,7 +6,7 @@ use Rattle.ctf_packet.specs.Items.{from_packet, longest_stream}
 use Rattle.ctf_packet.specs.Views.{values_of, opened_of}
 use Rattle.ctf_fetch.specs.Fetching.{behind_packet, OrNoMemory}
 use Rattle.ctf_fetch.proofs.Fetched.{fetched, not_fetched}
-use Rattle.ctf_fetch.proofs.cut.PacketStart.fetch.Goals as goal
+use Rattle.ctf_fetch.proofs.packet_start.PacketStart.fetch.Goals as goal
 
 pub returns-in-Ok-clause-fetches : goal.returns-in-Ok-clause-fetches
 returns-in-Ok-clause-fetches g c = λ tells.

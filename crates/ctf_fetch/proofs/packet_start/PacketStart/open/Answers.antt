@@ -8,7 +8,7 @@ use Rattle.ctf_packet.specs.Packets.{open_at, placed}
 use Rattle.ctf_fetch.specs.Fetching.{OrNoMemory}
 use Rattle.ctf_fetch.specs.Openings.{TakesSized}
 use Rattle.ctf_fetch.proofs.Sizing.{told_possible, told_alone, no_sizes, sizes_place, opens_placed, on_ok}
-use Rattle.ctf_fetch.proofs.cut.PacketStart.open.Goals as goal
+use Rattle.ctf_fetch.proofs.packet_start.PacketStart.open.Goals as goal
 
 pub fill_sizes-requires-clause-possible : goal.fill_sizes-requires-clause-possible
 fill_sizes-requires-clause-possible g c =

@@ -1,6 +1,6 @@
 use Rattle.std.proofs.Common.{arith}
 use Rattle.ctf_class.proofs.WordsLemmas.{written-more}
-use Rattle.ctf_class.proofs.ready.put_each.Goals as goal
+use Rattle.ctf_class.proofs.prepared_text.put_each.Goals as goal
 
 pub loop-word-preserved : goal.loop-word-preserved
 loop-word-preserved c = record {

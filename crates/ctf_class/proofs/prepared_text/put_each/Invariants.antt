@@ -1,7 +1,7 @@
 use Rattle.std.proofs.Common.{◌≡◌, ◌+◌, ◌*◌, ◌++◌, take}
 use Rattle.std.specs.Int.{w64, to_le_bytes}
 use Rattle.std.specs.List.{flat_map}
-use Rattle.ctf_class.proofs.ready.put_each.Given as goal
+use Rattle.ctf_class.proofs.prepared_text.put_each.Given as goal
 
 -- the words before this one are written
 abbrev pub invariant-loop-word : goal.invariant-loop-word

@@ -1,7 +1,7 @@
 use Rattle.std.proofs.Common.{◌++◌, ◌∷◌, take, ap, ◌∙◌, arith}
 use Rattle.std.proofs.lemmas.List.{length-take-le}
 use Rattle.ctf_class.proofs.WordsLemmas.{head-part, length-text, line-part, three-words}
-use Rattle.ctf_class.proofs.ready.PreparedText.put_head.Goals as goal
+use Rattle.ctf_class.proofs.prepared_text.PreparedText.put_head.Goals as goal
 
 pub returns-clause-text : goal.returns-clause-text
 returns-clause-text c n short within =

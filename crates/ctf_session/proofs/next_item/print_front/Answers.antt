@@ -1,5 +1,5 @@
 use Rattle.ctf_session.proofs.Fronts.{front_is, text_is, name_at}
-use Rattle.ctf_session.proofs.front.print_front.Goals as goal
+use Rattle.ctf_session.proofs.next_item.print_front.Goals as goal
 
 pub returns-in-None-clause-prints : goal.returns-in-None-clause-prints
 returns-in-None-clause-prints g c = λ out err next first.

@@ -1,6 +1,6 @@
 use Rattle.std.proofs.Common.{◌∙◌, get_or}
 use Rattle.ctf_class.proofs.WordsLemmas.{put-bytes}
-use Rattle.ctf_class.proofs.ready.put_word.Goals as goal
+use Rattle.ctf_class.proofs.prepared_text.put_word.Goals as goal
 
 pub returns : goal.returns
 returns c =

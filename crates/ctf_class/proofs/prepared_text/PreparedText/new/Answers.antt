@@ -1,7 +1,7 @@
 use Rattle.std.proofs.Common.{◌≡◌, ℕ, ◌*◌, ◌≤◌, List, ◌∷◌, drop, get_or, length, ap, ◌∙◌, arith}
 use Rattle.ctf_class.specs.Words.{first_bytes}
 use Rattle.ctf_class.proofs.WordsLemmas.{in-front}
-use Rattle.ctf_class.proofs.ready.PreparedText.new.Goals as goal
+use Rattle.ctf_class.proofs.prepared_text.PreparedText.new.Goals as goal
 
 -- the words, as they are kept, hold the text
 kept : (words rest text : List ℕ) (a b c : ℕ) → length text ≤ 8 * length words → a ≡ get_or words 0 0 → b ≡ get_or words 1 0 → c ≡ get_or words 2 0 → rest ≡ drop 3 words → first_bytes words (length text) ≡ text

@@ -10,7 +10,7 @@ use Rattle.ctf_fetch.specs.Fetching.{OrNoMemory}
 use Rattle.ctf_fetch.proofs.Parts.{grown_all, grown_more}
 use Rattle.ctf_fetch.proofs.Fronts.{front_ends}
 use Rattle.ctf_fetch.proofs.Opening.{header_short, stream_refused, asked_refused, context_short, fits}
-use Rattle.ctf_fetch.proofs.cut.PacketStart.begin.Goals as goal
+use Rattle.ctf_fetch.proofs.packet_start.PacketStart.begin.Goals as goal
 
 pub returns-in_err-end-clause-faulty : goal.returns-in_err-end-clause-faulty
 returns-in_err-end-clause-faulty g c = λ tells.

@@ -2,7 +2,7 @@ use Rattle.std.proofs.Common.{arith, ◌*◌, length, None, ap, ◌∙◌}
 use Rattle.std.proofs.lemmas.Grind.{common_steps}
 use Rattle.ctf_packet.specs.Packets.{sizes_checked}
 use Rattle.ctf_fetch.proofs.Sizing.{refused_rest, rest_sized}
-use Rattle.ctf_fetch.proofs.cut.fill_sizes.Goals as goal
+use Rattle.ctf_fetch.proofs.packet_start.fill_sizes.Goals as goal
 
 pub returns-in-Err-fill_rest-clause-takes : goal.returns-in-Err-fill_rest-clause-takes
 returns-in-Err-fill_rest-clause-takes g c = λ tells.

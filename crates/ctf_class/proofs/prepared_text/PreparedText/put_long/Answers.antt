@@ -3,7 +3,7 @@ use Rattle.std.specs.Int.{w64, to_le_bytes}
 use Rattle.std.specs.List.{flat_map}
 use Rattle.std.proofs.lemmas.List.{length-take-le}
 use Rattle.ctf_class.proofs.WordsLemmas.{length-text, length-word_bytes, line-part, long-text}
-use Rattle.ctf_class.proofs.ready.PreparedText.put_long.Goals as goal
+use Rattle.ctf_class.proofs.prepared_text.PreparedText.put_long.Goals as goal
 
 pub put_each-requires : goal.put_each-requires
 put_each-requires c =
