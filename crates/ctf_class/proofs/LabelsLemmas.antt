@@ -1,19 +1,18 @@
 -- Labels of which no two cover one number, and labels with the last one before each of its name.
 use Rattle.std.proofs.Common.{◌≡◌, ℕ, zero, suc, ◌+◌, ◌-◌, ◌<◌, ◌≤◌, ℤ, ◌≤ℤ◌, ◌<ℤ◌, Bool, true, false, not, ◌&&◌, ◌||◌, cond, List, [], ◌∷◌, ◌++◌, length, take, get_or, Option, Some, unwrap_or, refl, sym, ap, subst, ◌∙◌, ⊎_elim, below_more, arith}
 use Rattle.std.specs.Int.Signed.{le_z}
-use Rattle.std.specs.List.{list_any, range_with_len, Contains}
-use Rattle.std.specs.List.Sorted.{IsPermutation}
+use Rattle.std.specs.List.{list_any}
 use Rattle.std.specs.Str.{bytes_eq}
 use Rattle.std.proofs.lemmas.Int.{ints}
 use Rattle.std.proofs.lemmas.Bool.{cases_lt, cases_order, cases_Bool, both_ways, and_parts, and_left, and_right, and_from, false_from_ne_true}
-use Rattle.std.proofs.lemmas.List.{get_or_past, get_or-take, length-take-le, get_or_append_left, get_or_push, get_or_default}
+use Rattle.std.proofs.lemmas.List.{get_or_past, get_or-take, length-take-le, get_or_append_left, get_or_push}
 use Rattle.std.proofs.lemmas.List.Folds.{list_any_at}
-use Rattle.std.proofs.lemmas.List.Sorted.{Contains-permutation, length_permutation}
 use Rattle.std.proofs.lemmas.Slice.Eq.{bytes_eq-Decides}
 use Rattle.ctf_class.specs.declared.span.Span.{Span}
 use Rattle.ctf_class.specs.declared.span.Label.{Label}
 use Rattle.ctf_class.specs.Labels.{covers, no_label, label_at, is_shown, shows_at, NoneShown, IsNextShown}
-use Rattle.ctf_class.specs.LabelSearch.{place_in, span_in, AreApart, HasRanks, IsLast}
+use Rattle.ctf_class.specs.LabelSearch.{span_in, AreApart, IsLast}
+use Rattle.ctf_class.specs.Ranks.{place_in, HasRanks}
 
 -- what a span covers
 le_from : (a b : ℤ) → le_z a b ≡ true → a ≤ℤ b
@@ -189,32 +188,6 @@ pub none_of_ranks : (labels : List Label) (order : List ℕ) (z : ℤ) → HasRa
 none_of_ranks labels order z ranks none place within =
     let r = ranks.rank place within in
     ap (λ (i : ℕ). covers (label_at labels i).span z) (sym r.2) ∙ none r.0 r.1
-
--- each place has a rank in the places as they stand, and in another order
-pub ranks-same : (labels : List Label) → HasRanks labels []
-ranks-same labels = record { rank = λ place within. (place, within, refl) }
-
-pub range-length : (first count : ℕ) → length (range_with_len first count) ≡ count
-range-length first zero = refl
-range-length first (suc count) = ap suc (range-length (first + 1) count)
-
-pub range-at : (first count i d : ℕ) → i < count → get_or (range_with_len first count) i d ≡ first + i
-range-at first zero i d less = absurd (omega arith)
-range-at first (suc count) zero d less = omega arith
-range-at first (suc count) (suc i) d less = range-at (first + 1) count i d (omega arith) ∙ omega arith
-
-pub ranks-sorted : (labels : List Label) (order : List ℕ) → IsPermutation (range_with_len 0 (length labels)) order → HasRanks labels order
-ranks-sorted labels order moved =
-    let n = length labels in
-    let places = range_with_len 0 n in
-    let size : length order ≡ n = length_permutation places order moved ∙ range-length 0 n in
-    record {
-      rank = λ place within.
-          let at : get_or places place place ≡ place = range-at 0 n place place within ∙ omega arith in
-          let there : Contains places place = (place, subst (λ k. place < k) (sym (range-length 0 n)) within, at) in
-          let found = Contains-permutation places order place moved there in
-          (found.0, subst (λ k. found.0 < k) size found.1, get_or_default order found.0 found.0 place found.1 ∙ found.2);
-    }
 
 -- the last label of a name, at the beginning and one label further
 pub last-none : (labels : List Label) (name : List ℕ) → IsLast labels 0 name 0

@@ -1,14 +1,17 @@
 -- Lemmas on places in lists.
-use Rattle.std.proofs.Common.{◌≡◌, ℕ, zero, suc, ◌+◌, ◌<◌, ◌≤◌, Bool, true, false, cond, eqb, nat_cmp, ltb, List, [], ◌∷◌, ◌++◌, length, map, take, get_or, Option, Some, None, refl, sym, ap, ◌∙◌, is_some, ⊎_elim, arith}
-use Rattle.std.specs.List.{position_from, find, slice_get, range_with_len}
+use Rattle.std.proofs.Common.{◌≡◌, ℕ, zero, suc, ◌+◌, ◌<◌, ◌≤◌, Bool, true, false, cond, eqb, nat_cmp, ltb, List, [], ◌∷◌, ◌++◌, length, map, take, get_or, Option, Some, None, refl, sym, ap, subst, ◌∙◌, is_some, ⊎_elim, arith}
+use Rattle.std.specs.List.{position_from, find, slice_get, range_with_len, Contains}
+use Rattle.std.specs.List.Sorted.{IsPermutation}
 use Rattle.std.specs.Option.{option_or}
 use Rattle.std.specs.BTreeMap.{is_at}
 use Rattle.std.proofs.lemmas.Bool.{cases_eq, false≢true}
 use Rattle.std.proofs.lemmas.Bool.Decides.{nat_tests}
-use Rattle.std.proofs.lemmas.List.{take_more, map-append, length-take-le}
+use Rattle.std.proofs.lemmas.List.{take_more, map-append, length-take-le, get_or_default}
 use Rattle.std.proofs.lemmas.List.Folds.{find_at}
+use Rattle.std.proofs.lemmas.List.Sorted.{Contains-permutation, length_permutation}
 use Rattle.std.proofs.lemmas.Iterator.Adapters.{position_from-zero}
 use Rattle.std.proofs.lemmas.Option.{slice_get_past}
+use Rattle.ctf_class.specs.Ranks.{HasRanks}
 
 -- one number more
 pub range_with_len-push : (first count : ℕ) → range_with_len first (count + 1) ≡ range_with_len first count ++ (first + count) ∷ []
@@ -91,3 +94,29 @@ pub counted-firsts : {T : Type 0} (id_of : T → ℕ) (items : List T) (id : ℕ
 counted-firsts id_of items id counted =
     let none : length items ≡ 0 + length items = omega arith in
     ap (λ n. cond (ltb id n) (Some id) None) none ∙ position_from-counted id_of items 0 id counted (omega arith)
+
+-- each place has a rank in the places as they stand, and in another order
+pub ranks-same : {X : Type 0} (items : List X) → HasRanks items []
+ranks-same items = record { rank = λ place within. (place, within, refl) }
+
+range-length : (first count : ℕ) → length (range_with_len first count) ≡ count
+range-length first zero = refl
+range-length first (suc count) = ap suc (range-length (first + 1) count)
+
+range-at : (first count i d : ℕ) → i < count → get_or (range_with_len first count) i d ≡ first + i
+range-at first zero i d less = absurd (omega arith)
+range-at first (suc count) zero d less = omega arith
+range-at first (suc count) (suc i) d less = range-at (first + 1) count i d (omega arith) ∙ omega arith
+
+pub ranks-sorted : {X : Type 0} (items : List X) (order : List ℕ) → IsPermutation (range_with_len 0 (length items)) order → HasRanks items order
+ranks-sorted items order moved =
+    let n = length items in
+    let places = range_with_len 0 n in
+    let size : length order ≡ n = length_permutation places order moved ∙ range-length 0 n in
+    record {
+      rank = λ place within.
+          let at : get_or places place place ≡ place = range-at 0 n place place within ∙ omega arith in
+          let there : Contains places place = (place, subst (λ k. place < k) (sym (range-length 0 n)) within, at) in
+          let found = Contains-permutation places order place moved there in
+          (found.0, subst (λ k. found.0 < k) size found.1, get_or_default order found.0 found.0 place found.1 ∙ found.2);
+    }

@@ -1,18 +1,15 @@
 -- Names of which no two are the same, in the order of their bytes.
-use Rattle.std.proofs.Common.{◌≡◌, ℕ, zero, suc, ◌+◌, ◌-◌, ◌<◌, ◌≤◌, Bool, true, false, cond, ◌||◌, List, [], ◌∷◌, length, get_or, Some, None, Less, Equal, Greater, is_eq, nat_cmp, refl, sym, ap, subst, ◌∙◌, ⊎_elim, bytes_eq, Contains, IsPermutation, arith}
+use Rattle.std.proofs.Common.{◌≡◌, ℕ, zero, suc, ◌+◌, ◌-◌, ◌<◌, ◌≤◌, Bool, true, false, cond, ◌||◌, List, [], ◌∷◌, length, get_or, Some, None, Less, Equal, Greater, is_eq, nat_cmp, refl, sym, ap, subst, ◌∙◌, ⊎_elim, bytes_eq, arith}
 use Rattle.std.specs.Ordering.{ordering_reverse}
 use Rattle.std.specs.Cmp.Lexicographic.{slice_cmp}
-use Rattle.std.specs.List.{position_from, list_any, range_with_len}
+use Rattle.std.specs.List.{position_from, list_any}
 use Rattle.std.proofs.lemmas.Bool.{cases_lt, cases_order}
 use Rattle.std.proofs.lemmas.Cmp.{nat_list_cmp_total, nat_list_eq_equiv}
-use Rattle.std.proofs.lemmas.List.{get_or_default}
-use Rattle.std.proofs.lemmas.List.Sorted.{Contains-permutation, length_permutation}
 use Rattle.std.proofs.lemmas.Map.Text.{is_eq-slice_cmp}
 use Rattle.std.proofs.lemmas.Slice.Eq.{bytes_eq-Decides}
 use Rattle.ctf_class.specs.SameNames.{has_twins}
-use Rattle.ctf_class.specs.LabelSearch.{place_in}
-use Rattle.ctf_class.specs.NameRanks.{name_in, IsNext, AreAscending, HasRanks}
-use Rattle.ctf_class.proofs.LabelsLemmas.{range-length, range-at}
+use Rattle.ctf_class.specs.NameRanks.{name_in, IsNext, AreAscending}
+use Rattle.ctf_class.specs.Ranks.{place_in, HasRanks}
 
 -- a name that comes before another is not the same, nor is that one
 before-other : (a b : List ℕ) → slice_cmp nat_cmp a b ≡ Less → bytes_eq a b ≡ false
@@ -129,20 +126,3 @@ no-twins names order up ranks =
     let differs : p.0 ≡ q.0 → ⊥ = λ e. let at : j ≡ k = sym p.2 ∙ (ap (place_in order) e ∙ q.2) in absurd (omega (arith, at, less)) in
     ap (λ i. bytes_eq (get_or names i []) (get_or names k [])) (sym p.2)
     ∙ (ap (λ i. bytes_eq (name_in names order p.0) (get_or names i [])) (sym q.2) ∙ apart names order p.0 q.0 up p.1 q.1 differs))
-
--- each place has a rank in the places as they stand, and in another order
-pub ranks-same : (names : List (List ℕ)) → HasRanks names []
-ranks-same names = record { rank = λ place within. (place, within, refl) }
-
-pub ranks-sorted : (names : List (List ℕ)) (order : List ℕ) → IsPermutation (range_with_len 0 (length names)) order → HasRanks names order
-ranks-sorted names order moved =
-    let n = length names in
-    let places = range_with_len 0 n in
-    let size : length order ≡ n = length_permutation places order moved ∙ range-length 0 n in
-    record {
-      rank = λ place within.
-          let at : get_or places place place ≡ place = range-at 0 n place place within ∙ omega arith in
-          let there : Contains places place = (place, subst (λ k. place < k) (sym (range-length 0 n)) within, at) in
-          let found = Contains-permutation places order place moved there in
-          (found.0, subst (λ k. found.0 < k) size found.1, get_or_default order found.0 found.0 place found.1 ∙ found.2);
-    }

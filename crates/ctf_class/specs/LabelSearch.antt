@@ -6,10 +6,7 @@ use Rattle.ctf_class.specs.declared.span.Label.{Label}
 use Rattle.ctf_class.specs.declared.labels.Search.{Search}
 use Rattle.ctf_class.specs.declared.labels.Search.TheVariants.{Apart, Chained}
 use Rattle.ctf_class.specs.Labels.{covers, label_at}
-
--- the place of the label of a rank: where the order does not say it, the rank
-abbrev pub place_in : List ℕ → ℕ → ℕ
-place_in order rank = get_or order rank rank
+use Rattle.ctf_class.specs.Ranks.{place_in, HasRanks}
 
 -- the numbers of the label of a rank
 abbrev pub span_in : List Label → List ℕ → ℕ → Span
@@ -19,10 +16,6 @@ span_in labels order rank = (label_at labels (place_in order rank)).span
 pub record AreApart (labels : List Label) (order : List ℕ) : Type 0 where
   pub forward : (rank : ℕ) → rank < length labels → (span_in labels order rank).first ≤ℤ (span_in labels order rank).last
   pub apart : (rank later : ℕ) → rank < later → later < length labels → (span_in labels order rank).last <ℤ (span_in labels order later).first
-
--- each label has a rank
-pub record HasRanks (labels : List Label) (order : List ℕ) : Type 0 where
-  pub rank : (place : ℕ) → place < length labels → (rank : ℕ) × (rank < length labels) × (place_in order rank ≡ place)
 
 -- the place of a label that covers a number, if there is one
 abbrev pub FindsCovering : List Label → ℤ → Option ℕ → Type 0

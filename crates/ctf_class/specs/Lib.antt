@@ -12,6 +12,7 @@ pub mod NamePlaces
 pub mod NameRanks
 pub mod Names
 pub mod Places
+pub mod Ranks
 pub mod Records
 pub mod RoleNames
 pub mod SameNames

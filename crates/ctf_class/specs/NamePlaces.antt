@@ -1,7 +1,8 @@
 -- How names of a list are found.
 use Rattle.std.specs.Prelude.{ℕ, List, ⊤}
 use Rattle.ctf_class.specs.NameFirsts.{IsIndex}
-use Rattle.ctf_class.specs.NameRanks.{AreAscending, HasRanks}
+use Rattle.ctf_class.specs.NameRanks.{AreAscending}
+use Rattle.ctf_class.specs.Ranks.{HasRanks}
 use Rattle.ctf_class.specs.declared.names.Places.{Places}
 use Rattle.ctf_class.specs.declared.names.Places.TheVariants.{Few, Ranked, Sorted}
 

@@ -3,7 +3,7 @@ use Rattle.std.specs.Prelude.{◌≡◌, ℕ, ◌-◌, ◌<◌, List, [], length
 use Rattle.std.specs.Ordering.{nat_cmp}
 use Rattle.std.specs.declared.cmp.Ordering.TheVariants.{Less}
 use Rattle.std.specs.Cmp.Lexicographic.{slice_cmp}
-use Rattle.ctf_class.specs.LabelSearch.{place_in}
+use Rattle.ctf_class.specs.Ranks.{place_in}
 
 -- the name of a rank
 abbrev pub name_in : List (List ℕ) → List ℕ → ℕ → List ℕ
@@ -18,7 +18,3 @@ pub record IsNext (names : List (List ℕ)) (order : List ℕ) (rank : ℕ) : Ty
 pub record AreAscending (names : List (List ℕ)) (order : List ℕ) : Type 0 where
   pub within : (rank : ℕ) → rank < length names → place_in order rank < length names
   pub ascending : (rank later : ℕ) → rank < later → later < length names → slice_cmp nat_cmp (name_in names order rank) (name_in names order later) ≡ Less
-
--- each name has a rank
-pub record HasRanks (names : List (List ℕ)) (order : List ℕ) : Type 0 where
-  pub rank : (place : ℕ) → place < length names → (rank : ℕ) × (rank < length names) × (place_in order rank ≡ place)

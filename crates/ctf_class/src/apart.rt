@@ -4,7 +4,8 @@ ghost use Rattle.std.specs.Prelude.{◌≡◌, length, IsTrue, IfOk};
 ghost use Rattle.std.specs.List.{range_with_len};
 ghost use Rattle.std.specs.List.Sorted.{IsPermutation};
 ghost use Rattle.ctf_class.specs.Labels.{FindsNext};
-ghost use Rattle.ctf_class.specs.LabelSearch.{AreApart, HasRanks, FindsCovering};
+ghost use Rattle.ctf_class.specs.LabelSearch.{AreApart, FindsCovering};
+ghost use Rattle.ctf_class.specs.Ranks.{HasRanks};
 
 use crate::label_at::{covers, number_at, span_at};
 use crate::span::Label;

@@ -7,7 +7,8 @@ ghost use Rattle.std.specs.Cmp.Lexicographic.{slice_cmp};
 ghost use Rattle.std.specs.List.{position_from, range_with_len};
 ghost use Rattle.std.specs.List.Sorted.{IsPermutation};
 ghost use Rattle.std.specs.Str.{bytes_eq};
-ghost use Rattle.ctf_class.specs.NameRanks.{IsNext, AreAscending, HasRanks};
+ghost use Rattle.ctf_class.specs.NameRanks.{IsNext, AreAscending};
+ghost use Rattle.ctf_class.specs.Ranks.{HasRanks};
 
 use crate::apart::places_of;
 use crate::field_name::FieldName;

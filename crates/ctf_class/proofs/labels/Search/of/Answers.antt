@@ -1,6 +1,7 @@
 use Rattle.std.proofs.Common.{List, ℕ, sym, subst}
-use Rattle.ctf_class.specs.LabelSearch.{AreApart, HasRanks}
-use Rattle.ctf_class.proofs.LabelsLemmas.{ranks-same, ranks-sorted}
+use Rattle.ctf_class.specs.LabelSearch.{AreApart}
+use Rattle.ctf_class.specs.Ranks.{HasRanks}
+use Rattle.ctf_class.proofs.PlacesLemmas.{ranks-same, ranks-sorted}
 use Rattle.ctf_class.proofs.labels.Search.of.Goals as goal
 
 pub returns-then-are_apart : goal.returns-then-are_apart

@@ -1,6 +1,7 @@
 use Rattle.std.proofs.Common.{List, ℕ, sym, subst}
-use Rattle.ctf_class.specs.NameRanks.{AreAscending, HasRanks}
-use Rattle.ctf_class.proofs.RanksLemmas.{ranks-same, ranks-sorted}
+use Rattle.ctf_class.specs.NameRanks.{AreAscending}
+use Rattle.ctf_class.specs.Ranks.{HasRanks}
+use Rattle.ctf_class.proofs.PlacesLemmas.{ranks-same, ranks-sorted}
 use Rattle.ctf_class.proofs.names.Places.of.Goals as goal
 
 pub returns-then-are_ascending : goal.returns-then-are_ascending
