@@ -20,7 +20,7 @@ use tsdl_tree::BlockEntry;
 
 /// What the settings of an `event` block say (CTF 1.8.3, section 7.4 and appendix C.2).
 #[derive(Drop)]
-pub struct Event {
+pub struct EventSettings {
     /// 0 where the block has none.
     pub id: u64,
     pub name: List<u8>,
@@ -28,9 +28,9 @@ pub struct Event {
     pub stream_id: Option<u64>,
 }
 
-impl Event {
+impl EventSettings {
     /// The settings of an event. It fails with `Attribute`, or where an allocation fails.
-    pub fn read(alloc: Global, entries: &[BlockEntry]) -> Result<Event, ResolveFault>
+    pub fn read(alloc: Global, entries: &[BlockEntry]) -> Result<EventSettings, ResolveFault>
         ensures told { Tells (block_faults (Block kind.Event (map entry_of entries.now)))
             (IsEvent (map entry_of entries.now)) result }
     {
@@ -38,7 +38,7 @@ impl Event {
         let name = required_text(alloc, value_at(entries, b"name"))?;
         let id = id(entries)?;
         let stream_id = stream_id(entries)?;
-        Ok(Event {
+        Ok(EventSettings {
             id,
             name,
             stream_id,

@@ -32,15 +32,15 @@ const MINOR: u64 = 8;
 
 /// What the settings of a `trace` block say (CTF 1.8.3, section 7.4 and appendix C.2).
 #[derive(Clone, Copy)]
-pub struct Trace {
+pub struct TraceSettings {
     /// The native byte order.
     pub order: Order,
     pub uuid: Option<[u8; 16]>,
 }
 
-impl Trace {
+impl TraceSettings {
     /// The settings of a trace. It fails with `Attribute`, or where an allocation fails.
-    pub fn read(alloc: Global, entries: &[BlockEntry]) -> Result<Trace, ResolveFault>
+    pub fn read(alloc: Global, entries: &[BlockEntry]) -> Result<TraceSettings, ResolveFault>
         ensures told { Tells (block_faults (Block kind.Trace (map entry_of entries.now)))
             (IsTrace (map entry_of entries.now)) result }
     {
@@ -49,7 +49,7 @@ impl Trace {
         check_number(entries, b"minor", MINOR)?;
         let order = order(entries)?;
         let uuid = uuid(alloc, entries)?;
-        Ok(Trace { order, uuid })
+        Ok(TraceSettings { order, uuid })
     }
 }
 

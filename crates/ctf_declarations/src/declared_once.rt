@@ -18,7 +18,7 @@ ghost use Rattle.ctf_meaning.specs.Clocks.{clock_by};
 ghost use Rattle.ctf_attributes.specs.Tells.{Tells, Nothing};
 ghost use Rattle.ctf_declarations.specs.DeclaredSoFar.{Remembers};
 
-use ctf_attributes::{Event, Trace, clock, numbers, stream_id};
+use ctf_attributes::{EventSettings, TraceSettings, clock, numbers, stream_id};
 use ctf_meaning::ResolveFault;
 use std::alloc::Global;
 use std::collections::BTreeSet;
@@ -106,7 +106,7 @@ impl DeclaredOnce {
     {
         match kind {
             BlockKind::Trace => {
-                Trace::read(alloc, entries)?;
+                TraceSettings::read(alloc, entries)?;
                 self.add_trace()
             }
             BlockKind::Stream => {
@@ -114,7 +114,7 @@ impl DeclaredOnce {
                 self.add_stream(id)
             }
             BlockKind::Event => {
-                Event::read(alloc, entries)?;
+                EventSettings::read(alloc, entries)?;
                 Ok(())
             }
         }

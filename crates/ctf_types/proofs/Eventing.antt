@@ -20,7 +20,7 @@ use Rattle.ctf_meaning.specs.Scopes.{Home}
 use Rattle.ctf_meaning.specs.Streams.{Stream, streams, stream_of, is_event, trace_of, home_of_event}
 use Rattle.ctf_meaning.specs.Faults.{scope_links, event_links, link_faults}
 use Rattle.ctf_meaning.specs.Denotes.{scope_class}
-use Rattle.ctf_attributes.specs.declared.event.Event.{Event as Settings}
+use Rattle.ctf_attributes.specs.declared.event.EventSettings.{EventSettings}
 use Rattle.ctf_attributes.specs.Settled.{IsEvent}
 use Rattle.ctf_types.specs.declared.ids.Ids.{Ids}
 use Rattle.ctf_types.specs.declared.linked.Linked.TheVariants as linked
@@ -42,7 +42,7 @@ no_fault faults f none (inl refused) = inl refused
 no_fault faults f none (inr told) = absurd (grind (arith, ap first none, told))
 
 -- the stream that the settings say
-pub said : (text : List Declaration) (es : List BlockEntry) (event : Settings) (ss : List StreamAt) (r : Option Stream) → IsEvent es event → map stream_at ss ≡ streams text →
+pub said : (text : List Declaration) (es : List BlockEntry) (event : EventSettings) (ss : List StreamAt) (r : Option Stream) → IsEvent es event → map stream_at ss ≡ streams text →
     r ≡ stream_said (map stream_at ss) event.stream_id → stream_of text es ≡ r
 said text es event ss r is all e = sym (e ∙ (λ j. stream_said (all j) (is.stream_id j)))
 
@@ -82,7 +82,7 @@ module _ (text : List Declaration) (k : ℕ) (es : List BlockEntry) where
   class_fails home f same h =
       behind (event_links text k es) (scope_links text (home_of_event text k es) Event) f (subst (λ x. Contains (scope_links text x Event) f) same h)
 
-  pub row_made : (order : Order) (home : Home) (event : Settings) (ss : List StreamAt) (st : StreamAt) (e : EventClass) (j : ℕ) →
+  pub row_made : (order : Order) (home : Home) (event : EventSettings) (ss : List StreamAt) (st : StreamAt) (e : EventClass) (j : ℕ) →
       home ≡ home_of_event text k es → IsEvent es event → map stream_at ss ≡ streams text → ArePlaced ss →
       stream_of text es ≡ Some (stream_at st) → slice_get ss j ≡ Some st → event_links text k es ≡ [] →
       IsEventOf text order home event.id event.name e → IsRow text order (k, Block Event es) (linked.Event st.place e)

@@ -6,7 +6,7 @@ use Rattle.ctf_meaning.specs.Blocks.{block_faults}
 use Rattle.ctf_meaning.specs.Streams.{Stream, numbered, trace_of}
 use Rattle.ctf_meaning.specs.Faults.{own_faults, link_faults}
 use Rattle.ctf_meaning.specs.Denotes.{trace_entries}
-use Rattle.ctf_attributes.specs.declared.trace.Trace.{Trace}
+use Rattle.ctf_attributes.specs.declared.trace.TraceSettings.{TraceSettings}
 use Rattle.ctf_attributes.specs.Settled.{IsTrace}
 use Rattle.ctf_types.specs.declared.streams.StreamAt.{StreamAt}
 use Rattle.ctf_types.specs.declared.trace.TraceAt.{TraceAt}
@@ -31,7 +31,7 @@ abbrev pub stream_at : StreamAt → Stream
 stream_at stream = record { block = stream.block; id = stream.id }
 
 -- a trace block with its settings, or another declaration
-abbrev pub IsTraceBlock : Declaration → Option Trace → Type 0
+abbrev pub IsTraceBlock : Declaration → Option TraceSettings → Type 0
 IsTraceBlock d None = trace_entries d ≡ None
 IsTraceBlock d (Some trace) = (entries : List BlockEntry) × (trace_entries d ≡ Some entries) × IsTrace entries trace
 

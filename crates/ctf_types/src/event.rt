@@ -17,7 +17,7 @@ use crate::home::Home;
 use crate::ids::Ids;
 use crate::linked::Linked;
 use crate::text::KnownText;
-use ctf_attributes::Event;
+use ctf_attributes::EventSettings;
 use ctf_class::{EventClass, Heading, Scope};
 use ctf_list::List;
 use ctf_meaning::ResolveFault;
@@ -47,7 +47,7 @@ impl<'a> KnownText<'a> {
             f) }
         ensures ids { OnOk result (AreIds text (number + 1) ids.new) }
     {
-        let event = Event::read(alloc, entries)?;
+        let event = EventSettings::read(alloc, entries)?;
         let Some(stream) = self.stream_of(event.stream_id) else {
             return Err(ResolveFault::Attribute);
         };
@@ -62,7 +62,12 @@ impl<'a> KnownText<'a> {
     }
 
     /// The class of an event where its scopes are declared.
-    fn event(&self, alloc: Global, home: &Home, event: Event) -> Result<EventClass, ResolveFault>
+    fn event(
+        &self,
+        alloc: Global,
+        home: &Home,
+        event: EventSettings,
+    ) -> Result<EventClass, ResolveFault>
         ghost text: { List WrittenDeclaration }
         requires whole { IsText text self.now }
         requires fields { HasFields text (home_by home.now) }

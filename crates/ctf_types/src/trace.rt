@@ -5,7 +5,7 @@ ghost use Rattle.ctf_meaning.specs.declared.fault.ResolveFault.TheVariants as fa
 ghost use Rattle.ctf_meaning.specs.Reading.{declaration_of};
 ghost use Rattle.ctf_types.specs.Whole.{AreSettled, IsSettled, IsTraceOf, IsTraceBlock};
 
-use ctf_attributes::Trace;
+use ctf_attributes::TraceSettings;
 use ctf_meaning::ResolveFault;
 use std::alloc::Global;
 use tsdl_tree::{BlockKind, Declaration};
@@ -14,7 +14,7 @@ use tsdl_tree::{BlockKind, Declaration};
 #[derive(Clone, Copy)]
 pub struct TraceAt {
     pub number: usize,
-    pub settings: Trace,
+    pub settings: TraceSettings,
 }
 
 /// The first trace block.
@@ -32,7 +32,10 @@ pub fn trace(alloc: Global, declarations: &[Declaration]) -> Result<Option<Trace
 }
 
 /// The settings of a `trace` block.
-fn settings_of(alloc: Global, declaration: &Declaration) -> Result<Option<Trace>, ResolveFault>
+fn settings_of(
+    alloc: Global,
+    declaration: &Declaration,
+) -> Result<Option<TraceSettings>, ResolveFault>
     requires { IsSettled (declaration_of declaration.now) }
     ensures { MatchResult result (λ trace. IsTraceBlock (declaration_of declaration.now) trace)
         (λ f. f ≡ fault.NoMemory) }
@@ -41,7 +44,7 @@ fn settings_of(alloc: Global, declaration: &Declaration) -> Result<Option<Trace>
         Declaration::Block {
             kind: BlockKind::Trace,
             entries,
-        } => Ok(Some(Trace::read(alloc, entries.as_slice())?)),
+        } => Ok(Some(TraceSettings::read(alloc, entries.as_slice())?)),
         _ => Ok(None),
     }
 }

@@ -1,5 +1,5 @@
 use Rattle.ctf_attributes.proofs.FirstLemmas.{still, after, both, handed, handed-told, told-behind}
-use Rattle.ctf_attributes.proofs.trace.Trace.read.Goals as goal
+use Rattle.ctf_attributes.proofs.trace.TraceSettings.read.Goals as goal
 
 pub returns-in_err-check_trace : goal.returns-in_err-check_trace
 returns-in_err-check_trace c =
