@@ -8,9 +8,10 @@
 use crate::row::Row;
 use ctf_bits::Order;
 use ctf_class::{
-    Align, Base, Class, FieldName, Integer, Kind, Labels, Length, Member, Origin, Route, Width,
+    Align, Base, Class, FieldName, FrontClass, Integer, Kind, Labels, Length, Member, Origin,
+    Route, Width,
 };
-use ctf_list::{Boxed, List, Shared};
+use ctf_list::{Boxed, List, NoMemory, Shared};
 use std::alloc::Global;
 
 /// The classes that words name, as members, without those that can't be.
@@ -48,6 +49,14 @@ fn class(align: Align, kind: Kind) -> Class {
 /// The class of a scope: an integer of so many bits.
 pub fn scope(bits: u32) -> Option<Class> {
     Some(class(Align::new(8)?, Kind::Integer(decimal(bits)?)))
+}
+
+/// The class of a packet's header or context that is an integer of so many bits, if there are any.
+pub fn front(alloc: Global, bits: u32) -> Result<Option<FrontClass>, NoMemory> {
+    match scope(bits) {
+        None => Ok(None),
+        Some(class) => Ok(Some(FrontClass::new(alloc, class)?)),
+    }
 }
 
 /// What a class is.

@@ -10,7 +10,7 @@
 //!
 //! A class stands in a list, whose drop is a call.
 
-use crate::classes::{members_of, put_class, scope};
+use crate::classes::{front, members_of, put_class, scope};
 use crate::plans::put_runs;
 use crate::row::Row;
 use ctf_class::{
@@ -108,7 +108,7 @@ fn add_stream(
     }
     let parts = StreamParts {
         id,
-        packet_context: scope(packet),
+        packet_context: front(alloc, packet)?,
         event_header: scope(header),
         event_context: scope(context),
         clock: None,
@@ -188,7 +188,7 @@ fn add_trace(
     traces.push(TraceClass {
         uuid: None,
         host: Some(host),
-        packet_header: scope(header),
+        packet_header: front(alloc, header)?,
         streams,
     })?;
     Ok(())

@@ -20,7 +20,8 @@
 //!   the records of the packet share, where `_` stands for a space, or `-`. The values are those of the stream event
 //!   context, of the event context and of the fields, or of the fields alone. `behind` is the same in a line, behind what
 //!   stands there and over what stood there.
-//! - `packet CLASS VALUE` is the text of a packet context; `-` stands for no class and for no value.
+//! - `packet STREAM VALUE` is the text of a packet context of the stream class of this id; `-` stands for no class and for no
+//!   value.
 //! - `digits CLASS DIGITS` is each number whose digits begin these.
 //! - `lengths CLASS TEXT` is each beginning of the text, with each of three bytes at its begin, inside and at its end.
 //!
@@ -38,7 +39,7 @@ mod words;
 
 use crate::row::Row;
 use classes::{class_named, stream_of};
-use ctf_class::{Class, TraceClass};
+use ctf_class::{Class, StreamClass, TraceClass};
 use ctf_format::{packet_part, value_text};
 use place::Place;
 pub use words::put_value;
@@ -50,7 +51,7 @@ pub fn put_row(row: &mut Row<'_>, trace: &TraceClass) {
     let name = row.word();
     match kind {
         "planned" | "record" | "behind" => put_stream_row(row, kind, trace, name),
-        "packet" => put_packet(row, class_named(trace, name)),
+        "packet" => put_packet(row, stream_of(trace, name)),
         _ => {
             if let Some(class) = class_named(trace, name) {
                 put_class_row(row, kind, class);
@@ -104,7 +105,11 @@ fn put_value_row(row: &mut Row<'_>, kind: &str, class: &Class) {
 }
 
 /// Puts what is shown of a packet context.
-fn put_packet(row: &mut Row<'_>, class: Option<&Class>) {
+fn put_packet(row: &mut Row<'_>, stream: Option<&StreamClass>) {
     let values = values_of(row.alloc, row.words);
+    let class = match stream {
+        Some(stream) => stream.context_front(),
+        None => None,
+    };
     row.put_made(packet_part(row.alloc, class, values.first()));
 }

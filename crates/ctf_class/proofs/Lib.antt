@@ -1,12 +1,12 @@
 pub mod AlignmentLemmas
 pub mod ChoicesLemmas
 pub mod EscapesLemmas
+pub mod HeaderPlanLemmas
 pub mod KeysLemmas
 pub mod LabelsLemmas
 pub mod NamesLemmas
 pub mod PlacesLemmas
 pub mod RanksLemmas
 pub mod RecordsLemmas
-pub mod RoleLemmas
 pub mod StreamsLemmas
 pub mod WordsLemmas

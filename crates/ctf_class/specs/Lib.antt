@@ -2,7 +2,10 @@ pub mod Alignment
 pub mod ChoiceSearch
 pub mod Choices
 pub mod Escapes
+pub mod Fronts
+pub mod HeaderPlans
 pub mod HostAndName
+pub mod Integers
 pub mod Items
 pub mod LabelSearch
 pub mod Labels

@@ -1,14 +1,11 @@
 //! Names of members and options, with the texts that are printed for them.
 
 ghost use Rattle.std.specs.Prelude.{◌≡◌, ◌++◌, nat_eq, IfOk};
-ghost use Rattle.std.specs.Str.{bytes_eq};
 ghost use Rattle.std.specs.Cmp.{partial_equiv_from_equiv};
 ghost use Rattle.std.specs.Cmp.Lexicographic.{pointwise, nat_list_eq_equiv};
 ghost use Rattle.ctf_class.specs.Names.{shown_name, field_text};
-ghost use Rattle.ctf_class.specs.RoleNames.{role_name};
 
 use crate::prepared_text::PreparedText;
-use crate::role::{Role, role_of_name};
 use ctf_list::{List, NoMemory, Shared};
 use std::alloc::{AllocError, Global};
 use std::marker::Model;
@@ -19,8 +16,6 @@ struct PrintedName {
     /// What is printed before the value.
     ready: PreparedText,
     name: List<u8>,
-    /// What it says of a packet, so that it is compared once.
-    role: Option<Role>,
 }
 
 /// The name of a member or an option. Contracts see its bytes, as they are written. Its copies share
@@ -35,7 +30,6 @@ impl Model for FieldName {
     ghost use Rattle.std.specs.Prelude.{◌≡◌, List, ℕ};
     ghost use Rattle.std.specs.Coded.{coded_list, coded_ℕ};
     ghost use Rattle.ctf_class.specs.Names.{field_text};
-    ghost use Rattle.ctf_class.specs.RoleNames.{role_of};
 
     ghost Value = { List ℕ };
 
@@ -43,8 +37,7 @@ impl Model for FieldName {
 
     ghost view = { λ field. field.printed.name };
 
-    ghost invariant = { λ field. (field.printed.ready ≡ field_text field.printed.name) ×
-        (field.printed.role ≡ role_of field.printed.name) };
+    ghost invariant = { λ field. field.printed.ready ≡ field_text field.printed.name };
 }
 
 impl FieldName {
@@ -53,8 +46,7 @@ impl FieldName {
         ensures { IfOk result (λ field. field ≡ name) }
     {
         let ready = ready_behind(alloc, b"", name.as_slice())?;
-        let role = role_of_name(name.as_slice());
-        let printed = Shared::new(alloc, PrintedName { ready, name, role })?;
+        let printed = Shared::new(alloc, PrintedName { ready, name })?;
         Ok(FieldName { printed })
     }
 
@@ -70,17 +62,6 @@ impl FieldName {
         ensures { result.now ≡ self.now }
     {
         self.printed.get().name.as_slice()
-    }
-
-    /// Whether the name gives this role (CTF 1.8.3, section 5).
-    #[inline(always)]
-    pub fn gives(&self, role: Role) -> bool
-        ensures { result ≡ bytes_eq self.now (role_name role) }
-    {
-        match self.printed.get().role {
-            None => false,
-            Some(own) => own.number() == role.number(),
-        }
     }
 
     /// What is printed before the value: the name without its leading `_`, and ` = `.

@@ -1,12 +1,15 @@
 //! Classes of events, streams and traces.
 
 ghost use Rattle.std.specs.Prelude.{◌≡◌, Some, IfOk, IfSome, option_copied};
+ghost use Rattle.ctf_class.specs.HeaderPlans.{IsHeaderPlanOf};
 ghost use Rattle.ctf_class.specs.Items.{first_of_id, only_item};
 ghost use Rattle.ctf_class.specs.Records.{IsPlanOf, scopes_of};
 ghost use Rattle.ctf_class.specs.Streams.{ArePlans};
 
 use crate::class::Class;
 use crate::frequency::Frequency;
+use crate::front_class::FrontClass;
+use crate::header_plan::{HeaderPlan, header_plan};
 use crate::heading::Heading;
 use crate::indexed::{HasId, Indexed};
 use crate::plan_room::PlanRoom;
@@ -41,7 +44,7 @@ pub struct StreamParts {
     /// The number that packet headers name it by (CTF 1.8.3, section 5.1).
     pub id: u64,
     /// The class of the packet context (CTF 1.8.3, section 5.2).
-    pub packet_context: Option<Class>,
+    pub packet_context: Option<FrontClass>,
     /// The class of the event header (CTF 1.8.3, section 6.1).
     pub event_header: Option<Class>,
     /// The class of the stream event context (CTF 1.8.3, section 6.2).
@@ -53,10 +56,13 @@ pub struct StreamParts {
     pub events: Indexed<EventClass>,
 }
 
-/// A stream class (CTF 1.8.3, sections 3 and 7.4). Contracts see its parts; with them it keeps the plans of its event records.
+/// A stream class (CTF 1.8.3, sections 3 and 7.4). Contracts see its parts; with them it keeps the plans of its event records
+/// and of their headers.
 #[derive(Drop)]
 pub struct StreamClass {
     parts: StreamParts,
+    /// The plan of event headers, where they are of the usual form.
+    header_plan: Option<HeaderPlan>,
     /// In the order of the event classes.
     plans: List<RecordPlan>,
 }
@@ -70,6 +76,7 @@ pub struct PlannedEvent<'a> {
 
 impl Model for StreamClass {
     ghost use Rattle.std.specs.Coded.{codes};
+    ghost use Rattle.ctf_class.specs.HeaderPlans.{IsHeaderPlanOf};
     ghost use Rattle.ctf_class.specs.Streams.{StreamClass as Parts, ArePlans};
     ghost use Rattle.ctf_class.specs.contracts.class.Kind as kinds;
 
@@ -86,7 +93,7 @@ impl Model for StreamClass {
       events = stream.parts.events;
     } };
 
-    ghost invariant = { λ stream.
+    ghost invariant = { λ stream. IsHeaderPlanOf stream.parts.event_header stream.header_plan ×
         ArePlans stream.parts.event_context stream.parts.events stream.plans };
 }
 
@@ -95,7 +102,7 @@ impl Model for StreamClass {
 pub struct TraceClass {
     pub uuid: Option<[u8; 16]>,
     pub host: Option<List<u8>>,
-    pub packet_header: Option<Class>,
+    pub packet_header: Option<FrontClass>,
     /// In the order of the text.
     pub streams: Indexed<StreamClass>,
 }
@@ -157,9 +164,14 @@ impl StreamClass {
               events = parts.events;
             }) }
     {
+        let header_plan = header_plan(parts.event_header.as_ref());
         let event_context = parts.event_context.as_ref();
         let plans = plans_of(alloc, event_context, parts.events.as_slice(), room)?;
-        Ok(StreamClass { parts, plans })
+        Ok(StreamClass {
+            parts,
+            header_plan,
+            plans,
+        })
     }
 
     /// The event classes, in the order of the text.
@@ -222,6 +234,16 @@ impl StreamClass {
     pub fn packet_context(&self) -> Option<&Class>
         ensures { option_copied result ≡ self.now.packet_context }
     {
+        match &self.parts.packet_context {
+            None => None,
+            Some(front) => Some(front.class()),
+        }
+    }
+
+    /// The class of the packet context, with what says something of the packet in it.
+    pub fn context_front(&self) -> Option<&FrontClass>
+        ensures { option_copied result ≡ self.now.packet_context }
+    {
         self.parts.packet_context.as_ref()
     }
 
@@ -230,6 +252,14 @@ impl StreamClass {
         ensures { option_copied result ≡ self.now.event_header }
     {
         self.parts.event_header.as_ref()
+    }
+
+    /// The plan by which event headers are decoded; `None` where they have another form.
+    #[inline(always)]
+    pub fn header_plan(&self) -> Option<&HeaderPlan>
+        ensures { IsHeaderPlanOf self.now.event_header (option_copied result) }
+    {
+        self.header_plan.as_ref()
     }
 
     /// The class of the stream event context.
@@ -267,6 +297,16 @@ impl TraceClass {
 
     /// The class of the packet header.
     pub fn packet_header(&self) -> Option<&Class>
+        ensures { option_copied result ≡ self.now.packet_header }
+    {
+        match &self.packet_header {
+            None => None,
+            Some(front) => Some(front.class()),
+        }
+    }
+
+    /// The class of the packet header, with what says something of the packet in it.
+    pub fn header_front(&self) -> Option<&FrontClass>
         ensures { option_copied result ≡ self.now.packet_header }
     {
         self.packet_header.as_ref()

@@ -245,6 +245,7 @@ struct ReadFile<R: Files> {
 
 impl<R: Files> ReadFile<R> {
     /// Reads the next bytes. So many more may be read ahead.
+    #[inline(always)]
     fn read(&mut self, most: usize, buf: &mut [u8]) -> io::Result<usize>
         requires { 0 < length buf.old }
         ensures bound { ReadsAtMost result buf.new }
@@ -279,6 +280,7 @@ impl<'d, 'a, R: Files> Source for DiskStream<'d, 'a, R> {
 }
 
 /// How many bytes a read gave.
+#[inline(always)]
 fn given(read: io::Result<usize>) -> Result<usize, SourceFault>
     ensures { IfOk result (λ count. read ≡ Ok count) }
 {

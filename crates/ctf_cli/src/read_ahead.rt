@@ -41,6 +41,8 @@ impl ReadAhead {
     }
 
     /// Gives the next bytes: those that are held, or else those of the reader after them. Of that so many more may be held.
+    /// Mostly some are held, which takes no call.
+    #[inline(always)]
     pub(crate) fn read<R: Read>(
         &mut self,
         reader: &mut R,
@@ -55,6 +57,23 @@ impl ReadAhead {
         if !self.held.as_slice().is_empty() {
             return Ok(give(&mut self.held, buf));
         }
+        self.read_next(reader, most, buf)
+    }
+
+    /// Gives the next bytes of a reader, where nothing is held. So many more may be held.
+    #[inline(never)]
+    fn read_next<R: Read>(
+        &mut self,
+        reader: &mut R,
+        most: usize,
+        buf: &mut [u8],
+    ) -> io::Result<usize>
+        requires nothing { self.old.held.bytes ≡ [] }
+        requires some { 0 < length buf.old }
+        ensures bound { ReadsAtMost result buf.new }
+        ensures bytes { ReadConsumes (R.remaining reader.old)
+            (prepend_known self.new.held.bytes (R.remaining reader.new)) result buf.new }
+    {
         if buf.len() >= LARGE {
             self.give_back();
             return read_uninterrupted(reader, buf);
@@ -129,6 +148,7 @@ impl ReadAhead {
 }
 
 /// Gives the first of the bytes that are held, as many as go into the buffer. How many.
+#[inline(always)]
 fn give(held: &mut Held, buf: &mut [u8]) -> usize
     requires { 0 < length buf.old }
     ensures bound { result ≤ length buf.new }

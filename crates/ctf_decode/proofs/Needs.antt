@@ -10,7 +10,8 @@ use Rattle.std.specs.List.{position_or_len}
 use Rattle.ctf_class.specs.declared.route.Scope.{Scope}
 use Rattle.ctf_decode.specs.Values.{Val, text as text_val, group, list, choice, vals_of, count}
 use Rattle.ctf_decode.specs.Forms.{Form, Parts, integer, enumeration, string, structure, variant, array, text, no_parts, part, align_of}
-use Rattle.ctf_decode.specs.Input.{Input, Env, bits_of, integer_at, label_at, bytes_from}
+use Rattle.ctf_class.specs.Integers.{bits_of}
+use Rattle.ctf_decode.specs.Input.{Input, Env, integer_at, label_at, bytes_from}
 use Rattle.ctf_decode.specs.Routes.{length_of, option_at}
 use Rattle.ctf_decode.specs.Stands.{Leaf, StandsString, text_in, StandsRow, Stands, StandsMembers, StandsOption}
 use Rattle.ctf_decode.specs.Breaks.{too_many, past, Begins, Opens, BreaksLeaf, BreaksString, BreaksRow, IsOption, Breaks, BreaksMembers, BreaksOption}

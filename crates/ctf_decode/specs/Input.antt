@@ -1,6 +1,7 @@
 -- What values are decoded from.
-use Rattle.std.specs.Prelude.{ℕ, pos, ◌-◌, ◌/◌, max, List, take, drop, Option, if◌then◌else◌}
+use Rattle.std.specs.Prelude.{ℕ, pos, ◌-◌, ◌/◌, List, take, drop, Option, if◌then◌else◌}
 use Rattle.ctf_bits.specs.Number.{number, signed_number}
+use Rattle.ctf_class.specs.Integers.{bits_of}
 use Rattle.ctf_class.specs.declared.integer.Integer.{Integer}
 use Rattle.ctf_class.specs.declared.route.Scope.{Scope}
 use Rattle.ctf_decode.specs.Values.{Val, unsigned, signed, label}
@@ -16,10 +17,6 @@ pub record Input : Type 0 where
 -- the earlier members of the structures around a value, the innermost first
 abbrev pub Env : Type 0
 Env = List (List Val)
-
--- how many bits an integer has, at least one: the size that is kept is never 0
-abbrev pub bits_of : Integer → ℕ
-bits_of i = max 1 i.size
 
 -- an integer's value at a place (CTF 1.8.3, section 4.1.5)
 abbrev pub integer_at : Input → Integer → ℕ → Val

@@ -3,7 +3,8 @@ use Rattle.std.specs.Prelude.{ℕ, zero, suc, ◌+◌, ◌*◌, List, [], ◌∷
 use Rattle.std.specs.Int.{next_multiple_of}
 use Rattle.ctf_decode.specs.Values.{Val, text as text_val, group, list, choice, vals_of}
 use Rattle.ctf_decode.specs.Forms.{Form, Parts, integer, enumeration, string, structure, variant, array, text, no_parts, part, align_of}
-use Rattle.ctf_decode.specs.Input.{Input, Env, bits_of, integer_at, label_at, bytes_from}
+use Rattle.ctf_class.specs.Integers.{bits_of}
+use Rattle.ctf_decode.specs.Input.{Input, Env, integer_at, label_at, bytes_from}
 use Rattle.ctf_decode.specs.Routes.{length_of, option_at}
 use Rattle.ctf_decode.specs.Stands.{text_in}
 use Rattle.ctf_decode.specs.Breaks.{Fault, too_many, past, no_option}

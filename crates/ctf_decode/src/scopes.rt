@@ -76,6 +76,7 @@ impl Scopes {
 
     /// The value of a scope, in place of the one that was there. Afterwards `value` is unspecified; its
     /// memory can be used again.
+    #[inline(always)]
     pub fn exchange(&mut self, scope: Scope, value: &mut Value)
         ensures { self.new ≡ with_value self.old scope value.old }
     {

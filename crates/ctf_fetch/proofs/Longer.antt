@@ -66,8 +66,16 @@ record_longer packet bytes more held clock place = λ i. do
   some_bits ← unless faults.EmptyEvent (not (body.end == place))
   Ok (record { event = head.event; clock = head.clock; values = body.values; end = body.end })
 
--- bytes that begin with those of a packet have its event records
+-- what bytes that begin with those of a packet are
+begun_with : (bytes padded : List ℕ) → take (length bytes) padded ≡ bytes → padded ≡ bytes ++ drop (length bytes) padded
+begun_with bytes padded begins = sym (take-append-drop (length bytes) padded) ∙ ap (λ xs. xs ++ drop (length bytes) padded) begins
+
+-- they have its values
+pub walk_held : (k : Form) (values : Values) (bytes padded : List ℕ) (content : ℕ) → content ≤ 8 * length bytes → take (length bytes) padded ≡ bytes → (place spent : ℕ) → walk k (input_of padded content values) [] place spent ≡ walk k (input_of bytes content values) [] place spent
+walk_held k values bytes padded content held begins place spent =
+    ap (λ xs. walk k (input_of xs content values) [] place spent) (begun_with bytes padded begins) ∙ walk_longer bytes (drop (length bytes) padded) content held k values place spent
+
+-- they have its event records
 pub record_held : {C : Type 0} (packet : Opened C) (bytes padded : List ℕ) → packet.content ≤ 8 * length bytes → take (length bytes) padded ≡ bytes → (clock : Option Moment) (place : ℕ) → record_at packet padded clock place ≡ record_at packet bytes clock place
 record_held packet bytes padded held begins clock place =
-    let whole : padded ≡ bytes ++ drop (length bytes) padded = sym (take-append-drop (length bytes) padded) ∙ ap (λ xs. xs ++ drop (length bytes) padded) begins in
-    ap (λ xs. record_at packet xs clock place) whole ∙ record_longer packet bytes (drop (length bytes) padded) held clock place
+    ap (λ xs. record_at packet xs clock place) (begun_with bytes padded begins) ∙ record_longer packet bytes (drop (length bytes) padded) held clock place

@@ -8,6 +8,7 @@ ghost use Rattle.ctf_fetch.specs.Asking.{scope_asked, scope_found, FailsAs};
 ghost use Rattle.ctf_fetch.specs.Fetching.{longest_bytes, OrNoMemory};
 ghost use Rattle.ctf_fetch.specs.Keeping.{Keeps};
 
+use crate::buffer::Buffer;
 use crate::demand::{Place, value_on_demand};
 use crate::fill::fill_ahead;
 use crate::intake::Intake;
@@ -57,7 +58,7 @@ pub(crate) fn scope_on_demand<S: Source>(
             scopes.take(next.scope);
             Ok(next.end)
         }
-        Some(class) => match scope_at_hand(class, next, intake.as_slice(), spare, scopes) {
+        Some(class) => match scope_at_hand(class, next, intake.buffer, spare, scopes) {
             Some(end) => Ok(end),
             None => class_on_demand(class, next, intake, spare, scopes),
         },
@@ -66,30 +67,31 @@ pub(crate) fn scope_on_demand<S: Source>(
 
 /// Puts the value of this class in its scope, if all of its bytes are there. The bit at which it ends. The memory of `spare`
 /// may be used for it, and an unspecified value is in it then.
+#[inline(always)]
 fn scope_at_hand(
     class: &Class,
     next: &NextScope<'_>,
-    bytes: &[u8],
+    buffer: &Buffer,
     spare: &mut Value,
     scopes: &mut Scopes,
 ) -> Option<u64>
     requires class { next.now.class ≡ Some class }
-    requires start { next.now.end ≤ min (8 * length bytes.now) longest }
+    requires start { next.now.end ≤ min (8 * length buffer.now) longest }
     ensures puts { (more : List ℕ) →
-        let asked = scope_asked next.now (bytes.now ++ more) scopes.old in
+        let asked = scope_asked next.now (buffer.now ++ more) scopes.old in
         let before = values_of scopes.old in
         IfSome result (λ end. PutsAsked next.now.scope before asked end scopes.new) }
-    ensures within { IfSome result (λ end. end ≤ min (8 * length bytes.now) longest) }
+    ensures within { IfSome result (λ end. end ≤ min (8 * length buffer.now) longest) }
     ensures forward { IfSome result (λ end. next.now.end ≤ end) }
     ensures none { IfNone result (scopes.new ≡ scopes.old) }
 {
-    let content = front_content(bytes);
+    let content = front_content(buffer.as_slice());
     if content == next.end {
         return None;
     }
     let at = ScopePlace {
         scope: next.scope,
-        bytes,
+        bytes: buffer.padded(),
         content,
         place: next.end,
     };
@@ -135,7 +137,7 @@ fn class_on_demand<S: Source>(
         return parts_on_demand(class, next, intake, scopes);
     };
     fill_ahead(intake, least)?;
-    match scope_at_hand(class, next, intake.as_slice(), spare, scopes) {
+    match scope_at_hand(class, next, intake.buffer, spare, scopes) {
         Some(end) => Ok(end),
         None => parts_on_demand(class, next, intake, scopes),
     }

@@ -20,7 +20,8 @@ use Rattle.ctf_decode.specs.Breaks.{past}
 use Rattle.ctf_decode.specs.Fields.{choice_in}
 use Rattle.ctf_decode.specs.Forms as forms
 use Rattle.ctf_decode.specs.Forms.{Form, parts_of}
-use Rattle.ctf_decode.specs.Input.{Input, Env, bits_of}
+use Rattle.ctf_class.specs.Integers.{bits_of}
+use Rattle.ctf_decode.specs.Input.{Input, Env}
 use Rattle.ctf_decode.specs.Routes.{option_at, length_of}
 use Rattle.ctf_decode.specs.Stands.{text_in}
 use Rattle.ctf_decode.specs.Values.{Val, vals_of, label, list, group, choice}

@@ -1,14 +1,16 @@
 -- Packet contexts and lines, part by part.
-use Rattle.std.proofs.Common.{◌≡◌, ℕ, zero, suc, ◌+◌, ◌<◌, ◌≤◌, Bool, true, false, cond, List, [], ◌∷◌, ◌++◌, map, drop, length, get_or, refl, sym, ap, ◌∙◌, arith, append_assoc, append-nil, length-append}
+use Rattle.std.proofs.Common.{◌≡◌, ℕ, zero, suc, ◌+◌, ◌<◌, ◌≤◌, Bool, true, false, cond, List, [], ◌∷◌, ◌++◌, map, drop, length, get_or, slice_get, Some, IfSome, refl, sym, ap, subst, ◌∙◌, arith, append_assoc, append-nil, length-append}
 use Rattle.std.specs.List.{flat_map}
 use Rattle.std.proofs.lemmas.Grind.{flat_map-append}
+use Rattle.std.proofs.lemmas.Option.{slice_get_read}
 use Rattle.ctf_class.specs.declared.class.Member.{Member}
 use Rattle.ctf_decode.specs.declared.value.Value.{Value}
 use Rattle.ctf_decode.specs.Values.{vals_of, no_vals}
 use Rattle.ctf_decode.specs.Views.{val}
 use Rattle.ctf_format.specs.Rows.{row, joined}
 use Rattle.ctf_format.specs.Texts.{part_text, member_part}
-use Rattle.ctf_format.specs.Lines.{is_of_packet, shown_members, context_text}
+use Rattle.ctf_class.specs.Fronts.{is_of_packet}
+use Rattle.ctf_format.specs.Lines.{shown_members, context_text}
 use Rattle.ctf_format.proofs.NamesLemmas.{here, drop-all, row_next}
 
 abbrev shown_of : List Member → List Value → List (List ℕ)
@@ -26,6 +28,12 @@ next : (ms : List Member) (vs : List Value) (i : ℕ) (m : Member) (v : Value) (
 next ms vs i m v b in_ms in_vs m_is v_is is =
     let rest = shown_of (drop (i + 1) ms) (drop (i + 1) vs) in
     (λ j. shown_of (here ms i m in_ms m_is j) (here vs i v in_vs v_is j)) ∙ ap (λ c. cond c rest (part_text (member_part m) (val v) ∷ rest)) is
+
+-- what is known of the member at an index
+pub hidden_at : {ms of_class : List Member} → ms ≡ of_class → (i : ℕ) (m : Member) → i < length ms → m ≡ get_or ms i m → (hides : Bool) → IfSome (slice_get of_class i) (λ (member : Member). hides ≡ is_of_packet member.name) → hides ≡ is_of_packet m.name
+hidden_at {ms} {of_class} same i m within is hides known =
+    let there : slice_get of_class i ≡ Some m = ap (λ xs. slice_get xs i) (sym same) ∙ slice_get_read ms (length ms) i m refl within is in
+    subst (λ found. IfSome found (λ (member : Member). hides ≡ is_of_packet member.name)) there known
 
 -- a member that is shown is written
 pub shown_more : (ms : List Member) (vs : List Value) (i : ℕ) (m : Member) (v : Value) (line more before : List ℕ) (lead mark : ℕ) (all : List (List ℕ)) → i < length ms → i < length vs → m ≡ get_or ms i m → v ≡ get_or vs i v → is_of_packet m.name ≡ false

@@ -12,7 +12,7 @@ use Rattle.ctf_class.specs.declared.integer.Base.TheVariants.{Decimal}
 use Rattle.ctf_class.specs.declared.integer.Integer.{Integer}
 use Rattle.ctf_class.specs.declared.plain_number.PlainNumber.{PlainNumber}
 use Rattle.ctf_decode.specs.Forms.{integer}
-use Rattle.ctf_decode.specs.Input.{bits_of}
+use Rattle.ctf_class.specs.Integers.{bits_of}
 use Rattle.ctf_format.specs.Numbers.{in_base}
 use Rattle.ctf_format.specs.Standing.{PutsOne}
 use Rattle.ctf_format.specs.Texts.{integer_text}

@@ -20,7 +20,7 @@ use Rattle.ctf_class.specs.declared.plain_number.PlainNumber.{PlainNumber}
 use Rattle.ctf_class.specs.declared.route.Length.TheVariants as lengths
 use Rattle.ctf_class.specs.declared.route.Route.{Route}
 use Rattle.ctf_decode.specs.Forms.{Form, integer}
-use Rattle.ctf_decode.specs.Input.{bits_of}
+use Rattle.ctf_class.specs.Integers.{bits_of}
 use Rattle.ctf_decode.specs.Views.{form}
 use Rattle.ctf_decode.specs.declared.scopes.TheConstants.{MOST_VALUES}
 use Rattle.ctf_format.specs.Plain.{plain_text}

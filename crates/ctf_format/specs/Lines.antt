@@ -1,12 +1,8 @@
 -- What is in an event record's line after its stamp.
-use Rattle.std.specs.Prelude.{ℕ, Bool, List, [], ◌∷◌, ◌++◌, Option, Some, None, if◌then◌else◌, codes}
-use Rattle.std.specs.List.{list_any}
-use Rattle.std.specs.Str.{bytes_eq}
+use Rattle.std.specs.Prelude.{ℕ, List, [], ◌∷◌, ◌++◌, Option, Some, None, if◌then◌else◌}
+use Rattle.ctf_class.specs.Fronts.{is_of_packet, members_of}
 use Rattle.ctf_class.specs.declared.class.Class.{Class}
 use Rattle.ctf_class.specs.declared.class.Member.{Member}
-use Rattle.ctf_class.specs.declared.class.Kind.{Kind}
-use Rattle.ctf_class.specs.declared.class.Kind.TheViews.{out-Kind}
-use Rattle.ctf_class.specs.declared.class.Kind.TheOpen.{Kind-F}
 use Rattle.ctf_class.specs.declared.trace.EventClass.{EventClass}
 use Rattle.ctf_class.specs.Streams.{StreamClass}
 use Rattle.ctf_class.specs.HostAndName.{heading_text}
@@ -14,23 +10,6 @@ use Rattle.ctf_decode.specs.Values.{Val, Vals, no_vals, more_vals}
 use Rattle.ctf_decode.specs.Fields.{members_in}
 use Rattle.ctf_format.specs.Rows.{enclosed, joined}
 use Rattle.ctf_format.specs.Texts.{part_text, member_part, value_text}
-
--- the members of a packet context that say something of the packet and not of its events (CTF 1.8.3,
--- section 5.2)
-abbrev pub packet_names : List (List ℕ)
-packet_names =
-    codes "packet_size" ∷ codes "content_size" ∷ codes "timestamp_begin" ∷ codes "timestamp_end" ∷ codes "events_discarded" ∷ codes "packet_seq_num" ∷ []
-
-abbrev pub is_of_packet : List ℕ → Bool
-is_of_packet name = list_any (bytes_eq name) packet_names
-
--- the members of a structure
-abbrev pub members_of_kind : Kind-F Kind Class Member → List Member
-members_of_kind (Kind-F.Structure members) = members
-members_of_kind _ = []
-
-abbrev pub members_of : Class → List Member
-members_of class = members_of_kind (out-Kind class.kind)
 
 -- the members of a packet context that are shown, as far as there are values (own)
 abbrev pub shown_members : List Member → Vals → List (List ℕ)

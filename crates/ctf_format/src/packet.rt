@@ -1,6 +1,7 @@
 //! The part of a line that the event records of a packet share.
 
 ghost use Rattle.std.specs.Prelude.{◌≡◌, ◌+◌, ◌++◌, ◌∷◌, ◌≤◌, take, map, vec_len, option_map, option_copied, IfOk};
+ghost use Rattle.ctf_class.specs.Fronts.{members_of};
 ghost use Rattle.ctf_decode.specs.Values.{vals_of};
 ghost use Rattle.ctf_decode.specs.Views.{val};
 ghost use Rattle.ctf_format.specs.Lines as lines;
@@ -8,7 +9,7 @@ ghost use Rattle.ctf_format.specs.Rows.{row};
 
 use crate::mark::put_end;
 use crate::value::put_member;
-use ctf_class::{Class, FieldName, Kind, Member, Role};
+use ctf_class::FrontClass;
 use ctf_decode::{Value, members_in};
 use ctf_list::NoMemory;
 
@@ -19,7 +20,7 @@ use ctf_list::NoMemory;
 ///
 /// It fails where an allocation fails, and the buffer is then unspecified.
 pub fn put_packet_part(
-    class: Option<&Class>,
+    class: Option<&FrontClass>,
     value: Option<&Value>,
     buffer: &mut Vec<u8>,
     at: usize,
@@ -34,33 +35,14 @@ pub fn put_packet_part(
         None => Ok(at),
         Some(class) => match value {
             None => Ok(at),
-            Some(value) => put_context(members_of(class), members_in(value), buffer, at),
+            Some(value) => put_context(class, members_in(value), buffer, at),
         },
-    }
-}
-
-/// The members of a structure.
-fn members_of(class: &Class) -> &[Member]
-    ensures { result.now ≡ lines.members_of class.now }
-{
-    match &class.kind {
-        Kind::Structure { members } => members.as_slice(),
-        Kind::Integer(_) => &[],
-        Kind::Enumeration { container, labels } => &[],
-        Kind::String => &[],
-        Kind::Variant {
-            tag,
-            choices,
-            options,
-        } => &[],
-        Kind::Array { length, element } => &[],
-        Kind::Text { length } => &[],
     }
 }
 
 /// Writes the members that are shown, in braces.
 fn put_context(
-    members: &[Member],
+    class: &FrontClass,
     values: &[Value],
     buffer: &mut Vec<u8>,
     at: usize,
@@ -68,10 +50,10 @@ fn put_context(
     requires { at ≤ vec_len buffer.old }
     ensures text { IfOk result (λ end. take end buffer.new.items ≡
         take at buffer.old.items ++ lines.context_text
-        (lines.shown_members members.now (vals_of (map val values.now)))) }
+        (lines.shown_members (members_of class.now) (vals_of (map val values.now)))) }
     ensures held { IfOk result (λ end. end ≤ vec_len buffer.new) }
 {
-    let end = put_shown(members, values, buffer, at)?;
+    let end = put_shown(class, values, buffer, at)?;
     if end == at {
         return Ok(at);
     }
@@ -80,7 +62,7 @@ fn put_context(
 
 /// Writes the members that are shown, the first after `{`.
 fn put_shown(
-    members: &[Member],
+    class: &FrontClass,
     values: &[Value],
     buffer: &mut Vec<u8>,
     at: usize,
@@ -88,32 +70,21 @@ fn put_shown(
     requires { at ≤ vec_len buffer.old }
     ensures text { IfOk result (λ end. take end buffer.new.items ≡
         take at buffer.old.items ++ row 123
-        (lines.shown_members members.now (vals_of (map val values.now)))) }
+        (lines.shown_members (members_of class.now) (vals_of (map val values.now)))) }
     ensures held { IfOk result (λ end. end ≤ vec_len buffer.new) }
 {
     let mut end = at;
     let mut lead = b'{';
+    let members = class.members();
     for (i, member) in members.iter().enumerate() {
         if i >= values.len() {
             return Ok(end);
         }
-        if is_of_packet(&member.name) {
+        if class.hides(i) {
             continue;
         }
         end = put_member(lead, member, &values[i], buffer, end)?;
         lead = b',';
     }
     Ok(end)
-}
-
-/// Whether a member of this name says something of the packet alone.
-fn is_of_packet(name: &FieldName) -> bool
-    ensures { result ≡ lines.is_of_packet name.now }
-{
-    name.gives(Role::PacketSize)
-        || name.gives(Role::ContentSize)
-        || name.gives(Role::TimestampBegin)
-        || name.gives(Role::TimestampEnd)
-        || name.gives(Role::EventsDiscarded)
-        || name.gives(Role::SequenceNumber)
 }

@@ -8,7 +8,7 @@ ghost use Rattle.ctf_format.specs.Texts as texts;
 use crate::packet::put_packet_part;
 use crate::record::{RecordScopes, put_record};
 use crate::value::put_value;
-use ctf_class::{Class, EventClass, StreamClass};
+use ctf_class::{Class, EventClass, FrontClass, StreamClass};
 use ctf_decode::Value;
 use ctf_list::NoMemory;
 use std::alloc::Global;
@@ -29,7 +29,7 @@ pub fn value_text(alloc: Global, class: &Class, value: &Value) -> Result<Vec<u8>
 /// class or no value. It fails where an allocation fails.
 pub fn packet_part(
     alloc: Global,
-    class: Option<&Class>,
+    class: Option<&FrontClass>,
     value: Option<&Value>,
 ) -> Result<Vec<u8>, NoMemory>
     ensures { IfOk result (λ text.

@@ -219,7 +219,7 @@ fn put_with_part(
     ensures held { IfOk result (λ end. end ≤ vec_len line.new) }
 {
     let context = event.value(Scope::PacketContext);
-    let shared = put_packet_part(event.stream.packet_context(), context, packet, 0)?;
+    let shared = put_packet_part(event.stream.context_front(), context, packet, 0)?;
     put_body(event, &packet[..shared], line, at)
 }
 

@@ -1,39 +1,20 @@
--- Members of a name, one more at a time.
-use Rattle.std.proofs.Common.{◌≡◌, ℕ, zero, suc, ◌+◌, ◌<◌, ◌≤◌, true, false, List, [], ◌∷◌, map, drop, length, get_or, Option, Some, None, if◌then◌else◌, refl, sym, ap, ◌∙◌, arith}
+-- Members of a name, by their index.
+use Rattle.std.proofs.Common.{◌≡◌, ℕ, zero, suc, ◌+◌, ◌<◌, ◌≤◌, Bool, true, false, cond, List, [], ◌∷◌, map, drop, length, get_or, slice_get, Option, Some, None, option_map, refl, sym, ap, ◌∙◌, arith}
+use Rattle.std.proofs.Math.Seq.{drop-cons}
+use Rattle.std.specs.List.{position_from}
 use Rattle.std.specs.Str.{bytes_eq}
+use Rattle.ctf_class.specs.Fronts.{place_named}
 use Rattle.ctf_class.specs.declared.class.Member.{Member}
 use Rattle.ctf_decode.specs.Values.{Val, vals_of}
 use Rattle.ctf_decode.specs.Forms.{Form, parts_of}
 use Rattle.ctf_decode.specs.Views.{form, member_part, val}
 use Rattle.ctf_decode.specs.declared.value.Value.{Value}
-use Rattle.std.proofs.Math.Seq.{drop-cons}
 use Rattle.ctf_decode.proofs.Views.{part-is}
 use Rattle.ctf_packet.specs.Roles.{member_named}
-
-abbrev pub named_in : List ℕ → List Member → List Value → Option (Form × Val)
-named_in name ms vs = member_named name (parts_of (map member_part ms)) (vals_of (map val vs))
 
 pub here : {A : Type 0} (xs : List A) (i : ℕ) (x : A) → i < length xs → x ≡ get_or xs i x → drop i xs ≡ x ∷ drop (i + 1) xs
 here xs i x h e =
     let one : suc i ≡ i + 1 = omega arith in drop-cons xs i x h ∙ (λ j. sym e j ∷ drop (one j) xs)
-
--- the next member is the one, or else it is among those behind it
-opens : (name : List ℕ) (ms : List Member) (vs : List Value) (i : ℕ) (m : Member) (v : Value) → i < length ms → i < length vs → m ≡ get_or ms i m → v ≡ get_or vs i v
-    → named_in name (drop i ms) (drop i vs) ≡ (if bytes_eq m.name name then Some (form m.class, val v) else named_in name (drop (i + 1) ms) (drop (i + 1) vs))
-opens name ms vs i m v l k e f =
-    let behind = named_in name (drop (i + 1) ms) (drop (i + 1) vs) in
-    let opened : named_in name (drop i ms) (drop i vs) ≡ named_in name (m ∷ drop (i + 1) ms) (v ∷ drop (i + 1) vs) = λ j. named_in name (here ms i m l e j) (here vs i v k f j) in
-    opened ∙ ap (λ p. if bytes_eq p.0 name then Some (p.1, val v) else behind) (part-is m)
-
-pub named_here : (name : List ℕ) (ms : List Member) (vs : List Value) (i : ℕ) (m : Member) (v : Value) → i < length ms → i < length vs → m ≡ get_or ms i m → v ≡ get_or vs i v
-    → bytes_eq m.name name ≡ true → Some (form m.class, val v) ≡ named_in name (drop i ms) (drop i vs)
-named_here name ms vs i m v l k e f h =
-    sym (opens name ms vs i m v l k e f ∙ ap (λ b. if b then Some (form m.class, val v) else named_in name (drop (i + 1) ms) (drop (i + 1) vs)) h)
-
-pub named_next : (name : List ℕ) (ms : List Member) (vs : List Value) (i : ℕ) (m : Member) (v : Value) → i < length ms → i < length vs → m ≡ get_or ms i m → v ≡ get_or vs i v
-    → bytes_eq m.name name ≡ false → named_in name (drop (i + 1) ms) (drop (i + 1) vs) ≡ named_in name (drop i ms) (drop i vs)
-named_next name ms vs i m v l k e f h =
-    sym (opens name ms vs i m v l k e f ∙ ap (λ b. if b then Some (form m.class, val v) else named_in name (drop (i + 1) ms) (drop (i + 1) vs)) h)
 
 pub drop-all : {A : Type 0} (xs : List A) (k : ℕ) → length xs ≤ k → drop k xs ≡ []
 drop-all [] zero l = refl
@@ -41,12 +22,52 @@ drop-all [] (suc k) l = refl
 drop-all (x ∷ xs) zero l = absurd (omega arith)
 drop-all (x ∷ xs) (suc k) l = drop-all xs k (omega arith)
 
-pub no_more_values : (name : List ℕ) (ms : List Member) (vs : List Value) (i : ℕ) → length vs ≤ i → None ≡ named_in name (drop i ms) (drop i vs)
-no_more_values name ms vs i h = none (drop i ms) (drop i vs) (drop-all vs i h)
-  where
-    none : (ns : List Member) (ws : List Value) → ws ≡ [] → None ≡ named_in name ns ws
-    none [] ws e = refl
-    none (n ∷ ns) ws e = sym (ap (λ xs. named_in name (n ∷ ns) xs) e)
+abbrev pub named_in : List ℕ → List Member → List Value → Option (Form × Val)
+named_in name ms vs = member_named name (parts_of (map member_part ms)) (vals_of (map val vs))
 
-pub no_more_members : (name : List ℕ) (ms : List Member) (vs : List Value) (i : ℕ) → length ms ≤ i → None ≡ named_in name (drop i ms) (drop i vs)
-no_more_members name ms vs i h = sym (ap (λ ns. named_in name ns (drop i vs)) (drop-all ms i h))
+abbrev pub both : Option Member → Option Value → Option (Form × Val)
+both (Some m) (Some v) = Some (form m.class, val v)
+both (Some m) None = None
+both None v = None
+
+-- the member at an index, with its value
+abbrev pub pair_at : List Member → List Value → Option ℕ → Option (Form × Val)
+pair_at ms vs (Some i) = both (slice_get ms i) (slice_get vs i)
+pair_at ms vs None = None
+
+later_if : {X : Type 0} (t : X → Bool) (k : ℕ) (rest : Option ℕ) (b : Bool) → cond b (Some (k + 1)) (option_map (λ i. i + 1) rest) ≡ option_map (λ i. i + 1) (cond b (Some k) rest)
+later_if t k rest true = refl
+later_if t k rest false = refl
+
+later : {X : Type 0} (t : X → Bool) (k : ℕ) (xs : List X) → position_from t (k + 1) xs ≡ option_map (λ i. i + 1) (position_from t k xs)
+later t k [] = refl
+later t k (x ∷ xs) = ap (cond (t x) (Some (k + 1))) (later t (k + 1) xs) ∙ later_if t k (position_from t (k + 1) xs) (t x)
+
+pair_behind : (m : Member) (ms : List Member) (v : Value) (vs : List Value) (place : Option ℕ) → pair_at (m ∷ ms) (v ∷ vs) (option_map (λ i. i + 1) place) ≡ pair_at ms vs place
+pair_behind m ms v vs None = refl
+pair_behind m ms v vs (Some i) =
+    let one : i + 1 ≡ suc i = omega arith in λ j. both (slice_get (m ∷ ms) (one j)) (slice_get (v ∷ vs) (one j))
+
+pub no_value : (m : Option Member) → both m None ≡ None
+no_value None = refl
+no_value (Some m) = refl
+
+none_at : (ms : List Member) (place : Option ℕ) → pair_at ms [] place ≡ None
+none_at ms None = refl
+none_at ms (Some i) = no_value (slice_get ms i)
+
+-- the first member of a name is at its place
+pub named_at : (name : List ℕ) (ms : List Member) (vs : List Value) → pair_at ms vs (place_named name ms) ≡ named_in name ms vs
+named_at name [] vs = refl
+named_at name (m ∷ ms) [] = none_at (m ∷ ms) (place_named name (m ∷ ms))
+named_at name (m ∷ ms) (v ∷ vs) = first (bytes_eq m.name name) (named_at name ms vs) ∙ sym opened
+  where
+    opened : named_in name (m ∷ ms) (v ∷ vs) ≡ cond (bytes_eq m.name name) (Some (form m.class, val v)) (named_in name ms vs)
+    opened = ap (λ p. cond (bytes_eq p.0 name) (Some (p.1, val v)) (named_in name ms vs)) (part-is m)
+
+    named : Member → Bool
+    named member = bytes_eq member.name name
+
+    first : (b : Bool) → pair_at ms vs (place_named name ms) ≡ named_in name ms vs → pair_at (m ∷ ms) (v ∷ vs) (cond b (Some 0) (position_from named 1 ms)) ≡ cond b (Some (form m.class, val v)) (named_in name ms vs)
+    first true others = refl
+    first false others = ap (pair_at (m ∷ ms) (v ∷ vs)) (later named 0 ms) ∙ pair_behind m ms v vs (place_named name ms) ∙ others

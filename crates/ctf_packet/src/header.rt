@@ -33,7 +33,7 @@ pub fn stream_checked<'a>(
         (packets.stream_checked (trace_form shift trace.now) (option_copied reached.entry)
         (option_map val (option_copied header.entry))) }
 {
-    if !is_magic(field_of_role(trace.packet_header(), header, Role::Magic)) {
+    if !is_magic(field_of_role(trace.header_front(), header, Role::Magic)) {
         return Err(StreamFault::WrongMagic);
     }
     if !is_of_trace(trace, header) {
@@ -64,7 +64,7 @@ fn is_of_trace(trace: &TraceClass, header: Option<&Value>) -> bool
 {
     match &trace.uuid {
         None => true,
-        Some(uuid) => match field_at_top(trace.packet_header(), header, Role::Uuid) {
+        Some(uuid) => match field_at_top(trace.header_front(), header, Role::Uuid) {
             None => true,
             Some((class, value)) => has_octets(class, value, uuid),
         },
@@ -167,7 +167,7 @@ fn stream_of<'a>(
         packets.stream_of (trace_form shift trace.now) (option_copied reached.entry)
         (option_map val (option_copied header.entry)) }
 {
-    let number = number_in(field_of_role(trace.packet_header(), header, Role::StreamId));
+    let number = number_in(field_of_role(trace.header_front(), header, Role::StreamId));
     match stream_named(trace, number) {
         None => None,
         Some(stream) => same_stream(reached, stream),

@@ -215,6 +215,10 @@ fn set_by(timeline: &Timeline, integer: &Integer, value: &Value, told: &mut IdAn
         told.new }
     ensures id { told.new.id ≡ told.old.id }
 {
+    // Mostly it is not, and then the clock is not copied.
+    if !integer.is_moving {
+        return true;
+    }
     match moved_by_integer(timeline, integer, value, told.clock) {
         Some(next) => {
             told.clock = next;

@@ -106,9 +106,10 @@ pub fn packet_of_sizes<'a>(
     let before = clock_before(timeline.as_ref(), reached)?;
     let class = stream.packet_context();
     let clock = clock_behind(timeline.as_ref(), before, class, context)?;
-    let end = field_of_role(class, context, Role::TimestampEnd);
-    let number = field_of_role(class, context, Role::SequenceNumber);
-    let count = field_of_role(class, context, Role::EventsDiscarded);
+    let front = stream.context_front();
+    let end = field_of_role(front, context, Role::TimestampEnd);
+    let number = field_of_role(front, context, Role::SequenceNumber);
+    let count = field_of_role(front, context, Role::EventsDiscarded);
     let until = clock_until(timeline.as_ref(), clock, end);
     let sequence = number_of(&number);
     let discarded = number_of(&count);

@@ -9,7 +9,7 @@ use ctf_clock::Moment;
 #[derive(Clone, Copy)]
 pub struct RecordPlace<'p, 'a> {
     pub packet: &'p OpenPacket<'a>,
-    /// The packet's bytes.
+    /// The packet's bytes, and any after them.
     pub bytes: &'p [u8],
     /// How far the packet's clock came before it.
     pub clock: Option<Moment>,

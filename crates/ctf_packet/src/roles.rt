@@ -1,6 +1,7 @@
 //! The fields of a packet's header and context that say something of the packet.
 
-ghost use Rattle.std.specs.Prelude.{◌≡◌, ℕ, map, option_map, option_copied};
+ghost use Rattle.std.specs.Prelude.{◌≡◌, ℕ, List, map, option_map, option_copied};
+ghost use Rattle.ctf_class.specs.Fronts.{place_named};
 ghost use Rattle.ctf_class.specs.RoleNames.{role_name};
 ghost use Rattle.ctf_decode.specs.Values.{vals_of};
 ghost use Rattle.ctf_decode.specs.Forms as forms;
@@ -9,13 +10,13 @@ ghost use Rattle.ctf_decode.specs.Views.{form, member_part, val};
 ghost use Rattle.ctf_packet.specs.Roles as roles;
 
 use crate::field::Field;
-use ctf_class::{Class, Integer, Kind, Length, Member, Role};
-use ctf_decode::{Value, elements_in, members_in};
+use ctf_class::{Class, FrontClass, Integer, Kind, Member, Role};
+use ctf_decode::{Value, members_in};
 
 /// The unsigned integer of a role at the top of a scope; `None` where there is no field of its name, or
 /// one of another class.
 #[tactic(auto, unfolding(crate::specs::Roles::role))]
-pub fn field_of_role(class: Option<&Class>, value: Option<&Value>, role: Role) -> Option<Field>
+pub fn field_of_role(class: Option<&FrontClass>, value: Option<&Value>, role: Role) -> Option<Field>
     ensures { result ≡ roles.role (role_name role) (option_map form (option_copied class.entry))
         (option_map val (option_copied value.entry)) }
 {
@@ -47,7 +48,7 @@ pub(crate) fn number_of(field: &Option<Field>) -> Option<u64>
 
 /// The field of a role at the top of a scope.
 pub fn field_at_top<'a>(
-    class: Option<&'a Class>,
+    class: Option<&'a FrontClass>,
     value: Option<&'a Value>,
     role: Role,
 ) -> Option<(&'a Class, &'a Value)>
@@ -64,13 +65,20 @@ pub fn field_at_top<'a>(
     }
 }
 
-/// The member of a role of a structure.
-fn member_of<'a>(class: &'a Class, value: &'a Value, role: Role) -> Option<(&'a Class, &'a Value)>
+/// The first member of a role of a structure.
+#[inline(always)]
+fn member_of<'a>(
+    class: &'a FrontClass,
+    value: &'a Value,
+    role: Role,
+) -> Option<(&'a Class, &'a Value)>
     ensures { option_map (λ f. (form f.0.now, val f.1.now)) result ≡
         roles.member_of (role_name role) (form class.now) (val value.now) }
 {
-    match &class.kind {
-        Kind::Structure { members } => member_named(members.as_slice(), members_in(value), role),
+    match &class.class().kind {
+        Kind::Structure { members } => {
+            member_at(members.as_slice(), members_in(value), class.place(role))
+        }
         Kind::Integer(_) => None,
         Kind::Enumeration { container, labels } => None,
         Kind::String => None,
@@ -84,26 +92,22 @@ fn member_of<'a>(class: &'a Class, value: &'a Value, role: Role) -> Option<(&'a 
     }
 }
 
-/// The first member of a role.
-fn member_named<'a>(
+/// The member at an index, if one is given and it has a value.
+#[inline(always)]
+fn member_at<'a>(
     members: &'a [Member],
     values: &'a [Value],
-    role: Role,
+    place: Option<usize>,
 ) -> Option<(&'a Class, &'a Value)>
-    ensures { option_map (λ f. (form f.0.now, val f.1.now)) result ≡
-        roles.member_named (role_name role)
-        (parts_of (map member_part members.now)) (vals_of (map val values.now)) }
+    ensures { (name : List ℕ) → place ≡ place_named name members.now →
+        option_map (λ f. (form f.0.now, val f.1.now)) result ≡
+        roles.member_named name (parts_of (map member_part members.now))
+        (vals_of (map val values.now)) }
 {
-    for (i, member) in members.iter().enumerate() {
-        if i >= values.len() {
-            return None;
-        }
-        let value = &values[i];
-        if member.name.gives(role) {
-            return Some((&member.class, value));
-        }
-    }
-    None
+    let place = place?;
+    let member = members.get(place)?;
+    let value = values.get(place)?;
+    Some((&member.class, value))
 }
 
 /// The number of an unsigned integer.

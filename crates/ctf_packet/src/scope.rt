@@ -18,7 +18,7 @@ use std::alloc::Global;
 #[derive(Clone, Copy)]
 pub struct ScopePlace<'a> {
     pub scope: Scope,
-    /// The packet's bytes.
+    /// The packet's bytes, and any after them.
     pub bytes: &'a [u8],
     /// Where the packet's content ends, in bits from its first one.
     pub content: u64,

@@ -6,7 +6,8 @@ use Rattle.std.proofs.lemmas.List.{length-take, take-append-le, drop-append-le}
 use Rattle.ctf_class.specs.declared.route.Scope.{Scope}
 use Rattle.ctf_decode.specs.Values.{Val, count}
 use Rattle.ctf_decode.specs.Forms.{Form, Parts, integer, enumeration, string, structure, variant, array, text, no_parts, part, align_of}
-use Rattle.ctf_decode.specs.Input.{Input, Env, bits_of, bytes_from}
+use Rattle.ctf_class.specs.Integers.{bits_of}
+use Rattle.ctf_decode.specs.Input.{Input, Env, bytes_from}
 use Rattle.ctf_decode.specs.Routes.{length_of, option_at}
 use Rattle.ctf_decode.specs.Stands.{Stands}
 use Rattle.ctf_decode.specs.Breaks.{Fault, too_many, past, no_option, Begins, Opens, BreaksLeaf, BreaksString, BreaksRow, IsOption, Breaks, BreaksMembers, BreaksOption}

@@ -27,9 +27,9 @@ pub fn judge_sizes<'a>(begun: Begun<'a>, context: Option<&Value>) -> Result<Want
         (option_map val (option_copied context.entry))))) }
     ensures first { IfOk result (EndsAt begun.entry.first) }
 {
-    let class = begun.stream.packet_context();
-    let packet = number_in(field_of_role(class, context, Role::PacketSize));
-    let content = number_in(field_of_role(class, context, Role::ContentSize));
+    let front = begun.stream.context_front();
+    let packet = number_in(field_of_role(front, context, Role::PacketSize));
+    let content = number_in(field_of_role(front, context, Role::ContentSize));
     match told_sizes(packet, content, begun.first) {
         Err(fault) => Err(fault),
         Ok(None) => Ok(Want::Rest(begun)),

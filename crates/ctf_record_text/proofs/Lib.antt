@@ -2,5 +2,5 @@ pub mod Scopes
 pub mod Telling
 pub mod Heading
 pub mod Records
-pub mod Shorts
+pub mod Planned
 pub mod Bare

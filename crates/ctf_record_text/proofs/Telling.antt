@@ -21,7 +21,8 @@ use Rattle.ctf_clock.specs.declared.moment.Moment.{Moment}
 use Rattle.ctf_decode.specs.Breaks.{past}
 use Rattle.ctf_decode.specs.Fields.{named_id, ids, member_ids, option_ids}
 use Rattle.ctf_decode.specs.Forms.{integer, enumeration, structure, variant, part, no_parts, parts_of}
-use Rattle.ctf_decode.specs.Input.{Input, Env, bits_of, integer_at}
+use Rattle.ctf_class.specs.Integers.{bits_of}
+use Rattle.ctf_decode.specs.Input.{Input, Env, integer_at}
 use Rattle.ctf_decode.specs.Routes.{FirstChooses, option_at}
 use Rattle.ctf_decode.specs.Values.{Val, label, group, choice, signed, unsigned, vals_of}
 use Rattle.ctf_decode.specs.Views.{form, member_part, shape, val}
@@ -228,13 +229,6 @@ tells_pair line tag other i ls route choices options packet content from at (Som
       ap (set_by line from.clock) moves ∙ ap (λ (x : Moment). set_by line x (moved (form m.class) w)) (sym clock) ∙ t.2,
       ap (last_or from.id) numbers ∙ last_or-append from.id named (ids (form m.class) w) ∙ ap (λ o. last_or o (ids (form m.class) w)) id_is ∙ t.3,
     )
-
--- what the first two members are, where there are no more
-pub two_members : (ms : List Member) (m n : Member) → 2 ≤ length ms → length ms < 3 → m ≡ get_or ms 0 m → n ≡ get_or ms 1 n → m ∷ n ∷ [] ≡ ms
-two_members [] m n some few first second = absurd (omega (arith, some))
-two_members (x ∷ []) m n some few first second = absurd (omega (arith, some))
-two_members (x ∷ y ∷ []) m n some few first second = λ j. first j ∷ second j ∷ []
-two_members (x ∷ y ∷ z ∷ ms) m n some few first second = absurd (omega (arith, few))
 
 pub val-Unsigned : (n : ℕ) → val (value.Unsigned n) ≡ unsigned n
 val-Unsigned n = search (rules, value.the_lemmas)

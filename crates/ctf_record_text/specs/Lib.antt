@@ -1,4 +1,4 @@
 pub mod Headers
 pub mod Making
-pub mod Shorts
+pub mod Planned
 pub mod Texts

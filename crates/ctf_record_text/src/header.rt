@@ -3,13 +3,13 @@
 ghost use Rattle.std.specs.Prelude.{◌≡◌, ℕ, List, None, ◌<◌, ◌≤◌, ◌+◌, ◌*◌, ◌^◌, [], ◌∷◌, Some, length, IfSome, option_copied};
 ghost use Rattle.std.specs.Int.{next_multiple_of};
 ghost use Rattle.ctf_class.specs.Records.{IsPlanOf, scopes_of};
-ghost use Rattle.ctf_decode.specs.Input.{bits_of};
+ghost use Rattle.ctf_class.specs.Integers.{bits_of};
 ghost use Rattle.ctf_decode.specs.Views.{form, val};
 ghost use Rattle.ctf_record_text.specs.Headers.{Tells, TellsMember, TellsMembers, TellsNumber, TellsAt, PlansRecords, StandsAsTag, begun, set_by};
-ghost use Rattle.ctf_record_text.specs.Shorts.{IsShortOf, begins_telling};
+ghost use Rattle.ctf_record_text.specs.Planned.{begins_telling};
 ghost use Rattle.ctf_packet.specs.Moved.{moved_in};
 
-use crate::short::{SHORT_VALUES, ShortHeader, tell_short};
+use crate::planned_header::{PLANNED_VALUES, tell_planned};
 use ctf_bits::{sint_within, uint_within};
 use ctf_class::{Align, Class, Integer, Kind, Member, PlannedEvent, RecordPlan};
 use ctf_clock::{Moment, Timeline};
@@ -57,42 +57,39 @@ pub(crate) struct PlannedHead<'a> {
     pub(crate) plan: &'a RecordPlan,
 }
 
-/// The header of the event record at a place (CTF 1.8.3, section 6.1), by what was looked at of its class, or by its class
-/// where that is not given. `None` where it can't be decoded so, and where it has a fault.
+/// The header of the event record at a place (CTF 1.8.3, section 6.1), by its plan, or `by_class`. `None` where it can't be decoded
+/// so, and where it has a fault.
 #[inline(always)]
-pub(crate) fn told_head<'a>(
-    at: &RecordPlace<'_, 'a>,
-    short: Option<&ShortHeader>,
-) -> Option<PlannedHead<'a>>
-    requires short { IsShortOf at.now.packet.now.stream.now (option_copied short) }
+pub(crate) fn told_head<'a>(at: &RecordPlace<'_, 'a>, by_class: bool) -> Option<PlannedHead<'a>>
     ensures tells { IfSome result (λ p. TellsAt at.now p.told) }
     ensures plan { IfSome result (PlansRecords at.now.packet.now) }
     ensures within { IfSome result (λ p. p.told.head.end ≤ at.now.packet.now.content) }
     ensures few { IfSome result (λ p. p.told.spent ≤ MOST_VALUES) }
 {
-    match short {
-        Some(short) => told_short(at, short),
-        None => told_by_class(at),
+    if by_class {
+        told_by_class(at)
+    } else {
+        told_by_plan(at)
     }
 }
 
-/// The header of the event record at a place (CTF 1.8.3, section 6.1), by what was looked at of its class. `None` where
-/// that does not hold for it, and where it has a fault.
+/// The header of the event record at a place (CTF 1.8.3, section 6.1), by its plan. `None` where there is none, where it does
+/// not hold, and where the header has a fault.
 #[inline(always)]
-fn told_short<'a>(at: &RecordPlace<'_, 'a>, short: &ShortHeader) -> Option<PlannedHead<'a>>
-    requires short { IsShortOf at.now.packet.now.stream.now (Some short.now) }
+fn told_by_plan<'a>(at: &RecordPlace<'_, 'a>) -> Option<PlannedHead<'a>>
     ensures tells { IfSome result (λ p. TellsAt at.now p.told) }
     ensures plan { IfSome result (PlansRecords at.now.packet.now) }
     ensures within { IfSome result (λ p. p.told.head.end ≤ at.now.packet.now.content) }
     ensures few { IfSome result (λ p. p.told.spent ≤ MOST_VALUES) }
 {
     let packet = at.packet;
+    let plan = packet.stream.header_plan()?;
     let timeline = packet.timeline.as_ref()?;
     let content = Content {
         bytes: at.bytes,
         end: packet.content,
     };
-    let to = tell_short(timeline, short, &content, at.clock?, at.place)?;
+    let to = tell_planned(timeline, plan, &content, at.clock?, at.place)?;
     let planned = packet.stream.planned_event(to.id)?;
     let head = Head {
         event: planned.event,
@@ -102,7 +99,7 @@ fn told_short<'a>(at: &RecordPlace<'_, 'a>, short: &ShortHeader) -> Option<Plann
     Some(PlannedHead {
         told: ToldHead {
             head,
-            spent: SHORT_VALUES,
+            spent: PLANNED_VALUES,
         },
         plan: planned.plan,
     })

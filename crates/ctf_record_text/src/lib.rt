@@ -3,9 +3,8 @@
 
 mod header;
 mod part;
+mod planned_header;
 mod record;
-mod short;
 
 pub use part::PacketPart;
 pub use record::{LineBuffer, LineRecord, next_line, written_line};
-pub use short::{ShortHeader, short_header};

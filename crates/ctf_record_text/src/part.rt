@@ -4,7 +4,7 @@ ghost use Rattle.std.specs.Prelude.{◌≡◌, [], option_map, option_copied, On
 ghost use Rattle.ctf_decode.specs.Views.{val};
 ghost use Rattle.ctf_format.specs.Lines.{packet_part};
 
-use ctf_class::Class;
+use ctf_class::FrontClass;
 use ctf_decode::Value;
 use ctf_format::put_packet_part;
 use ctf_list::NoMemory;
@@ -44,7 +44,11 @@ impl PacketPart {
     /// Makes the text of a packet context (CTF 1.8.3, section 5.2) in place of the one before.
     ///
     /// It fails where an allocation fails, and the text is then unspecified.
-    pub fn make(&mut self, class: Option<&Class>, context: Option<&Value>) -> Result<(), NoMemory>
+    pub fn make(
+        &mut self,
+        class: Option<&FrontClass>,
+        context: Option<&Value>,
+    ) -> Result<(), NoMemory>
         ensures { OnOk result (self.new ≡
             packet_part (option_copied class.entry)
             (option_map val (option_copied context.entry))) }

@@ -10,11 +10,9 @@ ghost use Rattle.ctf_packet.specs.Records.{bodied};
 ghost use Rattle.ctf_packet.specs.Views.{values_of, packet_values};
 ghost use Rattle.ctf_record_text.specs.Headers.{PlansRecords, TellsAt};
 ghost use Rattle.ctf_record_text.specs.Making.{Made, Makes, MakesValues, PutsBody, PutsRecord, PutsScope};
-ghost use Rattle.ctf_record_text.specs.Shorts.{IsShortOf};
 
 use crate::header::{PlannedHead, ToldHead, told_by_class, told_head};
 use crate::part::PacketPart;
-use crate::short::ShortHeader;
 use ctf_class::{Class, StreamClass};
 use ctf_decode::{MOST_VALUES, Scopes};
 use ctf_format::{
@@ -62,9 +60,8 @@ pub struct LineRecord<'a> {
 }
 
 /// The event record at a place (CTF 1.8.3, section 6), if it can be shown without its values. The values of the packet's
-/// header and context are in `scopes`. The header is decoded by `short`, which `short_header` gave for its stream class, or by
-/// its class where that is not given. The text of the record is at the beginning of `line` then: the host, the name, the part
-/// that the lines of the packet share, and the scopes.
+/// header and context are in `scopes`. The header is decoded by its plan, or `by_class`. The text of the record is at the
+/// beginning of `line` then: the host, the name, the part that the lines of the packet share, and the scopes.
 ///
 /// `None` where the header can't be decoded so, where `put_standing` gives no text, where the record has a fault, and where
 /// an allocation fails. The line is unspecified then.
@@ -73,10 +70,9 @@ pub fn written_line<'a>(
     alloc: Global,
     at: &RecordPlace<'_, 'a>,
     scopes: &Scopes,
-    short: Option<&ShortHeader>,
+    by_class: bool,
     line: &mut LineBuffer,
 ) -> Option<LineRecord<'a>>
-    requires short { IsShortOf at.now.packet.now.stream.now (option_copied short) }
     ensures makes { (shift : Shift) → IsTimed shift at.now.packet.now → IfSome result (λ r.
         Made at.now.packet.now.stream.now (record_there shift (values_of scopes.now) at.now)
         line.old.part scopes.now line.new.bytes.items r.record r.text) }
@@ -86,7 +82,7 @@ pub fn written_line<'a>(
     ensures text { IfSome result (λ r. IfSome r.text (λ end. end ≤ vec_len line.new.bytes)) }
 {
     keep_short(alloc, line);
-    let planned = told_head(at, short)?;
+    let planned = told_head(at, by_class)?;
     let head = planned.told.head;
     let standing = put_planned_body(at, planned, scopes, line)?;
     Some(with_text(head, standing))

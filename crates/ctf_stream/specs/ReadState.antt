@@ -2,7 +2,6 @@
 use Rattle.std.specs.Prelude.{◌≡◌, ℕ, ◌+◌, ◌-◌, ◌*◌, ◌^◌, ◌≤◌, ◌<◌, Bool, true, false, List, [], ◌∷◌, Option, IsSome, Some, None, Result, Ok, Err}
 use Rattle.ctf_bits.specs.declared.source.Ending.{Ending}
 use Rattle.ctf_decode.specs.Known.{Known}
-use Rattle.ctf_record_text.specs.Shorts.{IsShortOf}
 use Rattle.ctf_packet.specs.Classes.{Classes, TraceForm, trace_form}
 use Rattle.ctf_packet.specs.Items.{Run, stops, before, from_bytes}
 use Rattle.ctf_packet.specs.Scopes.{Values}
@@ -35,13 +34,12 @@ pub record Between (cut : PacketStart) (bytes : List ℕ) (taken : ℕ) : Type 0
   pub here : taken ≡ cut.at
   pub near : cut.at ≤ 2 ^ 60 + 2 ^ 28
 
--- within a packet it is held, no byte was taken after it, and the class of its event headers was looked at
+-- within a packet it is held, and no byte was taken after it
 pub record Inside (cut : PacketStart) (bytes : List ℕ) (taken : ℕ) (p : Packet) : Type 0 where
   pub fetched : FetchedAt cut.at bytes cut.shift p.opened
   pub here : taken ≡ p.opened.end
   pub near : cut.at ≤ 2 ^ 60
   pub place : p.place ≤ p.opened.content
-  pub looked : IsShortOf p.opened.stream.now p.short
 
 abbrev pub StandsAt : PacketStart → List ℕ → ℕ → Option Packet → Type 0
 StandsAt cut bytes taken None = Between cut bytes taken

@@ -1,11 +1,9 @@
 //! The packet at hand.
 
-ghost use Rattle.std.specs.Prelude.{◌≡◌, ◌<◌, ◌≤◌, Option, Some, Ok, OnOk, IfOk, IfSome, IfNone, IsTrue, length, option_copied};
-ghost use Rattle.ctf_class.specs.Streams.{StreamClass};
+ghost use Rattle.std.specs.Prelude.{◌≡◌, ◌<◌, ◌≤◌, Option, Some, Ok, OnOk, IfOk, IfSome, IfNone, IsTrue, length};
 ghost use Rattle.ctf_clock.specs.declared.moment.Moment.{Moment};
 ghost use Rattle.ctf_clock.specs.declared.moment.Shift.{Shift};
 ghost use Rattle.ctf_record_text.specs.Making.{Makes};
-ghost use Rattle.ctf_record_text.specs.Shorts.{IsShortOf};
 ghost use Rattle.ctf_packet.specs.Classes.{Classes, stream_form};
 ghost use Rattle.ctf_packet.specs.Items.{Run};
 ghost use Rattle.ctf_packet.specs.Places.{IsTimed, record_there};
@@ -16,15 +14,13 @@ use ctf_clock::Moment;
 use ctf_decode::Scopes;
 use ctf_fetch::Buffer;
 use ctf_packet::{EventRecord, OpenPacket, RecordPlace, Scratch, StreamFault, next_record};
-use ctf_record_text::{LineBuffer, LineRecord, ShortHeader, next_line, written_line};
+use ctf_record_text::{LineBuffer, LineRecord, next_line, written_line};
 use std::alloc::Global;
 
 /// A packet whose items are given one after the other.
 #[derive(Drop)]
 pub(crate) struct Packet<'a> {
     pub(crate) opened: OpenPacket<'a>,
-    /// What was looked at of the class of its event headers.
-    pub(crate) short: Option<ShortHeader>,
     /// How many packets were lost before it, where that is not reported yet.
     pub(crate) lost: Option<u64>,
     /// How many event records were discarded before it, where that is not reported yet.
@@ -73,7 +69,7 @@ pub(crate) struct WrittenRecord<'a> {
 impl<'a> Packet<'a> {
     /// The next item, if texts are asked for, and it is an event record that can be shown without its values: then its text is
     /// at the start of `line`. `scopes` has the values of the packet. Mostly that is the next item, so it is apart from `next`.
-    /// Its header is read as a short one, or `by_class`.
+    /// Its header is decoded by its plan, or `by_class`.
     ///
     /// `None` elsewhere: the packet is as it was then, and the line's text is unspecified.
     #[inline(always)]
@@ -85,7 +81,6 @@ impl<'a> Packet<'a> {
         line: &mut LineBuffer,
     ) -> Option<Front<'a>>
         requires within { Within input.buffer.now self.old }
-        requires looked { IsShortOf self.old.opened.stream.now self.old.short }
         ensures takes { let bytes = input.entry.buffer.now in
             (shift : Shift) (follows : Option Moment → Run Classes) →
             self.old.opened.timeline ≡ (stream_form shift self.old.opened.stream.now).line →
@@ -99,14 +94,16 @@ impl<'a> Packet<'a> {
         ensures part { line.new.part ≡ line.old.part }
         ensures room { IfSome result (λ _. room_in self.new < room_in self.old) }
         ensures opened { self.new.opened ≡ self.old.opened }
-        ensures short { self.new.short ≡ self.old.short }
         ensures place { self.new.place ≤ self.new.opened.content }
         ensures none { IfNone result (self.new ≡ self.old) }
     {
-        if !input.writes || (self.short.is_none() && !by_class) {
+        if !input.writes || (!by_class && self.opened.stream.header_plan().is_none()) {
             return None;
         }
-        if self.lost.is_some() || self.dropped.is_some() || self.place >= self.opened.content {
+        if self.place >= self.opened.content {
+            return None;
+        }
+        if self.lost.is_some() || self.dropped.is_some() {
             return None;
         }
         let before = self.clock;
@@ -117,8 +114,7 @@ impl<'a> Packet<'a> {
             clock: before,
             place: begin,
         };
-        let short = short_unless(&self.short, by_class);
-        let made = written_line(input.alloc, &at, scopes, short, line)?;
+        let made = written_line(input.alloc, &at, scopes, by_class, line)?;
         self.clock = made.record.clock;
         self.place = made.record.end;
         Some(front_of(made, before, begin))
@@ -149,7 +145,6 @@ impl<'a> Packet<'a> {
         ensures part { line.new.part ≡ line.old.part }
         ensures room { TakesRoom (room_in self.old) (room_in self.new) result }
         ensures opened { self.new.opened ≡ self.old.opened }
-        ensures short { self.new.short ≡ self.old.short }
         ensures place { self.new.place ≤ self.new.opened.content }
         ensures packet { OnOk result (packet_values (values_of scopes.new) ≡
             packet_values (values_of scopes.old)) }
@@ -208,15 +203,6 @@ fn event_at<'a>(
     }
     let record = next_record(input.alloc, at, scratch, scopes)?;
     Ok(LineRecord { record, text: None })
-}
-
-/// What was looked at of a class of headers, unless they are decoded by their class.
-#[inline(always)]
-fn short_unless(short: &Option<ShortHeader>, by_class: bool) -> Option<&ShortHeader>
-    ensures { (stream : StreamClass) → IsShortOf stream short.now →
-        IsShortOf stream (option_copied result) }
-{
-    if by_class { None } else { short.as_ref() }
 }
 
 /// The current event record, which was read from a place on, where its packet's clock came so far.

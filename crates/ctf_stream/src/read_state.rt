@@ -19,7 +19,7 @@ use ctf_class::{HasId, Scope};
 use ctf_decode::Scopes;
 use ctf_fetch::{Buffer, PacketStart};
 use ctf_packet::{OpenPacket, Reached, Scratch, StreamFault};
-use ctf_record_text::{LineBuffer, short_header};
+use ctf_record_text::LineBuffer;
 use std::alloc::Global;
 
 /// How far a stream was read.
@@ -81,7 +81,7 @@ impl<'a> ReadState<'a> {
     }
 
     /// The next item, if it is an event record of the packet at hand that can be shown without its values, where texts are
-    /// asked for: by a short header, or `by_class`. `None` elsewhere: then only the line is another one.
+    /// asked for: its header is decoded by its plan, or `by_class`. `None` elsewhere: then only the line is another one.
     #[inline(always)]
     pub(crate) fn next_written(&mut self, alloc: Global, by_class: bool) -> Option<Front<'a>>
         requires stands { Stands self.old }
@@ -200,12 +200,11 @@ impl<'a> ReadState<'a> {
             Ok(None) => Ok(false),
             Ok(Some(opened)) => {
                 let context = self.scopes.get(Scope::PacketContext);
-                match self.line.part.make(opened.stream.packet_context(), context) {
+                match self.line.part.make(opened.stream.context_front(), context) {
                     Err(_) => return Err(StreamFault::NoMemory),
                     Ok(()) => {}
                 }
                 self.packet = Some(Packet {
-                    short: short_header(opened.stream),
                     lost: opened.lost,
                     dropped: opened.dropped,
                     clock: opened.clock,

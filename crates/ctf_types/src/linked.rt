@@ -3,7 +3,9 @@
 ghost use Rattle.std.specs.Prelude.{◌≡◌, IfOk};
 ghost use Rattle.ctf_types.specs.Gathered.{joined};
 
-use ctf_class::{Class, Clock, EventClass, Indexed, PlanRoom, StreamClass, StreamParts};
+use ctf_class::{
+    Class, Clock, EventClass, FrontClass, Indexed, PlanRoom, StreamClass, StreamParts,
+};
 use ctf_list::NoMemory;
 use std::alloc::Global;
 
@@ -46,12 +48,22 @@ impl StreamHead {
     {
         let parts = StreamParts {
             id: self.id,
-            packet_context: self.packet_context,
+            packet_context: front_of(alloc, self.packet_context)?,
             event_header: self.event_header,
             event_context: self.event_context,
             clock: self.clock,
             events,
         };
         StreamClass::new(alloc, parts, room)
+    }
+}
+
+/// The class of a packet's header or context, if there is one, with what says something of the packet in it.
+pub(crate) fn front_of(alloc: Global, class: Option<Class>) -> Result<Option<FrontClass>, NoMemory>
+    ensures { IfOk result (λ front. front ≡ class) }
+{
+    match class {
+        None => Ok(None),
+        Some(class) => Ok(Some(FrontClass::new(alloc, class)?)),
     }
 }

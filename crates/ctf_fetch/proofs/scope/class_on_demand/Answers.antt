@@ -8,16 +8,13 @@ use Rattle.ctf_fetch.specs.Demand.{there}
 use Rattle.ctf_fetch.proofs.Opening.{put_found, near_put}
 use Rattle.ctf_fetch.proofs.scope.class_on_demand.Goals as goal
 
-pub returns-in-Some-scope_at_hand-clause-puts : goal.returns-in-Some-scope_at_hand-clause-puts
-returns-in-Some-scope_at_hand-clause-puts g c = λ more. rw c.as_slice.ensures at (c.in-Some-scope_at_hand.ensures.puts more)
-
 pub returns-in-Some-scope_at_hand-clause-near : goal.returns-in-Some-scope_at_hand-clause-near
 returns-in-Some-scope_at_hand-clause-near g c =
     let next = c.args.next.now in
     let class = form c.args.class.now in
     let known = c.args.scopes.now in
     let bytes = c.fill_ahead.new.intake.buffer.now in
-    let put = rw (c.as_slice.ensures, append-nil bytes) at (c.in-Some-scope_at_hand.ensures.puts []) in
+    let put = rw (append-nil bytes) at (c.in-Some-scope_at_hand.ensures.puts []) in
     let found = put_found next class (ap form_of c.requires.class) known bytes c.in-Some-scope_at_hand.end c.scope_at_hand.new.scopes put in
     let behind = c.in-Some.ensures.least bytes found.0 ((λ i. walk class (there bytes known) (env-Top i) next.end (c.spent.ensures.value i)) ∙ found.1) in
     let same = found.2 in

@@ -10,9 +10,6 @@ returns-in-None-clause-puts g c = λ more.
     let next = c.args.next.now in
     at_none (form_of next.class) (front (c.args.intake.now.buffer.now ++ more) (values_of c.args.scopes.now)) next.scope c.args.scopes.now c.take.new.self next.end (ap form_of c.in-None.is) c.take.ensures.rest
 
-pub returns-in-Some-scope_at_hand-clause-puts : goal.returns-in-Some-scope_at_hand-clause-puts
-returns-in-Some-scope_at_hand-clause-puts g c = λ more. rw c.as_slice.ensures at (c.in-Some-scope_at_hand.ensures.puts more)
-
 pub returns-in-None-scope_at_hand-clause-puts : goal.returns-in-None-scope_at_hand-clause-puts
 returns-in-None-scope_at_hand-clause-puts g c = λ more. rw c.in-None-scope_at_hand.ensures.none at (c.class_on_demand.ensures.puts more)
 

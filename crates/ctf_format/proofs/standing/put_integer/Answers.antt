@@ -2,7 +2,7 @@ use Rattle.std.proofs.Common.{◌≡◌, ◌++◌, take, rules, refl, sym, ap, �
 use Rattle.std.proofs.lemmas.Bool.{false≢true}
 use Rattle.std.specs.Int.{next_multiple_of}
 use Rattle.ctf_bits.specs.Number.{number, signed_number}
-use Rattle.ctf_decode.specs.Input.{bits_of}
+use Rattle.ctf_class.specs.Integers.{bits_of}
 use Rattle.ctf_format.specs.Numbers.{number_text}
 use Rattle.ctf_format.proofs.StandingLemmas.{puts_plain, puts_signed, stands_number}
 use Rattle.ctf_format.proofs.standing.put_integer.Goals as goal

@@ -1,6 +1,7 @@
 use Rattle.std.proofs.Common.{option_copied, Some, subst, ◌∙◌}
 use Rattle.ctf_record_text.specs.Headers.{TellsMembers}
-use Rattle.ctf_record_text.proofs.Telling.{tells_structure, two_members}
+use Rattle.ctf_class.proofs.HeaderPlanLemmas.{two_members}
+use Rattle.ctf_record_text.proofs.Telling.{tells_structure}
 use Rattle.ctf_record_text.proofs.header.tell_header.Goals as goal
 
 pub returns-in-Some-clause-tells : goal.returns-in-Some-clause-tells

@@ -4,7 +4,7 @@ use Rattle.std.specs.Int.{w64}
 use Rattle.std.proofs.lemmas.Int.{to_z-of_z}
 use Rattle.std.specs.Int.{next_multiple_of}
 use Rattle.ctf_bits.specs.Number.{number, signed_number}
-use Rattle.ctf_decode.specs.Input.{bits_of}
+use Rattle.ctf_class.specs.Integers.{bits_of}
 use Rattle.ctf_decode.specs.Values.{signed, unsigned}
 use Rattle.ctf_record_text.proofs.Telling.{tells_integer, reads_signed, reads_unsigned, val-Unsigned}
 use Rattle.ctf_packet.proofs.Moving.{val-Signed}

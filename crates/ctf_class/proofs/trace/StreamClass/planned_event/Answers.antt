@@ -16,5 +16,5 @@ returns-clause-plan c =
     let ps = c.as_slice-2.result.now in
     let event = ap (λ xs. slice_get xs place) (sym c.as_slice.ensures) ∙ slice_get_read es (length es) place e refl (ltb-true place (length es) (sym c.in_ok-event.ensures.lookup.0)) c.in_ok-event.ensures.lookup.1 in
     let plan = ap (λ xs. slice_get xs place) (sym c.as_slice-2.ensures) ∙ slice_get_read ps (length ps) place p refl (ltb-true place (length ps) (sym c.in_ok-plan.ensures.lookup.0)) c.in_ok-plan.ensures.lookup.1 in
-    let is : IsPlanOf (scopes_of inside.event_context e.context e.fields) p = plan_at inside.event_context inside.events c.self.inside.plans place e p c.self.invariant event plan in
+    let is : IsPlanOf (scopes_of inside.event_context e.context e.fields) p = plan_at inside.event_context inside.events c.self.inside.plans place e p c.self.invariant.1 event plan in
     subst (λ (s : StreamClass). IsPlanOf (scopes_of s.event_context e.context e.fields) p) c.self.view_is is

@@ -32,6 +32,3 @@ returns-clause-written c = λ shift timed.
     let makes = subst (λ stands. Made p.opened.stream.now stands part known line made.record made.text) held (c.in_ok-made.ensures.makes shift timed) in
     subst (HoldsFront c.args.input.writes shift known bytes part line p) (sym c.front_of.ensures)
     (holds_made shift p known known bytes refl made.record c.args.input.writes part line made.text (search rules) (search rules) makes)
-
-pub written_line-requires : goal.written_line-requires
-written_line-requires c = record { short = c.short_unless-short.ensures c.args.self.now.opened.stream.now c.requires.looked }
