@@ -11,9 +11,9 @@ use Rattle.ctf_class.specs.declared.route.Origin.{Origin}
 use Rattle.ctf_class.specs.declared.route.Origin.TheVariants.{Enclosing, Earlier}
 use Rattle.ctf_class.specs.declared.route.Route.{Route}
 use Rattle.ctf_class.specs.declared.route.Scope.{Scope}
+use Rattle.ctf_class.specs.Integers.{bits_of}
 use Rattle.ctf_decode.specs.Values.{Val, unsigned, signed, label, vals_of, nth, down}
 use Rattle.ctf_decode.specs.Forms.{Form, Parts, integer, enumeration, string, structure, variant, array, text, no_parts, part}
-use Rattle.ctf_class.specs.Integers.{bits_of}
 use Rattle.ctf_decode.specs.Input.{Input, Env, integer_at}
 use Rattle.ctf_decode.specs.Routes.{inside, found_from, found}
 use Rattle.ctf_packet.proofs.Conforming.{Conforms, ConformAll, stands_conform}

@@ -1,13 +1,13 @@
 -- What is known of headers beforehand.
 use Rattle.std.proofs.Common.{◌≡◌, ℕ, ◌≤◌, ◌<◌, List, [], ◌∷◌, length, get_or, Option, Some, None, IfSome, ap, arith}
 use Rattle.std.specs.List.{slice_get}
-use Rattle.ctf_class.specs.HeaderPlans.{IsHeaderPlan, IsHeaderPlanOf, IsFirstChoice}
 use Rattle.ctf_class.specs.declared.class.Class.{Class}
 use Rattle.ctf_class.specs.declared.class.Member.{Member}
 use Rattle.ctf_class.specs.declared.header_plan.HeaderPlan.{HeaderPlan}
 use Rattle.ctf_class.specs.declared.route.Origin.TheVariants.{Enclosing}
 use Rattle.ctf_class.specs.declared.route.Route.{Route}
 use Rattle.ctf_class.specs.declared.span.Choice.{Choice}
+use Rattle.ctf_class.specs.HeaderPlans.{IsHeaderPlan, IsHeaderPlanOf, IsFirstChoice}
 
 -- the only number, where there is one
 pub only_number : (ns : List ℕ) (n : ℕ) → 1 ≤ length ns → length ns < 2 → get_or ns 0 n ≡ n → ns ≡ n ∷ []

@@ -3,7 +3,6 @@ use Rattle.std.specs.Prelude.{◌≡◌, ℕ, pos, ◌<◌, ◌≤◌, ◌+◌, 
 use Rattle.std.specs.Int.{next_multiple_of}
 use Rattle.std.specs.Str.{bytes_eq}
 use Rattle.ctf_bits.specs.declared.number.Order.TheVariants.{Le}
-use Rattle.ctf_class.specs.Integers.{bits_of}
 use Rattle.ctf_class.specs.declared.class.Class.{Class}
 use Rattle.ctf_class.specs.declared.class.Kind as kind
 use Rattle.ctf_class.specs.declared.class.Member.{Member}
@@ -13,6 +12,7 @@ use Rattle.ctf_class.specs.declared.route.Origin.TheVariants.{Enclosing}
 use Rattle.ctf_class.specs.declared.route.Route.{Route}
 use Rattle.ctf_class.specs.declared.span.Choice.{Choice}
 use Rattle.ctf_class.specs.declared.span.Label.{Label}
+use Rattle.ctf_class.specs.Integers.{bits_of}
 
 -- a member is an enumeration named `id`, of this unsigned integer (own)
 pub record IsTagOf (m : Member) (i : Integer) : Type 0 where

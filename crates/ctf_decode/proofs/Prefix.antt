@@ -14,9 +14,9 @@ use Rattle.ctf_bits.specs.Number.{bit_of, top_bit, number, signed_number}
 use Rattle.ctf_bits.proofs.Numbers.{number-zero, number-le, number-be}
 use Rattle.ctf_class.specs.declared.route.Scope.{Scope}
 use Rattle.ctf_class.specs.declared.integer.Integer.{Integer}
+use Rattle.ctf_class.specs.Integers.{bits_of}
 use Rattle.ctf_decode.specs.Values.{Val, unsigned, signed, label, text as text_val}
 use Rattle.ctf_decode.specs.Forms.{Form, Parts, integer, enumeration, string, structure, variant, array, text, no_parts, part, align_of}
-use Rattle.ctf_class.specs.Integers.{bits_of}
 use Rattle.ctf_decode.specs.Input.{Input, Env, integer_at, label_at, bytes_from}
 use Rattle.ctf_decode.specs.Routes.{length_of}
 use Rattle.ctf_decode.specs.Stands.{Leaf, StandsString, text_in, StandsRow, Stands, StandsMembers, StandsOption}

@@ -1,9 +1,9 @@
 -- Where no value is: the fault, and the place that a value would need.
 use Rattle.std.specs.Prelude.{◌≡◌, ℕ, zero, suc, ◌+◌, ◌*◌, ◌<◌, ◌≤◌, List, [], ◌∷◌, ◌++◌, length, nat_eq, position, Option, Some, None, ◌⊎◌}
 use Rattle.std.specs.Int.{next_multiple_of}
+use Rattle.ctf_class.specs.Integers.{bits_of}
 use Rattle.ctf_decode.specs.Values.{Val, count}
 use Rattle.ctf_decode.specs.Forms.{Form, Parts, integer, enumeration, string, structure, variant, array, text, no_parts, part, align_of}
-use Rattle.ctf_class.specs.Integers.{bits_of}
 use Rattle.ctf_decode.specs.Input.{Input, Env, bytes_from}
 use Rattle.ctf_decode.specs.Routes.{length_of, option_at}
 use Rattle.ctf_decode.specs.Stands.{Stands}

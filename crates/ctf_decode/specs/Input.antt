@@ -1,9 +1,9 @@
 -- What values are decoded from.
 use Rattle.std.specs.Prelude.{ℕ, pos, ◌-◌, ◌/◌, List, take, drop, Option, if◌then◌else◌}
 use Rattle.ctf_bits.specs.Number.{number, signed_number}
-use Rattle.ctf_class.specs.Integers.{bits_of}
 use Rattle.ctf_class.specs.declared.integer.Integer.{Integer}
 use Rattle.ctf_class.specs.declared.route.Scope.{Scope}
+use Rattle.ctf_class.specs.Integers.{bits_of}
 use Rattle.ctf_decode.specs.Values.{Val, unsigned, signed, label}
 
 -- a packet's bytes, the place in bits where its content ends, the values of earlier scopes, and how many

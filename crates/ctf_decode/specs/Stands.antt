@@ -2,9 +2,9 @@
 use Rattle.std.specs.Prelude.{◌≡◌, ℕ, zero, suc, ◌+◌, ◌*◌, ◌/◌, ◌≤◌, not, List, [], ◌∷◌, ◌++◌, take, drop, nat_eq, position, Some}
 use Rattle.std.specs.Int.{next_multiple_of}
 use Rattle.std.specs.List.{take_while}
+use Rattle.ctf_class.specs.Integers.{bits_of}
 use Rattle.ctf_decode.specs.Values.{Val, text as text_val, group, list, choice, vals_of}
 use Rattle.ctf_decode.specs.Forms.{Form, Parts, integer, enumeration, string, structure, variant, array, text, no_parts, part, align_of}
-use Rattle.ctf_class.specs.Integers.{bits_of}
 use Rattle.ctf_decode.specs.Input.{Input, Env, integer_at, label_at, bytes_from}
 use Rattle.ctf_decode.specs.Routes.{length_of, option_at}
 

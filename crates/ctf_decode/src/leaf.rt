@@ -2,8 +2,8 @@
 
 ghost use Rattle.std.specs.Prelude.{◌≡◌, ◌+◌, ◌≤◌, IfOk};
 ghost use Rattle.std.specs.Int.{next_multiple_of};
-ghost use Rattle.ctf_decode.specs.Values.{unsigned, signed, label};
 ghost use Rattle.ctf_class.specs.Integers.{bits_of};
+ghost use Rattle.ctf_decode.specs.Values.{unsigned, signed, label};
 ghost use Rattle.ctf_decode.specs.Input.{integer_at, label_at};
 ghost use Rattle.ctf_decode.specs.Views.{val, input};
 ghost use Rattle.ctf_decode.specs.Walk.{begin, leaf};

@@ -95,6 +95,17 @@ module _ (class : Class) where
       let all = each c e [] (next_multiple_of p class.align) opened.1.0 q opened.1.2 in
       omega (arith, all)
 
+  -- it ends so far after its begin
+  pub structure_ends : (place : Place) (ms : List Member) (n end : ℕ) → class.kind ≡ kind.Structure ms → MembersTake ms n → end ≡ next_multiple_of place.end class.align + n → EndsAtLeast class place end
+  structure_ends place ms n end is each at bytes x found =
+      let c = input_at place bytes in
+      let e = env place.frame.now in
+      let stands = subst (Is (form class) c e place.end place.spent) found (walk_is (form class) c e place.end place.spent) in
+      let whole = form-is class ∙ ap (λ k. shape k class.align) is ∙ shape-Structure ms class.align in
+      let opened = subst (λ f. Stands f c e place.end x.0 x.1) whole stands.0 in
+      let all = each c e [] (next_multiple_of place.end class.align) opened.1.0 x.1 opened.1.2 in
+      omega (arith, all, at)
+
   row_of : (many : Length) (element : Class) (count n : ℕ) → class.kind ≡ kind.Array many element → ElementsTake element count n
       → (c : Input) (e : Env) (p : ℕ) (v : Val) (q : ℕ) → count ≡ length_of many c.earlier e → Stands (form class) c e p v q → p + n ≤ q
   row_of many element count n is each c e p v q counted stands =

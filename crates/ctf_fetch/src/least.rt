@@ -1,6 +1,6 @@
 //! How many bits a value takes at least, where that is known before its bytes come.
 
-ghost use Rattle.std.specs.Prelude.{◌≡◌, ◌↔◌, ◌≤◌, max, option_map, option_copied, IfSome, IsTrue};
+ghost use Rattle.std.specs.Prelude.{◌≡◌, ◌≤◌, max, option_map, option_copied, IfSome};
 ghost use Rattle.ctf_decode.specs.Views.{form};
 ghost use Rattle.ctf_packet.specs.Scopes.{longest};
 ghost use Rattle.ctf_fetch.specs.Demand.{TakesAtLeast, MembersTake, ElementsTake, TakesAt, EndsAtLeast, ScopeTakes, ContextTakes, FrontTakes};
@@ -56,18 +56,69 @@ fn bits_of_scope(class: Option<&Class>) -> u64
 /// The bit at which a value at a place ends at least: it may end up to seven bits later.
 ///
 /// `None` where more of its size is in the packet, as that of a string, a variant, or an array in a structure whose length is
-/// in a field; where a part of it is not of whole bytes, or may not begin at each of them; where its parts lie deeper than
-/// `DEEPEST`; and where no packet is so long.
+/// in a field; where a part of it is not of whole bytes, or may not begin at each of them, since its end would be further away;
+/// where its parts lie deeper than `DEEPEST`; and where no packet is so long.
 pub(crate) fn least_end(class: &Class, place: &Place<'_>) -> Option<u64>
     requires { place.now.end ≤ longest }
     ensures least { IfSome result (EndsAtLeast class.now place.now) }
     ensures bounded { IfSome result (λ end. end ≤ longest) }
 {
-    if class.depth > DEEPEST {
+    if class.depth > DEEPEST || !is_packed(class) {
         return None;
     }
     let bits = least_bits_at(class, place)?;
     in_packet(u128::from(place.end) + u128::from(bits))
+}
+
+/// The bit at which a structure at a place ends at least, whatever the alignments of its parts are.
+///
+/// `None` where the class is another one, where more of its size is in the packet, where its parts lie deeper than `DEEPEST`,
+/// and where no packet is so long.
+pub(crate) fn structure_end(class: &Class, place: &Place<'_>) -> Option<u64>
+    requires { place.now.end ≤ longest }
+    ensures least { IfSome result (EndsAtLeast class.now place.now) }
+    ensures bounded { IfSome result (λ end. end ≤ longest) }
+{
+    let Kind::Structure { members } = &class.kind else {
+        return None;
+    };
+    if class.depth > DEEPEST {
+        return None;
+    }
+    let begin = class.align.up(place.end);
+    let bits = bits_of_structure(members.as_slice())?;
+    in_packet(u128::from(begin) + u128::from(bits))
+}
+
+/// Whether each part of a class takes whole bytes and may begin at each of them.
+#[cycle(packed)]
+fn is_packed(class: &Class) -> bool {
+    match &class.kind {
+        Kind::Integer(integer) => integer.size.bits() % 8 == 0 && is_of_bytes(class.align),
+        Kind::Enumeration { container, labels } => {
+            container.size.bits() % 8 == 0 && is_of_bytes(class.align)
+        }
+        Kind::Structure { members } => is_of_bytes(class.align) && are_packed(members.as_slice()),
+        Kind::Array { length, element } => is_packed(element.get()),
+        Kind::String => true,
+        Kind::Variant {
+            tag,
+            choices,
+            options,
+        } => true,
+        Kind::Text { length } => true,
+    }
+}
+
+/// Whether members are.
+#[cycle(packed)]
+fn are_packed(members: &[Member]) -> bool {
+    for member in members {
+        if !is_packed(&member.class) {
+            return false;
+        }
+    }
+    true
 }
 
 /// How many bits a value at a place takes at least. An array's length may be in a field.
@@ -91,10 +142,10 @@ fn least_bits(class: &Class) -> Option<u64>
     ensures bounded { IfSome result (λ bits. bits ≤ longest) }
 {
     match &class.kind {
-        Kind::Integer(integer) => bits_of_integer(integer.size, class.align),
-        Kind::Enumeration { container, labels } => bits_of_integer(container.size, class.align),
+        Kind::Integer(integer) => Some(bits_of_integer(integer.size)),
+        Kind::Enumeration { container, labels } => Some(bits_of_integer(container.size)),
         Kind::String => None,
-        Kind::Structure { members } => bits_of_structure(members.as_slice(), class.align),
+        Kind::Structure { members } => bits_of_structure(members.as_slice()),
         Kind::Variant {
             tag,
             choices,
@@ -112,26 +163,19 @@ fn least_bits(class: &Class) -> Option<u64>
 }
 
 /// How many bits an integer takes at least.
-fn bits_of_integer(size: Width, align: Align) -> Option<u64>
-    ensures least { IfSome result (λ bits. bits ≤ max 1 size) }
-    ensures bounded { IfSome result (λ bits. bits ≤ longest) }
+fn bits_of_integer(size: Width) -> u64
+    ensures least { result ≤ max 1 size }
+    ensures bounded { result ≤ longest }
 {
-    let bits = u64::from(size.bits());
-    if bits % 8 != 0 || !is_of_bytes(align) {
-        return None;
-    }
-    Some(bits)
+    u64::from(size.bits())
 }
 
 /// How many bits a structure of these members takes at least.
 #[cycle(least)]
-fn bits_of_structure(members: &[Member], align: Align) -> Option<u64>
+fn bits_of_structure(members: &[Member]) -> Option<u64>
     ensures least { IfSome result (MembersTake members.now) }
     ensures bounded { IfSome result (λ bits. bits ≤ longest) }
 {
-    if !is_of_bytes(align) {
-        return None;
-    }
     let mut bits = 0;
     for member in members {
         let more = bits_of_member(&member.class)?;
@@ -148,7 +192,7 @@ fn bits_of_member(class: &Class) -> Option<u64>
     ensures bounded { IfSome result (λ bits. bits ≤ longest) }
 {
     if let Kind::Integer(integer) = &class.kind {
-        return bits_of_integer(integer.size, class.align);
+        return Some(bits_of_integer(integer.size));
     }
     least_bits(class)
 }
@@ -159,9 +203,6 @@ fn bits_of_elements(element: &Class, count: u64) -> Option<u64>
     ensures least { IfSome result (ElementsTake element.now count) }
     ensures bounded { IfSome result (λ bits. bits ≤ longest) }
 {
-    if !is_of_bytes(element.align) {
-        return None;
-    }
     if count == 0 {
         return Some(0);
     }
@@ -171,9 +212,7 @@ fn bits_of_elements(element: &Class, count: u64) -> Option<u64>
 
 /// Whether each byte begins at a multiple of an alignment. It is asked of each member, so it takes no division: alignments are
 /// powers of two.
-fn is_of_bytes(align: Align) -> bool
-    ensures { IsTrue result ↔ align ≤ 8 }
-{
+fn is_of_bytes(align: Align) -> bool {
     align.bits() <= 8
 }
 

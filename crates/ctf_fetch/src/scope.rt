@@ -12,7 +12,7 @@ use crate::buffer::Buffer;
 use crate::demand::{Place, value_on_demand};
 use crate::fill::fill_ahead;
 use crate::intake::Intake;
-use crate::least::least_end;
+use crate::least::structure_end;
 use ctf_bits::Source;
 use ctf_class::{Class, Scope};
 use ctf_decode::{Frame, Scopes, Value};
@@ -101,8 +101,8 @@ fn scope_at_hand(
     }
 }
 
-/// Puts the value of this class in its scope. Where it is known how many bits that takes at least, and it takes no more, as
-/// integers do, its bytes are asked for at once and it is made in the memory of `spare`.
+/// Puts the value of this class in its scope. Where it is known how many bits that takes at least, these are asked for at once;
+/// and where it takes no more, as a structure of integers, it is made in the memory of `spare`.
 fn class_on_demand<S: Source>(
     class: &Class,
     next: &NextScope<'_>,
@@ -133,7 +133,7 @@ fn class_on_demand<S: Source>(
         end: next.end,
         spent: scopes.spent(),
     };
-    let Some(least) = least_end(class, &place) else {
+    let Some(least) = structure_end(class, &place) else {
         return parts_on_demand(class, next, intake, scopes);
     };
     fill_ahead(intake, least)?;

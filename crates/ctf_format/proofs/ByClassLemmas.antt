@@ -15,12 +15,12 @@ use Rattle.ctf_class.specs.declared.route.Route.{Route}
 use Rattle.ctf_class.specs.declared.route.Scope.{Scope}
 use Rattle.ctf_class.specs.declared.span.Choice.{Choice}
 use Rattle.ctf_class.specs.declared.span.Label.{Label}
+use Rattle.ctf_class.specs.Integers.{bits_of}
 use Rattle.ctf_class.specs.Names.{field_text}
 use Rattle.ctf_decode.specs.Breaks.{past}
 use Rattle.ctf_decode.specs.Fields.{choice_in}
 use Rattle.ctf_decode.specs.Forms as forms
 use Rattle.ctf_decode.specs.Forms.{Form, parts_of}
-use Rattle.ctf_class.specs.Integers.{bits_of}
 use Rattle.ctf_decode.specs.Input.{Input, Env}
 use Rattle.ctf_decode.specs.Routes.{option_at, length_of}
 use Rattle.ctf_decode.specs.Stands.{text_in}

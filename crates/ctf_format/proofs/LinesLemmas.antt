@@ -4,12 +4,12 @@ use Rattle.std.specs.List.{flat_map}
 use Rattle.std.proofs.lemmas.Grind.{flat_map-append}
 use Rattle.std.proofs.lemmas.Option.{slice_get_read}
 use Rattle.ctf_class.specs.declared.class.Member.{Member}
+use Rattle.ctf_class.specs.Fronts.{is_of_packet}
 use Rattle.ctf_decode.specs.declared.value.Value.{Value}
 use Rattle.ctf_decode.specs.Values.{vals_of, no_vals}
 use Rattle.ctf_decode.specs.Views.{val}
 use Rattle.ctf_format.specs.Rows.{row, joined}
 use Rattle.ctf_format.specs.Texts.{part_text, member_part}
-use Rattle.ctf_class.specs.Fronts.{is_of_packet}
 use Rattle.ctf_format.specs.Lines.{shown_members, context_text}
 use Rattle.ctf_format.proofs.NamesLemmas.{here, drop-all, row_next}
 

@@ -7,12 +7,12 @@ use Rattle.ctf_bits.specs.Number.{number, signed_number}
 use Rattle.ctf_bits.specs.Placed.{number_behind}
 use Rattle.ctf_bits.specs.declared.number.Order.TheVariants.{Le}
 use Rattle.ctf_class.proofs.AlignmentLemmas.{next_behind}
+use Rattle.ctf_class.specs.Integers.{bits_of}
 use Rattle.ctf_class.specs.Records.{numbers_room}
 use Rattle.ctf_class.specs.declared.integer.Base.TheVariants.{Decimal}
 use Rattle.ctf_class.specs.declared.integer.Integer.{Integer}
 use Rattle.ctf_class.specs.declared.plain_number.PlainNumber.{PlainNumber}
 use Rattle.ctf_decode.specs.Forms.{integer}
-use Rattle.ctf_class.specs.Integers.{bits_of}
 use Rattle.ctf_format.specs.Numbers.{in_base}
 use Rattle.ctf_format.specs.Standing.{PutsOne}
 use Rattle.ctf_format.specs.Texts.{integer_text}

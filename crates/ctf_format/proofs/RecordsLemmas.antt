@@ -9,6 +9,7 @@ use Rattle.std.proofs.lemmas.List.Elements.{All-cons, All-nil}
 use Rattle.ctf_bits.specs.Placed.{Placed, number_behind}
 use Rattle.std.specs.Fmt.{signed_decimal}
 use Rattle.ctf_class.proofs.AlignmentLemmas.{divides_too, next_behind}
+use Rattle.ctf_class.specs.Integers.{bits_of}
 use Rattle.ctf_class.specs.Names.{field_text}
 use Rattle.ctf_class.specs.Records.{Slot, Scoped, laters, slots_of, slots, between, all_slots, values_in, AreScoped, IsNumber, AreInRun, IsField, Behind, LeadsBefore, numbers_room, room_of, AreRuns}
 use Rattle.ctf_class.specs.declared.class.Class.{Class}
@@ -20,7 +21,6 @@ use Rattle.ctf_class.specs.declared.plain_number.PlainNumber.{PlainNumber}
 use Rattle.ctf_class.specs.declared.route.Length.TheVariants as lengths
 use Rattle.ctf_class.specs.declared.route.Route.{Route}
 use Rattle.ctf_decode.specs.Forms.{Form, integer}
-use Rattle.ctf_class.specs.Integers.{bits_of}
 use Rattle.ctf_decode.specs.Views.{form}
 use Rattle.ctf_decode.specs.declared.scopes.TheConstants.{MOST_VALUES}
 use Rattle.ctf_format.specs.Plain.{plain_text}

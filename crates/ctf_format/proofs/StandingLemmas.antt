@@ -16,11 +16,11 @@ use Rattle.ctf_class.specs.declared.integer.Integer.{Integer}
 use Rattle.ctf_class.specs.declared.route.Length.{Length}
 use Rattle.ctf_class.specs.declared.route.Length.TheVariants.{Fixed}
 use Rattle.ctf_class.specs.declared.route.Scope.{Scope}
+use Rattle.ctf_class.specs.Integers.{bits_of}
 use Rattle.ctf_class.specs.Names.{label_text, field_text}
 use Rattle.ctf_decode.specs.Values.{Val, vals_of, unsigned, signed, group, text as text_val}
 use Rattle.ctf_decode.specs.Forms as forms
 use Rattle.ctf_decode.specs.Forms.{Form, parts_of, integer, string, structure}
-use Rattle.ctf_class.specs.Integers.{bits_of}
 use Rattle.ctf_decode.specs.Input.{Input, Env, integer_at}
 use Rattle.ctf_decode.specs.Breaks.{too_many, past}
 use Rattle.ctf_decode.specs.Walk.{Step, and_then, begin, open_at, as_group, leaf, string_end, string_at, walk, walk_members}

@@ -1,9 +1,9 @@
 -- What is in an event record's line after its stamp.
 use Rattle.std.specs.Prelude.{ℕ, List, [], ◌∷◌, ◌++◌, Option, Some, None, if◌then◌else◌}
-use Rattle.ctf_class.specs.Fronts.{is_of_packet, members_of}
 use Rattle.ctf_class.specs.declared.class.Class.{Class}
 use Rattle.ctf_class.specs.declared.class.Member.{Member}
 use Rattle.ctf_class.specs.declared.trace.EventClass.{EventClass}
+use Rattle.ctf_class.specs.Fronts.{is_of_packet, members_of}
 use Rattle.ctf_class.specs.Streams.{StreamClass}
 use Rattle.ctf_class.specs.HostAndName.{heading_text}
 use Rattle.ctf_decode.specs.Values.{Val, Vals, no_vals, more_vals}

@@ -2,8 +2,8 @@
 
 ghost use Rattle.std.specs.Prelude.{ℕ, cond, pos, ◌≡◌, ◌+◌, ◌≤◌, take, vec_len, IfSome};
 ghost use Rattle.ctf_bits.specs.Number.{number, signed_number};
-ghost use Rattle.ctf_class.specs.Integers.{bits_of};
 ghost use Rattle.ctf_class.specs.declared.route.Length.{Length};
+ghost use Rattle.ctf_class.specs.Integers.{bits_of};
 ghost use Rattle.ctf_decode.specs.Forms as forms;
 ghost use Rattle.ctf_format.specs.Standing.{Before, Counts, Writes, ValueIs, known_of};
 ghost use Rattle.ctf_decode.specs.Values.{label};

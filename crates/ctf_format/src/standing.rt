@@ -4,9 +4,9 @@ ghost use Rattle.std.specs.Prelude.{ℕ, List, pos, ◌≡◌, true, false, ◌+
 ghost use Rattle.std.specs.Int.{next_multiple_of};
 ghost use Rattle.std.specs.List.{take_while};
 ghost use Rattle.ctf_bits.specs.Number.{number, signed_number};
+ghost use Rattle.ctf_class.specs.Integers.{bits_of};
 ghost use Rattle.ctf_class.specs.Names.{label_text};
 ghost use Rattle.ctf_class.specs.declared.route.Length.TheVariants.{Fixed};
-ghost use Rattle.ctf_class.specs.Integers.{bits_of};
 ghost use Rattle.ctf_decode.specs.Forms as forms;
 ghost use Rattle.ctf_format.specs.Numbers.{number_text};
 ghost use Rattle.ctf_format.specs.Standing.{PutsOne, StandsAsNumber};

@@ -9,9 +9,9 @@ use Rattle.ctf_bits.specs.Number.{number, signed_number}
 use Rattle.ctf_bits.proofs.Numbers.{number-lt}
 use Rattle.ctf_bits.proofs.Signs.{signed_number-number}
 use Rattle.ctf_class.specs.declared.integer.Integer.{Integer}
+use Rattle.ctf_class.specs.Integers.{bits_of}
 use Rattle.ctf_decode.specs.Values.{Val, unsigned, signed, label, text, group, list, choice, vals_of}
 use Rattle.ctf_decode.specs.Forms.{Form, Parts, integer, enumeration, string, structure, variant, array, text as text_form, no_parts, part}
-use Rattle.ctf_class.specs.Integers.{bits_of}
 use Rattle.ctf_decode.specs.Input.{Input, Env, integer_at}
 use Rattle.ctf_decode.specs.Fields as fields
 use Rattle.ctf_decode.specs.Fields.{members_in, elements_in, choice_in, of_each, of_choice}

@@ -1,9 +1,9 @@
 -- Headers that are decoded by their plan tell what their class tells.
-use Rattle.std.proofs.Common.{◌≡◌, ℕ, ℤ, true, false, cond, pos, ◌+◌, ◌-◌, ◌*◌, ◌/◌, ◌%◌, ◌<◌, ◌≤◌, List, [], ◌∷◌, length, get_or, Option, Some, None, IfSome, refl, sym, ap, ◌∙◌, add_assoc, add-zero, le-add_right, arith, rules}
+use Rattle.std.proofs.Common.{◌≡◌, ℕ, ℤ, true, false, cond, pos, ◌+◌, ◌-◌, ◌*◌, ◌/◌, ◌%◌, ◌≤◌, List, [], ◌∷◌, Some, None, refl, sym, ap, ◌∙◌, add_assoc, add-zero, le-add_right, arith, rules}
 use Rattle.std.proofs.Math.Nat.{mod_self, sub-zero}
 use Rattle.std.specs.Prelude.{codes}
 use Rattle.std.specs.Int.{next_multiple_of}
-use Rattle.std.specs.List.{last_or, slice_get}
+use Rattle.std.specs.List.{last_or}
 use Rattle.std.specs.Str.{bytes_eq}
 use Rattle.std.proofs.lemmas.Int.{ints}
 use Rattle.ctf_bits.specs.Number.{number, signed_number}
@@ -12,28 +12,26 @@ use Rattle.ctf_bits.specs.declared.number.Order.TheVariants.{Le}
 use Rattle.ctf_class.proofs.AlignmentLemmas.{divides_too, next_behind}
 use Rattle.ctf_class.specs.declared.class.Class.{Class}
 use Rattle.ctf_class.specs.declared.class.Member.{Member}
+use Rattle.ctf_class.specs.declared.header_plan.HeaderPlan.{HeaderPlan}
 use Rattle.ctf_class.specs.declared.integer.Integer.{Integer}
-use Rattle.ctf_class.specs.declared.route.Origin.TheVariants.{Enclosing}
 use Rattle.ctf_class.specs.declared.route.Route.{Route}
 use Rattle.ctf_class.specs.declared.span.Choice.{Choice}
 use Rattle.ctf_class.specs.declared.span.Label.{Label}
-use Rattle.ctf_class.specs.Streams.{StreamClass}
 use Rattle.ctf_clock.specs.Clock.{Line, advanced, advanced_by}
 use Rattle.ctf_clock.specs.declared.moment.Moment.{Moment}
 use Rattle.ctf_decode.specs.Fields.{named_id, number_in}
 use Rattle.ctf_decode.specs.Forms.{enumeration}
-use Rattle.ctf_class.specs.Integers.{bits_of}
 use Rattle.ctf_decode.specs.Routes.{chosen, covers, FirstChooses}
 use Rattle.ctf_decode.specs.Values.{Val, label, unsigned}
 use Rattle.ctf_decode.specs.Views.{form, shape}
 use Rattle.ctf_decode.proofs.Pairs.{first_chooses}
 use Rattle.ctf_decode.proofs.Views.{form-is, shape-Enumeration}
 use Rattle.ctf_record_text.specs.Headers.{begun, Tells, TellsMember, TellsMembers, TellsNumber, StandsAsTag}
-use Rattle.ctf_class.specs.HeaderPlans.{IsHeaderPlan, IsFirstChoice}
 use Rattle.ctf_record_text.specs.Planned.{begins_telling}
 use Rattle.ctf_record_text.specs.declared.header.Tag.{Tag}
 use Rattle.ctf_record_text.specs.declared.header.Telling.{Telling}
-use Rattle.ctf_class.specs.declared.header_plan.HeaderPlan.{HeaderPlan}
+use Rattle.ctf_class.specs.HeaderPlans.{IsHeaderPlan, IsFirstChoice}
+use Rattle.ctf_class.specs.Integers.{bits_of}
 use Rattle.ctf_record_text.proofs.Telling.{tells_integer, reads_unsigned, stands_tag, going_begins, going_on, going_ends, tells_structure, tells_pair}
 use Rattle.ctf_packet.specs.Moved.{moved_in}
 

@@ -16,12 +16,12 @@ use Rattle.ctf_class.specs.declared.route.Route.{Route}
 use Rattle.ctf_class.specs.declared.route.Scope.{Scope}
 use Rattle.ctf_class.specs.declared.span.Choice.{Choice}
 use Rattle.ctf_class.specs.declared.span.Label.{Label}
+use Rattle.ctf_class.specs.Integers.{bits_of}
 use Rattle.ctf_clock.specs.Clock.{Line}
 use Rattle.ctf_clock.specs.declared.moment.Moment.{Moment}
 use Rattle.ctf_decode.specs.Breaks.{past}
 use Rattle.ctf_decode.specs.Fields.{named_id, ids, member_ids, option_ids}
 use Rattle.ctf_decode.specs.Forms.{integer, enumeration, structure, variant, part, no_parts, parts_of}
-use Rattle.ctf_class.specs.Integers.{bits_of}
 use Rattle.ctf_decode.specs.Input.{Input, Env, integer_at}
 use Rattle.ctf_decode.specs.Routes.{FirstChooses, option_at}
 use Rattle.ctf_decode.specs.Values.{Val, label, group, choice, signed, unsigned, vals_of}

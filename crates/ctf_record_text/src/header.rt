@@ -2,8 +2,8 @@
 
 ghost use Rattle.std.specs.Prelude.{◌≡◌, ℕ, List, None, ◌<◌, ◌≤◌, ◌+◌, ◌*◌, ◌^◌, [], ◌∷◌, Some, length, IfSome, option_copied};
 ghost use Rattle.std.specs.Int.{next_multiple_of};
-ghost use Rattle.ctf_class.specs.Records.{IsPlanOf, scopes_of};
 ghost use Rattle.ctf_class.specs.Integers.{bits_of};
+ghost use Rattle.ctf_class.specs.Records.{IsPlanOf, scopes_of};
 ghost use Rattle.ctf_decode.specs.Views.{form, val};
 ghost use Rattle.ctf_record_text.specs.Headers.{Tells, TellsMember, TellsMembers, TellsNumber, TellsAt, PlansRecords, StandsAsTag, begun, set_by};
 ghost use Rattle.ctf_record_text.specs.Planned.{begins_telling};

@@ -1,8 +1,8 @@
 //! Headers of event records that are decoded by their plan.
 
 ghost use Rattle.std.specs.Prelude.{Some, ◌≤◌, IfSome};
-ghost use Rattle.ctf_class.specs.HeaderPlans.{IsHeaderPlan, EndsNear, AreWindows};
 ghost use Rattle.ctf_class.specs.declared.class.Class.{Class};
+ghost use Rattle.ctf_class.specs.HeaderPlans.{IsHeaderPlan, EndsNear, AreWindows};
 ghost use Rattle.ctf_decode.specs.Views.{form};
 ghost use Rattle.ctf_record_text.specs.Headers.{Tells};
 ghost use Rattle.ctf_record_text.specs.Planned.{begins_telling, planned_telling};

@@ -3,10 +3,10 @@ use Rattle.std.specs.Prelude.{FitsSigned}
 use Rattle.std.specs.Int.{w128}
 use Rattle.std.proofs.lemmas.Int.{to_z-of_z}
 use Rattle.ctf_class.specs.declared.class.Kind as kind
-use Rattle.ctf_class.specs.Integers.{bits_of}
-use Rattle.ctf_class.specs.HeaderPlans.{IsStampOf, IsStampPlace}
 use Rattle.ctf_class.proofs.HeaderPlanLemmas.{two_members}
 use Rattle.ctf_class.proofs.header_plan.plan_of.Goals as goal
+use Rattle.ctf_class.specs.HeaderPlans.{IsStampOf, IsStampPlace}
+use Rattle.ctf_class.specs.Integers.{bits_of}
 
 pub returns : goal.returns
 returns c =

@@ -1,7 +1,7 @@
 use Rattle.std.proofs.Common.{◌≡◌, ◌+◌, ◌≤◌, refl, sym, ap, ◌∙◌, arith, rules}
 use Rattle.ctf_bits.specs.Number.{number}
-use Rattle.ctf_clock.specs.Clock.{advanced}
 use Rattle.ctf_class.specs.Integers.{bits_of}
+use Rattle.ctf_clock.specs.Clock.{advanced}
 use Rattle.ctf_record_text.proofs.Planned.{byte_begins, read_so, tells_planned}
 use Rattle.ctf_record_text.proofs.planned_header.tell_planned.Goals as goal
 
