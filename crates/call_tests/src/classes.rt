@@ -23,7 +23,7 @@ pub fn members_of(alloc: Global, words: &str) -> Vec<Member> {
     members
 }
 
-/// Adds the class that a word names behind those before it, or around the last of them.
+/// Adds the class that a word names after those before it, or around the last of them.
 fn add_class(alloc: Global, members: &mut Vec<Member>, word: &str) -> Option<()> {
     let (kind, rest) = word.split_once(':')?;
     let (align, number) = rest.split_once(':').unwrap_or((rest, ""));
@@ -120,7 +120,7 @@ fn member_at(alloc: Global, place: u32) -> Option<Length> {
     }))
 }
 
-/// Puts the words of an integer or of a structure, behind a space each.
+/// Puts the words of an integer or of a structure, after a space each.
 pub fn put_class(row: &mut Row<'_>, class: &Class) {
     match &class.kind {
         Kind::Integer(integer) => put_word(row, b" integer:", class, integer.size.bits() as i128),

@@ -22,7 +22,7 @@ pub fn put_row(row: &mut Row<'_>) {
     }
 }
 
-/// A word, and those of a text behind it.
+/// A word, and those of a text after it.
 fn words_of(
     alloc: Global,
     first: &str,
@@ -57,7 +57,7 @@ fn put_folders(row: &mut Row<'_>) {
     }
 }
 
-/// What words ask for behind the name of the program.
+/// What words ask for after the name of the program.
 fn options_from(alloc: Global, text: &str) -> Result<Options, Usage> {
     match words_of(alloc, "bt-ctf", text, "; ") {
         Ok(words) => options_of(alloc, &words),

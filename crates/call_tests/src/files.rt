@@ -42,7 +42,7 @@ fn stream_of(rt: &HostRuntime, word: &str) -> Vec<u8> {
     }
 }
 
-/// The bytes of a file: without the last ones, with others behind them, or with others at a place.
+/// The bytes of a file: without the last ones, with others after them, or with others at a place.
 fn file_of(rt: &HostRuntime, word: &str) -> Vec<u8> {
     let end = word.find(['-', '+', '@']).unwrap_or(word.len());
     let (path, change) = word.split_at(end);

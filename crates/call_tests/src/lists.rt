@@ -1,6 +1,6 @@
 //! Lists that grow.
 //!
-//! `pushed TEXT MORE` is the list of the bytes of a text behind which those of another are pushed one by one, how many there
+//! `pushed TEXT MORE` is the list of the bytes of a text after which those of another are pushed one by one, how many there
 //! are, and whether its copy is equal; `extended TEXT MORE` gets them at once.
 
 use crate::row::Row;
@@ -16,7 +16,7 @@ pub fn put_row(row: &mut Row<'_>) {
     }
 }
 
-/// The list of some bytes, with more behind them.
+/// The list of some bytes, with more after them.
 fn longer_list(
     alloc: Global,
     kind: &str,

@@ -7,7 +7,7 @@
 //! and `owners` (`metadata/owners.rt`). In the other tables, each of the calls of one module, the first word says what is
 //! called, and the module says what its rows are.
 //!
-//! Behind each row stands what came of it. All of this is written down in `stdout`, from the contracts of the calls and the
+//! After each row stands what came of it. All of this is written down in `stdout`, from the contracts of the calls and the
 //! rules of the format and of the layout. A call may answer want of memory, and no contract says that it does not: so each
 //! such call stands here with ample memory. What else a contract leaves open stands here too; what it does not is computed
 //! in `number_tests`.

@@ -2,7 +2,7 @@
 //!
 //! - `plan CLASS` is the plan of event records whose fields have this class, and whose stream event context and event context
 //!   have those before it, where there are any: the count of values, and of each run its bits and whether a field stands
-//!   behind it.
+//!   after it.
 
 use crate::classes::members_of;
 use crate::row::Row;

@@ -52,7 +52,7 @@ impl<'a> Row<'a> {
         let _ = self.text.extend_from_slice(bytes);
     }
 
-    /// Puts a number behind a text.
+    /// Puts a number after a text.
     pub fn put_number(&mut self, lead: &[u8], number: i128) {
         self.put(lead);
         let _ = write!(self.text, "{number}");
@@ -71,7 +71,7 @@ impl<'a> Row<'a> {
         let _ = write!(self.text, "{what}");
     }
 
-    /// Puts bytes in hexadecimal, each behind a space.
+    /// Puts bytes in hexadecimal, each after a space.
     pub fn put_hexadecimal(&mut self, bytes: &[u8]) {
         for byte in bytes {
             let _ = write!(self.text, " {byte:02X}");
@@ -83,7 +83,7 @@ impl<'a> Row<'a> {
         let _ = write!(self.text, "{byte:02x}");
     }
 
-    /// Puts whether something is so, behind a text.
+    /// Puts whether something is so, after a text.
     pub fn put_answer(&mut self, lead: &[u8], is_so: bool) {
         self.put(lead);
         self.put(if is_so { b"true" } else { b"false" });

@@ -65,7 +65,7 @@ fn put_text(row: &mut Row<'_>, kind: &str, count: usize, text: &[u8], piece: usi
     }
 }
 
-/// Puts the pieces that a source gives up to its end, and what it gives behind that.
+/// Puts the pieces that a source gives up to its end, and what it gives after that.
 fn put_drained<S: Source>(row: &mut Row<'_>, source: &mut S, piece: usize)
     requires some { 0 < piece }
     requires small { piece ≤ 8 }

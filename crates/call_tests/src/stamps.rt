@@ -5,7 +5,7 @@
 //! - `stamp CLOCK ZONE TIME` is the stamp of a moment whose clock stands at 134217727.
 //! - `lines CLOCK ZONE DELTA TIMES` is how lines of these times begin one after the other, from one stamper, at the largest
 //!   value of the clock. DELTA is `delta` where they have the time since the line before.
-//! - `appended CLOCK ZONE DELTA TIME LAST` is how a line begins behind one of another time.
+//! - `appended CLOCK ZONE DELTA TIME LAST` is how a line begins after one of another time.
 
 use crate::row::Row;
 use crate::zones::zone_of;
@@ -59,7 +59,7 @@ fn put_lines(row: &mut Row<'_>, stamper: &mut Stamper) {
     }
 }
 
-/// Puts how one line begins, and a bar behind it.
+/// Puts how one line begins, and a bar after it.
 fn put_part(row: &mut Row<'_>, stamper: &mut Stamper, time: Option<i64>, last: Option<i64>) {
     let mut line = [0; MOST_PART];
     let end = stamper.put_part(moment_of(u64::MAX, time), last, &mut line, 0);
@@ -67,7 +67,7 @@ fn put_part(row: &mut Row<'_>, stamper: &mut Stamper, time: Option<i64>, last: O
     row.put(b"|");
 }
 
-/// Puts how a line begins, and a bar behind it.
+/// Puts how a line begins, and a bar after it.
 fn put_appended(row: &mut Row<'_>, style: &Style) {
     let moment = moment_of(0, time_of(row.word()));
     let last = time_of(row.word());

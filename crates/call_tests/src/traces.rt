@@ -32,7 +32,7 @@ pub fn put_row(row: &mut Row<'_>) {
     }
 }
 
-/// Puts what a scope is, behind a space.
+/// Puts what a scope is, after a space.
 fn put_scope(row: &mut Row<'_>, scope: Option<&Class>) {
     match scope {
         Some(class) => put_class(row, class),

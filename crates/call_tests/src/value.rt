@@ -8,9 +8,9 @@
 //! - `decode CLASS START..CONTENT BYTES SPENT` is a place of a packet, the end of its content, both in bits, and how many
 //!   values were begun before, where it is not 0. `into CLASS START..CONTENT BYTES` decodes into another value.
 //! - `front CLASS START..CONTENT BYTES` is a place of a beginning of a packet.
-//! - `standing CLASS START..CONTENT BYTES CONTEXT` is the text of the structure at a place, written out of the bits behind
+//! - `standing CLASS START..CONTENT BYTES CONTEXT` is the text of the structure at a place, written out of the bits after
 //!   what stands in a line and over what stood there, where the packet context has this value, if one is given, and
-//!   `planned STREAM EVENT START..CONTENT BYTES` that of the scopes of an event record by its plan. Behind it stands where it
+//!   `planned STREAM EVENT START..CONTENT BYTES` that of the scopes of an event record by its plan. After it stands where it
 //!   ends and how many values were begun up to there.
 //! - `headers CLASS START..CONTENT BYTES, ..` is one header after the other, each decoded in the place of the one before,
 //!   as headers and in the general way.
@@ -18,14 +18,14 @@
 //! - `value CLASS VALUE` is the text of a value.
 //! - `record STREAM EVENT PACKET VALUES` is that of an event record of the classes of these ids. `PACKET` is the text that
 //!   the records of the packet share, where `_` stands for a space, or `-`. The values are those of the stream event
-//!   context, of the event context and of the fields, or of the fields alone. `behind` is the same in a line, behind what
+//!   context, of the event context and of the fields, or of the fields alone. `after` is the same in a line, after what
 //!   stands there and over what stood there.
 //! - `packet STREAM VALUE` is the text of a packet context of the stream class of this id; `-` stands for no class and for no
 //!   value.
 //! - `digits CLASS DIGITS` is each number whose digits begin these.
 //! - `lengths CLASS TEXT` is each beginning of the text, with each of three bytes at its begin, inside and at its end.
 //!
-//! Behind each row stands what came of it: values with the place where they end and how many were begun up to there, a
+//! After each row stands what came of it: values with the place where they end and how many were begun up to there, a
 //! fault, or a text.
 
 mod classes;
@@ -50,7 +50,7 @@ pub fn put_row(row: &mut Row<'_>, trace: &TraceClass) {
     let kind = row.word();
     let name = row.word();
     match kind {
-        "planned" | "record" | "behind" => put_stream_row(row, kind, trace, name),
+        "planned" | "record" | "after" => put_stream_row(row, kind, trace, name),
         "packet" => put_packet(row, stream_of(trace, name)),
         _ => {
             if let Some(class) = class_named(trace, name) {

@@ -1,6 +1,6 @@
 //! Integers whose place is known beforehand.
 //!
-//! `window PLACE SIZE KIND FIRST BYTES` is an integer, `u` or in two's complement `i`, behind the first bytes: its place, its
+//! `window PLACE SIZE KIND FIRST BYTES` is an integer, `u` or in two's complement `i`, after the first bytes: its place, its
 //! end, its number if that is not below zero, and that of its bits in two's complement.
 
 use crate::row::Row;
@@ -20,7 +20,7 @@ pub fn put_row(row: &mut Row<'_>) {
     }
 }
 
-/// Puts a window, and its number behind the first bytes, if there are enough.
+/// Puts a window, and its number after the first bytes, if there are enough.
 fn put_window(row: &mut Row<'_>, window: &Window) {
     let first = row.long() as usize;
     let bytes = row.bytes();

@@ -32,35 +32,35 @@ use Rattle.ctf_meaning.proofs.Clean.{IsNone, first_none}
 use Rattle.ctf_packet.specs.Classes.{EventForm, StreamForm, TraceForm, event_form, stream_form, trace_form}
 use Rattle.ctf_types.specs.Whole.{HasNoOwn}
 use Rattle.ctf_types.proofs.Distinct.{Distinct, streams_distinct, alone}
-use Rattle.class_laws.proofs.Leading.{Behind, Leads, bound}
+use Rattle.class_laws.proofs.Leading.{After, Leads, bound}
 use Rattle.class_laws.proofs.Resolving.{find_each, GoodScope, class_seen, class_leads, seen_fields}
 
 -- the classes of the scopes before event fields
-abbrev pub behind_of : Option Form → Option Form → Option Form → Option Form → Option Form → Behind
-behind_of header context event shared own PacketHeader = header
-behind_of header context event shared own PacketContext = context
-behind_of header context event shared own EventHeader = event
-behind_of header context event shared own StreamEventContext = shared
-behind_of header context event shared own EventContext = own
-behind_of header context event shared own EventFields = None
+abbrev pub after_of : Option Form → Option Form → Option Form → Option Form → Option Form → After
+after_of header context event shared own PacketHeader = header
+after_of header context event shared own PacketContext = context
+after_of header context event shared own EventHeader = event
+after_of header context event shared own StreamEventContext = shared
+after_of header context event shared own EventContext = own
+after_of header context event shared own EventFields = None
 
 -- a scope, which may have no class
-abbrev pub LeadsIn : Option Form → Behind → Type 0
-LeadsIn None behind = Unit {0}
-LeadsIn (Some k) behind = Leads k behind []
+abbrev pub LeadsIn : Option Form → After → Type 0
+LeadsIn None after = Unit {0}
+LeadsIn (Some k) after = Leads k after []
 
 pub record EventLeads {C : Type 0} (header context event shared : Option Form) (e : EventForm C) : Type 0 where
-  pub own : LeadsIn e.context (behind_of header context event shared None)
-  pub fields : LeadsIn (Some e.fields) (behind_of header context event shared e.context)
+  pub own : LeadsIn e.context (after_of header context event shared None)
+  pub fields : LeadsIn (Some e.fields) (after_of header context event shared e.context)
 
 pub record StreamLeads {C : Type 0} (header : Option Form) (s : StreamForm C) : Type 0 where
-  pub context : LeadsIn s.packet_context (behind_of header None None None None)
-  pub event : LeadsIn s.event_header (behind_of header s.packet_context None None None)
-  pub shared : LeadsIn s.event_context (behind_of header s.packet_context s.event_header None None)
+  pub context : LeadsIn s.packet_context (after_of header None None None None)
+  pub event : LeadsIn s.event_header (after_of header s.packet_context None None None)
+  pub shared : LeadsIn s.event_context (after_of header s.packet_context s.event_header None None)
   pub events : Each (EventLeads header s.packet_context s.event_header s.event_context) s.events
 
 pub record TraceLeads {C : Type 0} (t : TraceForm C) : Type 0 where
-  pub header : LeadsIn t.packet_header (behind_of None None None None None)
+  pub header : LeadsIn t.packet_header (after_of None None None None None)
   pub streams : Each (StreamLeads t.packet_header) t.streams
 
 pub mapped : {X Y : Type 0} (f : X → Y) (o : Option X) (y : Y) → option_map f o ≡ Some y → (x : X) × (o ≡ Some x) × (f x ≡ y)
@@ -107,17 +107,17 @@ alone_in ss t s d h g e =
 
 module _ (text : List Declaration) (order : Order) where
   -- a scope whose class is known
-  abbrev Knows : Home → Behind → Scope → Type 0
-  Knows home behind s = (c : Option Class) × (scope_class text order home s ≡ Some c) × (behind s ≡ option_map form c)
+  abbrev Knows : Home → After → Scope → Type 0
+  Knows home after s = (c : Option Class) × (scope_class text order home s ≡ Some c) × (after s ≡ option_map form c)
 
-  frame_good : (home : Home) (behind : Behind) (s : Scope) → Knows home behind s → (f : Frame) → option_and_then (frame_by s) (scope_of text home s) ≡ Some f → GoodScope behind f
-  frame_good home behind s known f e = by_case (scope_of text home s) known.1 e
+  frame_good : (home : Home) (after : After) (s : Scope) → Knows home after s → (f : Frame) → option_and_then (frame_by s) (scope_of text home s) ≡ Some f → GoodScope after f
+  frame_good home after s known f e = by_case (scope_of text home s) known.1 e
     where
-      by_case : (o : Option Shape) → if_there (class_at order (clocks_of text) (spot_of text home s)) o ≡ Some known.0 → option_and_then (frame_by s) o ≡ Some f → GoodScope behind f
+      by_case : (o : Option Shape) → if_there (class_at order (clocks_of text) (spot_of text home s)) o ≡ Some known.0 → option_and_then (frame_by s) o ≡ Some f → GoodScope after f
       by_case (Some (struct align members)) h g =
           let k = mapped (λ b. Some b) (class_at order (clocks_of text) (spot_of text home s) (struct align members)) known.0 h in
           let seen = class_seen order (clocks_of text) (spot_of text home s) (struct align members) k.0 k.1 in
-          subst (GoodScope behind) (same_Some _ f g)
+          subst (GoodScope after) (same_Some _ f g)
           (seen.0, seen.1, known.2 ∙ ap (option_map form) (sym k.2) ∙ ap Some seen.2, seen_fields members seen.1 seen.3)
       by_case None h g = absurd (none-some f g)
       by_case (Some (integer i)) h g = absurd (none-some f g)
@@ -128,22 +128,22 @@ module _ (text : List Declaration) (order : Order) where
       by_case (Some (array count element)) h g = absurd (none-some f g)
       by_case (Some (sequence path element)) h g = absurd (none-some f g)
 
-  frames_good : (home : Home) (behind : Behind) (scope : Scope) → Each (Knows home behind) (reverse (take (rank scope) scopes)) → Each (GoodScope behind) (frames_before text home scope)
-  frames_good home behind scope known =
-      filtered_each (GoodScope behind) (λ s. option_and_then (frame_by s) (scope_of text home s)) (reverse (take (rank scope) scopes))
-      (each_map (Knows home behind) (λ s. (f : Frame) → option_and_then (frame_by s) (scope_of text home s) ≡ Some f → GoodScope behind f)
-      (λ s a f e. frame_good home behind s a f e) (reverse (take (rank scope) scopes)) known)
+  frames_good : (home : Home) (after : After) (scope : Scope) → Each (Knows home after) (reverse (take (rank scope) scopes)) → Each (GoodScope after) (frames_before text home scope)
+  frames_good home after scope known =
+      filtered_each (GoodScope after) (λ s. option_and_then (frame_by s) (scope_of text home s)) (reverse (take (rank scope) scopes))
+      (each_map (Knows home after) (λ s. (f : Frame) → option_and_then (frame_by s) (scope_of text home s) ≡ Some f → GoodScope after f)
+      (λ s a f e. frame_good home after s a f e) (reverse (take (rank scope) scopes)) known)
 
-  scope_leads : (home : Home) (behind : Behind) (scope : Scope) (c : Option Class) → Each (Knows home behind) (reverse (take (rank scope) scopes)) → scope_class text order home scope ≡ Some c
-      → LeadsIn (option_map form c) behind
-  scope_leads home behind scope c known e = by_case (scope_of text home scope) e
+  scope_leads : (home : Home) (after : After) (scope : Scope) (c : Option Class) → Each (Knows home after) (reverse (take (rank scope) scopes)) → scope_class text order home scope ≡ Some c
+      → LeadsIn (option_map form c) after
+  scope_leads home after scope c known e = by_case (scope_of text home scope) e
     where
-      by_case : (o : Option Shape) → if_there (class_at order (clocks_of text) (spot_of text home scope)) o ≡ Some c → LeadsIn (option_map form c) behind
-      by_case None h = subst (λ x. LeadsIn (option_map form x) behind) (same_Some None c h) tt
+      by_case : (o : Option Shape) → if_there (class_at order (clocks_of text) (spot_of text home scope)) o ≡ Some c → LeadsIn (option_map form c) after
+      by_case None h = subst (λ x. LeadsIn (option_map form x) after) (same_Some None c h) tt
       by_case (Some s) h =
           let k = mapped (λ b. Some b) (class_at order (clocks_of text) (spot_of text home scope) s) c h in
-          subst (λ x. LeadsIn (option_map form x) behind) k.2
-          (class_leads order (clocks_of text) behind (spot_of text home scope) s k.0 [] tt (frames_good home behind scope known) k.1)
+          subst (λ x. LeadsIn (option_map form x) after) k.2
+          (class_leads order (clocks_of text) after (spot_of text home scope) s k.0 [] tt (frames_good home after scope known) k.1)
 
   -- the stream of an event is one of the streams
   stream_said : (entries : List BlockEntry) (s : Stream) → stream_of text entries ≡ Some s → IsIn (streams text) s
@@ -175,11 +175,11 @@ module _ (text : List Declaration) (order : Order) where
       abbrev home_at : Option ℕ → ℕ → Home
       home_at b k = record { trace = trace_of text; stream = b; event = Some k }
 
-      abbrev behind_own : Option Class → Behind
-      behind_own own = behind_of (option_map form header) (option_map form context) (option_map form event) (option_map form shared) (option_map form own)
+      abbrev after_own : Option Class → After
+      after_own own = after_of (option_map form header) (option_map form context) (option_map form event) (option_map form shared) (option_map form own)
 
       abbrev IsLed : EventClass → Type 0
-      IsLed c = LeadsIn (option_map form c.context) (behind_own None) × LeadsIn (Some (form c.fields)) (behind_own c.context)
+      IsLed c = LeadsIn (option_map form c.context) (after_own None) × LeadsIn (Some (form c.fields)) (after_own c.context)
 
       event_led : (k : ℕ) (entries : List BlockEntry) (c : EventClass) → block_in (stream_of text entries) ≡ stream.block → event_class text order k entries ≡ Some c → IsLed c
       event_led k entries c at e =
@@ -193,9 +193,9 @@ module _ (text : List Declaration) (order : Order) where
           let fields_is : scope_class text order (home_at stream.block k) EventFields ≡ Some (Some fields.0) =
           subst (λ b. scope_class text order (home_at b k) EventFields ≡ Some (Some fields.0)) at (whole.1 ∙ ap (λ f. Some f) whole.2) in
           subst IsLed (same_Some _ c fields.2) (
-            scope_leads (home_at stream.block k) (behind_own None) EventContext own.0
+            scope_leads (home_at stream.block k) (after_own None) EventContext own.0
                 ((shared, shared_is, refl), ((event, event_is, refl), ((context, context_is, refl), ((header, header_is, refl), tt)))) own_is,
-            scope_leads (home_at stream.block k) (behind_own own.0) EventFields (Some fields.0)
+            scope_leads (home_at stream.block k) (after_own own.0) EventFields (Some fields.0)
                 ((own.0, own_is, refl), ((shared, shared_is, refl), ((event, event_is, refl), ((context, context_is, refl), ((header, header_is, refl), tt))))) fields_is,
           )
 
@@ -234,9 +234,9 @@ module _ (text : List Declaration) (order : Order) where
         let each = events_led header context.0 event.0 shared.0 header_is context.1 event.1 shared.1 events.0 events.1 in
         subst (λ (x : StreamClass). StreamLeads hf (stream_form shift x)) (same_Some _ c events.2)
         (record {
-          context = scope_leads home (behind_of hf None None None None) PacketContext context.0 ((header, header_is, refl), tt) context.1;
-          event = scope_leads home (behind_of hf cf None None None) EventHeader event.0 ((context.0, context.1, refl), ((header, header_is, refl), tt)) event.1;
-          shared = scope_leads home (behind_of hf cf ef None None) StreamEventContext shared.0 ((event.0, event.1, refl), ((context.0, context.1, refl), ((header, header_is, refl), tt))) shared.1;
+          context = scope_leads home (after_of hf None None None None) PacketContext context.0 ((header, header_is, refl), tt) context.1;
+          event = scope_leads home (after_of hf cf None None None) EventHeader event.0 ((context.0, context.1, refl), ((header, header_is, refl), tt)) event.1;
+          shared = scope_leads home (after_of hf cf ef None None) StreamEventContext shared.0 ((event.0, event.1, refl), ((context.0, context.1, refl), ((header, header_is, refl), tt))) shared.1;
           events = each_mapped (EventLeads hf cf ef sf) (event_form _) events.0
               (each_map (IsLed header context.0 event.0 shared.0 header_is context.1 event.1 shared.1) (λ y. EventLeads hf cf ef sf (event_form _ y)) (λ y l. record { own = l.0; fields = l.1 }) events.0 each);
         })
@@ -258,6 +258,6 @@ denoted_leads tree t shift d =
     (λ s i c f. stream_led text order.0 clean s i shift header.0 header.1 c f) (streams text) (each_in (streams text)))) streams_are.1 in
     subst (λ (x : TraceClass). TraceLeads (trace_form shift x)) (same_Some _ t streams_are.2)
     (record {
-      header = scope_leads text order.0 (home_of_stream text None) (behind_of None None None None None) PacketHeader header.0 tt header.1;
+      header = scope_leads text order.0 (home_of_stream text None) (after_of None None None None None) PacketHeader header.0 tt header.1;
       streams = each_mapped (StreamLeads hf) (stream_form shift) streams_are.0 each;
     })

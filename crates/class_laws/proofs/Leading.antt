@@ -24,8 +24,8 @@ abbrev pub Around : Type 0
 Around = List (List Form)
 
 -- the classes of earlier scopes
-abbrev pub Behind : Type 0
-Behind = Scope → Option Form
+abbrev pub After : Type 0
+After = Scope → Option Form
 
 abbrev pub forms_in : Parts → List Form
 forms_in no_parts = []
@@ -42,13 +42,13 @@ abbrev pub form_inside : List ℕ → List Form → Option Form
 form_inside [] ks = None
 form_inside (i ∷ is) ks = option_and_then (form_down is) (slice_get ks i)
 
-abbrev pub led_from : Origin → List ℕ → Behind → Around → Option Form
-led_from (Enclosing k) steps behind around = option_and_then (form_inside steps) (slice_get around k)
-led_from (Earlier scope) steps behind around = option_and_then (form_down steps) (behind scope)
+abbrev pub led_from : Origin → List ℕ → After → Around → Option Form
+led_from (Enclosing k) steps after around = option_and_then (form_inside steps) (slice_get around k)
+led_from (Earlier scope) steps after around = option_and_then (form_down steps) (after scope)
 
 -- the class that a route leads to
-abbrev pub led : Route → Behind → Around → Option Form
-led route behind around = led_from route.origin route.steps behind around
+abbrev pub led : Route → After → Around → Option Form
+led route after around = led_from route.origin route.steps after around
 
 -- an unsigned integer
 abbrev pub IsLength : Option Form → Type 0
@@ -57,26 +57,26 @@ IsLength o = (a : ℕ) × (i : Integer) × (o ≡ Some (integer a i)) × (i.is_s
 abbrev pub IsTag : Option Form → Type 0
 IsTag o = (a : ℕ) × (i : Integer) × (o ≡ Some (enumeration a i))
 
-abbrev pub LeadsToLength : Length → Behind → Around → Type 0
-LeadsToLength (Fixed n) behind around = Unit {0}
-LeadsToLength (Field route) behind around = IsLength (led route behind around)
+abbrev pub LeadsToLength : Length → After → Around → Type 0
+LeadsToLength (Fixed n) after around = Unit {0}
+LeadsToLength (Field route) after around = IsLength (led route after around)
 
 abbrev mutual
   -- each route of a class leads to a length or a tag
-  pub Leads : Form → Behind → Around → Type 0
-  Leads (structure a ps) behind around = LeadsInMembers ps behind around []
-  Leads (variant a tag choices ps) behind around = IsTag (led tag behind around) × LeadsInOptions ps behind around
-  Leads (array a many k) behind around = LeadsToLength many behind around × Leads k behind around
-  Leads (text a many) behind around = LeadsToLength many behind around
-  Leads _ behind around = Unit {0}
+  pub Leads : Form → After → Around → Type 0
+  Leads (structure a ps) after around = LeadsInMembers ps after around []
+  Leads (variant a tag choices ps) after around = IsTag (led tag after around) × LeadsInOptions ps after around
+  Leads (array a many k) after around = LeadsToLength many after around × Leads k after around
+  Leads (text a many) after around = LeadsToLength many after around
+  Leads _ after around = Unit {0}
 
-  pub LeadsInMembers : Parts → Behind → Around → List Form → Type 0
-  LeadsInMembers no_parts behind around done = Unit {0}
-  LeadsInMembers (part n k ps) behind around done = Leads k behind (done ∷ around) × LeadsInMembers ps behind around (done ++ k ∷ [])
+  pub LeadsInMembers : Parts → After → Around → List Form → Type 0
+  LeadsInMembers no_parts after around done = Unit {0}
+  LeadsInMembers (part n k ps) after around done = Leads k after (done ∷ around) × LeadsInMembers ps after around (done ++ k ∷ [])
 
-  pub LeadsInOptions : Parts → Behind → Around → Type 0
-  LeadsInOptions no_parts behind around = Unit {0}
-  LeadsInOptions (part n k ps) behind around = Leads k behind around × LeadsInOptions ps behind around
+  pub LeadsInOptions : Parts → After → Around → Type 0
+  LeadsInOptions no_parts after around = Unit {0}
+  LeadsInOptions (part n k ps) after around = Leads k after around × LeadsInOptions ps after around
 
 -- an unsigned integer has an unsigned number
 abbrev pub IsNumber : Integer → Val → Type 0
@@ -109,8 +109,8 @@ abbrev pub FitsIn : Option Form → Option Val → Type 0
 FitsIn None o = Unit {0}
 FitsIn (Some k) o = (v : Val) × (o ≡ Some v) × Fits k v
 
-abbrev pub FitBehind : Behind → (Scope → Option Val) → Type 0
-FitBehind behind earlier = (scope : Scope) → FitsIn (behind scope) (earlier scope)
+abbrev pub FitAfter : After → (Scope → Option Val) → Type 0
+FitAfter after earlier = (scope : Scope) → FitsIn (after scope) (earlier scope)
 
 pub fit_more : (ks : List Form) (vs : List Val) (k : Form) (v : Val) → FitAll ks vs → Fits k v → FitAll (ks ++ k ∷ []) (vs ++ v ∷ [])
 fit_more [] [] k v h g = (g, tt)
@@ -170,55 +170,55 @@ fit_inside (i ∷ is) ks vs h l e =
     let rest = fit_down is step.0 at.0 at.2 l step.2 in
     (rest.0, ap (option_and_then (down is)) at.1 ∙ rest.1, rest.2)
 
-fit_behind : (o : Option Form) (p : Option Val) → FitsIn o p → Gets o p
-fit_behind None p h k e = absurd (none-some k e)
-fit_behind (Some l) p h k e = (h.0, h.1, subst (λ m. Fits m h.0) (same_Some l k e) h.2)
+fit_after : (o : Option Form) (p : Option Val) → FitsIn o p → Gets o p
+fit_after None p h k e = absurd (none-some k e)
+fit_after (Some l) p h k e = (h.0, h.1, subst (λ m. Fits m h.0) (same_Some l k e) h.2)
 
-module _ (behind : Behind) (earlier : Scope → Option Val) (scopes : FitBehind behind earlier) where
-  fit_from : (origin : Origin) (steps : List ℕ) (around : Around) (env : Env) → FitAround around env → Gets (led_from origin steps behind around) (found_from origin steps earlier env)
+module _ (after : After) (earlier : Scope → Option Val) (scopes : FitAfter after earlier) where
+  fit_from : (origin : Origin) (steps : List ℕ) (around : Around) (env : Env) → FitAround around env → Gets (led_from origin steps after around) (found_from origin steps earlier env)
   fit_from (Enclosing k) steps around env h l e =
       let step = bound (form_inside steps) (slice_get around k) l e in
       let at = env_at around env k h step.0 step.1 in
       let rest = fit_inside steps step.0 at.0 at.2 l step.2 in
       (rest.0, ap (option_and_then (inside steps)) at.1 ∙ rest.1, rest.2)
   fit_from (Earlier scope) steps around env h l e =
-      let step = bound (form_down steps) (behind scope) l e in
-      let at = fit_behind (behind scope) (earlier scope) (scopes scope) step.0 step.1 in
+      let step = bound (form_down steps) (after scope) l e in
+      let at = fit_after (after scope) (earlier scope) (scopes scope) step.0 step.1 in
       let rest = fit_down steps step.0 at.0 at.2 l step.2 in
       (rest.0, ap (option_and_then (down steps)) at.1 ∙ rest.1, rest.2)
 
   -- what a route leads to stands there
-  fit_found : (route : Route) (around : Around) (env : Env) → FitAround around env → Gets (led route behind around) (found route earlier env)
+  fit_found : (route : Route) (around : Around) (env : Env) → FitAround around env → Gets (led route after around) (found route earlier env)
   unfolding found
   fit_found route around env h = fit_from route.origin route.steps around env h
 
-  finds_tag : (route : Route) (around : Around) (env : Env) → FitAround around env → IsTag (led route behind around) → (z : ℤ) × (found route earlier env ≡ Some (label z))
+  finds_tag : (route : Route) (around : Around) (env : Env) → FitAround around env → IsTag (led route after around) → (z : ℤ) × (found route earlier env ≡ Some (label z))
   finds_tag route around env h t =
       let at = fit_found route around env h (enumeration t.0 t.1) t.2 in
       (at.2.0, at.1 ∙ ap Some at.2.1)
 
-  finds_number : (route : Route) (around : Around) (env : Env) → FitAround around env → IsLength (led route behind around) → (n : ℕ) × (found route earlier env ≡ Some (unsigned n))
+  finds_number : (route : Route) (around : Around) (env : Env) → FitAround around env → IsLength (led route after around) → (n : ℕ) × (found route earlier env ≡ Some (unsigned n))
   finds_number route around env h t =
       let at = fit_found route around env h (integer t.0 t.1) t.2 in
       let is = at.2 t.3 in
       (is.0, at.1 ∙ ap Some is.1)
 
-module _ (behind : Behind) (c : Input) (scopes : FitBehind behind c.earlier) where
-  finds_length : (many : Length) (around : Around) (env : Env) → FitAround around env → LeadsToLength many behind around → HasLength many c env
+module _ (after : After) (c : Input) (scopes : FitAfter after c.earlier) where
+  finds_length : (many : Length) (around : Around) (env : Env) → FitAround around env → LeadsToLength many after around → HasLength many c env
   finds_length (Fixed n) around env h t = tt
-  finds_length (Field route) around env h t = finds_number behind c.earlier scopes route around env h t
+  finds_length (Field route) around env h t = finds_number after c.earlier scopes route around env h t
 
   mutual
-    pub finds_all : (k : Form) (around : Around) (env : Env) → FitAround around env → Leads k behind around → FindsAll k c env
+    pub finds_all : (k : Form) (around : Around) (env : Env) → FitAround around env → Leads k after around → FindsAll k c env
     finds_all (integer a i) around env h t = tt
     finds_all (enumeration a i) around env h t = tt
     finds_all (string a) around env h t = tt
     finds_all (structure a ps) around env h t = finds_members ps around env [] [] h tt t
-    finds_all (variant a tag choices ps) around env h t = (finds_tag behind c.earlier scopes tag around env h t.0, finds_options ps around env h t.1)
+    finds_all (variant a tag choices ps) around env h t = (finds_tag after c.earlier scopes tag around env h t.0, finds_options ps around env h t.1)
     finds_all (array a many k) around env h t = (finds_length many around env h t.0, finds_all k around env h t.1)
     finds_all (text a many) around env h t = finds_length many around env h t
 
-    finds_members : (ps : Parts) (around : Around) (env : Env) (ks : List Form) (done : List Val) → FitAround around env → FitAll ks done → LeadsInMembers ps behind around ks → FindsInMembers ps c env done
+    finds_members : (ps : Parts) (around : Around) (env : Env) (ks : List Form) (done : List Val) → FitAround around env → FitAll ks done → LeadsInMembers ps after around ks → FindsInMembers ps c env done
     finds_members no_parts around env ks done h g t = tt
     finds_members (part n k ps) around env ks done h g t = (
       finds_all k (ks ∷ around) (done ∷ env) (g, h) t.0,
@@ -226,6 +226,6 @@ module _ (behind : Behind) (c : Input) (scopes : FitBehind behind c.earlier) whe
           (fit_more ks done k v g (stands_conform IsNumber (λ d i b. read_number d i b) k c (done ∷ env) p v q s)) t.1,
     )
 
-    finds_options : (ps : Parts) (around : Around) (env : Env) → FitAround around env → LeadsInOptions ps behind around → FindsInOptions ps c env
+    finds_options : (ps : Parts) (around : Around) (env : Env) → FitAround around env → LeadsInOptions ps after around → FindsInOptions ps c env
     finds_options no_parts around env h t = tt
     finds_options (part n k ps) around env h t = (finds_all k around env h t.0, finds_options ps around env h t.1)

@@ -18,7 +18,7 @@ use Rattle.ctf_meaning.proofs.Lists.{Each}
 use Rattle.ctf_packet.specs.Classes.{EventForm, StreamForm, TraceForm}
 use Rattle.ctf_packet.specs.Scopes.{Values, no_values, value_in, input_of, put, Stood, stood, scope_at, fault_in_front, fault_in_record}
 use Rattle.ctf_packet.specs.Roles.{role, number_in, is_magic, uuid_field, is_of_trace}
-use Rattle.ctf_packet.specs.Packets.{Opened, unless, or_fault, front, stream_named, same_stream, stream_of, stream_checked, sizes_checked, clock_before, clock_behind, moves, placed, open_at}
+use Rattle.ctf_packet.specs.Packets.{Opened, unless, or_fault, front, stream_named, same_stream, stream_of, stream_checked, sizes_checked, clock_before, clock_after, moves, placed, open_at}
 use Rattle.ctf_packet.specs.Records.{Headed, headed, event_numbered, event_named, ids_in}
 use Rattle.ctf_packet.specs.declared.fault.StreamFault.{StreamFault}
 use Rattle.ctf_packet.specs.declared.fault.StreamFault.TheVariants as faults
@@ -29,9 +29,9 @@ use Rattle.ctf_packet.proofs.Going.{first}
 use Rattle.ctf_packet.proofs.Opening as opening
 use Rattle.class_laws.specs.Finding.{FindsIn}
 use Rattle.class_laws.specs.Reading.{FindsInBody, FindsInTrace}
-use Rattle.class_laws.proofs.Leading.{Behind, FitsIn, FitBehind, IsNumber, read_number, finds_all, bound}
+use Rattle.class_laws.proofs.Leading.{After, FitsIn, FitAfter, IsNumber, read_number, finds_all, bound}
 use Rattle.class_laws.proofs.Resolving.{find_each}
-use Rattle.class_laws.proofs.Denoted.{behind_of, LeadsIn, EventLeads, StreamLeads, TraceLeads}
+use Rattle.class_laws.proofs.Denoted.{after_of, LeadsIn, EventLeads, StreamLeads, TraceLeads}
 
 -- what stands in a scope stands for its class
 stood_fits : (told : Fault → StreamFault) (k : Form) (c : Input) (p s : ℕ) (r : Step Val) (w : Stood) → Is k c [] p s r → stood told r ≡ Ok w → FitsIn (Some k) w.value
@@ -46,7 +46,7 @@ scope_fits told (Some k) c p s w e = stood_fits told k c p s (walk k c [] p s) w
 
 -- the values of scopes that stand for these classes
 fit : (header context event shared own : Option Form) (values : Values) → FitsIn header values.packet_header → FitsIn context values.packet_context → FitsIn event values.event_header
-    → FitsIn shared values.stream_event_context → FitsIn own values.event_context → FitBehind (behind_of header context event shared own) (value_in values)
+    → FitsIn shared values.stream_event_context → FitsIn own values.event_context → FitAfter (after_of header context event shared own) (value_in values)
 fit header context event shared own values a b d e f PacketHeader = a
 fit header context event shared own values a b d e f PacketContext = b
 fit header context event shared own values a b d e f EventHeader = d
@@ -54,9 +54,9 @@ fit header context event shared own values a b d e f StreamEventContext = e
 fit header context event shared own values a b d e f EventContext = f
 fit header context event shared own values a b d e f EventFields = tt
 
-finds_in : (k : Option Form) (behind : Behind) (c : Input) → LeadsIn k behind → FitBehind behind c.earlier → FindsIn k c
-finds_in None behind c l f = tt
-finds_in (Some k) behind c l f = finds_all behind c f k [] [] tt l
+finds_in : (k : Option Form) (after : After) (c : Input) → LeadsIn k after → FitAfter after c.earlier → FindsIn k c
+finds_in None after c l f = tt
+finds_in (Some k) after c l f = finds_all after c f k [] [] tt l
 
 there : {A : Type 0} (f : StreamFault) (o : Option A) (x : A) → or_fault f o ≡ Ok x → o ≡ Some x
 there f None x h = cc
@@ -112,7 +112,7 @@ module _ {C : Type 0} where
   unfolding placed
   placed_keeps stream reached start values place sizes p e =
       let a = first (clock_before stream.line reached) _ p e in
-      let b = first (clock_behind stream.line a.0 (moves stream.packet_context values.packet_context)) _ p a.2 in
+      let b = first (clock_after stream.line a.0 (moves stream.packet_context values.packet_context)) _ p a.2 in
       let stream_in : Result (Opened C) StreamFault → StreamForm C = λ r. elim r as (λ _. StreamForm C) [ Ok x ↦ x.stream | Err _ ↦ stream ] in
       let values_in : Result (Opened C) StreamFault → Values = λ r. elim r as (λ _. Values) [ Ok x ↦ x.values | Err _ ↦ values ] in
       (ap stream_in b.2, ap values_in b.2)
@@ -120,10 +120,10 @@ module _ {C : Type 0} where
   module _ (trace : TraceForm C) (leads : TraceLeads trace) where
     opened : (ending : Ending) (reached : Option Reached) (start : ℕ) (left : List ℕ) (p : Opened C) → open_at trace ending reached start left ≡ Ok p → IsOpened trace p
     opened ending reached start left p e =
-        let a = first (scope_at (fault_in_front ending) trace.packet_header (front left no_values) 0 0) (opening.behind_header trace ending reached start left) p (sym (opening.opens trace ending reached start left) ∙ e) in
-        let b = first (stream_checked trace reached (a.0).value) (opening.behind_stream trace ending reached start left a.0) p a.2 in
+        let a = first (scope_at (fault_in_front ending) trace.packet_header (front left no_values) 0 0) (opening.after_header trace ending reached start left) p (sym (opening.opens trace ending reached start left) ∙ e) in
+        let b = first (stream_checked trace reached (a.0).value) (opening.after_stream trace ending reached start left a.0) p a.2 in
         let known = put PacketHeader (a.0).value no_values in
-        let d = first (scope_at (fault_in_front ending) (b.0).packet_context (front left known) (a.0).end (a.0).spent) (opening.behind_context trace ending reached start left b.0 known) p b.2 in
+        let d = first (scope_at (fault_in_front ending) (b.0).packet_context (front left known) (a.0).end (a.0).spent) (opening.after_context trace ending reached start left b.0 known) p b.2 in
         let values = put PacketContext (d.0).value known in
         let size = λ (name : List ℕ). number_in (role name (b.0).packet_context (d.0).value) in
         let s = first (sizes_checked (size (codes "packet_size")) (size (codes "content_size")) ending (8 * length left) (d.0).end) (placed b.0 reached start values (d.0).end) p d.2 in
@@ -144,7 +144,7 @@ module _ {C : Type 0} where
     unfolding headed
     headed_is stream bytes content values clock place head l e =
         let a = first (scope_at fault_in_record stream.event_header (input_of bytes content values) place 0) _ head e in
-        let b = first (clock_behind stream.line clock (moves stream.event_header (a.0).value)) _ head a.2 in
+        let b = first (clock_after stream.line clock (moves stream.event_header (a.0).value)) _ head a.2 in
         let id = last_or None (ids_in stream.event_header (a.0).value) in
         let d = first (or_fault faults.UnknownEvent (event_named stream.events id)) _ head b.2 in
         let g : ◌≡◌ {A = Headed C} (record { event = d.0; clock = b.0; header = a.0 }) head = cc (d.2) in
@@ -161,12 +161,12 @@ module _ {C : Type 0} where
         let ts = stream.event_context in
         let values = put EventHeader head.header.value before in
         record {
-          stream_event_context = finds_in ts (behind_of th tc te None None) (input_of bytes content values) l.shared (fit th tc te None None values a b h.1 tt tt);
+          stream_event_context = finds_in ts (after_of th tc te None None) (input_of bytes content values) l.shared (fit th tc te None None values a b h.1 tt tt);
           event_context = λ place spent shared e.
-              finds_in head.event.context (behind_of th tc te ts None) (input_of bytes content (put StreamEventContext shared.value values)) (h.0).own
+              finds_in head.event.context (after_of th tc te ts None) (input_of bytes content (put StreamEventContext shared.value values)) (h.0).own
               (fit th tc te ts None (put StreamEventContext shared.value values) a b h.1 (scope_fits fault_in_record ts (input_of bytes content values) place spent shared e) tt);
           event_fields = λ place spent next more shared own e f.
-              finds_in (Some head.event.fields) (behind_of th tc te ts head.event.context) (input_of bytes content (put EventContext own.value (put StreamEventContext shared.value values))) (h.0).fields
+              finds_in (Some head.event.fields) (after_of th tc te ts head.event.context) (input_of bytes content (put EventContext own.value (put StreamEventContext shared.value values))) (h.0).fields
               (fit th tc te ts head.event.context (put EventContext own.value (put StreamEventContext shared.value values)) a b h.1
               (scope_fits fault_in_record ts (input_of bytes content values) place spent shared e)
               (scope_fits fault_in_record head.event.context (input_of bytes content (put StreamEventContext shared.value values)) next more own f));
@@ -174,14 +174,14 @@ module _ {C : Type 0} where
 
     pub trace_finds : FindsInTrace trace
     trace_finds = record {
-      packet_header = λ left. finds_in trace.packet_header (behind_of None None None None None) (front left no_values) leads.header (fit None None None None None no_values tt tt tt tt tt);
+      packet_header = λ left. finds_in trace.packet_header (after_of None None None None None) (front left no_values) leads.header (fit None None None None None no_values tt tt tt tt tt);
       packet_context = λ ending reached left header stream e f.
-          finds_in stream.packet_context (behind_of trace.packet_header None None None None) (front left (put PacketHeader header.value no_values))
+          finds_in stream.packet_context (after_of trace.packet_header None None None None) (front left (put PacketHeader header.value no_values))
           (checked_each (StreamLeads trace.packet_header) trace reached header.value stream leads.streams f).context
           (fit trace.packet_header None None None None (put PacketHeader header.value no_values) (scope_fits (fault_in_front ending) trace.packet_header (front left no_values) 0 0 header e) tt tt tt tt);
       event_header = λ ending reached start left bytes packet e.
           let o = opened ending reached start left packet e in
-          finds_in packet.stream.event_header (behind_of trace.packet_header packet.stream.packet_context None None None) (input_of bytes packet.content packet.values) (o.0).event
+          finds_in packet.stream.event_header (after_of trace.packet_header packet.stream.packet_context None None None) (input_of bytes packet.content packet.values) (o.0).event
           (fit trace.packet_header packet.stream.packet_context None None None packet.values o.1 o.2 tt tt tt);
       event_body = λ ending reached start left bytes packet clock place head e f.
           let o = opened ending reached start left packet e in

@@ -26,10 +26,10 @@ use Rattle.ctf_decode.proofs.Views.{shape-Integer, shape-Enumeration, shape-Stri
 use Rattle.ctf_meaning.specs.Name.{Word, Words, same_word}
 use Rattle.ctf_meaning.specs.There.{first}
 use Rattle.ctf_meaning.specs.Shapes.{Shape, Field, Members, integer, float, string, enum, struct, variant, array, sequence, no_member, member, fields_in, align_of}
-use Rattle.ctf_meaning.specs.Paths.{Frame, Spot, at_member, below, frames, members_of, member_named, Found, field_at, route_from, behind_words, scope_named, found_below, has_member, found_near, found_at, is_length, length_at, labels_in, tag_at}
+use Rattle.ctf_meaning.specs.Paths.{Frame, Spot, at_member, below, frames, members_of, member_named, Found, field_at, route_from, after_words, scope_named, found_below, has_member, found_near, found_at, is_length, length_at, labels_in, tag_at}
 use Rattle.ctf_meaning.specs.Links.{is_character, choices_of, class_by, named_by, placed, class_at, members_at, options_at}
 use Rattle.ctf_meaning.proofs.Lists.{Each, each_append, each_map, each_mapped, filtered_each, first_each}
-use Rattle.class_laws.proofs.Leading.{Around, Behind, forms_in, form_down, form_inside, led, IsLength, IsTag, LeadsToLength, Leads, LeadsInMembers, LeadsInOptions, bound}
+use Rattle.class_laws.proofs.Leading.{Around, After, forms_in, form_down, form_inside, led, IsLength, IsTag, LeadsToLength, Leads, LeadsInMembers, LeadsInOptions, bound}
 
 -- R of each pair of two lists
 abbrev pub Pairs : {X Y : Type 0} → (X → Y → Type 0) → List X → List Y → Type 0
@@ -134,10 +134,10 @@ field_led fs (word ∷ next ∷ words) ks found s e =
     subst (LedInside ks) (same_Some (found_by ((p.0).0 ∷ (rest.0).0) (rest.0).1) found rest.2)
     (led.0, ap (option_and_then (form_down (rest.0).0)) at.1 ∙ u.2 (rest.0).0 led.0 led.1, led.2)
 
-module _ (behind : Behind) where
+module _ (after : After) where
   -- a frame of members that the classes before have
   abbrev pub GoodBefore : Scope → List Field → Type 0
-  GoodBefore scope fs = (a : ℕ) × (ps : Parts) × (behind scope ≡ Some (forms.structure a ps)) × SeenFields fs (forms_in ps)
+  GoodBefore scope fs = (a : ℕ) × (ps : Parts) × (after scope ≡ Some (forms.structure a ps)) × SeenFields fs (forms_in ps)
 
   abbrev pub Good : Around → Origin → List Field → Type 0
   Good around (Enclosing k) fs = (ks : List Form) × (slice_get around k ≡ Some ks) × SeenFields fs ks
@@ -145,7 +145,7 @@ module _ (behind : Behind) where
 
   -- a route leads to the class of what was found
   abbrev pub Reaches : Around → Route × Shape → Type 0
-  Reaches around r = (k : Form) × (led r.0 behind around ≡ Some k) × Seen r.1 k
+  Reaches around r = (k : Form) × (led r.0 after around ≡ Some k) × Seen r.1 k
 
   good_led : (around : Around) (origin : Origin) (fs : List Field) (words : Words) (found : Found) → Good around origin fs → field_at fs words ≡ Some found → Reaches around (route_from origin found)
   good_led around (Enclosing k) fs words found g e =
@@ -162,11 +162,11 @@ module _ (behind : Behind) where
   below_led around scope words q g r e = by_case _ e
     where
       by_case : (b : Bool)
-          → cond b (option_and_then (λ name. option_and_then (λ rest. option_and_then (λ found. Some (route_from q.0 found)) (field_at q.1.fields rest)) (behind_words name words)) q.1.name) None ≡ Some r
+          → cond b (option_and_then (λ name. option_and_then (λ rest. option_and_then (λ found. Some (route_from q.0 found)) (field_at q.1.fields rest)) (after_words name words)) q.1.name) None ≡ Some r
           → Reaches around r
       by_case true h =
           let name = bound _ q.1.name r h in
-          let rest = bound _ (behind_words name.0 words) r name.2 in
+          let rest = bound _ (after_words name.0 words) r name.2 in
           let found = bound _ (field_at q.1.fields rest.0) r rest.2 in
           subst (Reaches around) (same_Some _ r found.2) (good_led around q.0 q.1.fields rest.0 found.0 g found.1)
       by_case false h = absurd (none-some r h)
@@ -189,7 +189,7 @@ module _ (behind : Behind) where
             (filtered_each (Reaches around) (found_below p.0 p.1) (frames spot)
             (each_map (GoodFrame around) (λ q. (y : Route × Shape) → found_below p.0 p.1 q ≡ Some y → Reaches around y) (λ q g. below_led around p.0 p.1 q g) (frames spot) good)) r h
 
-    length_led : (path : Words) (route : Route) → length_at spot path ≡ Some route → IsLength (led route behind around)
+    length_led : (path : Words) (route : Route) → length_at spot path ≡ Some route → IsLength (led route after around)
     length_led path route e =
         let found = bound _ (found_at spot path) route e in
         by_case (found.0).0 (found.0).1 (is_length (found.0).1) refl found.2 (found_led path found.0 found.1)
@@ -204,18 +204,18 @@ module _ (behind : Behind) where
         is_plain (array count element) k t s = absurd (grind (arith, t))
         is_plain (sequence other element) k t s = absurd (grind (arith, t))
 
-        by_case : (r : Route) (s : Shape) (b : Bool) → is_length s ≡ b → cond b (Some r) None ≡ Some route → Reaches around (r, s) → IsLength (led route behind around)
+        by_case : (r : Route) (s : Shape) (b : Bool) → is_length s ≡ b → cond b (Some r) None ≡ Some route → Reaches around (r, s) → IsLength (led route after around)
         by_case r s true t h at =
-            subst (λ x. IsLength (led x behind around)) (same_Some r route h) (subst IsLength (sym at.1) (is_plain s at.0 t at.2))
+            subst (λ x. IsLength (led x after around)) (same_Some r route h) (subst IsLength (sym at.1) (is_plain s at.0 t at.2))
         by_case r s false t h at = absurd (none-some route h)
 
-    tag_led : (tag : Option Words) (found : Route × List Label) → tag_at spot tag ≡ Some found → IsTag (led found.0 behind around)
+    tag_led : (tag : Option Words) (found : Route × List Label) → tag_at spot tag ≡ Some found → IsTag (led found.0 after around)
     tag_led tag r e =
         let path = bound _ tag r e in
         let found = bound _ (found_at spot path.0) r path.2 in
         let labels = bound _ (labels_in (found.0).1) r found.2 in
         let at = found_led path.0 found.0 found.1 in
-        subst (λ (x : Route × List Label). IsTag (led x.0 behind around)) (same_Some _ r labels.2) (subst IsTag (sym at.1) (is_tag (found.0).1 at.0 labels.0 labels.1 at.2))
+        subst (λ (x : Route × List Label). IsTag (led x.0 after around)) (same_Some _ r labels.2) (subst IsTag (sym at.1) (is_tag (found.0).1 at.0 labels.0 labels.1 at.2))
       where
         is_tag : (s : Shape) (k : Form) (ls : List Label) → labels_in s ≡ Some ls → Seen s k → IsTag (Some k)
         is_tag (enum i labels) k ls t s = (s.0, s.1, ap Some s.2)
@@ -277,32 +277,32 @@ module _ (order : Order) (clocks : List Clock) where
         (subst (λ (p : forms.Part). SeenMembers (member word s more) (forms.part p.0 p.1 others)) (sym (member_made word c.0))
         (word, form c.0, others, refl, class_seen (at_member spot earlier word) s c.0 c.1, members_seen spot (earlier ++ record { name = word; shape = s } ∷ []) more rest.0 rest.1))
 
-  module _ (behind : Behind) where
+  module _ (after : After) where
     array_leads : (s : Shape) (b : Bool) (many : Length) (element c : Class) (around : Around) → Some (class_by s (cond b (kind.Text many) (kind.Array many element))) ≡ Some c
-        → LeadsToLength many behind around → Leads (form element) behind around → Leads (form c) behind around
-    array_leads s true many element c around e l k = subst (λ m. Leads m behind around) (sym (form_by s (kind.Text many) c _ e (shape-Text many _))) l
-    array_leads s false many element c around e l k = subst (λ m. Leads m behind around) (sym (form_by s (kind.Array many element) c _ e (shape-Array many element _))) (l, k)
+        → LeadsToLength many after around → Leads (form element) after around → Leads (form c) after around
+    array_leads s true many element c around e l k = subst (λ m. Leads m after around) (sym (form_by s (kind.Text many) c _ e (shape-Text many _))) l
+    array_leads s false many element c around e l k = subst (λ m. Leads m after around) (sym (form_by s (kind.Array many element) c _ e (shape-Array many element _))) (l, k)
 
     mutual
       -- each of its routes leads to a length or a tag
-      pub class_leads : (spot : Spot) (s : Shape) (c : Class) (around : Around) → SeenAround behind spot.around around → Each (GoodScope behind) spot.before → class_at order clocks spot s ≡ Some c
-          → Leads (form c) behind around
+      pub class_leads : (spot : Spot) (s : Shape) (c : Class) (around : Around) → SeenAround after spot.around around → Each (GoodScope after) spot.before → class_at order clocks spot s ≡ Some c
+          → Leads (form c) after around
       class_leads spot (integer i) c around g b e =
-          subst (λ m. Leads m behind around) (sym (form_by (integer i) (kind.Integer (placed order _ i)) c _ e (shape-Integer _ _))) tt
-      class_leads spot string c around g b e = subst (λ m. Leads m behind around) (sym (form_by string kind.String c _ e (shape-String _))) tt
+          subst (λ m. Leads m after around) (sym (form_by (integer i) (kind.Integer (placed order _ i)) c _ e (shape-Integer _ _))) tt
+      class_leads spot string c around g b e = subst (λ m. Leads m after around) (sym (form_by string kind.String c _ e (shape-String _))) tt
       class_leads spot (enum i labels) c around g b e =
-          subst (λ m. Leads m behind around) (sym (form_by (enum i labels) (kind.Enumeration (placed order false i) labels) c _ e (shape-Enumeration _ _ _))) tt
+          subst (λ m. Leads m after around) (sym (form_by (enum i labels) (kind.Enumeration (placed order false i) labels) c _ e (shape-Enumeration _ _ _))) tt
       class_leads spot float c around g b e = absurd (none-some c e)
       class_leads spot (struct align members) c around g b e =
           let ms = bound _ (members_at order clocks spot [] members) c e in
-          subst (λ m. Leads m behind around) (sym (form_by (struct align members) (kind.Structure ms.0) c _ ms.2 (shape-Structure _ _)))
+          subst (λ m. Leads m after around) (sym (form_by (struct align members) (kind.Structure ms.0) c _ ms.2 (shape-Structure _ _)))
           (members_lead spot [] members ms.0 around [] g b tt ms.1)
       class_leads spot (variant tag options) c around g b e =
           let found = bound _ (tag_at spot tag) c e in
           let os = bound _ (options_at order clocks (below spot) options) c found.2 in
-          subst (λ m. Leads m behind around)
+          subst (λ m. Leads m after around)
           (sym (form_by (variant tag options) (kind.Variant (found.0).0 (choices_of (fields_in options) (found.0).1) os.0) c _ os.2 (shape-Variant _ _ _ _)))
-          (tag_led behind around spot (frames_good behind spot around g b) tag found.0 found.1, options_lead (below spot) options os.0 around g b os.1)
+          (tag_led after around spot (frames_good after spot around g b) tag found.0 found.1, options_lead (below spot) options os.0 around g b os.1)
       class_leads spot (array count element) c around g b e =
           let k = bound _ (class_at order clocks (below spot) element) c e in
           array_leads (array count element) (is_character element) (lengths.Fixed count) k.0 c around k.2 tt (class_leads (below spot) element k.0 around g b k.1)
@@ -310,31 +310,31 @@ module _ (order : Order) (clocks : List Clock) where
           let route = bound _ (length_at spot path) c e in
           let k = bound _ (class_at order clocks (below spot) element) c route.2 in
           array_leads (sequence path element) (is_character element) (lengths.Field route.0) k.0 c around k.2
-          (length_led behind around spot (frames_good behind spot around g b) path route.0 route.1) (class_leads (below spot) element k.0 around g b k.1)
+          (length_led after around spot (frames_good after spot around g b) path route.0 route.1) (class_leads (below spot) element k.0 around g b k.1)
 
-      members_lead : (spot : Spot) (earlier : List Field) (members : Members) (ms : List Member) (around : Around) (done : List Form) → SeenAround behind spot.around around → Each (GoodScope behind) spot.before
-          → SeenFields earlier done → members_at order clocks spot earlier members ≡ Some ms → LeadsInMembers (parts_of (map member_part ms)) behind around done
+      members_lead : (spot : Spot) (earlier : List Field) (members : Members) (ms : List Member) (around : Around) (done : List Form) → SeenAround after spot.around around → Each (GoodScope after) spot.before
+          → SeenFields earlier done → members_at order clocks spot earlier members ≡ Some ms → LeadsInMembers (parts_of (map member_part ms)) after around done
       members_lead spot earlier no_member ms around done g b d e =
-          subst (λ xs. LeadsInMembers (parts_of (map member_part xs)) behind around done) (same_Some [] ms e) tt
+          subst (λ xs. LeadsInMembers (parts_of (map member_part xs)) after around done) (same_Some [] ms e) tt
       members_lead spot earlier (member word s more) ms around done g b d e =
           let c = bound _ (class_at order clocks (at_member spot earlier word) s) ms e in
           let now = earlier ++ record { name = word; shape = s } ∷ [] in
           let rest = bound _ (members_at order clocks spot now more) ms c.2 in
           let others = parts_of (map member_part rest.0) in
-          subst (λ xs. LeadsInMembers (parts_of (map member_part xs)) behind around done) (same_Some (named_by word c.0 ∷ rest.0) ms rest.2)
-          (subst (λ (p : forms.Part). LeadsInMembers (forms.part p.0 p.1 others) behind around done) (sym (member_made word c.0)) (
+          subst (λ xs. LeadsInMembers (parts_of (map member_part xs)) after around done) (same_Some (named_by word c.0 ∷ rest.0) ms rest.2)
+          (subst (λ (p : forms.Part). LeadsInMembers (forms.part p.0 p.1 others) after around done) (sym (member_made word c.0)) (
             class_leads (at_member spot earlier word) s c.0 (done ∷ around) (d, g) b c.1,
             members_lead spot now more rest.0 around (done ++ form c.0 ∷ []) g b
                 (pairs_more (λ f k. Seen f.shape k) earlier done (record { name = word; shape = s }) (form c.0) d (class_seen (at_member spot earlier word) s c.0 c.1)) rest.1,
           ))
 
-      options_lead : (spot : Spot) (options : Members) (os : List Member) (around : Around) → SeenAround behind spot.around around → Each (GoodScope behind) spot.before
-          → options_at order clocks spot options ≡ Some os → LeadsInOptions (parts_of (map member_part os)) behind around
-      options_lead spot no_member os around g b e = subst (λ xs. LeadsInOptions (parts_of (map member_part xs)) behind around) (same_Some [] os e) tt
+      options_lead : (spot : Spot) (options : Members) (os : List Member) (around : Around) → SeenAround after spot.around around → Each (GoodScope after) spot.before
+          → options_at order clocks spot options ≡ Some os → LeadsInOptions (parts_of (map member_part os)) after around
+      options_lead spot no_member os around g b e = subst (λ xs. LeadsInOptions (parts_of (map member_part xs)) after around) (same_Some [] os e) tt
       options_lead spot (member word s more) os around g b e =
           let c = bound _ (class_at order clocks spot s) os e in
           let rest = bound _ (options_at order clocks spot more) os c.2 in
           let others = parts_of (map member_part rest.0) in
-          subst (λ xs. LeadsInOptions (parts_of (map member_part xs)) behind around) (same_Some (named_by word c.0 ∷ rest.0) os rest.2)
-          (subst (λ (p : forms.Part). LeadsInOptions (forms.part p.0 p.1 others) behind around) (sym (member_made word c.0))
+          subst (λ xs. LeadsInOptions (parts_of (map member_part xs)) after around) (same_Some (named_by word c.0 ∷ rest.0) os rest.2)
+          (subst (λ (p : forms.Part). LeadsInOptions (forms.part p.0 p.1 others) after around) (sym (member_made word c.0))
           (class_leads spot s c.0 around g b c.1, options_lead spot more rest.0 around g b rest.1))

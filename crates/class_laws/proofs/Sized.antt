@@ -23,7 +23,7 @@ use Rattle.ctf_meaning.specs.Settings.{when, one, attribute, number_of, from_zer
 use Rattle.ctf_meaning.specs.Integers.{sign_of, order_of, base_of, clock_of, size_of, integer_of, is_size, is_alignment_number, outside, integer_words, integer_faults, is_none_wrong, good_integer}
 use Rattle.ctf_meaning.specs.Labels.{labels_of}
 use Rattle.ctf_meaning.specs.Shapes.{Shape, Field, Members, integer, float, string, enum, struct, variant, array, sequence, no_member, member, members_from, structure, arrays, declared, with_tag, integer_in, container_name, container_at, shape_by, fields_by_item, fields_by}
-use Rattle.ctf_meaning.specs.Names.{Entry, earlier_entry, meaning, shape_named, shape_of, entries_of, entries_behind, entries_in}
+use Rattle.ctf_meaning.specs.Names.{Entry, earlier_entry, meaning, shape_named, shape_of, entries_of, entries_after, entries_in}
 use Rattle.ctf_meaning.specs.Blocks.{same_kind, block_of, entry_name, class_entry}
 use Rattle.ctf_meaning.specs.Scopes.{Home, missing_scope, in_home, scope_by, scope_at, scope_of}
 use Rattle.ctf_meaning.proofs.Lists.{Each, each_append, each_mapped, append_left, append_right}
@@ -213,7 +213,7 @@ part_sized es h (number ∷ block, part) = each_mapped EntrySized _ (given_of pa
         let f = bound (shape_of es (number ∷ block)) (class_of part) x.0 x.1 in
         subst HasSizes x.2 (arrays_sized g.lengths x.0 (shape_sized (shape_named es) (λ at name. named_sized es h at name) (number ∷ block) f.0 x.0 f.2))
 
-parts_sized : (es : List Entry) (ps : List Located) → Each EntrySized es → Each EntrySized (entries_behind es ps)
+parts_sized : (es : List Entry) (ps : List Located) → Each EntrySized es → Each EntrySized (entries_after es ps)
 parts_sized es [] h = h
 parts_sized es (p ∷ ps) h = parts_sized (es ++ entries_of es p) ps (each_append EntrySized es (entries_of es p) h (part_sized es h p))
 

@@ -25,7 +25,7 @@ after xs ys f clean h = ap (λ z. first (z ++ ys)) clean ∙ h
 pub both : (xs ys : List ResolveFault) → xs ≡ [] → ys ≡ [] → xs ++ ys ≡ []
 both xs ys clean h = ap (λ z. z ++ ys) clean ∙ h
 
--- three, and two, behind others
+-- three, and two, after others
 pub three : (z a b c : List ResolveFault) → z ≡ [] → a ++ b ++ c ≡ [] → z ++ a ++ b ++ c ≡ []
 three z a b c clean h = ap (λ x. x ++ a ++ b ++ c) clean ∙ h
 
@@ -40,15 +40,15 @@ pub handed : {V : Type 0} (faults : List ResolveFault) (P : V → Type 0) (r : R
 handed faults P (Ok v) f h k = absurd h.1
 handed faults P (Err e) f h k = inr (k ∙ ap (λ x. Some x) (sym h.1))
 
--- what is told behind other faults, of which there is none
-pub tells-behind : {V : Type 0} (xs ys : List ResolveFault) (P : V → Type 0) (r : Result V ResolveFault) → xs ≡ [] → TellsFirst ys P r → Tells (xs ++ ys) P r
-tells-behind xs ys P (Ok v) clean h = (both xs ys clean h.0, h.1)
-tells-behind xs ys P (Err f) clean h = inr (after xs ys f clean h)
+-- what is told after other faults, of which there is none
+pub tells-after : {V : Type 0} (xs ys : List ResolveFault) (P : V → Type 0) (r : Result V ResolveFault) → xs ≡ [] → TellsFirst ys P r → Tells (xs ++ ys) P r
+tells-after xs ys P (Ok v) clean h = (both xs ys clean h.0, h.1)
+tells-after xs ys P (Err f) clean h = inr (after xs ys f clean h)
 
--- a fault, or that memory was refused, behind faults of which there is none
-pub told-behind : (xs ys : List ResolveFault) (f : ResolveFault) → xs ≡ [] → (f ≡ NoMemory) ⊎ (first ys ≡ Some f) → (f ≡ NoMemory) ⊎ (first (xs ++ ys) ≡ Some f)
-told-behind xs ys f clean (inl refused) = inl refused
-told-behind xs ys f clean (inr told) = inr (after xs ys f clean told)
+-- a fault, or that memory was refused, after faults of which there is none
+pub told-after : (xs ys : List ResolveFault) (f : ResolveFault) → xs ≡ [] → (f ≡ NoMemory) ⊎ (first ys ≡ Some f) → (f ≡ NoMemory) ⊎ (first (xs ++ ys) ≡ Some f)
+told-after xs ys f clean (inl refused) = inl refused
+told-after xs ys f clean (inr told) = inr (after xs ys f clean told)
 
 pub handed-told : {V : Type 0} (faults : List ResolveFault) (P : V → Type 0) (r : Result V ResolveFault) (f : ResolveFault) → IsErr r × IsErrAnd r (λ e. e ≡ f) → (f ≡ NoMemory) ⊎ (first faults ≡ Some f) → Tells faults P r
 handed-told faults P (Ok v) f h k = absurd h.1

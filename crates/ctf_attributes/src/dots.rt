@@ -6,7 +6,7 @@ ghost use Rattle.ctf_meaning.specs.Name.{same_word};
 ghost use Rattle.ctf_meaning.specs.Integers as meaning;
 ghost use Rattle.ctf_attributes.specs.Dots.{dotted};
 
-use crate::ends::behind;
+use crate::ends::after;
 use ctf_list::{List, NoMemory};
 use std::alloc::Global;
 use tsdl_tree::Word;
@@ -17,7 +17,7 @@ pub fn is_joined(words: &[Word], text: &[u8]) -> bool
 {
     match words {
         [] => text.is_empty(),
-        [first, more @ ..] => match behind(first.as_slice(), text) {
+        [first, more @ ..] => match after(first.as_slice(), text) {
             Some(rest) => is_dotted(more, rest),
             None => false,
         },
@@ -30,7 +30,7 @@ fn is_dotted(words: &[Word], text: &[u8]) -> bool
 {
     let (_, mut rest) = text.split_at(0);
     for word in words {
-        match behind_dot(word.as_slice(), rest) {
+        match after_dot(word.as_slice(), rest) {
             Some(more) => rest = more,
             None => return false,
         }
@@ -39,11 +39,11 @@ fn is_dotted(words: &[Word], text: &[u8]) -> bool
 }
 
 /// What is after a dot and a word.
-fn behind_dot<'a>(word: &[u8], text: &'a [u8]) -> Option<&'a [u8]>
-    ensures { option_copied result ≡ meaning.behind (46 ∷ word.now) text.now }
+fn after_dot<'a>(word: &[u8], text: &'a [u8]) -> Option<&'a [u8]>
+    ensures { option_copied result ≡ meaning.after (46 ∷ word.now) text.now }
 {
     match text {
-        [b'.', rest @ ..] => behind(word, rest),
+        [b'.', rest @ ..] => after(word, rest),
         _ => None,
     }
 }

@@ -4,8 +4,8 @@ ghost use Rattle.std.specs.Prelude.{◌≡◌, reverse, option_map, option_copie
 ghost use Rattle.ctf_meaning.specs.Integers as meaning;
 
 /// What is after a beginning.
-pub fn behind<'a>(beginning: &[u8], text: &'a [u8]) -> Option<&'a [u8]>
-    ensures { option_copied result ≡ meaning.behind beginning.now text.now }
+pub fn after<'a>(beginning: &[u8], text: &'a [u8]) -> Option<&'a [u8]>
+    ensures { option_copied result ≡ meaning.after beginning.now text.now }
 {
     text.strip_prefix(beginning)
 }
@@ -13,7 +13,7 @@ pub fn behind<'a>(beginning: &[u8], text: &'a [u8]) -> Option<&'a [u8]>
 /// What is before an end.
 pub fn before<'a>(end: &[u8], text: &'a [u8]) -> Option<&'a [u8]>
     ensures { option_copied result ≡
-        option_map reverse (meaning.behind (reverse end.now) (reverse text.now)) }
+        option_map reverse (meaning.after (reverse end.now) (reverse text.now)) }
 {
     text.strip_suffix(end)
 }

@@ -6,7 +6,7 @@ ghost use Rattle.ctf_meaning.specs.Integers.{sign_of, base_of, order_of};
 ghost use Rattle.ctf_meaning.specs.Clocks.{frequency_of, offset_of};
 ghost use Rattle.ctf_attributes.specs.Mapped.{clock_in};
 
-use crate::ends::{before, behind};
+use crate::ends::{before, after};
 use crate::value::{count, is_count, number, says};
 use ctf_bits::Order;
 use ctf_class::{Base, Frequency};
@@ -102,5 +102,5 @@ pub fn offset(value: &Value) -> Option<i64>
 pub fn clock_name(text: &[u8]) -> Option<&[u8]>
     ensures { option_copied result ≡ clock_in text.now }
 {
-    before(b".value", behind(b"clock.", text)?)
+    before(b".value", after(b"clock.", text)?)
 }

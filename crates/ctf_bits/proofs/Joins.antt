@@ -75,7 +75,7 @@ whole_byte-be bytes j below =
     let start : 8 * j ≡ 8 * j + 0 = omega arith in
     ap (λ (k : ℕ). number Be bytes k 8) start ∙ in_byte-be bytes j 0 8 0 (omega arith) ∙ ap (λ (k : ℕ). k % 256) (div-one (slice_index bytes j)) ∙ mod-eq_of_lt below
 
--- a number behind the first f bytes
+-- a number after the first f bytes
 bit_of-drop : (order : Order) (bytes : List ℕ) (f k : ℕ) → bit_of order bytes (8 * f + k) ≡ bit_of order (drop f bytes) k
 bit_of-drop Le bytes f k =
     let index : (8 * f + k) / 8 ≡ f + k / 8 = omega arith in

@@ -6,7 +6,7 @@ use Rattle.std.proofs.lemmas.Int.{ints}
 use Rattle.std.proofs.lemmas.Nat.{and_mask, pow-add, pow_pos}
 use Rattle.ctf_bits.specs.declared.number.Order.TheVariants.{Le}
 use Rattle.ctf_bits.specs.Number.{number, signed_number}
-use Rattle.ctf_bits.specs.Placed.{Placed, number_behind}
+use Rattle.ctf_bits.specs.Placed.{Placed, number_after}
 use Rattle.ctf_bits.proofs.Joins.{number-drop}
 use Rattle.ctf_bits.proofs.Numbers.{number-lt}
 use Rattle.ctf_bits.proofs.Signs.{signed_number-number}
@@ -24,9 +24,9 @@ double n some = ap (λ (k : ℕ). 2 ^ k) (let count : n ≡ n - 1 + 1 = omega ar
 pub half_of_ones : (n mask : ℕ) → 1 ≤ n → mask ≡ 2 ^ n - 1 → mask / 2 ≡ 2 ^ (n - 1) - 1
 half_of_ones n mask some is = omega (arith, is, double n some, pow_pos (n - 1))
 
--- bits of eight bytes that stand behind others
-pub read_behind : (bytes : List ℕ) (at s n w mask : ℕ) → s + n ≤ 64 → w ≡ number Le (drop at bytes) 0 64 → mask ≡ 2 ^ n - 1 → bit_and (w / 2 ^ s) mask ≡ number Le bytes (8 * at + s) n
-read_behind bytes at s n w mask within is ones_are =
+-- bits of eight bytes that stand after others
+pub read_after : (bytes : List ℕ) (at s n w mask : ℕ) → s + n ≤ 64 → w ≡ number Le (drop at bytes) 0 64 → mask ≡ 2 ^ n - 1 → bit_and (w / 2 ^ s) mask ≡ number Le bytes (8 * at + s) n
+read_after bytes at s n w mask within is ones_are =
     let whole : s + (n + (64 - (s + n))) ≡ 64 = omega arith in
     ap (bit_and (w / 2 ^ s)) ones_are ∙ and_mask (w / 2 ^ s) n ∙ between-le (drop at bytes) s n (64 - (s + n)) w (is ∙ ap (number Le (drop at bytes) 0) (sym whole)) ∙ sym (number-drop Le bytes at s n)
 
@@ -38,8 +38,8 @@ plain true bytes p n x some is within =
     sym (signed_number-number Le bytes p n x some is) ∙ ap (λ (q : ℕ). pos x -ℤ pos (q * 2 ^ n)) none ∙ nothing
 plain false bytes p n x some is within = ap pos (sym is)
 
-pub plain_behind : (w : Placed) (bytes : List ℕ) (first x : ℕ) → 1 ≤ w.size → x ≡ number Le bytes (8 * first + w.place) w.size → x ≤ last_of w.is_signed w.size → number_behind w bytes first ≡ pos x
-plain_behind w bytes first x some is within = plain w.is_signed bytes (8 * first + w.place) w.size x some is within
+pub plain_after : (w : Placed) (bytes : List ℕ) (first x : ℕ) → 1 ≤ w.size → x ≡ number Le bytes (8 * first + w.place) w.size → x ≤ last_of w.is_signed w.size → number_after w bytes first ≡ pos x
+plain_after w bytes first x some is within = plain w.is_signed bytes (8 * first + w.place) w.size x some is within
 
 -- what is above the greatest number is below zero
 pub only_signed : (signed : Bool) (bytes : List ℕ) (p n x : ℕ) → x ≡ number Le bytes p n → last_of signed n < x → signed ≡ true

@@ -7,7 +7,7 @@ use Rattle.ctf_bits.specs.Number.{number}
 use Rattle.ctf_bits.proofs.Joins.{join-le, join-be}
 use Rattle.ctf_bits.proofs.Numbers.{number-lt}
 
--- n bits behind s bits and before r bits
+-- n bits after s bits and before r bits
 pub between-le : (bytes : List ℕ) (s n r w : ℕ) → w ≡ number Le bytes 0 (s + (n + r)) → w / 2 ^ s % 2 ^ n ≡ number Le bytes s n
 between-le bytes s n r w is =
     let low = number Le bytes 0 s in

@@ -3,7 +3,7 @@
 ghost use Rattle.std.specs.Prelude.{◌≡◌, ◌+◌, ◌*◌, ◌/◌, ◌%◌, ◌^◌, ◌≤◌, true, pos, length, None, SomeIff, IfSome};
 ghost use Rattle.ctf_bits.specs.declared.number.Order.TheVariants.{Le};
 ghost use Rattle.ctf_bits.specs.Number.{number, signed_number};
-ghost use Rattle.ctf_bits.specs.Placed.{number_behind};
+ghost use Rattle.ctf_bits.specs.Placed.{number_after};
 
 use crate::signed::twos_complement;
 use byteorder::{ByteOrder, LittleEndian};
@@ -81,7 +81,7 @@ impl Window {
     #[inline(always)]
     pub fn number(&self, bytes: &[u8], first: usize) -> Option<u64>
         requires held { first + self.now.place / 8 + 8 ≤ length bytes.now }
-        ensures value { IfSome result (λ n. number_behind self.now bytes.now first ≡ pos n) }
+        ensures value { IfSome result (λ n. number_after self.now bytes.now first ≡ pos n) }
         ensures signed { result ≡ None → self.now.is_signed ≡ true }
     {
         let number = self.bits(bytes, first);

@@ -61,12 +61,12 @@ pub divides_too : (place base a : ℕ) → place % base ≡ 0 → base % a ≡ 0
 divides_too place base a whole divides =
     sym (mod-mod_of_dvd a {b = base} place (dvd_of_mod-eq-zero a divides)) ∙ ap (λ r. r % a) whole ∙ zero-mod a
 
--- rounding up behind a place that an alignment divides
-mod-behind : (b x a : ℕ) → b % a ≡ 0 → (b + x) % a ≡ x % a
-mod-behind b x a divides = let whole : b ≡ b / a * a = omega (arith, mod-add-div' b a, divides) in ap (λ k. (k + x) % a) whole ∙ mul-add-mod_self_right (b / a) a x
+-- rounding up after a place that an alignment divides
+mod-after : (b x a : ℕ) → b % a ≡ 0 → (b + x) % a ≡ x % a
+mod-after b x a divides = let whole : b ≡ b / a * a = omega (arith, mod-add-div' b a, divides) in ap (λ k. (k + x) % a) whole ∙ mul-add-mod_self_right (b / a) a x
 
-pub next_behind : (b x a : ℕ) → b % a ≡ 0 → next_multiple_of (b + x) a ≡ b + next_multiple_of x a
-next_behind b x a divides =
-    let left = ap (λ r. b + x + (a - r) % a) (mod-behind b x a divides) in
+pub next_after : (b x a : ℕ) → b % a ≡ 0 → next_multiple_of (b + x) a ≡ b + next_multiple_of x a
+next_after b x a divides =
+    let left = ap (λ r. b + x + (a - r) % a) (mod-after b x a divides) in
     let sum : b + x + (a - x % a) % a ≡ b + (x + (a - x % a) % a) = omega arith in
     left ∙ sum

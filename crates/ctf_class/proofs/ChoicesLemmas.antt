@@ -44,7 +44,7 @@ hidden_silent names labels z place hides earlier here =
     let same : (label_at labels r.0).name ≡ name = (bytes_eq-Decides (label_at labels r.0).name name).0 both.1 in
     ap (option_named names) (sym same) ∙ earlier r.0 less both.0
 
--- labels that are not shown, behind others that name no option
+-- labels that are not shown, after others that name no option
 silent_to : (names : List (List ℕ)) (labels : List Label) (z : ℤ) (begin end : ℕ) → ((place : ℕ) → place < begin → Silent names labels z place) → ((place : ℕ) → begin ≤ place → place < end → shows_at labels z place ≡ false) → (place : ℕ) → place < end → Silent names labels z place
 silent_to names labels z begin zero earlier hides place within = absurd (omega arith)
 silent_to names labels z begin (suc end) earlier hides place within =
@@ -106,7 +106,7 @@ shown_silent names labels z begin place earlier next named before within =
     (λ last. let is : place ≡ before = omega arith in subst (Silent names labels z) is (λ here. named))
     (cases_lt before place)
 
--- an element is found at or behind the first place
+-- an element is found at or after the first place
 pub position_from-above : {X : Type 0} (p : X → Bool) (n k : ℕ) (xs : List X) → position_from p n xs ≡ Some k → n ≤ k
 position_from-above p n k [] found = absurd (cc)
 position_from-above p n k (x ∷ xs) found =

@@ -158,7 +158,7 @@ ordered-all labels order count before all so_far =
       apart = λ rank later less within. so_far.apart rank later less (omega arith);
     }
 
--- halving: the middle one and those behind it, or before it, do not cover a number
+-- halving: the middle one and those after it, or before it, do not cover a number
 pub none-above : (labels : List Label) (order : List ℕ) (z : ℤ) (middle rank : ℕ) → AreApart labels order → z <ℤ (span_in labels order middle).first → middle ≤ rank → rank < length labels → covers (span_in labels order rank) z ≡ false
 none-above labels order z middle rank apart less from within =
     ⊎_elim
@@ -268,7 +268,7 @@ walk-more labels z place end next more walked other last =
           (λ late.
           ⊎_elim
           (λ inside. let is : end - 1 ≡ before = omega arith in and_left covered same (subst (λ (k : ℕ). covers (label_at labels k).span z ≡ false) is other))
-          (λ behind. walked.none before behind less)
+          (λ after. walked.none before after less)
           (cases_lt before end))
           (cases_lt before (end - 1));
     }

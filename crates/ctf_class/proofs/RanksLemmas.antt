@@ -15,10 +15,10 @@ use Rattle.ctf_class.specs.Ranks.{place_in, HasRanks}
 before-other : (a b : List ℕ) → slice_cmp nat_cmp a b ≡ Less → bytes_eq a b ≡ false
 before-other a b less = sym (is_eq-slice_cmp a b) ∙ ap is_eq less
 
-behind-other : (a b : List ℕ) → slice_cmp nat_cmp a b ≡ Less → bytes_eq b a ≡ false
-behind-other a b less = nat_list_eq_equiv.symm b a ∙ before-other a b less
+after-other : (a b : List ℕ) → slice_cmp nat_cmp a b ≡ Less → bytes_eq b a ≡ false
+after-other a b less = nat_list_eq_equiv.symm b a ∙ before-other a b less
 
--- what comes behind another has it before it
+-- what comes after another has it before it
 turned : (a b : List ℕ) → slice_cmp nat_cmp a b ≡ Greater → slice_cmp nat_cmp b a ≡ Less
 turned a b more = nat_list_cmp_total.antisymm b a ∙ ap ordering_reverse more
 
@@ -29,7 +29,7 @@ module _ (names : List (List ℕ)) (order : List ℕ) where
   ascends each rank (suc later) less within =
       let before : suc later - 1 ≡ later = omega arith in
       let step : slice_cmp nat_cmp (name_in names order later) (name_in names order (suc later)) ≡ Less =
-      subst (λ k. slice_cmp nat_cmp (name_in names order k) (name_in names order (suc later)) ≡ Less) before ((each (suc later) within).behind (omega arith)) in
+      subst (λ k. slice_cmp nat_cmp (name_in names order k) (name_in names order (suc later)) ≡ Less) before ((each (suc later) within).after (omega arith)) in
       ⊎_elim
       (λ early. nat_list_cmp_total.trans (name_in names order rank) (name_in names order later) (name_in names order (suc later)) (ascends each rank later early (omega arith)) step)
       (λ late.
@@ -51,13 +51,13 @@ apart names order rank other up within inside differs =
     (λ same. absurd (differs same))
     (⊎_elim
     (λ less. before-other (name_in names order rank) (name_in names order other) (up.ascending rank other less inside))
-    (λ more. behind-other (name_in names order other) (name_in names order rank) (up.ascending other rank more within)))
+    (λ more. after-other (name_in names order other) (name_in names order rank) (up.ascending other rank more within)))
     (cases_order rank other)
 
--- halving: a name that comes before the middle one, or behind it, is none of those behind, or before
-pub none-behind : (names : List (List ℕ)) (order : List ℕ) (name : List ℕ) (middle rank : ℕ) → AreAscending names order → slice_cmp nat_cmp name (name_in names order middle) ≡ Less → middle ≤ rank → rank < length names → bytes_eq (name_in names order rank) name ≡ false
-none-behind names order name middle rank up less from within =
-    behind-other name (name_in names order rank) (⊎_elim
+-- halving: a name that comes before the middle one, or after it, is none of those after, or before
+pub none-after : (names : List (List ℕ)) (order : List ℕ) (name : List ℕ) (middle rank : ℕ) → AreAscending names order → slice_cmp nat_cmp name (name_in names order middle) ≡ Less → middle ≤ rank → rank < length names → bytes_eq (name_in names order rank) name ≡ false
+none-after names order name middle rank up less from within =
+    after-other name (name_in names order rank) (⊎_elim
     (λ later. nat_list_cmp_total.trans name (name_in names order middle) (name_in names order rank) less (up.ascending middle rank later within))
     (λ here. let same : middle ≡ rank = omega arith in subst (λ k. slice_cmp nat_cmp name (name_in names order k) ≡ Less) same less)
     (cases_lt middle rank))

@@ -11,14 +11,14 @@ use Rattle.ctf_class.specs.declared.plain_number.PlainNumber.{PlainNumber}
 use Rattle.ctf_class.specs.Making.{IsOpen, IsMade, IsMadeOf, before_scope, with_number, with_field}
 use Rattle.ctf_class.specs.Records.{Slot, Scoped, later, laters, slots, between, all_slots, values_in, AreScoped, and_scope, scopes_of, IsNumber, AreInRun, IsField, AreRuns, IsPlanOf, room_of}
 
--- one number more behind the others
+-- one number more after the others
 numbers_more : (from span : ℕ) (ss : List Slot) (ns : List PlainNumber) (s : Slot) (rest : List Slot) (n : PlainNumber) → AreInRun from ss ns span (s ∷ rest) → IsNumber span s n → AreInRun from ss (ns ++ n ∷ []) (n.window.place + n.window.size) rest
 numbers_more from span ss [] s rest n are is =
     subst (λ xs. AreInRun from xs (n ∷ []) (n.window.place + n.window.size) rest) are.1 (subst (λ f. IsNumber f s n) are.0 is, (refl, refl))
 numbers_more from span [] (y ∷ ns) s rest n are is = absurd are
 numbers_more from span (x ∷ ss) (y ∷ ns) s rest n are is = (are.0, numbers_more (y.window.place + y.window.size) span ss ns s rest n are.1 is)
 
--- the room of one number more, and of a field behind the numbers
+-- the room of one number more, and of a field after the numbers
 room_number : (ns : List PlainNumber) (n : PlainNumber) → room_of (ns ++ n ∷ []) None ≡ room_of ns None + (length n.ready + 24)
 room_number [] n = omega arith
 room_number (x ∷ ns) n = let more = room_number ns n in omega (arith, more)
@@ -43,7 +43,7 @@ made_number done s m n is near made = record {
   bounded = near;
 }
 
--- the open run with a field behind it
+-- the open run with a field after it
 pub made_field : (done : List Slot) (s : Slot) (m : Making) (f : Field) → IsField s f → IsMade done m → IsMade (done ++ s ∷ []) (with_field m f)
 made_field done s m f is made = record {
   full = done ++ s ∷ [];

@@ -21,7 +21,7 @@ length-first_bytes words count within =
 
 -- the words before one more hold a text as far as it, and the word goes on
 pub first_bytes-more : (text words : List ℕ) (word at end : ℕ) → length (flat_map (to_le_bytes w64) words) ≡ at → at ≤ end → end ≤ length text → first_bytes words at ≡ take at text → take (length (slice_range text at end)) (to_le_bytes w64 word) ≡ slice_range text at end → first_bytes (words ++ word ∷ []) end ≡ take end text
-first_bytes-more text words word at end counted behind within before here =
+first_bytes-more text words word at end counted after within before here =
     let bytes = flat_map (to_le_bytes w64) words in
     let whole : take (length bytes) bytes ≡ bytes = take-length bytes in
     let known : bytes ≡ take at text = sym whole ∙ (ap (λ n. take n bytes) counted ∙ before) in
@@ -83,8 +83,8 @@ filled-bytes bytes each i =
     let filling = drop (length bytes) zeros in
     ⊎_elim
     (λ inside. omega (arith, each i, get_or-append bytes filling 0 i inside))
-    (λ behind.
-    let moved = get_or-append_right bytes filling i 0 behind in
+    (λ after.
+    let moved = get_or-append_right bytes filling i 0 after in
     let dropped = get_or-drop (length bytes) zeros (i - length bytes) 0 in
     let none = get_or-zeros 8 (length bytes + (i - length bytes)) in
     omega arith)
@@ -108,13 +108,13 @@ written-more line front before words at to i within already wrote =
     let grouped = append_assoc (take at front) (flat_map (to_le_bytes w64) (take i words)) (to_le_bytes w64 (get_or words i 0)) in
     wrote ∙ (ap (λ xs. xs ++ to_le_bytes w64 (get_or words i 0)) already ∙ (grouped ∙ ap (λ xs. take at front ++ xs) (sym more)))
 
--- more words behind those that hold a text
+-- more words after those that hold a text
 pub more-words : (words others : List ℕ) (count : ℕ) → count ≤ 8 * length words → first_bytes (words ++ others) count ≡ first_bytes words count
 more-words words others count within =
     ap (take count) (flat_map-append (to_le_bytes w64) words others)
     ∙ take-append-le count (flat_map (to_le_bytes w64) words) (flat_map (to_le_bytes w64) others) (omega (arith, length-word_bytes words))
 
--- the first three words, filled up with zeros, and those behind them
+-- the first three words, filled up with zeros, and those after them
 pub in-front : (words : List ℕ) (count : ℕ) → count ≤ 8 * length words → first_bytes (get_or words 0 0 ∷ get_or words 1 0 ∷ get_or words 2 0 ∷ drop 3 words) count ≡ first_bytes words count
 in-front [] count within = more-words [] (0 ∷ 0 ∷ 0 ∷ []) count within
 in-front (a ∷ []) count within = more-words (a ∷ []) (0 ∷ 0 ∷ []) count within
@@ -127,7 +127,7 @@ line-part line front bytes at n m within long wrote =
     sym (take-take (at + n) (at + m) line (omega arith)) ∙ ap (take (at + n)) wrote ∙ ap (λ k. take (k + n) (front ++ bytes)) (sym long)
     ∙ take-append-add front bytes n
 
--- three words, one behind the other
+-- three words, one after the other
 pub three-words : (l1 l2 l3 front : List ℕ) (f s t at : ℕ) → take (at + 8) l1 ≡ front ++ to_le_bytes w64 f → take (at + 8 + 8) l2 ≡ take (at + 8) l1 ++ to_le_bytes w64 s → take (at + 16 + 8) l3 ≡ take (at + 16) l2 ++ to_le_bytes w64 t
     → take (at + 24) l3 ≡ front ++ flat_map (to_le_bytes w64) (f ∷ s ∷ t ∷ [])
 three-words l1 l2 l3 front f s t at e1 e2 e3 =
@@ -141,16 +141,16 @@ pub head-part : (f s t : ℕ) (rest : List ℕ) (count n : ℕ) → n ≤ 24 →
 head-part f s t rest count n short within =
     let words = f ∷ s ∷ t ∷ [] in
     let bytes = flat_map (to_le_bytes w64) words in
-    let behind = flat_map (to_le_bytes w64) rest in
-    let whole : flat_map (to_le_bytes w64) (words ++ rest) ≡ bytes ++ behind = flat_map-append (to_le_bytes w64) words rest in
+    let after = flat_map (to_le_bytes w64) rest in
+    let whole : flat_map (to_le_bytes w64) (words ++ rest) ≡ bytes ++ after = flat_map-append (to_le_bytes w64) words rest in
     sym (take-take n count (flat_map (to_le_bytes w64) (words ++ rest)) within ∙ ap (take n) whole
-    ∙ take-append-le n bytes behind (omega (arith, length-word_bytes words)))
+    ∙ take-append-le n bytes after (omega (arith, length-word_bytes words)))
 
--- a text that is longer: its first three words, and those behind them
+-- a text that is longer: its first three words, and those after them
 pub long-text : (f s t : ℕ) (rest text : List ℕ) (count : ℕ) → 24 ≤ count → first_bytes (f ∷ s ∷ t ∷ rest) count ≡ text → take count (take 24 text ++ flat_map (to_le_bytes w64) rest) ≡ text
 long-text f s t rest text count long is =
     let words = f ∷ s ∷ t ∷ [] in
     let bytes = flat_map (to_le_bytes w64) words in
-    let behind = flat_map (to_le_bytes w64) rest in
+    let after = flat_map (to_le_bytes w64) rest in
     let front : bytes ≡ take 24 text = sym (take-length bytes) ∙ ap (λ k. take k bytes) (length-word_bytes words) ∙ head-part f s t rest count 24 (omega arith) long ∙ ap (take 24) is in
-    ap (λ l. take count (l ++ behind)) (sym front) ∙ ap (take count) (sym (flat_map-append (to_le_bytes w64) words rest)) ∙ is
+    ap (λ l. take count (l ++ after)) (sym front) ∙ ap (take count) (sym (flat_map-append (to_le_bytes w64) words rest)) ∙ is

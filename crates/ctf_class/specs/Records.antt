@@ -126,10 +126,10 @@ pub record IsField (s : Slot) (f : Field) : Type 0 where
   pub shown : IsShown s.index s.member f.shown
 
 -- the first of these fields is this one, if one is given, and this holds of the others
-abbrev pub Behind : List Slot → Option Field → (List Slot → Type 0) → Type 0
-Behind ss None Holds = Holds ss
-Behind [] (Some f) Holds = ⊥
-Behind (s ∷ ss) (Some f) Holds = IsField s f × Holds ss
+abbrev pub After : List Slot → Option Field → (List Slot → Type 0) → Type 0
+After ss None Holds = Holds ss
+After [] (Some f) Holds = ⊥
+After (s ∷ ss) (Some f) Holds = IsField s f × Holds ss
 
 -- the room that numbers take in a line, in bytes: each text 24 more for its number, and 24 more
 abbrev pub numbers_room : List PlainNumber → ℕ
@@ -145,7 +145,7 @@ room_of (n ∷ ns) f = length n.ready + 24 + room_of ns f
 -- fields are these runs, one after the other
 abbrev pub AreRuns : List Slot → List Run → Type 0
 AreRuns ss [] = ss ≡ []
-AreRuns ss (r ∷ rs) = (rest : List Slot) × AreInRun 0 ss r.numbers r.span rest × (r.room ≡ room_of r.numbers r.field) × (r.span ≤ 2 ^ 33) × Behind rest r.field (λ others. AreRuns others rs)
+AreRuns ss (r ∷ rs) = (rest : List Slot) × AreInRun 0 ss r.numbers r.span rest × (r.room ≡ room_of r.numbers r.field) × (r.span ≤ 2 ^ 33) × After rest r.field (λ others. AreRuns others rs)
 
 -- a plan is one of these classes, if it has runs
 abbrev pub IsPlanOf : List Class → RecordPlan → Type 0

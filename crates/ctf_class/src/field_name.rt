@@ -45,16 +45,16 @@ impl FieldName {
     pub fn new(alloc: Global, name: List<u8>) -> Result<FieldName, NoMemory>
         ensures { IfOk result (λ field. field ≡ name) }
     {
-        let ready = ready_behind(alloc, b"", name.as_slice())?;
+        let ready = ready_after(alloc, b"", name.as_slice())?;
         let printed = Shared::new(alloc, PrintedName { ready, name })?;
         Ok(FieldName { printed })
     }
 
     /// What is printed before the value, after a text.
-    pub fn behind(&self, alloc: Global, lead: &[u8]) -> Result<PreparedText, NoMemory>
+    pub fn after(&self, alloc: Global, lead: &[u8]) -> Result<PreparedText, NoMemory>
         ensures { IfOk result (λ ready. ready ≡ lead.now ++ field_text self.now) }
     {
-        ready_behind(alloc, lead, self.as_slice())
+        ready_after(alloc, lead, self.as_slice())
     }
 
     /// The name as it is written.
@@ -97,7 +97,7 @@ impl Eq for FieldName {
 }
 
 /// What is printed before a value, after a text.
-fn ready_behind(alloc: Global, lead: &[u8], name: &[u8]) -> Result<PreparedText, NoMemory>
+fn ready_after(alloc: Global, lead: &[u8], name: &[u8]) -> Result<PreparedText, NoMemory>
     ensures { IfOk result (λ ready. ready ≡ lead.now ++ field_text name.now) }
 {
     let mut text = Vec::new(alloc);

@@ -117,7 +117,7 @@ fn stamp_place(
     stamp: Align,
 ) -> Option<u64>
     ensures is { IfSome result (IsStampPlace header tag (bits_of integer.now) option stamp) }
-    ensures behind { IfSome result (λ place. bits_of integer.now ≤ place) }
+    ensures after { IfSome result (λ place. bits_of integer.now ≤ place) }
     ensures near { IfSome result (λ place. header + place < 2 ^ 39) }
     ensures whole { IfSome result (λ _. header % 8 ≡ 0) }
 {

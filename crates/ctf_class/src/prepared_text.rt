@@ -46,7 +46,7 @@ impl PreparedText {
         ensures { IfOk result (λ ready. ready ≡ text.now) }
     {
         let words = words_of(alloc, text)?;
-        let rest = SharedWords::from_slice(alloc, behind_head(&words))?;
+        let rest = SharedWords::from_slice(alloc, after_head(&words))?;
         Ok(PreparedText {
             first: word_at(&words, 0),
             second: word_at(&words, 1),
@@ -133,7 +133,7 @@ fn word_at(words: &[u64], i: usize) -> u64
 }
 
 /// The words after the first three.
-fn behind_head(words: &[u64]) -> &[u64]
+fn after_head(words: &[u64]) -> &[u64]
     ensures { result.now ≡ drop 3 words.now }
 {
     &words[words.len().min(3)..]

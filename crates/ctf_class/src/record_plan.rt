@@ -296,7 +296,7 @@ impl Making {
     {
         let member = next.member;
         let align = next.align;
-        let ready = member.name.behind(alloc, next.lead)?;
+        let ready = member.name.after(alloc, next.lead)?;
         if ready.len() > LONGEST_TEXT {
             return Ok(false);
         }

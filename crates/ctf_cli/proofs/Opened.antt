@@ -16,26 +16,26 @@ use Rattle.ctf_cli.specs.declared.opening.OpeningFault.TheVariants.{Unreadable, 
 
 -- ---- streams
 
--- streams, and those behind them
-abbrev pub behind : List Stream → Result (List Stream) (List ℕ) → Result (List Stream) (List ℕ)
-behind first (Ok rest) = Ok (first ++ rest)
-behind first (Err path) = Err path
+-- streams, and those after them
+abbrev pub after : List Stream → Result (List Stream) (List ℕ) → Result (List Stream) (List ℕ)
+after first (Ok rest) = Ok (first ++ rest)
+after first (Err path) = Err path
 
-pub nothing_in_front : (streams : Result (List Stream) (List ℕ)) → streams ≡ behind [] streams
+pub nothing_in_front : (streams : Result (List Stream) (List ℕ)) → streams ≡ after [] streams
 nothing_in_front (Ok rest) = refl
 nothing_in_front (Err path) = refl
 
 -- one more is opened
 pub opened_more : {S : Type 0} (given : S → Given) (first : List Stream) (path name : List ℕ) (opened : Option S) (rest : Result (List Stream) (List ℕ))
-    → behind first (stream_then path name (found_of given opened) rest) ≡ behind (first ++ stream_if name (option_map given opened)) rest
-opened_more given first path name None rest = ap (λ xs. behind xs rest) (sym (append-nil first))
+    → after first (stream_then path name (found_of given opened) rest) ≡ after (first ++ stream_if name (option_map given opened)) rest
+opened_more given first path name None rest = ap (λ xs. after xs rest) (sym (append-nil first))
 opened_more given first path name (Some s) (Ok rest) = ap (λ xs. Ok xs) (sym (append_assoc first (record { name = name; given = given s } ∷ []) rest))
 opened_more given first path name (Some s) (Err later) = refl
 
 module _ (files : Files) (dir : List ℕ) (names : List (String Global)) (k : ℕ) (name : String Global) (first : List Stream) where
-  -- the streams of the names from a place on, behind those of the names in front of it
+  -- the streams of the names from a place on, after those of the names in front of it
   abbrev AreSoFar : ℕ → List Stream → Type 0
-  AreSoFar n streams = streams_in files dir (map (string_bytes {Z = Global}) names) ≡ behind streams (streams_in files dir (map (string_bytes {Z = Global}) (drop n names)))
+  AreSoFar n streams = streams_in files dir (map (string_bytes {Z = Global}) names) ≡ after streams (streams_in files dir (map (string_bytes {Z = Global}) (drop n names)))
 
   from_here : k < length names → name ≡ get_or names k name → drop k names ≡ name ∷ drop (k + 1) names
   from_here below is = drop-cons names k name below ∙ ap (λ x. x ∷ drop (suc k) names) (sym is) ∙ ap (λ n. name ∷ drop n names) (sym (add-one k))
@@ -45,8 +45,8 @@ module _ (files : Files) (dir : List ℕ) (names : List (String Global)) (k : �
       → AreSoFar k first → AreSoFar (k + 1) (first ++ stream_if (string_bytes name) (option_map given opened))
   opened_next given opened below is found whole =
       whole
-      ∙ ap (λ xs. behind first (streams_in files dir (map (string_bytes {Z = Global}) xs))) (from_here below is)
-      ∙ ap (λ f. behind first (stream_then (path_join dir (string_bytes name)) (string_bytes name) f (streams_in files dir (map (string_bytes {Z = Global}) (drop (k + 1) names))))) found
+      ∙ ap (λ xs. after first (streams_in files dir (map (string_bytes {Z = Global}) xs))) (from_here below is)
+      ∙ ap (λ f. after first (stream_then (path_join dir (string_bytes name)) (string_bytes name) f (streams_in files dir (map (string_bytes {Z = Global}) (drop (k + 1) names))))) found
       ∙ opened_more given first (path_join dir (string_bytes name)) (string_bytes name) opened _
 
   -- the name at a place can't be opened
@@ -54,12 +54,12 @@ module _ (files : Files) (dir : List ℕ) (names : List (String Global)) (k : �
       → streams_in files dir (map (string_bytes {Z = Global}) names) ≡ Err (path_join dir (string_bytes name))
   blocked_next below is found whole =
       whole
-      ∙ ap (λ xs. behind first (streams_in files dir (map (string_bytes {Z = Global}) xs))) (from_here below is)
-      ∙ ap (λ f. behind first (stream_then (path_join dir (string_bytes name)) (string_bytes name) f (streams_in files dir (map (string_bytes {Z = Global}) (drop (k + 1) names))))) found
+      ∙ ap (λ xs. after first (streams_in files dir (map (string_bytes {Z = Global}) xs))) (from_here below is)
+      ∙ ap (λ f. after first (stream_then (path_join dir (string_bytes name)) (string_bytes name) f (streams_in files dir (map (string_bytes {Z = Global}) (drop (k + 1) names))))) found
 
 -- no name is left
 pub opened_all : (files : Files) (dir : List ℕ) (names : List (String Global)) (k : ℕ) (first : List Stream) → length names ≤ k
-    → behind first (streams_in files dir (map (string_bytes {Z = Global}) (drop k names))) ≡ Ok first
+    → after first (streams_in files dir (map (string_bytes {Z = Global}) (drop k names))) ≡ Ok first
 opened_all files dir names k first past = rw (drop_all k names past) (ap (λ xs. Ok xs) (append-nil first))
 
 -- ---- stops

@@ -105,7 +105,7 @@ pub record Prints (traces : List Trace) (options : Options) (old new : Sides) (s
   pub told : Outcome
   pub runs : EachTells traces → Runs traces options outcome (written old between)
   pub counts : CountsAfter outcome (counts_of old) (counts_of between)
-  pub behind : SettledBy outcome between.out.settled
+  pub after : SettledBy outcome between.out.settled
   pub settled : SameForMessages (counts_of old) (counts_of between) ⊎ IsTrue between.out.settled
   pub settles : Settles between.out new.out outcome told
   pub says : Says (outcome_text told) between.err new.err

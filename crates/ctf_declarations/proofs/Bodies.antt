@@ -1,4 +1,4 @@
--- Members of a body, one item behind another.
+-- Members of a body, one item after another.
 use Rattle.std.proofs.Common.{◌≡◌, ℕ, ◌+◌, ◌<◌, true, false, nat_lt, ◌||◌, List, [], ◌∷◌, ◌++◌, map, drop, take, length, get_or, Result, Ok, Err, Some, refl, ap, sym, ◌∙◌}
 use Rattle.std.proofs.Common.{append_assoc}
 use Rattle.std.specs.List.{list_any}
@@ -77,7 +77,7 @@ pub deep_declared : (shape : Shape) (ds : List Declarator) → list_any (λ d. n
 deep_declared shape [] = refl
 deep_declared shape (d ∷ ds) = ap (λ b. nat_lt most_deep (depth_of (arrays d.lengths shape)) || b) (deep_declared shape ds)
 
--- The members of a class that is written, behind its own name.
+-- The members of a class that is written, after its own name.
 module _ (outer own : Seen) (fields : List Field) (i : Item) (form : Form) (ds : List Declarator) (shape : Shape) (after : Seen) (gs : List Given)
     (is : item_form i ≡ Fields form ds) (told : shape_told (within own outer) form ≡ Ok shape) (named : own_name form ≡ gs) (given : declare own shape gs ≡ Ok after) where
   abbrev members_after : Made → Told (Seen × List Field)

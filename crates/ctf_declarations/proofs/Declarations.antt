@@ -1,4 +1,4 @@
--- Declarations, one behind another.
+-- Declarations, one after another.
 use Rattle.std.proofs.Common.{◌≡◌, ℕ, ◌+◌, ◌<◌, List, [], ◌∷◌, ◌++◌, map, take, drop, length, get_or, Result, Ok, ap, sym, ◌∙◌, subst}
 use Rattle.std.proofs.lemmas.List.{map-append, take_more}
 use Rattle.tsdl_tree.specs.declared.tree.BlockKind.{BlockKind}
@@ -40,8 +40,8 @@ module _ (before : List Declaration) (w : Walked) (kind : BlockKind) (es : List 
   row_wrong f none h = tell_same (unless wrong rows) _ f block_split (subst (λ fs. Tell (unless fs rows) f) (sym none) (bind_fault (row_told w.own kind es) (scopes_told w) f h))
 
 module _ (ds : List TreeDeclaration) (i : ℕ) (d : TreeDeclaration) (is : d ≡ get_or ds i d) (h : i < length ds) where
-  pub one_behind : map declaration_of (take i ds) ++ declaration_of d ∷ [] ≡ map declaration_of (take (i + 1) ds)
-  one_behind = sym (ap (map declaration_of) (take_more ds i d h ∙ ap (λ x. take i ds ++ x ∷ []) (sym is)) ∙ map-append declaration_of (take i ds) (d ∷ []))
+  pub one_after : map declaration_of (take i ds) ++ declaration_of d ∷ [] ≡ map declaration_of (take (i + 1) ds)
+  one_after = sym (ap (map declaration_of) (take_more ds i d h ∙ ap (λ x. take i ds ++ x ∷ []) (sym is)) ∙ map-append declaration_of (take i ds) (d ∷ []))
 
   abbrev later : Walked → Told Walked
   later next = declarations_told (map declaration_of (take (i + 1) ds)) next (map declaration_of (drop (i + 1) ds))
@@ -50,7 +50,7 @@ module _ (ds : List TreeDeclaration) (i : ℕ) (d : TreeDeclaration) (is : d ≡
     split : declarations_told (map declaration_of (take i ds)) w (map declaration_of (drop i ds)) ≡ (declaration_told (map declaration_of (take i ds)) w (declaration_of d) >>= later)
     split =
         ap (λ l. declarations_told (map declaration_of (take i ds)) w (map declaration_of l)) (drop_next ds i d is h)
-        ∙ ap (λ l. declaration_told (map declaration_of (take i ds)) w (declaration_of d) >>= λ next. declarations_told l next (map declaration_of (drop (i + 1) ds))) one_behind
+        ∙ ap (λ l. declaration_told (map declaration_of (take i ds)) w (declaration_of d) >>= λ next. declarations_told l next (map declaration_of (drop (i + 1) ds))) one_after
 
     pub text_next : (next : Walked) → declaration_told (map declaration_of (take i ds)) w (declaration_of d) ≡ Ok next →
         later next ≡ declarations_told (map declaration_of (take i ds)) w (map declaration_of (drop i ds))

@@ -1,4 +1,4 @@
--- Names declared one behind another.
+-- Names declared one after another.
 use Rattle.std.proofs.Common.{◌≡◌, ℕ, ◌+◌, ◌<◌, List, [], ◌∷◌, ◌++◌, map, drop, length, get_or, Result, Ok, refl, ap, sym, ◌∙◌}
 use Rattle.std.specs.Prelude.{is_some}
 use Rattle.tsdl_tree.specs.declared.tree.Declarator.{Declarator}

@@ -1,4 +1,4 @@
--- What settings tell, one list of faults behind another.
+-- What settings tell, one list of faults after another.
 use Rattle.std.proofs.Common.{◌≡◌, List, [], ◌∷◌, ◌++◌, Result, Ok, Err, Some, OnOk, refl, ap, sym, ◌∙◌, subst, inl, inr}
 use Rattle.std.specs.Prelude.{◌⊎◌}
 use Rattle.ctf_meaning.specs.declared.fault.ResolveFault.{ResolveFault}
@@ -19,14 +19,14 @@ pub front_fault : (fs gs : List ResolveFault) (f : ResolveFault) → FirstOf fs 
 front_fault fs gs f (inl n) = inl n
 front_fault fs gs f (inr h) = inr (first_front fs gs f h)
 
-pub behind_fault : (fs gs : List ResolveFault) (f : ResolveFault) → fs ≡ [] → FirstOf gs f → FirstOf (fs ++ gs) f
-behind_fault fs gs f e h = subst (λ fs. FirstOf (fs ++ gs) f) (sym e) h
+pub after_fault : (fs gs : List ResolveFault) (f : ResolveFault) → fs ≡ [] → FirstOf gs f → FirstOf (fs ++ gs) f
+after_fault fs gs f e h = subst (λ fs. FirstOf (fs ++ gs) f) (sym e) h
 
 pub both_empty : (fs gs : List ResolveFault) → fs ≡ [] → gs ≡ [] → fs ++ gs ≡ []
 both_empty fs gs e h = ap (λ l. l ++ gs) e ∙ h
 
-pub tells_behind : {V : Type 0} (fs gs : List ResolveFault) (IsValue : V → Type 0) (r : Result V ResolveFault) → fs ≡ [] → Tells gs IsValue r → Tells (fs ++ gs) IsValue r
-tells_behind fs gs IsValue r e h = subst (λ fs. Tells (fs ++ gs) IsValue r) (sym e) h
+pub tells_after : {V : Type 0} (fs gs : List ResolveFault) (IsValue : V → Type 0) (r : Result V ResolveFault) → fs ≡ [] → Tells gs IsValue r → Tells (fs ++ gs) IsValue r
+tells_after fs gs IsValue r e h = subst (λ fs. Tells (fs ++ gs) IsValue r) (sym e) h
 
 pub unless_more : {A : Type 0} (fs gs : List ResolveFault) (t : Told A) → unless (fs ++ gs) t ≡ unless fs (unless gs t)
 unless_more [] gs t = refl

@@ -1,4 +1,4 @@
--- Steps that may fail, one behind another.
+-- Steps that may fail, one after another.
 use Rattle.std.proofs.Common.{◌≡◌, ℕ, ◌+◌, ◌<◌, suc, List, [], ◌∷◌, drop, length, get_or, Result, Ok, Err, Some, refl, ap, sym, ◌∙◌, subst, inl, inr, add-one}
 use Rattle.std.specs.Prelude.{◌⊎◌}
 use Rattle.std.proofs.Math.Seq.{drop-cons}
@@ -53,6 +53,6 @@ follows_map t view g (Ok v) h = ap (λ t. t >>= λ a. Ok (g a)) h
 follows_map t view g (Err f) (inl n) = inl n
 follows_map t view g (Err f) (inr h) = inr (ap (λ t. t >>= λ a. Ok (g a)) h)
 
--- an element and those behind it
+-- an element and those after it
 pub drop_next : {X : Type 0} (xs : List X) (i : ℕ) (x : X) → x ≡ get_or xs i x → i < length xs → drop i xs ≡ x ∷ drop (i + 1) xs
 drop_next xs i x is h = drop-cons xs i x h ∙ ap (λ y. y ∷ drop (suc i) xs) (sym is) ∙ ap (λ k. x ∷ drop k xs) (sym (add-one i))

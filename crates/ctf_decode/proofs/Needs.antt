@@ -79,7 +79,7 @@ none_end p xs e = elim (test (position_or_len p xs) (length xs)) [
   | inr t ↦ t.1
 ]
 
--- a text that has no such byte in its beginning has it behind
+-- a text that has no such byte in its beginning has it after
 position_past : (p : ℕ → Bool) (xs ys : List ℕ) (m : ℕ) → position p xs ≡ None → position p (xs ++ ys) ≡ Some m → length xs ≤ m
 position_past p xs ys m none some =
     let at = position-Some p (xs ++ ys) m 0 some in
@@ -120,8 +120,8 @@ module _ (packet more : List ℕ) (content whole limit : ℕ) (earlier : Scope �
         | inl beyond ↦ omega (arith, same, at.0, len, short)
         | inr inside ↦
             let g = bytes_more packet more content whole limit earlier longer held b inside in
-            let behind = position_past (λ x. nat_eq x 0) (bytes_from c b) g.0 t.n h.0 (ap (position (λ x. nat_eq x 0)) (sym g.1) ∙ t.first) in
-            omega (arith, same, at.0, len, behind)
+            let after = position_past (λ x. nat_eq x 0) (bytes_from c b) g.0 t.n h.0 (ap (position (λ x. nat_eq x 0)) (sym g.1) ∙ t.first) in
+            omega (arith, same, at.0, len, after)
       ]
 
   opens : (b n : ℕ) (T : Type 0) → b ≤ whole → (T → n ≤ whole) → Opens c b (past n) T → n ≤ whole

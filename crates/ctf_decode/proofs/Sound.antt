@@ -19,7 +19,7 @@ abbrev pub Holds : Input → (Val → ℕ → Type 0) → (Fault → Type 0) →
 Holds c R B s (Ok x) = R x.0 x.1 × (x.2 ≡ s + count x.0) × (x.2 ≤ c.limit)
 Holds c R B s (Err f) = B f
 
--- the same of a list that goes on behind the values that are done
+-- the same of a list that goes on after the values that are done
 abbrev pub HoldsAll : Input → (List Val → ℕ → Type 0) → (Fault → Type 0) → List Val → ℕ → Step (List Val) → Type 0
 HoldsAll c R B done s (Ok x) = R x.0 x.1 × (x.2 + counts (vals_of done) ≡ s + counts (vals_of x.0)) × (x.2 ≤ c.limit)
 HoldsAll c R B done s (Err f) = B f

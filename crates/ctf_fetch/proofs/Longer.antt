@@ -11,7 +11,7 @@ use Rattle.ctf_decode.specs.Breaks.{Fault, too_many, past, no_option}
 use Rattle.ctf_decode.specs.Walk.{Step, walk}
 use Rattle.ctf_decode.specs.declared.scopes.TheConstants.{MOST_VALUES}
 use Rattle.ctf_packet.specs.Classes.{StreamForm}
-use Rattle.ctf_packet.specs.Packets.{Opened, unless, or_fault, moves, clock_behind}
+use Rattle.ctf_packet.specs.Packets.{Opened, unless, or_fault, moves, clock_after}
 use Rattle.ctf_packet.specs.Records.{event_named, ids_in, headed, bodied, record_at}
 use Rattle.ctf_packet.specs.Scopes.{◌>>=◌, Values, input_of, value_in, put, stood, scope_at, fault_in_record}
 use Rattle.ctf_packet.specs.declared.fault.StreamFault.TheVariants as faults
@@ -42,7 +42,7 @@ module _ (bytes more : List ℕ) (content : ℕ) (held : content ≤ 8 * length 
   unfolding headed
   headed_longer stream values clock place = λ i. do
     header ← scope_longer stream.event_header values place 0 i
-    next ← clock_behind stream.line clock (moves stream.event_header header.value)
+    next ← clock_after stream.line clock (moves stream.event_header header.value)
     event ← or_fault faults.UnknownEvent (event_named stream.events (last_or None (ids_in stream.event_header header.value)))
     Ok (record { event = event; clock = next; header = header })
 

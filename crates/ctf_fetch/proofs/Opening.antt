@@ -97,15 +97,15 @@ module _ (next : NextScope) (k : Form) (is : form_of next.class ≡ Some k) (kno
       let found = asked_found (walk k (front bytes (values_of known)) [] next.end known.spent) h.0 q asks h.2 in
       (found.0, ap (λ c. walk k c [] next.end known.spent) (there_is bytes known) ∙ found.1, found.2)
 
-  -- so many bytes are no more than it needs, if there were so many before that it ends behind
+  -- so many bytes are no more than it needs, if there were so many before that it ends after
   pub near_put : (least before between now : ℕ) → ((x : Val × ℕ × ℕ) → walk k (there bytes known) [] next.end known.spent ≡ Ok x → least ≤ x.1) → between ≤ max before (least + 7)
       → (result : Result ℕ StreamFault) (after : Known) → IfOk result (λ end. PutsAsked next.scope (values_of known) (scope_asked next bytes known) end after)
       → IfOk result (λ end. now ≤ max between (end + 7)) → IfOk result (λ end. now ≤ max before (end + 7))
   near_put least before between now ends few (Ok q) after put near =
       let found = put_found q after put in
-      let behind = ends found.0 found.1 in
+      let after = ends found.0 found.1 in
       let same = found.2 in
-      omega (arith, behind, same, few, near)
+      omega (arith, after, same, few, near)
   near_put least before between now ends few (Err fault) after put near = tt
 
 stands_asked : (told : Fault → StreamFault) (step : Step Val) (x : Stood) → asked {C = Classes} step ≡ Ok x → stood told step ≡ Ok x

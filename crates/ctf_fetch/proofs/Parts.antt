@@ -65,9 +65,9 @@ module _ (k : Form) (env : Env) (known : Known) (p s : ℕ) where
       let n = min (8 * length bytes) longest in
       walk_beyond bytes [] n n MOST_VALUES (earlier known) (omega arith) (omega arith) k env p s e asks
 
-  -- a value ends behind what its beginning asked for
-  pub ends_behind : (bytes more : List ℕ) (e : ℕ) (x : Val × ℕ × ℕ) → at bytes ≡ Err (past e) → at (bytes ++ more) ≡ Ok x → e ≤ x.1
-  ends_behind bytes more e x asks found =
+  -- a value ends after what its beginning asked for
+  pub ends_after : (bytes more : List ℕ) (e : ℕ) (x : Val × ℕ × ℕ) → at bytes ≡ Err (past e) → at (bytes ++ more) ≡ Ok x → e ≤ x.1
+  ends_after bytes more e x asks found =
       let l = length-append bytes more in
       walk_needs bytes more (min (8 * length bytes) longest) (min (8 * length (bytes ++ more)) longest) MOST_VALUES (earlier known) (omega (arith, l)) (omega arith) k env p s e x asks found
 
@@ -93,8 +93,8 @@ module _ (k : Form) (env : Env) (known : Known) (p s : ℕ) where
 
   pub near_more : (before : ℕ) (bytes later : List ℕ) (e : ℕ) → at bytes ≡ Err (past e) → take (length bytes) later ≡ bytes → length later ≡ (e + 7) / 8 → Near before later
   near_more before bytes later e asks first ends more x found =
-      let behind = ends_behind bytes (drop (length bytes) later ++ more) e x asks (ap at (sym (grown_more bytes later more first)) ∙ found) in
-      omega (arith, behind, ends)
+      let after = ends_after bytes (drop (length bytes) later ++ more) e x asks (ap at (sym (grown_more bytes later more first)) ∙ found) in
+      omega (arith, after, ends)
 
   -- what was asked for did not come
   pub fails_short : (ending : Ending) (bytes later left : List ℕ) (e : ℕ) (fault : StreamFault) → at bytes ≡ Err (past e) → take (length bytes) later ≡ bytes
@@ -187,7 +187,7 @@ NoZero place bytes n = (k : ℕ) → first_bit place / 8 ≤ k → k < n → nat
 module _ (place : Place) (bytes : List ℕ) (n : ℕ) where
   pub text_asks : length bytes ≤ longest_bytes → length bytes ≤ n → first_bit place / 8 ≤ n → n ≤ max (length bytes) (first_bit place / 8) → NoZero place bytes n → text_at place bytes ≡ Err (past (8 * (n + 1)))
   unfolding string_at
-  text_asks few all behind within none =
+  text_asks few all after within none =
       let c = input_at place bytes in
       let b = first_bit place in
       let xs = bytes_from c b in
@@ -195,12 +195,12 @@ module _ (place : Place) (bytes : List ℕ) (n : ℕ) where
       let counted = length-take m (drop (b / 8) bytes) in
       let dropped = length-drop (b / 8) bytes in
       let whole_byte : 8 * (b / 8) ≡ b = omega arith in
-      let len : length xs ≡ n - b / 8 = omega (arith, counted, dropped, whole_byte, few, all, behind, within) in
+      let len : length xs ≡ n - b / 8 = omega (arith, counted, dropped, whole_byte, few, all, after, within) in
       let each = λ (k : ℕ) (h : k < length xs).
       let there_is : k < m = omega (arith, h, counted) in
       let same : get_or xs k 0 ≡ get_or bytes (b / 8 + k) 0 = get_or-take m (drop (b / 8) bytes) k 0 there_is ∙ get_or-drop (b / 8) bytes k 0 in
       ap (λ y. nat_eq y 0) same ∙ none (b / 8 + k) (omega arith) (omega (arith, h, len)) in
-      let ends : b + 8 * (length xs + 1) ≡ 8 * (n + 1) = omega (arith, len, whole_byte, behind) in
+      let ends : b + 8 * (length xs + 1) ≡ 8 * (n + 1) = omega (arith, len, whole_byte, after) in
       ap (string_end b place.spent xs) (none_zero xs each) ∙ ap (λ e. Err (past e)) ends
 
 -- a string that was begun is what the function on lists looks for
@@ -220,11 +220,11 @@ not_zero n byte is some = ne_eqb n 0 (λ h. some (is ∙ h))
 -- one byte more that is not zero
 pub none_more : (place : Place) (bytes later : List ℕ) (n : ℕ) → NoZero place bytes n → take (length bytes) later ≡ bytes → n ≤ max (length bytes) (first_bit place / 8)
     → nat_eq (get_or later n 0) 0 ≡ false → NoZero place later (n + 1)
-none_more place bytes later n none first within last k behind below = elim (test k n) [
+none_more place bytes later n none first within last k after below = elim (test k n) [
   | inl t ↦
-      let there_is : k < length bytes = omega (arith, t.1, within, behind) in
+      let there_is : k < length bytes = omega (arith, t.1, within, after) in
       let same : get_or later k 0 ≡ get_or bytes k 0 = sym (get_or-take (length bytes) later k 0 there_is) ∙ ap (λ l. get_or l k 0) first in
-      ap (λ y. nat_eq y 0) same ∙ none k behind t.1
+      ap (λ y. nat_eq y 0) same ∙ none k after t.1
   | inr t ↦ (let is : n ≡ k = omega (arith, t.1, below) in subst (λ j. nat_eq (get_or later j 0) 0 ≡ false) is last)
 ]
 
@@ -254,6 +254,6 @@ pub string_near : (class : Class) (place : Place) (before : ℕ) (came all : Lis
 string_near class place before came all (Ok d) is few near first found close =
     let rest = drop (length came) all in
     let found_there = ap (text_at place) (sym (grown_all came all first)) ∙ sym (found_text class place all is few) ∙ found in
-    let behind = near rest (val d.value, d.end, d.spent) found_there in
-    omega (arith, behind, close)
+    let after = near rest (val d.value, d.end, d.spent) found_there in
+    omega (arith, after, close)
 string_near class place before came all (Err f) is few near first found close = tt

@@ -5,7 +5,7 @@ use Rattle.ctf_clock.specs.declared.moment.Moment.{Moment}
 use Rattle.ctf_clock.specs.declared.moment.Shift.{Shift}
 use Rattle.ctf_decode.specs.Known.{Known}
 use Rattle.ctf_packet.specs.Classes.{Classes, TraceForm, stream_form}
-use Rattle.ctf_packet.specs.Packets.{Opened, reached_behind}
+use Rattle.ctf_packet.specs.Packets.{Opened, reached_after}
 use Rattle.ctf_packet.specs.Items.{Run, stops, from_packet, from_bytes}
 use Rattle.ctf_packet.specs.Views.{values_of, packet_values, opened_of}
 use Rattle.ctf_packet.specs.declared.packet.OpenPacket.{OpenPacket}
@@ -21,8 +21,8 @@ abbrev pub most_taken : ℕ
 most_taken = 2 ^ 60 + 2 ^ 28 + 1
 
 -- what follows a packet at whose end the clock came so far
-abbrev pub behind_packet : TraceForm Classes → Ending → Opened Classes → List ℕ → Option Moment → Run Classes
-behind_packet trace ending packet left clock = from_bytes trace ending (Some (reached_behind packet clock)) packet.end left
+abbrev pub after_packet : TraceForm Classes → Ending → Opened Classes → List ℕ → Option Moment → Run Classes
+after_packet trace ending packet left clock = from_bytes trace ending (Some (reached_after packet clock)) packet.end left
 
 -- memory ran out, or this holds of a fault
 abbrev pub OrNoMemory : (StreamFault → Type 0) → StreamFault → Type 0
@@ -32,7 +32,7 @@ OrNoMemory P fault = (fault ≡ faults.NoMemory) ⊎ P fault
 abbrev pub Fetches : Shift → Known → TraceForm Classes → Ending → ℕ → Run Classes → List ℕ → List ℕ → Result (Option OpenPacket) StreamFault → Type 0
 Fetches shift known trace ending at run bytes left (Ok (Some packet)) =
     let opened = opened_of shift (packet_values (values_of known)) packet in
-    run ≡ from_packet opened bytes (behind_packet trace ending opened left)
+    run ≡ from_packet opened bytes (after_packet trace ending opened left)
 Fetches shift known trace ending at run bytes left (Ok None) = (run ≡ stops None at) × (left ≡ [])
 Fetches shift known trace ending at run bytes left (Err fault) = OrNoMemory (λ f. run ≡ stops (Some f) at) fault
 

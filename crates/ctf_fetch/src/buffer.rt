@@ -134,7 +134,7 @@ impl Buffer {
     {
         grow(&mut self.bytes, self.filled, target)?;
         let end = (self.bytes.len() - PADDING).min(target);
-        match take_behind(source, &mut self.bytes, self.filled, end) {
+        match take_after(source, &mut self.bytes, self.filled, end) {
             Err(_) => Ok(Some(Ending::Failed)),
             Ok(0) => Ok(Some(Ending::Clean)),
             Ok(count) => {
@@ -146,7 +146,7 @@ impl Buffer {
 }
 
 /// Takes bytes of a source after the first ones, up to `end` at most. How many.
-fn take_behind<S: Source>(
+fn take_after<S: Source>(
     source: &mut S,
     bytes: &mut [u8],
     filled: usize,

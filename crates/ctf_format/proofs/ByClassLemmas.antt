@@ -85,20 +85,20 @@ writes_as r before k l shown told packet place line items forms_are texts_are wr
 pub writes_in_as : (r : Option Next) (seen : Seen) (k l : Form) (shown told : Shown) (place : ℕ) (line items : List ℕ) → k ≡ l → shown ≡ told → WritesIn r seen k shown place line items → WritesIn r seen l told place line items
 writes_in_as r seen k l shown told place line items forms_are texts_are writes = subst (λ t. WritesIn r seen l t place line items) texts_are (subst (λ f. WritesIn r seen f shown place line items) forms_are writes)
 
--- and it stands behind what is printed before it
-pub writes_behind : (r : Option Next) (seen : Seen) (k : Form) (shown told : Shown) (place : ℕ) (from line items lead : List ℕ) → line ≡ from ++ lead → ((v : Val) → told v ≡ lead ++ shown v) → WritesIn r seen k shown place line items → WritesIn r seen k told place from items
-writes_behind None seen k shown told place from line items lead wrote is writes = tt
-writes_behind (Some n) seen k shown told place from line items lead wrote is writes = λ spent room earlier env sees.
+-- and it stands after what is printed before it
+pub writes_after : (r : Option Next) (seen : Seen) (k : Form) (shown told : Shown) (place : ℕ) (from line items lead : List ℕ) → line ≡ from ++ lead → ((v : Val) → told v ≡ lead ++ shown v) → WritesIn r seen k shown place line items → WritesIn r seen k told place from items
+writes_after None seen k shown told place from line items lead wrote is writes = tt
+writes_after (Some n) seen k shown told place from line items lead wrote is writes = λ spent room earlier env sees.
     let p = writes spent room earlier env sees in
     (p.0, p.1, p.2 ∙ ap (λ xs. xs ++ shown p.0) wrote ∙ append_assoc from lead (shown p.0) ∙ ap (λ xs. from ++ xs) (sym (is p.0)), p.3)
 
--- a member behind its mark and its name
-pub member_behind : (m : Member) (lead : ℕ) (name : List ℕ) (v : Val) → name ≡ field_text m.name → lead ∷ 32 ∷ part_text (member_part m) v ≡ (lead ∷ 32 ∷ name) ++ value_text m.class v
-member_behind m lead name v named = ap (λ (x : Part). lead ∷ 32 ∷ part_text x v) (member-is m) ∙ ap (λ xs. lead ∷ 32 ∷ (xs ++ value_text m.class v)) (sym named)
+-- a member after its mark and its name
+pub member_after : (m : Member) (lead : ℕ) (name : List ℕ) (v : Val) → name ≡ field_text m.name → lead ∷ 32 ∷ part_text (member_part m) v ≡ (lead ∷ 32 ∷ name) ++ value_text m.class v
+member_after m lead name v named = ap (λ (x : Part). lead ∷ 32 ∷ part_text x v) (member-is m) ∙ ap (λ xs. lead ∷ 32 ∷ (xs ++ value_text m.class v)) (sym named)
 
--- an element behind its mark and its index
-pub element_behind : (shown : Shown) (lead i : ℕ) (v : Val) → lead ∷ 32 ∷ element_text shown i v ≡ (lead ∷ 32 ∷ 91 ∷ (decimal i ++ codes "] = ")) ++ shown v
-element_behind shown lead i v = ap (λ xs. lead ∷ 32 ∷ 91 ∷ xs) (sym (append_assoc (decimal i) (codes "] = ") (shown v)))
+-- an element after its mark and its index
+pub element_after : (shown : Shown) (lead i : ℕ) (v : Val) → lead ∷ 32 ∷ element_text shown i v ≡ (lead ∷ 32 ∷ 91 ∷ (decimal i ++ codes "] = ")) ++ shown v
+element_after shown lead i v = ap (λ xs. lead ∷ 32 ∷ 91 ∷ xs) (sym (append_assoc (decimal i) (codes "] = ") (shown v)))
 
 -- what is known of a value can be left out
 pub forget : (before : Before) (k : Form) (shown : Shown) (packet : List ℕ) (content place : ℕ) (line : List ℕ) (n : Next) (after : List ℕ) → PutsNext before k shown packet content place line n after → PutsNext before k shown packet content place line (record { place = n.place; text = 0; more = n.more; last = lasts.Unknown }) after
@@ -181,7 +181,7 @@ writes_option seen a tag choices ms i m place more text next line inner items wi
     let walked = begins c spent (with_option (option_at tag choices earlier env) rest) (omega (arith, room)) ∙ ap (λ o. with_option o rest) (chooses earlier env sees) ∙ choice_ok c env ms i m within is place (spent + 1) p.0 next.place (spent + 1 + 1 + next.more) p.1 ∙ ap (λ n. Ok (choice i p.0, next.place, n)) total in
     (choice i p.0, walked, closes ∙ closed_option ms i m p.0 inner line within is p.2, tt)
 
--- As many elements as an index tells were written, with so many values in them, and the others stand behind them: so the loop
+-- As many elements as an index tells were written, with so many values in them, and the others stand after them: so the loop
 -- over elements goes.
 abbrev pub Going : Seen → Form → Shown → ℕ → ℕ → ℕ → ℕ → ℕ → List ℕ → List ℕ → Type 0
 Going seen k shown count place i at more line now =
@@ -229,7 +229,7 @@ module _ (seen : Seen) (k : Form) (shown : Shown) (count place : ℕ) (line : Li
   closed_row [] some = absurd (omega (arith, some))
   closed_row (v ∷ ws) some = refl
 
-  -- the mark behind the elements
+  -- the mark after the elements
   pub closed : (end : MembersEnd) (text : ℕ) (now after : List ℕ) → 0 < count → after ≡ now ++ (32 ∷ 93 ∷ []) → PutsItems (row 91) seen k shown count place line end now → PutsItems (enclosed 91 93) seen k shown count place line (record { place = end.place; text = text; more = end.more }) after
   closed end text now after some added puts spent room earlier env sees =
       let p = puts spent room earlier env sees in

@@ -153,7 +153,7 @@ last_four n high fits =
     let last = decimal_step n (omega arith) fits ∙ ((λ i. decimal (n / 10) ++ (d i ∷ [])) ∙ ap (λ xs. xs ++ ((48 + m % 10) ∷ [])) third) in
     rw (last, bytes) (simp append_assoc)
 
--- the same, written behind those before them
+-- the same, written after those before them
 pub four_written : (before mid line : List ℕ) (n : ℕ) → 10000 ≤ n → n < 2 ^ 64 → mid ≡ before ++ decimal (n / 10000) → line ≡ mid ++ to_le_bytes w32 (four (n % 10000)) → line ≡ before ++ decimal n
 four_written before mid line n high fits front last =
     chains.two before (decimal (n / 10000)) (to_le_bytes w32 (four (n % 10000))) mid line front last ∙ ap (λ xs. before ++ xs) (sym (last_four n high fits))

@@ -21,12 +21,12 @@ module _ (base n : ℕ) (acc : List ℕ) where
   onto_step : (k : ℕ) → (n / base ≡ 0 → ⊥) → digits_onto (suc k) base true n acc ≡ digits_onto k base true (n / base) (digit_glyph true (n % base) ∷ acc)
   onto_step k h = spelled k false (ne_eqb _ 0 h)
 
--- a choice of two lists, each with the same behind it
+-- a choice of two lists, each with the same after it
 cond_append : (b : Bool) (xs ys more : List ℕ) → cond b (xs ++ more) (ys ++ more) ≡ cond b xs ys ++ more
 cond_append true xs ys more = refl
 cond_append false xs ys more = refl
 
--- what stands behind the digits stays there
+-- what stands after the digits stays there
 pub onto_append : (k base n : ℕ) (acc more : List ℕ) → digits_onto k base true n (acc ++ more) ≡ digits_onto k base true n acc ++ more
 onto_append zero base n acc more = refl
 onto_append (suc k) base n acc more =

@@ -67,7 +67,7 @@ context_some [] line before other wrote = absurd (other (ap length (wrote ∙ ap
 context_some (text ∷ texts) line before other wrote =
     ap (λ xs. xs ++ (32 ∷ 125 ∷ [])) wrote ∙ append_assoc before (row 123 (text ∷ texts)) (32 ∷ 125 ∷ [])
 
--- texts, each with a comma behind it, and a last one
+-- texts, each with a comma after it, and a last one
 abbrev pub followed : List ℕ → List ℕ
 followed text = text ++ (44 ∷ 32 ∷ [])
 
@@ -82,7 +82,7 @@ joined_last (text ∷ texts) last =
     ∙ sym (append_assoc text (44 ∷ 32 ∷ []) (flat_map followed texts ++ last))
     ∙ sym (append_assoc (followed text) (flat_map followed texts) last)
 
--- a heading and scopes, of which each but the last has a comma behind it
+-- a heading and scopes, of which each but the last has a comma after it
 pub record_chain : (old heading last first second third fourth : List ℕ) (packet shared own : List (List ℕ)) → first ≡ old ++ heading → second ≡ first ++ flat_map followed packet → third ≡ second ++ flat_map followed shared → fourth ≡ third ++ flat_map followed own
     → fourth ++ last ≡ old ++ (heading ++ joined (packet ++ (shared ++ (own ++ last ∷ []))))
 record_chain old heading last first second third fourth packet shared own wrote_first wrote_second wrote_third wrote_fourth =

@@ -7,11 +7,11 @@ use Rattle.std.proofs.lemmas.List.{take_more, get_or_default}
 use Rattle.ctf_class.specs.declared.span.Label.{Label}
 use Rattle.ctf_class.specs.Labels.{no_label, label_at, shows_at, NoneShown, IsNextShown}
 use Rattle.ctf_class.specs.Names.{label_text}
-use Rattle.ctf_format.specs.Labels.{shows, names_behind, names_of, names_text}
+use Rattle.ctf_format.specs.Labels.{shows, names_after, names_of, names_text}
 use Rattle.ctf_format.specs.Rows.{row}
 
 abbrev from : List Label → ℕ → ℤ → List (List ℕ)
-from labels i z = names_behind (take i labels) (drop i labels) z
+from labels i z = names_after (take i labels) (drop i labels) z
 
 pub here : {A : Type 0} (xs : List A) (i : ℕ) (x : A) → i < length xs → x ≡ get_or xs i x → drop i xs ≡ x ∷ drop (i + 1) xs
 here xs i x h e =
@@ -24,8 +24,8 @@ drop-all [] (suc i) h = refl
 drop-all (x ∷ xs) zero h = absurd (omega arith)
 drop-all (x ∷ xs) (suc i) h = drop-all xs i (omega arith)
 
-next : (labels : List Label) (i : ℕ) (label : Label) (z : ℤ) → i < length labels → label ≡ get_or labels i label → from labels i z ≡ names_behind (take i labels) (label ∷ drop (i + 1) labels) z
-next labels i label z within is = ap (λ ls. names_behind (take i labels) ls z) (here labels i label within is)
+next : (labels : List Label) (i : ℕ) (label : Label) (z : ℤ) → i < length labels → label ≡ get_or labels i label → from labels i z ≡ names_after (take i labels) (label ∷ drop (i + 1) labels) z
+next labels i label z within is = ap (λ ls. names_after (take i labels) ls z) (here labels i label within is)
 
 joined_by : (labels : List Label) (i : ℕ) (label : Label) → i < length labels → label ≡ get_or labels i label → take i labels ++ label ∷ [] ≡ take (i + 1) labels
 joined_by labels i label within is = ap (λ l. take i labels ++ l ∷ []) is ∙ sym (take_more labels i label within)
@@ -33,14 +33,14 @@ joined_by labels i label within is = ap (λ l. take i labels ++ l ∷ []) is ∙
 pub shown : (labels : List Label) (i : ℕ) (label : Label) (z : ℤ) → i < length labels → label ≡ get_or labels i label → shows (take i labels) label z ≡ true → from labels i z ≡ label.name ∷ from labels (i + 1) z
 shown labels i label z within is shows_it =
     next labels i label z within is
-    ∙ ap (λ b. cond b (label.name ∷ names_behind (take i labels ++ label ∷ []) (drop (i + 1) labels) z) (names_behind (take i labels ++ label ∷ []) (drop (i + 1) labels) z)) shows_it
-    ∙ ap (λ ls. label.name ∷ names_behind ls (drop (i + 1) labels) z) (joined_by labels i label within is)
+    ∙ ap (λ b. cond b (label.name ∷ names_after (take i labels ++ label ∷ []) (drop (i + 1) labels) z) (names_after (take i labels ++ label ∷ []) (drop (i + 1) labels) z)) shows_it
+    ∙ ap (λ ls. label.name ∷ names_after ls (drop (i + 1) labels) z) (joined_by labels i label within is)
 
 pub passed : (labels : List Label) (i : ℕ) (label : Label) (z : ℤ) → i < length labels → label ≡ get_or labels i label → shows (take i labels) label z ≡ false → from labels i z ≡ from labels (i + 1) z
 passed labels i label z within is hides_it =
     next labels i label z within is
-    ∙ ap (λ b. cond b (label.name ∷ names_behind (take i labels ++ label ∷ []) (drop (i + 1) labels) z) (names_behind (take i labels ++ label ∷ []) (drop (i + 1) labels) z)) hides_it
-    ∙ ap (λ ls. names_behind ls (drop (i + 1) labels) z) (joined_by labels i label within is)
+    ∙ ap (λ b. cond b (label.name ∷ names_after (take i labels ++ label ∷ []) (drop (i + 1) labels) z) (names_after (take i labels ++ label ∷ []) (drop (i + 1) labels) z)) hides_it
+    ∙ ap (λ ls. names_after ls (drop (i + 1) labels) z) (joined_by labels i label within is)
 
 -- one text more of a row is written
 pub row_next : (written before text : List ℕ) (texts all : List (List ℕ)) (lead mark : ℕ) → written ++ row lead (text ∷ texts) ≡ before ++ row mark all → (written ++ (lead ∷ 32 ∷ text)) ++ row 44 texts ≡ before ++ row mark all
@@ -73,7 +73,7 @@ names_next labels z begin place next =
     ∙ shown labels place (label_at labels place) z within (label-read labels place within) next.shows
 
 at-end : (labels : List Label) (z : ℤ) (end : ℕ) → length labels ≤ end → from labels end z ≡ []
-at-end labels z end past = ap (λ rest. names_behind (take end labels) rest z) (drop-all labels end past)
+at-end labels z end past = ap (λ rest. names_after (take end labels) rest z) (drop-all labels end past)
 
 pub names_none : (labels : List Label) (z : ℤ) (begin : ℕ) → NoneShown labels z begin → from labels begin z ≡ []
 names_none labels z begin none =

@@ -4,9 +4,9 @@ use Rattle.std.specs.Prelude.{if◌then◌else◌}
 use Rattle.std.specs.Fmt.{signed_decimal}
 use Rattle.std.specs.Int.{next_multiple_of}
 use Rattle.ctf_bits.specs.Number.{number, signed_number}
-use Rattle.ctf_bits.specs.Placed.{number_behind}
+use Rattle.ctf_bits.specs.Placed.{number_after}
 use Rattle.ctf_bits.specs.declared.number.Order.TheVariants.{Le}
-use Rattle.ctf_class.proofs.AlignmentLemmas.{next_behind}
+use Rattle.ctf_class.proofs.AlignmentLemmas.{next_after}
 use Rattle.ctf_class.specs.Integers.{bits_of}
 use Rattle.ctf_class.specs.Records.{numbers_room}
 use Rattle.ctf_class.specs.declared.integer.Base.TheVariants.{Decimal}
@@ -20,12 +20,12 @@ use Rattle.ctf_format.proofs.StandingLemmas.{puts_signed, puts_unsigned}
 
 -- an integer in decimal, little endian, at a distance from a byte's first bit is shown by its window
 module _ (i : Integer) (a : ℕ) (packet : List ℕ) (content first place from end : ℕ) (before after : List ℕ) (decimal : i.base ≡ Decimal) (little : i.order ≡ Le) (starts : 8 * first ≡ place) (divides : place % a ≡ 0) (ends : end ≡ place + (next_multiple_of from a + bits_of i)) (within : end ≤ content)
-    (wrote : after ≡ before ++ signed_decimal (number_behind (record { place = next_multiple_of from a; size = bits_of i; is_signed = i.is_signed }) packet first)) where
+    (wrote : after ≡ before ++ signed_decimal (number_after (record { place = next_multiple_of from a; size = bits_of i; is_signed = i.is_signed }) packet first)) where
   begins : next_multiple_of (place + from) a ≡ 8 * first + next_multiple_of from a
-  begins = next_behind place from a divides ∙ ap (λ p. p + next_multiple_of from a) (sym starts)
+  begins = next_after place from a divides ∙ ap (λ p. p + next_multiple_of from a) (sym starts)
 
   ends_there : end ≡ next_multiple_of (place + from) a + bits_of i
-  ends_there = let same = next_behind place from a divides in omega (arith, ends, same)
+  ends_there = let same = next_after place from a divides in omega (arith, ends, same)
 
   signed_there : signed_number Le packet (8 * first + next_multiple_of from a) (bits_of i) ≡ signed_number i.order packet (next_multiple_of (place + from) a) (bits_of i)
   signed_there = ap (λ o. signed_number o packet (8 * first + next_multiple_of from a) (bits_of i)) (sym little) ∙ ap (λ p. signed_number i.order packet p (bits_of i)) (sym begins)

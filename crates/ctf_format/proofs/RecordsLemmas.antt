@@ -6,12 +6,12 @@ use Rattle.ctf_bits.specs.Number.{number, signed_number}
 use Rattle.ctf_bits.specs.declared.number.Order.TheVariants.{Le}
 use Rattle.std.specs.List.{All, flat_map}
 use Rattle.std.proofs.lemmas.List.Elements.{All-cons, All-nil}
-use Rattle.ctf_bits.specs.Placed.{Placed, number_behind}
+use Rattle.ctf_bits.specs.Placed.{Placed, number_after}
 use Rattle.std.specs.Fmt.{signed_decimal}
-use Rattle.ctf_class.proofs.AlignmentLemmas.{divides_too, next_behind}
+use Rattle.ctf_class.proofs.AlignmentLemmas.{divides_too, next_after}
 use Rattle.ctf_class.specs.Integers.{bits_of}
 use Rattle.ctf_class.specs.Names.{field_text}
-use Rattle.ctf_class.specs.Records.{Slot, Scoped, laters, slots_of, slots, between, all_slots, values_in, AreScoped, IsNumber, AreInRun, IsField, Behind, LeadsBefore, numbers_room, room_of, AreRuns}
+use Rattle.ctf_class.specs.Records.{Slot, Scoped, laters, slots_of, slots, between, all_slots, values_in, AreScoped, IsNumber, AreInRun, IsField, After, LeadsBefore, numbers_room, room_of, AreRuns}
 use Rattle.ctf_class.specs.declared.class.Class.{Class}
 use Rattle.ctf_class.specs.declared.class.Kind as kind
 use Rattle.ctf_class.specs.declared.class.Member.{Member}
@@ -24,17 +24,17 @@ use Rattle.ctf_decode.specs.Forms.{Form, integer}
 use Rattle.ctf_decode.specs.Views.{form}
 use Rattle.ctf_decode.specs.declared.scopes.TheConstants.{MOST_VALUES}
 use Rattle.ctf_format.specs.Plain.{plain_text}
-use Rattle.ctf_format.specs.Records.{Reached, IsLastNumber, PutsField, PutsFields, PutsScopes, TakesRun, IsNear, behind}
+use Rattle.ctf_format.specs.Records.{Reached, IsLastNumber, PutsField, PutsFields, PutsScopes, TakesRun, IsNear, after_members}
 use Rattle.ctf_format.specs.Standing.{Before, Counts, LastIs, Puts, PutsOne, PutsNext, StandsAsNumber, known}
 use Rattle.ctf_format.specs.Texts.{Shown, Part, integer_text, value_text, part_text, member_part}
 use Rattle.ctf_format.specs.declared.standing.Last.{Last}
 use Rattle.ctf_format.specs.declared.standing.MembersEnd.{MembersEnd}
 use Rattle.ctf_format.specs.declared.standing.Next.{Next}
-use Rattle.ctf_format.proofs.StandingLemmas.{Going, PutsBehind, anywhere, last_is, going_begins, going_on, puts_next, known_next, going_ends, closed, puts_structure, as_one, form_integer, text_integer, member-is, stands_number}
+use Rattle.ctf_format.proofs.StandingLemmas.{Going, PutsAfter, anywhere, last_is, going_begins, going_on, puts_next, known_next, going_ends, closed, puts_structure, as_one, form_integer, text_integer, member-is, stands_number}
 use Rattle.ctf_format.proofs.PlainLemmas.{plain_integer}
 use Rattle.ctf_format.proofs.ArrayLemmas.{next_named, counts_last}
 
--- a value behind its name is the field
+-- a value after its name is the field
 pub puts_named : (m : Member) (lead : List ℕ) (packet : List ℕ) (content place end : ℕ) (before line after name : List ℕ) → line ≡ before ++ (lead ++ name) → name ≡ field_text m.name → PutsOne (form m.class) (value_text m.class) packet content place end line after
     → PutsOne (form m.class) (λ v. lead ++ part_text (member_part m) v) packet content place end before after
 puts_named m lead packet content place end before line after name wrote named puts spent few earlier env =
@@ -43,7 +43,7 @@ puts_named m lead packet content place end before line after name wrote named pu
     let part : part_text (member_part m) p.0 ≡ field_text m.name ++ text = ap (λ (x : Part). part_text x p.0) (member-is m) in
     (p.0, p.1, p.2 ∙ ap (λ xs. xs ++ text) wrote ∙ append_assoc before (lead ++ name) text ∙ ap (λ xs. before ++ xs) (append_assoc lead name text) ∙ ap (λ xs. before ++ (lead ++ (xs ++ text))) named ∙ ap (λ xs. before ++ (lead ++ xs)) (sym part))
 
--- fields behind fields
+-- fields after fields
 pub fields_join : (packet : List ℕ) (content : ℕ) (xs ys : List Slot) (from mid to : Reached) → PutsFields xs packet content from mid → PutsFields ys packet content mid to → PutsFields (xs ++ ys) packet content from to
 fields_join packet content [] ys from mid to first second = subst (λ r. PutsFields ys packet content r to) first second
 fields_join packet content (x ∷ xs) ys from mid to first second = (first.0, first.1, fields_join packet content xs ys first.0 mid to first.2 second)
@@ -62,27 +62,27 @@ run_reach from span ss rest [] are = omega (arith, are.0)
 run_reach from span [] rest (n ∷ ns) are = absurd are
 run_reach from span (s ∷ ss) rest (n ∷ ns) are =
     let further = run_reach (n.window.place + n.window.size) span ss rest ns are.1 in
-    let behind : from ≤ n.window.place = omega (arith, ap (λ (w : Placed). w.place) are.0.window) in
-    omega (arith, further, behind)
+    let after : from ≤ n.window.place = omega (arith, ap (λ (w : Placed). w.place) are.0.window) in
+    omega (arith, further, after)
 
-run_behind : (from span : ℕ) (ss rest : List Slot) (ns : List PlainNumber) → AreInRun from ss ns span rest → All (λ (n : PlainNumber). n.window.place ≤ span) ns
-run_behind from span ss rest [] are = All-nil (λ (n : PlainNumber). n.window.place ≤ span)
-run_behind from span [] rest (n ∷ ns) are = absurd are
-run_behind from span (s ∷ ss) rest (n ∷ ns) are =
+run_after : (from span : ℕ) (ss rest : List Slot) (ns : List PlainNumber) → AreInRun from ss ns span rest → All (λ (n : PlainNumber). n.window.place ≤ span) ns
+run_after from span ss rest [] are = All-nil (λ (n : PlainNumber). n.window.place ≤ span)
+run_after from span [] rest (n ∷ ns) are = absurd are
+run_after from span (s ∷ ss) rest (n ∷ ns) are =
     let next = n.window.place + n.window.size in
     let inside : n.window.place ≤ span = omega (arith, run_reach next span ss rest ns are.1) in
-    All-cons (λ (k : PlainNumber). k.window.place ≤ span) n ns inside (run_behind next span ss rest ns are.1)
+    All-cons (λ (k : PlainNumber). k.window.place ≤ span) n ns inside (run_after next span ss rest ns are.1)
 
--- what is left behind the field of a run
-pub left_behind : (ss : List Slot) (f : Option Field) (Holds : List Slot → Type 0) → Behind ss f Holds → (others : List Slot) × Behind ss f (λ xs. xs ≡ others) × Holds others
-left_behind ss None Holds behind = (ss, refl, behind)
-left_behind [] (Some f) Holds behind = absurd behind
-left_behind (s ∷ ss) (Some f) Holds behind = (ss, (behind.0, refl), behind.1)
+-- what is left after the field of a run
+pub left_after : (ss : List Slot) (f : Option Field) (Holds : List Slot → Type 0) → After ss f Holds → (others : List Slot) × After ss f (λ xs. xs ≡ others) × Holds others
+left_after ss None Holds after = (ss, refl, after)
+left_after [] (Some f) Holds after = absurd after
+left_after (s ∷ ss) (Some f) Holds after = (ss, (after.0, refl), after.1)
 
 -- the first of some runs
 pub takes_first : (ss : List Slot) (r : Run) (rs : List Run) → AreRuns ss (r ∷ rs) → (others : List Slot) × TakesRun ss r others × AreRuns others rs
 takes_first ss r rs are =
-    let left = left_behind are.0 r.field (λ xs. AreRuns xs rs) are.4 in
+    let left = left_after are.0 r.field (λ xs. AreRuns xs rs) are.4 in
     (left.0, (are.0, are.1, left.1), left.2)
 
 -- runs of a plan are near
@@ -90,17 +90,17 @@ pub runs_near : (ss : List Slot) (rs : List Run) → AreRuns ss rs → All IsNea
 runs_near ss [] are = All-nil IsNear
 runs_near ss (r ∷ rs) are =
     let first = takes_first ss r rs are in
-    All-cons IsNear r rs (record { room = are.2; bounded = are.3; behind = run_behind 0 r.span ss are.0 r.numbers are.1 }) (runs_near first.0 rs first.2)
+    All-cons IsNear r rs (record { room = are.2; bounded = are.3; within_span = run_after 0 r.span ss are.0 r.numbers are.1 }) (runs_near first.0 rs first.2)
 
--- the room of numbers alone, and of the text behind them
+-- the room of numbers alone, and of the text after them
 pub room_alone : (ns : List PlainNumber) (f : Option Field) → numbers_room ns ≤ room_of ns f
 room_alone [] None = omega arith
 room_alone [] (Some f) = omega arith
 room_alone (n ∷ ns) f = let more = room_alone ns f in omega (arith, more)
 
-pub room_behind : (ns : List PlainNumber) (f : Field) → room_of ns (Some f) + 24 ≡ numbers_room ns + (length f.ready + 90)
-room_behind [] f = omega arith
-room_behind (n ∷ ns) f = let more = room_behind ns f in omega (arith, more)
+pub room_after : (ns : List PlainNumber) (f : Field) → room_of ns (Some f) + 24 ≡ numbers_room ns + (length f.ready + 90)
+room_after [] f = omega arith
+room_after (n ∷ ns) f = let more = room_after ns f in omega (arith, more)
 
 -- the number that is not below zero
 nat_of : ℤ → ℕ
@@ -116,13 +116,13 @@ number_alone s n from first place content packet line is starts within =
     let a = m.class.align in
     let begun = next_multiple_of from s.align in
     let end = place + (n.window.place + n.window.size) in
-    let digits = signed_decimal (number_behind n.window packet first) in
+    let digits = signed_decimal (number_after n.window packet first) in
     let named = line ++ n.ready in
     let after = line ++ plain_text packet first n in
     let whole : place % 8 ≡ 0 = omega (arith, starts) in
-    let begins : next_multiple_of (place + from) s.align ≡ place + begun = next_behind place from s.align (divides_too place 8 s.align whole is.begins) in
+    let begins : next_multiple_of (place + from) s.align ≡ place + begun = next_after place from s.align (divides_too place 8 s.align whole is.begins) in
     let ends : end ≡ place + (next_multiple_of begun a + bits_of i) = ap (λ (w : Placed). place + (w.place + w.size)) is.window in
-    let wrote : after ≡ named ++ signed_decimal (number_behind (record { place = next_multiple_of begun a; size = bits_of i; is_signed = i.is_signed }) packet first) = sym (append_assoc line n.ready digits) ∙ ap (λ (w : Placed). named ++ signed_decimal (number_behind w packet first)) is.window in
+    let wrote : after ≡ named ++ signed_decimal (number_after (record { place = next_multiple_of begun a; size = bits_of i; is_signed = i.is_signed }) packet first) = sym (append_assoc line n.ready digits) ∙ ap (λ (w : Placed). named ++ signed_decimal (number_after w packet first)) is.window in
     let puts : PutsOne (integer a i) (integer_text i) packet content (place + begun) end named after = plain_integer i a packet content first place begun end named after is.decimal is.little starts (divides_too place 8 a whole is.divides) ends within wrote in
     let there : PutsOne (form m.class) (λ v. s.lead ++ part_text (member_part m) v) packet content (place + begun) end line after =
     puts_named m s.lead packet content (place + begun) end line named after (field_text m.name) (ap (λ t. line ++ t) is.ready) refl
@@ -132,7 +132,7 @@ number_alone s n from first place content packet line is starts within =
     (omega (arith, begins, near, within), subst (λ p. PutsOne (form m.class) (λ v. s.lead ++ part_text (member_part m) v) packet content p end line after) (sym begins) there)
 
 -- and an unsigned one stands there as its number
-number_stands : (s : Slot) (n : PlainNumber) (from first place content v : ℕ) (packet : List ℕ) → IsNumber from s n → 8 * first ≡ place → place + (n.window.place + n.window.size) ≤ content → n.integer.is_signed ≡ false → number_behind n.window packet first ≡ pos v
+number_stands : (s : Slot) (n : PlainNumber) (from first place content v : ℕ) (packet : List ℕ) → IsNumber from s n → 8 * first ≡ place → place + (n.window.place + n.window.size) ≤ content → n.integer.is_signed ≡ false → number_after n.window packet first ≡ pos v
     → StandsAsNumber (form s.member.class) packet content (next_multiple_of (place + from) s.align) v
 unfolding number nat_of
 number_stands s n from first place content v packet is starts within plain read =
@@ -141,11 +141,11 @@ number_stands s n from first place content v packet is starts within plain read 
     let begun = next_multiple_of from s.align in
     let at = next_multiple_of (place + from) s.align in
     let whole : place % 8 ≡ 0 = omega (arith, starts) in
-    let begins : at ≡ place + begun = next_behind place from s.align (divides_too place 8 s.align whole is.begins) in
-    let stands : next_multiple_of at a ≡ 8 * first + n.window.place = ap (λ p. next_multiple_of p a) begins ∙ next_behind place begun a (divides_too place 8 a whole is.divides) ∙ (λ j. sym starts j + sym (ap (λ (w : Placed). w.place) is.window) j) in
+    let begins : at ≡ place + begun = next_after place from s.align (divides_too place 8 s.align whole is.begins) in
+    let stands : next_multiple_of at a ≡ 8 * first + n.window.place = ap (λ p. next_multiple_of p a) begins ∙ next_after place begun a (divides_too place 8 a whole is.divides) ∙ (λ j. sym starts j + sym (ap (λ (w : Placed). w.place) is.window) j) in
     let wide : n.window.size ≡ bits_of i = ap (λ (w : Placed). w.size) is.window in
     let signs : n.window.is_signed ≡ false = ap (λ (w : Placed). w.is_signed) is.window ∙ plain in
-    let told : number_behind n.window packet first ≡ pos (number Le packet (8 * first + n.window.place) n.window.size) = ap (λ b. if b then signed_number Le packet (8 * first + n.window.place) n.window.size else pos (number Le packet (8 * first + n.window.place) n.window.size)) signs in
+    let told : number_after n.window packet first ≡ pos (number Le packet (8 * first + n.window.place) n.window.size) = ap (λ b. if b then signed_number Le packet (8 * first + n.window.place) n.window.size else pos (number Le packet (8 * first + n.window.place) n.window.size)) signs in
     let same : v ≡ number i.order packet (next_multiple_of at a) (bits_of i) = ap nat_of (sym read ∙ told) ∙ (λ j. number (sym is.little j) packet (sym stands j) (wide j)) in
     subst (λ f. StandsAsNumber f packet content at v) (form_integer s.member.class i is.is) (stands_number a i packet content at v plain (omega (arith, stands, wide, starts, within)) same)
 
@@ -155,19 +155,19 @@ alone_field : (s : Slot) (packet : List ℕ) (content : ℕ) (from to : Reached)
 alone_field s packet content from to within puts same stands =
     let shown : Shown = λ v. s.lead ++ part_text (member_part s.member) v in
     let begun = next_multiple_of from.place s.align in
-    (within, 0, (let none : to.more ≡ from.more + 0 = omega (arith, same) in none), puts_next (behind s.index from.last) (form s.member.class) shown packet content begun to.place 0 from.line to.line puts, stands)
+    (within, 0, (let none : to.more ≡ from.more + 0 = omega (arith, same) in none), puts_next (after_members s.index from.last) (form s.member.class) shown packet content begun to.place 0 from.line to.line puts, stands)
 
 -- how far the numbers of a run came
 abbrev pub numbers_to : ℕ → ℕ → Option ℕ → List ℕ → Reached
 numbers_to place more last line = record { place = place; more = more; last = last; line = line }
 
-number_field : (s : Slot) (n : PlainNumber) (from first place content more : ℕ) (known last : Option ℕ) (packet line : List ℕ) → IsNumber from s n → 8 * first ≡ place → place + (n.window.place + n.window.size) ≤ content → IfSome last (λ v. (n.integer.is_signed ≡ false) × (number_behind n.window packet first ≡ pos v))
+number_field : (s : Slot) (n : PlainNumber) (from first place content more : ℕ) (known last : Option ℕ) (packet line : List ℕ) → IsNumber from s n → 8 * first ≡ place → place + (n.window.place + n.window.size) ≤ content → IfSome last (λ v. (n.integer.is_signed ≡ false) × (number_after n.window packet first ≡ pos v))
     → PutsField s packet content (numbers_to (place + from) more known line) (numbers_to (place + (n.window.place + n.window.size)) more last (line ++ plain_text packet first n))
 number_field s n from first place content more known last packet line is starts within number_is =
     let alone = number_alone s n from first place content packet line is starts within in
     alone_field s packet content (numbers_to (place + from) more known line) (numbers_to (place + (n.window.place + n.window.size)) more last (line ++ plain_text packet first n)) alone.0 alone.1 refl (stands last number_is)
   where
-    stands : (o : Option ℕ) → IfSome o (λ v. (n.integer.is_signed ≡ false) × (number_behind n.window packet first ≡ pos v)) → IfSome o (StandsAsNumber (form s.member.class) packet content (next_multiple_of (place + from) s.align))
+    stands : (o : Option ℕ) → IfSome o (λ v. (n.integer.is_signed ≡ false) × (number_after n.window packet first ≡ pos v)) → IfSome o (StandsAsNumber (form s.member.class) packet content (next_multiple_of (place + from) s.align))
     stands None told = tt
     stands (Some v) told = number_stands s n from first place content v packet is starts within told.0 told.1
 
@@ -186,21 +186,21 @@ numbers_fields (s ∷ ss) rest (n ∷ (m ∷ ns)) from span first place content 
     let next = n.window.place + n.window.size in
     let longer = line ++ plain_text packet first n in
     let inside : place + next ≤ content = omega (arith, within, run_reach next span ss rest (m ∷ ns) are.1) in
-    let behind = numbers_fields ss rest (m ∷ ns) next span first place content more last packet longer are.1 known starts within in
+    let after = numbers_fields ss rest (m ∷ ns) next span first place content more last packet longer are.1 known starts within in
     let all = flat_map (plain_text packet first) (m ∷ ns) in (
-      s ∷ behind.0,
-      ap (λ xs. s ∷ xs) behind.1,
+      s ∷ after.0,
+      ap (λ xs. s ∷ xs) after.1,
       (
         numbers_to (place + next) more None longer,
         number_field s n from first place content more None None packet line are.0 starts inside tt,
-        subst (λ xs. PutsFields behind.0 packet content (numbers_to (place + next) more None longer) (numbers_to (place + span) more last xs)) (append_assoc line (plain_text packet first n) all) behind.2,
+        subst (λ xs. PutsFields after.0 packet content (numbers_to (place + next) more None longer) (numbers_to (place + span) more last xs)) (append_assoc line (plain_text packet first n) all) after.2,
       ),
     )
 
 at_one : (p : ℕ) → next_multiple_of p 1 ≡ p
 at_one p = omega arith
 
--- what is left behind one more
+-- what is left after one more
 drop_one : {A : Type 0} (xs : List A) (i : ℕ) (x : A) (rest : List A) → drop i xs ≡ x ∷ rest → (i < length xs) × (x ≡ get_or xs i x) × (drop (i + 1) xs ≡ rest)
 drop_one [] zero x rest left = absurd (omega (arith, ap length left))
 drop_one [] (suc i) x rest left = absurd (omega (arith, ap length left))
@@ -210,12 +210,12 @@ drop_one (y ∷ xs) (suc i) x rest left =
     let more : suc i + 1 ≡ suc (i + 1) = omega arith in
     (omega (arith, d.0), d.1, ap (λ k. drop k (y ∷ xs)) more ∙ d.2)
 
--- a value behind so many members, of which the last is known
-behind_members : (i : ℕ) (last : Last) (k : Form) (shown : Shown) (packet : List ℕ) (content place : ℕ) (line : List ℕ) (to : Next) (after : List ℕ) → PutsNext (record { index = i; last = last }) k shown packet content place line to after
-    → PutsBehind anywhere (LastIs last) i k shown packet content place line to after
-behind_members i last k shown packet content place line to after puts spent room earlier env vs there counted is = puts spent room earlier env vs counted is
+-- a value after so many members, of which the last is known
+puts_after_members : (i : ℕ) (last : Last) (k : Form) (shown : Shown) (packet : List ℕ) (content place : ℕ) (line : List ℕ) (to : Next) (after : List ℕ) → PutsNext (record { index = i; last = last }) k shown packet content place line to after
+    → PutsAfter anywhere (LastIs last) i k shown packet content place line to after
+puts_after_members i last k shown packet content place line to after puts spent room earlier env vs there counted is = puts spent room earlier env vs counted is
 
--- members behind the first
+-- members after the first
 later_going : (all rest : List Member) (packet : List ℕ) (content begin i base some : ℕ) (before : List ℕ) (from to : Reached) → drop (suc i) all ≡ rest → from.more ≡ base + some → Going anywhere all packet content begin (suc i) from.place some (LastIs (known from.last)) before from.line → PutsFields (laters (suc i) rest) packet content from to
     → (more : ℕ) × (to.more ≡ base + more) × Going anywhere all packet content begin (suc i + length rest) to.place more (LastIs (known to.last)) before to.line
 later_going all [] packet content begin i base some before from to left counted going puts =
@@ -231,14 +231,14 @@ later_going all (m ∷ rest) packet content begin i base some before from to lef
     let end : Next = record { place = mid.place; text = 0; more = more; last = known mid.last } in
     let told : PutsNext so_far (form m.class) shown packet content (next_multiple_of from.place 1) from.line end mid.line = known_next mid.last so_far (form m.class) shown packet content (next_multiple_of from.place 1) mid.place 0 more from.line mid.line field.3 field.4 in
     let next : PutsNext so_far (form m.class) shown packet content from.place from.line end mid.line = subst (λ p. PutsNext so_far (form m.class) shown packet content p from.line end mid.line) (at_one from.place) told in
-    let on = going_on anywhere all packet content begin before (suc i) from.place some (LastIs (known from.last)) (LastIs (known mid.last)) m 44 from.line end mid.line d.0 d.1 refl going (λ vs v counted are_known is. last_is (known mid.last) vs v is) (behind_members (suc i) (known from.last) (form m.class) shown packet content from.place from.line end mid.line next) in
+    let on = going_on anywhere all packet content begin before (suc i) from.place some (LastIs (known from.last)) (LastIs (known mid.last)) m 44 from.line end mid.line d.0 d.1 refl going (λ vs v counted are_known is. last_is (known mid.last) vs v is) (puts_after_members (suc i) (known from.last) (form m.class) shown packet content from.place from.line end mid.line next) in
     let one : suc i + 1 ≡ suc (suc i) = omega arith in
     let sum : mid.more ≡ base + (some + more) = (let f = field.2 in omega (arith, f, counted)) in
     let others = later_going all rest packet content begin (suc i) base (some + more) before mid to (sym (ap (λ k. drop k all) one) ∙ d.2) sum (subst (λ k. Going anywhere all packet content begin k mid.place (some + more) (LastIs (known mid.last)) before mid.line) one on) puts.2 in
     let count : suc (suc i) + length rest ≡ suc i + suc (length rest) = omega arith in
     (others.0, others.1, subst (λ k. Going anywhere all packet content begin k to.place others.0 (LastIs (known to.last)) before to.line) count others.2)
 
--- the fields of a structure, and the brace behind them, are its value, with so many others in its arrays
+-- the fields of a structure, and the brace after them, are its value, with so many others in its arrays
 pub scope_puts : (k : Class) (s : Scoped) (opens packet : List ℕ) (content spent : ℕ) (from to : Reached) → k.kind ≡ kind.Structure s.members → k.align ≡ s.align → 0 < length s.members → PutsFields (slots opens s) packet content from to
     → (more : ℕ) × (to.more ≡ from.more + more) × (spent + 1 + length s.members + more ≤ MOST_VALUES → Puts (form k) (value_text k) packet content from.place spent to.place (spent + 1 + length s.members + more) (from.line ++ opens) (to.line ++ (32 ∷ 125 ∷ [])))
 scope_puts k s opens packet content spent from to is aligned some puts = by_members s.members is some puts
@@ -262,7 +262,7 @@ scope_puts k s opens packet content spent from to is aligned some puts = by_memb
         (p.0, p.1, p.2 ∙ ap (λ xs. from.line ++ xs) (append_assoc opens (123 ∷ 32 ∷ []) part) ∙ sym (append_assoc from.line opens (123 ∷ 32 ∷ part)), p.3)
         in
         let no_more : 0 + field.1 ≡ field.1 = omega arith in
-        let one : Going anywhere all packet content begin 1 mid.place field.1 (LastIs (known mid.last)) opened mid.line = subst (λ n. Going anywhere all packet content begin 1 mid.place n (LastIs (known mid.last)) opened mid.line) no_more (going_on anywhere all packet content begin opened 0 begin 0 (LastIs (known None)) (LastIs (known mid.last)) m 123 opened end mid.line (omega arith) refl refl (going_begins anywhere all packet content begin opened (LastIs (known None)) tt) (λ vs v counted are_known is. last_is (known mid.last) vs v is) (behind_members 0 (known None) (form m.class) (λ v. 123 ∷ 32 ∷ part_text (member_part m) v) packet content begin opened end mid.line first)) in
+        let one : Going anywhere all packet content begin 1 mid.place field.1 (LastIs (known mid.last)) opened mid.line = subst (λ n. Going anywhere all packet content begin 1 mid.place n (LastIs (known mid.last)) opened mid.line) no_more (going_on anywhere all packet content begin opened 0 begin 0 (LastIs (known None)) (LastIs (known mid.last)) m 123 opened end mid.line (omega arith) refl refl (going_begins anywhere all packet content begin opened (LastIs (known None)) tt) (λ vs v counted are_known is. last_is (known mid.last) vs v is) (puts_after_members 0 (known None) (form m.class) (λ v. 123 ∷ 32 ∷ part_text (member_part m) v) packet content begin opened end mid.line first)) in
         let going = later_going all ms packet content begin 0 from.more field.1 opened mid to refl field.2 one puts.2 in
         let counted : 1 + length ms ≡ length all = omega arith in
         let ends : MembersEnd = record { place = to.place; text = 0; more = going.0 } in
@@ -270,7 +270,7 @@ scope_puts k s opens packet content spent from to is aligned some puts = by_memb
         let whole = closed anywhere (LastIs (known to.last)) all packet content begin 0 ends opened to.line (to.line ++ (32 ∷ 125 ∷ [])) (omega arith) refl rows in
         (going.0, going.1, λ few earlier env. (let p = puts_structure anywhere (LastIs (known to.last)) (λ v. ⊤) (λ vs are. tt) k all packet content from.place begin spent ends (spent + 1 + length all + going.0) opened (to.line ++ (32 ∷ 125 ∷ [])) is (ap (next_multiple_of from.place) (sym aligned)) field.0 refl few whole earlier env tt in (p.0, p.1, p.2)))
 
--- the fields of structures, and the brace behind them, are their values
+-- the fields of structures, and the brace after them, are their values
 pub scopes_puts : (ks : List Class) (ss : List Scoped) (opens packet : List ℕ) (content spent : ℕ) (from to : Reached) → 0 < length ks → AreScoped ks ss → PutsFields (all_slots opens ss) packet content from to
     → (more : ℕ) × (to.more ≡ from.more + more) × (spent + values_in ss + more ≤ MOST_VALUES → PutsScopes ks packet content from.place spent to.place (spent + values_in ss + more) (from.line ++ opens) (to.line ++ (32 ∷ 125 ∷ [])))
 scopes_puts [] ss opens packet content spent from to some are puts = absurd (omega (arith, some))
@@ -319,33 +319,33 @@ no_number [] packet first = refl
 no_number (n ∷ []) packet first = tt
 no_number (n ∷ (m ∷ ns)) packet first = no_number (m ∷ ns) packet first
 
--- what is written behind no number that is known
-pub behind_no_number : (ns : List PlainNumber) (packet : List ℕ) (first : ℕ) (P : Option ℕ → ℕ → Type 0) (r : Option ℕ) → IfSome r (P None) → IfSome r (λ text. (last : Option ℕ) × IsLastNumber last ns packet first × P last text)
-behind_no_number ns packet first P (Some text) puts = (None, no_number ns packet first, puts)
-behind_no_number ns packet first P None puts = tt
+-- what is written after no number that is known
+pub after_no_number : (ns : List PlainNumber) (packet : List ℕ) (first : ℕ) (P : Option ℕ → ℕ → Type 0) (r : Option ℕ) → IfSome r (P None) → IfSome r (λ text. (last : Option ℕ) × IsLastNumber last ns packet first × P last text)
+after_no_number ns packet first P (Some text) puts = (None, no_number ns packet first, puts)
+after_no_number ns packet first P None puts = tt
 
 -- the last of some numbers
-pub last_number : (ns : List PlainNumber) (n : PlainNumber) (r : Option ℕ) (packet : List ℕ) (first : ℕ) → 0 < length ns → n ≡ get_or ns (length ns - 1) n → n.integer.is_signed ≡ false → IfSome r (λ v. number_behind n.window packet first ≡ pos v) → IsLastNumber r ns packet first
+pub last_number : (ns : List PlainNumber) (n : PlainNumber) (r : Option ℕ) (packet : List ℕ) (first : ℕ) → 0 < length ns → n ≡ get_or ns (length ns - 1) n → n.integer.is_signed ≡ false → IfSome r (λ v. number_after n.window packet first ≡ pos v) → IsLastNumber r ns packet first
 last_number [] n r packet first some is plain read = absurd (omega (arith, some))
 last_number (m ∷ []) n r packet first some is plain read = told r read
   where
-    told : (o : Option ℕ) → IfSome o (λ v. number_behind n.window packet first ≡ pos v) → IfSome o (λ v. (m.integer.is_signed ≡ false) × (number_behind m.window packet first ≡ pos v))
+    told : (o : Option ℕ) → IfSome o (λ v. number_after n.window packet first ≡ pos v) → IfSome o (λ v. (m.integer.is_signed ≡ false) × (number_after m.window packet first ≡ pos v))
     told None read = tt
-    told (Some v) read = (subst (λ (x : PlainNumber). x.integer.is_signed ≡ false) is plain, subst (λ (x : PlainNumber). number_behind x.window packet first ≡ pos v) is read)
+    told (Some v) read = (subst (λ (x : PlainNumber). x.integer.is_signed ≡ false) is plain, subst (λ (x : PlainNumber). number_after x.window packet first ≡ pos v) is read)
 last_number (m ∷ (k ∷ ns)) n r packet first some is plain read =
     let count : suc (suc (length ns)) - 1 ≡ suc (length ns - 0) = omega arith in
     let fewer : length ns - 0 ≡ suc (length ns) - 1 = omega arith in
     last_number (k ∷ ns) n r packet first (omega arith) (is ∙ ap (λ i. get_or (m ∷ (k ∷ ns)) i n) count ∙ ap (λ i. get_or (k ∷ ns) i n) fewer) plain read
 
--- nothing behind them
-pub behind_none : (rest others : List Slot) (o : Option Field) → o ≡ None → Behind rest o (λ xs. xs ≡ others) → rest ≡ others
-behind_none rest others o is behind = subst (λ f. Behind rest f (λ xs. xs ≡ others)) is behind
+-- nothing after them
+pub after_none : (rest others : List Slot) (o : Option Field) → o ≡ None → After rest o (λ xs. xs ≡ others) → rest ≡ others
+after_none rest others o is after = subst (λ f. After rest f (λ xs. xs ≡ others)) is after
 
--- a field behind them
-pub behind_some : (rest others : List Slot) (o : Option Field) (f : Field) → o ≡ Some f → Behind rest o (λ xs. xs ≡ others) → (s : Slot) × (rest ≡ s ∷ others) × IsField s f
-behind_some rest others o f is behind = one rest (subst (λ g. Behind rest g (λ xs. xs ≡ others)) is behind)
+-- a field after them
+pub after_some : (rest others : List Slot) (o : Option Field) (f : Field) → o ≡ Some f → After rest o (λ xs. xs ≡ others) → (s : Slot) × (rest ≡ s ∷ others) × IsField s f
+after_some rest others o f is after = one rest (subst (λ g. After rest g (λ xs. xs ≡ others)) is after)
   where
-    one : (xs : List Slot) → Behind xs (Some f) (λ ys. ys ≡ others) → (s : Slot) × (xs ≡ s ∷ others) × IsField s f
+    one : (xs : List Slot) → After xs (Some f) (λ ys. ys ≡ others) → (s : Slot) × (xs ≡ s ∷ others) × IsField s f
     one [] holds = absurd holds
     one (s ∷ xs) holds = (s, ap (λ ys. s ∷ ys) holds.1, holds.0)
 
@@ -360,21 +360,21 @@ run_field slots others s ns packet content first from mid (Some t) to numbers fi
     (used ++ s ∷ [], before.1 ∙ sym (append_assoc used (s ∷ []) others), fields_join packet content used (s ∷ []) from (mid field.0) (to t) before.2 (to t, field.2, refl))
 
 -- a length that is the number before
-pub counts_behind : (route : Route) (index n : ℕ) → LeadsBefore route index → Counts (lengths.Field route) (behind index (Some n)) n
-counts_behind route zero n leads = absurd (omega (arith, leads.1.2))
-counts_behind route (suc i) n leads = counts_last route (record { index = suc i; last = known (Some n) }) n leads refl
+pub counts_after : (route : Route) (index n : ℕ) → LeadsBefore route index → Counts (lengths.Field route) (after_members index (Some n)) n
+counts_after route zero n leads = absurd (omega (arith, leads.1.2))
+counts_after route (suc i) n leads = counts_last route (record { index = suc i; last = known (Some n) }) n leads refl
 
--- a value behind what is printed before it is its field
+-- a value after what is printed before it is its field
 pub field_next : (s : Slot) (f : Field) (packet : List ℕ) (content begin place more some end : ℕ) (last : Option ℕ) (before line after : List ℕ) → IsField s f → begin ≡ next_multiple_of place f.align → begin ≤ content → line ≡ before ++ f.ready
-    → PutsNext (behind s.index last) (form s.member.class) (value_text s.member.class) packet content begin line (record { place = end; text = 0; more = some; last = known None }) after
+    → PutsNext (after_members s.index last) (form s.member.class) (value_text s.member.class) packet content begin line (record { place = end; text = 0; more = some; last = known None }) after
     → PutsField s packet content (numbers_to place more last before) (numbers_to end (more + some) None after)
 field_next s f packet content begin place more some end last before line after is begins within wrote puts =
     let m = s.member in
     let to : Next = record { place = end; text = 0; more = some; last = known None } in
     let shown : Shown = λ v. s.lead ++ part_text (member_part m) v in
     let at : begin ≡ next_multiple_of place s.align = begins ∙ ap (next_multiple_of place) is.align in
-    let there = next_named (behind s.index last) m s.lead packet content begin before line to after (field_text m.name) (wrote ∙ ap (λ t. before ++ t) is.ready) refl puts in
-    (omega (arith, at, within), some, refl, subst (λ p. PutsNext (behind s.index last) (form m.class) shown packet content p before to after) at there, tt)
+    let there = next_named (after_members s.index last) m s.lead packet content begin before line to after (field_text m.name) (wrote ∙ ap (λ t. before ++ t) is.ready) refl puts in
+    (omega (arith, at, within), some, refl, subst (λ p. PutsNext (after_members s.index last) (form m.class) shown packet content p before to after) at there, tt)
 
 pub field_alone : (s : Slot) (f : Field) (packet : List ℕ) (content begin place more end : ℕ) (last : Option ℕ) (before line after : List ℕ) → IsField s f → begin ≡ next_multiple_of place f.align → begin ≤ content → line ≡ before ++ f.ready
     → PutsOne (form s.member.class) (value_text s.member.class) packet content begin end line after
@@ -382,7 +382,7 @@ pub field_alone : (s : Slot) (f : Field) (packet : List ℕ) (content begin plac
 field_alone s f packet content begin place more end last before line after is begins within wrote puts =
     let none : more + 0 ≡ more = omega arith in
     subst (λ n. PutsField s packet content (numbers_to place more last before) (numbers_to end n None after)) none
-    (field_next s f packet content begin place more 0 end last before line after is begins within wrote (puts_next (behind s.index last) (form s.member.class) (value_text s.member.class) packet content begin end 0 line after puts))
+    (field_next s f packet content begin place more 0 end last before line after is begins within wrote (puts_next (after_members s.index last) (form s.member.class) (value_text s.member.class) packet content begin end 0 line after puts))
 
 up_again : (p a : ℕ) → a ≡ 8 → next_multiple_of (next_multiple_of p 8) a ≡ next_multiple_of p a
 up_again p a is = subst (λ b. next_multiple_of (next_multiple_of p 8) b ≡ next_multiple_of p b) (sym is) (let same : next_multiple_of (next_multiple_of p 8) 8 ≡ next_multiple_of p 8 = omega arith in same)

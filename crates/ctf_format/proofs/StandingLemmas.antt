@@ -102,7 +102,7 @@ row_snoc [] text = ap (λ xs. 44 ∷ 32 ∷ xs) (append-nil text)
 row_snoc (t ∷ texts) text =
     ap (λ xs. 44 ∷ 32 ∷ (t ++ xs)) (row_snoc texts text) ∙ ap (λ xs. 44 ∷ 32 ∷ xs) (sym (append_assoc t (row 44 texts) (44 ∷ 32 ∷ text)))
 
--- one text more behind the first ones
+-- one text more after the first ones
 pub row_more : (first : ℕ) (texts : List (List ℕ)) (text : List ℕ) → row first (texts ++ text ∷ []) ≡ row first texts ++ (mark_at first (length texts) ∷ 32 ∷ text)
 row_more first [] text = ap (λ xs. first ∷ 32 ∷ xs) (append-nil text)
 row_more first (t ∷ texts) text =
@@ -119,7 +119,7 @@ texts_length [] vs same = refl
 texts_length (p ∷ parts) [] same = absurd (omega (arith, same))
 texts_length (p ∷ parts) (w ∷ vs) same = ap suc (texts_length parts vs (omega (arith, same)))
 
--- As many members as an index tells were written, with so many values in them, and the others stand behind them: so the
+-- As many members as an index tells were written, with so many values in them, and the others stand after them: so the
 -- loop over members goes.
 abbrev pub Going : ((Scope → Option Val) → Env → Type 0) → List Member → List ℕ → ℕ → ℕ → ℕ → ℕ → ℕ → (List Val → Type 0) → List ℕ → List ℕ → Type 0
 Going Where ms packet content place i at more Are before line =
@@ -132,9 +132,9 @@ Going Where ms packet content place i at more Are before line =
 abbrev pub anywhere : (Scope → Option Val) → Env → Type 0
 anywhere earlier env = ⊤
 
--- a value stands behind so many members, of which this is known
-abbrev pub PutsBehind : ((Scope → Option Val) → Env → Type 0) → (List Val → Type 0) → ℕ → Form → Shown → List ℕ → ℕ → ℕ → List ℕ → Next → List ℕ → Type 0
-PutsBehind Where Are i k shown packet content place line next after =
+-- a value stands after so many members, of which this is known
+abbrev pub PutsAfter : ((Scope → Option Val) → Env → Type 0) → (List Val → Type 0) → ℕ → Form → Shown → List ℕ → ℕ → ℕ → List ℕ → Next → List ℕ → Type 0
+PutsAfter Where Are i k shown packet content place line next after =
     (spent : ℕ) → spent + next.more < MOST_VALUES → (earlier : Scope → Option Val) (env : Env) (vs : List Val) → Where earlier env → length vs ≡ i → Are vs
     → (v : Val) × (walk k (among packet content earlier) (vs ∷ env) place spent ≡ Ok (v, next.place, spent + 1 + next.more)) × (after ≡ line ++ shown v) × ValueIs next.last v
 
@@ -221,7 +221,7 @@ module _ (Where : (Scope → Option Val) → Env → Type 0) (ms : List Member) 
       ∙ ap (λ l. before ++ (row 123 all ++ (l ∷ 32 ∷ text))) (sym lead_is) ∙ ap (λ xs. before ++ xs) (sym (row_more 123 all text)) ∙ ap (λ ts. before ++ row 123 ts) (sym longer)
 
   pub going_on : (i at more : ℕ) (Are Become : List Val → Type 0) (m : Member) (lead : ℕ) (line : List ℕ) (to : Next) (after : List ℕ) → i < length ms → m ≡ get_or ms i m → lead ≡ mark_at 123 i → Going Where ms packet content place i at more Are before line
-      → ((vs : List Val) (v : Val) → length vs ≡ i → Are vs → ValueIs to.last v → Become (vs ++ v ∷ [])) → PutsBehind Where Are i (form m.class) (λ v. lead ∷ 32 ∷ part_text (member_part m) v) packet content at line to after → Going Where ms packet content place (i + 1) to.place (more + to.more) Become before after
+      → ((vs : List Val) (v : Val) → length vs ≡ i → Are vs → ValueIs to.last v → Become (vs ++ v ∷ [])) → PutsAfter Where Are i (form m.class) (λ v. lead ∷ 32 ∷ part_text (member_part m) v) packet content at line to after → Going Where ms packet content place (i + 1) to.place (more + to.more) Become before after
   going_on i at more Are Become m lead line to after within is marked going become puts spent room earlier env is_there =
       let c = among packet content earlier in
       let g = going spent (omega (arith, room)) earlier env is_there in
@@ -299,10 +299,10 @@ as_every None P a puts = tt
 pub member-is : (m : Member) → member_part m ≡ (m.name, value_text m.class)
 member-is m = search (rules, class.the_lemmas)
 
--- a value behind its name is the member
-pub puts_behind : (m : Member) (lead : ℕ) (packet : List ℕ) (content place end : ℕ) (before line after name : List ℕ) → line ≡ before ++ (lead ∷ 32 ∷ name) → name ≡ field_text m.name → PutsOne (form m.class) (value_text m.class) packet content place end line after
+-- a value after its name is the member
+pub puts_after : (m : Member) (lead : ℕ) (packet : List ℕ) (content place end : ℕ) (before line after name : List ℕ) → line ≡ before ++ (lead ∷ 32 ∷ name) → name ≡ field_text m.name → PutsOne (form m.class) (value_text m.class) packet content place end line after
     → PutsOne (form m.class) (λ v. lead ∷ 32 ∷ part_text (member_part m) v) packet content place end before after
-puts_behind m lead packet content place end before line after name wrote named puts spent few earlier env =
+puts_after m lead packet content place end before line after name wrote named puts spent few earlier env =
     let p = puts spent few earlier env in
     let text = value_text m.class p.0 in
     let part : part_text (member_part m) p.0 ≡ field_text m.name ++ text = ap (λ (x : Part). part_text x p.0) (member-is m) in
@@ -313,7 +313,7 @@ closed_row [] vs some same = absurd (omega (arith, some))
 closed_row (p ∷ parts) [] some same = absurd (omega (arith, same))
 closed_row (p ∷ parts) (v ∷ vs) some same = refl
 
--- the mark behind the members
+-- the mark after the members
 pub closed : (Where : (Scope → Option Val) → Env → Type 0) (Are : List Val → Type 0) (ms : List Member) (packet : List ℕ) (content place text : ℕ) (end : MembersEnd) (before line after : List ℕ) → 0 < length ms → after ≡ line ++ (32 ∷ 125 ∷ []) → PutsMembers (row 123) Where Are ms packet content place before end line → PutsMembers (enclosed 123 125) Where Are ms packet content place before (record { place = end.place; text = text; more = end.more }) after
 closed Where Are ms packet content place text end before line after some added puts spent room earlier env is_there =
     let p = puts spent room earlier env is_there in
@@ -339,7 +339,7 @@ puts_structure Where Are Is known k ms packet content place start spent end tota
     in
     (group (vals_of p.0), walked, p.3 ∙ ap (λ xs. before ++ xs) (text_structure k ms p.0 is), known p.0 p.4)
 
--- one value alone, behind the members of a structure
+-- one value alone, after the members of a structure
 pub puts_next : (before : Before) (k : Form) (shown : Shown) (packet : List ℕ) (content place end text : ℕ) (line after : List ℕ) → PutsOne k shown packet content place end line after
     → PutsNext before k shown packet content place line (record { place = end; text = text; more = 0; last = lasts.Unknown }) after
 puts_next before k shown packet content place end text line after puts spent room earlier env vs counted last =

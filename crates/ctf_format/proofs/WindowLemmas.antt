@@ -55,9 +55,9 @@ pub marked_some : (m k : ℕ) → bit_at m k ≡ 1 → 0 < m
 marked_some zero k set = absurd (omega (arith, bit_at-zero k))
 marked_some (suc m) k set = omega arith
 
--- the lowest bit is none behind one that is set
-pub not_behind : (m n k : ℕ) → bit_at m k ≡ 1 → ((j : ℕ) → j < n → bit_at m j ≡ 0) → n ≤ k
-not_behind m n k set below = ⊎_elim (λ before. absurd (omega (arith, below k before))) (λ behind. behind) (cases_lt k n)
+-- the lowest bit is none after one that is set
+pub not_after : (m n k : ℕ) → bit_at m k ≡ 1 → ((j : ℕ) → j < n → bit_at m j ≡ 0) → n ≤ k
+not_after m n k set below = ⊎_elim (λ before. absurd (omega (arith, below k before))) (λ after. after) (cases_lt k n)
 
 -- the bytes before the first mark of four tests
 pub unmarked_plain : (bytes window : List ℕ) (low delete quote slash end n : ℕ) → window ≡ take 16 bytes → length window ≡ 16 → n ≤ 16
@@ -79,7 +79,7 @@ unmarked_plain bytes window low delete quote slash end n front size few lows del
     in
     subst (All IsPlain) (ap (take n) front ∙ take-take n 16 bytes few) (All-from_get_or IsPlain (take n window) 0 each)
 
--- a zero byte behind bytes that are shown as they are is the first one
+-- a zero byte after bytes that are shown as they are is the first one
 pub first_zero_from : (bytes : List ℕ) (n from : ℕ) → All IsPlain (take n bytes) → n < length bytes → get_or bytes n 0 ≡ 0 → position_from (λ x. nat_eq x 0) from bytes ≡ Some (from + n)
 first_zero_from [] n from plain within there = absurd (omega arith)
 first_zero_from (byte ∷ bytes) zero from plain within there =
@@ -95,26 +95,26 @@ first_zero_from (byte ∷ bytes) (suc n) from plain within there =
 pub first_zero : (bytes : List ℕ) (n : ℕ) → All IsPlain (take n bytes) → n < length bytes → get_or bytes n 0 ≡ 0 → position (λ x. nat_eq x 0) bytes ≡ Some n
 first_zero bytes n plain within there = position_from-zero (λ x. nat_eq x 0) bytes ∙ (first_zero_from bytes n 0 plain within there ∙ ap Some {x = 0 + n} (omega arith))
 
--- the bytes behind some
-abbrev pub behind : ℕ → List ℕ → List ℕ
-behind k bytes = take (length bytes - k) (drop k bytes)
+-- the bytes after some
+abbrev pub bytes_after : ℕ → List ℕ → List ℕ
+bytes_after k bytes = take (length bytes - k) (drop k bytes)
 
-behind_is : (k : ℕ) (bytes : List ℕ) → behind k bytes ≡ drop k bytes
-behind_is k bytes = take_all (length bytes - k) (drop k bytes) (omega (arith, length-drop k bytes))
+after_is : (k : ℕ) (bytes : List ℕ) → bytes_after k bytes ≡ drop k bytes
+after_is k bytes = take_all (length bytes - k) (drop k bytes) (omega (arith, length-drop k bytes))
 
-take_behind : (bytes : List ℕ) (k n : ℕ) → take k bytes ++ take n (behind k bytes) ≡ take (k + n) bytes
-take_behind bytes k n = ap (λ xs. take k bytes ++ take n xs) (behind_is k bytes) ∙ sym (take-add k n bytes)
+take_after : (bytes : List ℕ) (k n : ℕ) → take k bytes ++ take n (bytes_after k bytes) ≡ take (k + n) bytes
+take_after bytes k n = ap (λ xs. take k bytes ++ take n xs) (after_is k bytes) ∙ sym (take-add k n bytes)
 
--- bytes that are shown as they are behind others
-pub plain_behind : (bytes : List ℕ) (k n : ℕ) → All IsPlain (take k bytes) → All IsPlain (take n (behind k bytes)) → All IsPlain (take (k + n) bytes)
-plain_behind bytes k n front rest = subst (All IsPlain) (take_behind bytes k n) (All-append IsPlain (take k bytes) (take n (behind k bytes)) front rest)
+-- bytes that are shown as they are after others
+pub plain_after : (bytes : List ℕ) (k n : ℕ) → All IsPlain (take k bytes) → All IsPlain (take n (bytes_after k bytes)) → All IsPlain (take (k + n) bytes)
+plain_after bytes k n front rest = subst (All IsPlain) (take_after bytes k n) (All-append IsPlain (take k bytes) (take n (bytes_after k bytes)) front rest)
 
--- the first zero byte behind bytes that are shown as they are
-pub first_zero_behind : (bytes : List ℕ) (k n : ℕ) → All IsPlain (take k bytes) → All IsPlain (take n (behind k bytes)) → position (λ x. nat_eq x 0) (behind k bytes) ≡ Some n → position (λ x. nat_eq x 0) bytes ≡ Some (k + n)
-first_zero_behind bytes k n front rest first =
-    let found = position-Some (λ x. nat_eq x 0) (drop k bytes) n 0 (ap (position (λ x. nat_eq x 0)) (sym (behind_is k bytes)) ∙ first) in
+-- the first zero byte after bytes that are shown as they are
+pub first_zero_after : (bytes : List ℕ) (k n : ℕ) → All IsPlain (take k bytes) → All IsPlain (take n (bytes_after k bytes)) → position (λ x. nat_eq x 0) (bytes_after k bytes) ≡ Some n → position (λ x. nat_eq x 0) bytes ≡ Some (k + n)
+first_zero_after bytes k n front rest first =
+    let found = position-Some (λ x. nat_eq x 0) (drop k bytes) n 0 (ap (position (λ x. nat_eq x 0)) (sym (after_is k bytes)) ∙ first) in
     let there : get_or bytes (k + n) 0 ≡ 0 = sym (get_or-drop k bytes n 0) ∙ eqb-true (get_or (drop k bytes) n 0) 0 found.1 in
-    first_zero bytes (k + n) (plain_behind bytes k n front rest) (omega (arith, found.0, length-drop k bytes)) there
+    first_zero bytes (k + n) (plain_after bytes k n front rest) (omega (arith, found.0, length-drop k bytes)) there
 
 -- sixteen bytes are written, and a quote over the first one that is not wanted
 pub window_written : (bytes line : List ℕ) (at count : ℕ) → 16 ≤ length bytes → count ≤ 16 → at + 17 ≤ length line
@@ -134,9 +134,9 @@ window_written bytes line at count enough few room =
     sym cut ∙ ap (take (at + count)) stored ∙ ap (λ n. take (n + count) (take at line ++ piece)) (sym head) ∙ seam ∙ ap (λ xs. take at line ++ xs) wanted in
     take_more_set whole (at + count) 34 (omega arith) ∙ ap (λ xs. xs ++ (34 ∷ [])) upto ∙ append_assoc (take at line) (take count bytes) (34 ∷ [])
 
--- a window is written over the quote behind another one
+-- a window is written over the quote after another one
 pub windows_written : (bytes line mid after : List ℕ) (at k count : ℕ) → k ≤ length bytes → k ≤ count → at ≤ length line → take (at + k + 1) mid ≡ take at line ++ (take k bytes ++ (34 ∷ []))
-    → after ≡ take (at + k) mid ++ (take (count - k) (behind k bytes) ++ (34 ∷ [])) → after ≡ take at line ++ (take count bytes ++ (34 ∷ []))
+    → after ≡ take (at + k) mid ++ (take (count - k) (bytes_after k bytes) ++ (34 ∷ [])) → after ≡ take at line ++ (take count bytes ++ (34 ∷ []))
 windows_written bytes line mid after at k count enough many room first last =
     let cut : take (at + k) (take (at + k + 1) mid) ≡ take (at + k) mid = take-take (at + k) (at + k + 1) mid (omega arith) in
     let head : length (take at line) ≡ at = length-take-le at line room in
@@ -145,13 +145,13 @@ windows_written bytes line mid after at k count enough many room first last =
     let front : take k (take k bytes ++ (34 ∷ [])) ≡ take k bytes = take-append-le k (take k bytes) (34 ∷ []) (omega arith) ∙ take-take k k bytes (omega arith) in
     let upto : take (at + k) mid ≡ take at line ++ take k bytes =
     sym cut ∙ ap (take (at + k)) first ∙ ap (λ n. take (n + k) (take at line ++ (take k bytes ++ (34 ∷ [])))) (sym head) ∙ seam ∙ ap (λ xs. take at line ++ xs) front in
-    let rest = take (count - k) (behind k bytes) in
+    let rest = take (count - k) (bytes_after k bytes) in
     let all : k + (count - k) ≡ count = omega arith in
-    let whole : take k bytes ++ rest ≡ take count bytes = take_behind bytes k (count - k) ∙ ap (λ n. take n bytes) all in
+    let whole : take k bytes ++ rest ≡ take count bytes = take_after bytes k (count - k) ∙ ap (λ n. take n bytes) all in
     last ∙ ap (λ xs. xs ++ (rest ++ (34 ∷ []))) upto ∙ append_assoc (take at line) (take k bytes) (rest ++ (34 ∷ []))
     ∙ ap (λ xs. take at line ++ xs) (sym (append_assoc (take k bytes) rest (34 ∷ [])) ∙ ap (λ xs. xs ++ (34 ∷ [])) whole)
 
--- bytes that are shown as they are stand behind a quote, in a buffer whose line was written
+-- bytes that are shown as they are stand after a quote, in a buffer whose line was written
 pub quoted : (bytes items line written : List ℕ) (at end count : ℕ) → line ≡ items → length written ≡ count → end ≤ count → at < length line → All IsPlain bytes
     → take end written ≡ take (at + 1) (set line at 34) ++ (bytes ++ (34 ∷ [])) → take end (take count (written ++ drop (length written) items)) ≡ take at items ++ label_text bytes
 quoted bytes items line written at end count same long near within plain wrote =
@@ -209,15 +209,15 @@ none_before (byte ∷ bytes) (suc k) from within none =
     ap (λ b. cond b (Some from) (position_from (λ x. nat_eq x 0) (from + 1) bytes)) here
     ∙ (none_before bytes k (from + 1) (omega arith) (All-tail NotZero byte (take k bytes) none) ∙ ap (λ n. position_from (λ x. nat_eq x 0) n (drop k bytes)) next)
 
--- the first zero byte is behind bytes that are none
-pub zero_behind : (bytes : List ℕ) (k : ℕ) (r : Option ℕ) → k ≤ length bytes → All NotZero (take k bytes) → r ≡ position (λ x. nat_eq x 0) (behind k bytes) → further k r ≡ position (λ x. nat_eq x 0) bytes
-zero_behind bytes k r within none found =
+-- the first zero byte is after bytes that are none
+pub zero_after : (bytes : List ℕ) (k : ℕ) (r : Option ℕ) → k ≤ length bytes → All NotZero (take k bytes) → r ≡ position (λ x. nat_eq x 0) (bytes_after k bytes) → further k r ≡ position (λ x. nat_eq x 0) bytes
+zero_after bytes k r within none found =
     let test : ℕ → Bool = λ x. nat_eq x 0 in
-    let rest : r ≡ position_from test 0 (drop k bytes) = found ∙ ap (position test) (behind_is k bytes) ∙ position_from-zero test (drop k bytes) in
+    let rest : r ≡ position_from test 0 (drop k bytes) = found ∙ ap (position test) (after_is k bytes) ∙ position_from-zero test (drop k bytes) in
     let begin : k + 0 ≡ k = omega arith in
     ap (further k) rest ∙ sym (place_further test k 0 (drop k bytes)) ∙ sym (none_before bytes k 0 within none) ∙ sym (position_from-zero test bytes)
 
--- some bytes are written behind a quote, and one behind them
+-- some bytes are written after a quote, and one after them
 pub long_written : (bytes line mid : List ℕ) (at end : ℕ) → end ≡ at + length bytes → end < length mid → take end mid ≡ take at line ++ bytes → take (end + 1) (set mid end 34) ≡ take at line ++ (bytes ++ (34 ∷ []))
 long_written bytes line mid at end is within wrote =
     take_more_set mid end 34 within ∙ ap (λ xs. xs ++ (34 ∷ [])) wrote ∙ append_assoc (take at line) bytes (34 ∷ [])

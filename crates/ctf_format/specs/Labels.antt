@@ -19,14 +19,14 @@ abbrev pub shows : List Label → Label → ℤ → Bool
 shows before label z = covers label.span z && not (is_named before z label.name)
 
 -- the names of the labels that show a number, after labels that are before them
-abbrev pub names_behind : List Label → List Label → ℤ → List (List ℕ)
-names_behind before [] z = []
-names_behind before (label ∷ labels) z =
-    if shows before label z then label.name ∷ names_behind (before ++ label ∷ []) labels z else names_behind (before ++ label ∷ []) labels z
+abbrev pub names_after : List Label → List Label → ℤ → List (List ℕ)
+names_after before [] z = []
+names_after before (label ∷ labels) z =
+    if shows before label z then label.name ∷ names_after (before ++ label ∷ []) labels z else names_after (before ++ label ∷ []) labels z
 
 -- the names of the labels that cover a number, in their order, each once (CTF 1.8.3, section 4.1.8)
 abbrev pub names_of : List Label → ℤ → List (List ℕ)
-names_of labels z = names_behind [] labels z
+names_of labels z = names_after [] labels z
 
 -- one name, several, or none (own)
 abbrev pub names_text : List (List ℕ) → List ℕ

@@ -2,8 +2,8 @@
 use Rattle.std.specs.Prelude.{◌≡◌, ℕ, zero, suc, pos, ◌+◌, ◌^◌, ◌≤◌, false, List, [], ◌∷◌, ◌++◌, Option, None, IfSome, codes}
 use Rattle.std.specs.Int.{next_multiple_of}
 use Rattle.std.specs.List.{All}
-use Rattle.ctf_bits.specs.Placed.{number_behind}
-use Rattle.ctf_class.specs.Records.{Slot, AreInRun, Behind, room_of}
+use Rattle.ctf_bits.specs.Placed.{number_after}
+use Rattle.ctf_class.specs.Records.{Slot, AreInRun, After, room_of}
 use Rattle.ctf_class.specs.declared.class.Class.{Class}
 use Rattle.ctf_class.specs.declared.record_plan.Run.{Run}
 use Rattle.ctf_class.specs.declared.plain_number.PlainNumber.{PlainNumber}
@@ -26,13 +26,13 @@ abbrev pub reached : Reach → List ℕ → Reached
 reached r line = record { place = r.place; more = r.more; last = None; line = line }
 
 -- as far as this, with this line, after a number, if it is known
-abbrev pub behind_number : Reach → Option ℕ → List ℕ → Reached
-behind_number r last line = record { place = r.place; more = r.more; last = last; line = line }
+abbrev pub after_number : Reach → Option ℕ → List ℕ → Reached
+after_number r last line = record { place = r.place; more = r.more; last = last; line = line }
 
 -- a member after so many others, of which the last is a number, if it is known; the first of a structure has none before it
-abbrev pub behind : ℕ → Option ℕ → Before
-behind zero last = record { index = zero; last = known None }
-behind (suc i) last = record { index = suc i; last = known last }
+abbrev pub after_members : ℕ → Option ℕ → Before
+after_members zero last = record { index = zero; last = known None }
+after_members (suc i) last = record { index = suc i; last = known last }
 
 -- A field's value comes after other fields, whatever was decoded before them, and what is printed of it follows what was
 -- written. If its number is known then, it is that.
@@ -40,7 +40,7 @@ abbrev pub PutsField : Slot → List ℕ → ℕ → Reached → Reached → Typ
 PutsField s packet content from to =
     let begun = next_multiple_of from.place s.align in
     (begun ≤ content) × (some : ℕ) × (to.more ≡ from.more + some)
-    × PutsNext (behind s.index from.last) (form s.member.class) (λ v. s.lead ++ part_text (member_part s.member) v) packet content begun from.line (record { place = to.place; text = 0; more = some; last = known None }) to.line
+    × PutsNext (after_members s.index from.last) (form s.member.class) (λ v. s.lead ++ part_text (member_part s.member) v) packet content begun from.line (record { place = to.place; text = 0; more = some; last = known None }) to.line
     × IfSome to.last (StandsAsNumber (form s.member.class) packet content begun)
 
 -- so do fields one after the other
@@ -51,23 +51,23 @@ PutsFields (s ∷ ss) packet content from to = (mid : Reached) × PutsField s pa
 -- a value is at the place that was reached, after a number, if it is known, and so many others of its structure
 abbrev pub PutsOther : ℕ → Option ℕ → Form → Shown → List ℕ → ℕ → Reach → List ℕ → Reach → List ℕ → Type 0
 PutsOther index last k shown packet content from before to after =
-    (some : ℕ) × (to.more ≡ from.more + some) × PutsNext (behind index last) k shown packet content from.place before (record { place = to.place; text = 0; more = some; last = known None }) after
+    (some : ℕ) × (to.more ≡ from.more + some) × PutsNext (after_members index last) k shown packet content from.place before (record { place = to.place; text = 0; more = some; last = known None }) after
 
 -- a number, if it is given, is the last one of a run that begins after so many bytes, and unsigned
 abbrev pub IsLastNumber : Option ℕ → List PlainNumber → List ℕ → ℕ → Type 0
 IsLastNumber last [] packet first = last ≡ None
-IsLastNumber last (n ∷ []) packet first = IfSome last (λ v. (n.integer.is_signed ≡ false) × (number_behind n.window packet first ≡ pos v))
+IsLastNumber last (n ∷ []) packet first = IfSome last (λ v. (n.integer.is_signed ≡ false) × (number_after n.window packet first ≡ pos v))
 IsLastNumber last (n ∷ (m ∷ ns)) packet first = IsLastNumber last (m ∷ ns) packet first
 
 -- a run takes the first of these fields, and these are left
 abbrev pub TakesRun : List Slot → Run → List Slot → Type 0
-TakesRun ss r others = (rest : List Slot) × AreInRun 0 ss r.numbers r.span rest × Behind rest r.field (λ xs. xs ≡ others)
+TakesRun ss r others = (rest : List Slot) × AreInRun 0 ss r.numbers r.span rest × After rest r.field (λ xs. xs ≡ others)
 
 -- what is known of each run: its room, and that its numbers are near
 pub record IsNear (r : Run) : Type 0 where
   pub room : r.room ≡ room_of r.numbers r.field
   pub bounded : r.span ≤ 2 ^ 33
-  pub behind : All (λ n. n.window.place ≤ r.span) r.numbers
+  pub within_span : All (λ n. n.window.place ≤ r.span) r.numbers
 
 -- The values of classes follow each other from a place to another, whatever was decoded before, and their texts,
 -- with a comma between two, follow a text. So many values were begun before them, and after them.

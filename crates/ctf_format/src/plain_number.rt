@@ -3,7 +3,7 @@
 ghost use Rattle.std.specs.Prelude.{◌≡◌, ◌+◌, ◌/◌, ◌++◌, ◌≤◌, length, take, true};
 ghost use Rattle.std.specs.Fmt.{signed_decimal};
 ghost use Rattle.std.specs.List.{All, flat_map};
-ghost use Rattle.ctf_bits.specs.Placed.{number_behind};
+ghost use Rattle.ctf_bits.specs.Placed.{number_after};
 ghost use Rattle.ctf_class.specs.Records.{numbers_room};
 ghost use Rattle.ctf_format.specs.Plain.{plain_text};
 
@@ -57,7 +57,7 @@ fn put_below_zero(window: &Window, bytes: &[u8], first: usize, line: &mut [u8], 
     requires room { at + 21 ≤ length line.old }
     requires held { first + window.now.place / 8 + 8 ≤ length bytes.now }
     ensures text { take result line.new ≡
-        take at line.old ++ signed_decimal (number_behind window.now bytes.now first) }
+        take at line.old ++ signed_decimal (number_after window.now bytes.now first) }
     ensures near { result ≤ at + 21 }
 {
     put_signed_short(window.signed(bytes, first), line, at)

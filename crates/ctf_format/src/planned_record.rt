@@ -8,7 +8,7 @@ ghost use Rattle.ctf_class.specs.declared.class.Member.{Member};
 ghost use Rattle.ctf_class.specs.declared.record_plan.Many.TheVariants.{One};
 ghost use Rattle.ctf_decode.specs.Views.{form};
 ghost use Rattle.ctf_format.specs.Plain.{plain_text};
-ghost use Rattle.ctf_format.specs.Records.{IsNear, IsLastNumber, PutsField, PutsFields, PutsOther, PutsScopes, TakesRun, behind_number, reached};
+ghost use Rattle.ctf_format.specs.Records.{IsNear, IsLastNumber, PutsField, PutsFields, PutsOther, PutsScopes, TakesRun, after_number, reached};
 ghost use Rattle.ctf_format.specs.Texts as texts;
 
 use crate::array::put_integers;
@@ -210,7 +210,7 @@ fn put_field(
         IsLastNumber last placed.entry.run.now.numbers packet.bytes.now
         ((placed.entry.end - placed.entry.run.now.span) / 8) ×
         PutsField slot packet.bytes.now packet.end
-        (behind_number reach.old last (take at buffer.old.items))
+        (after_number reach.old last (take at buffer.old.items))
         (reached reach.new (take text buffer.new.items))) }
     ensures within { IfSome result (λ _. reach.new.place ≤ placed.entry.packet.now.end) }
     ensures few { IfSome result (λ _. reach.new.more ≤ MOST_VALUES) }

@@ -36,7 +36,7 @@ longest_prefix p front back other rest all stops each e =
     let c : prefix_len p (front ++ back) ≡ prefix_len p (other ++ rest) = ap (prefix_len p) e in
     omega arith
 
--- ---- the list as such a front and what is behind it
+-- ---- the list as such a front and what is after it
 
 pub record Prefix {A : Type 0} (p : A → Bool) (s : List A) (n : ℕ) : Type 0 where
   pub front : List A

@@ -52,7 +52,7 @@ pub record Front {P A : Type 0} (elements : P → List A) (Stands : P → List A
   pub stands : Stands piece after
   pub some : 0 < length (elements piece)
 
--- the list is such a row, or goes on behind one with what is stuck
+-- the list is such a row, or goes on after one with what is stuck
 pub record Row {P A : Type 0} (elements : P → List A) (Stands : P → List A → Type 0) (Stuck : List A → Type 0) (list : List A) : Type 0 where
   pub pieces : List P
   pub after : List A

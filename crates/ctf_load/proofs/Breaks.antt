@@ -30,7 +30,7 @@ first_of_packets order id rest = search (either, first_of, header_of_packets) de
 
 none_is : (bytes : List ℕ) (fault : MetaFault) → MetaBroken bytes fault → OfPackets (Some fault)
 none_is bytes fault (inl long) = subst (λ f. OfPackets (Some f)) (sym long.1) tt
-none_is bytes fault (inr behind) = subst OfPackets behind.1.2.fails (first_of_packets _ _ behind.1.2.rest)
+none_is bytes fault (inr after) = subst OfPackets after.1.2.fails (first_of_packets _ _ after.1.2.rest)
 
 pub broken_is_told : (bytes : List ℕ) (fault : MetaFault) → MetaBroken bytes fault → MetaRefused bytes fault × (is_meta_refusal fault ≡ false)
 broken_is_told bytes faults.CutShort h = (h, refl)

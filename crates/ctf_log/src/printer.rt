@@ -144,7 +144,7 @@ fn put_event(
 {
     with_room(MOST_PART, line, 0)?;
     let end = stamper.put_part(event.moment, last, line.as_mut_slice(), 0);
-    let end = put_behind_stamp(event, packet, line, end)?;
+    let end = put_after_stamp(event, packet, line, end)?;
     with_room(1, line, end)?;
     line[end] = b'\n';
     Ok(end + 1)
@@ -168,9 +168,9 @@ fn put_text(
         return Err(NoMemory);
     };
     with_room(need, line, begin)?;
-    let behind = put_bytes(event.text, line.as_mut_slice(), begin);
-    line[behind] = b'\n';
-    Ok(behind + 1)
+    let after = put_bytes(event.text, line.as_mut_slice(), begin);
+    line[after] = b'\n';
+    Ok(after + 1)
 }
 
 /// Writes bytes at an index of a line that has room for them, and gives the index after them.
@@ -187,7 +187,7 @@ fn put_bytes(bytes: &[u8], line: &mut [u8], at: usize) -> usize
 
 /// Writes what follows the stamp of an event record. Mostly the text of its packet's part is there.
 #[inline(always)]
-fn put_behind_stamp(
+fn put_after_stamp(
     event: &Event<'_>,
     packet: &mut Vec<u8>,
     line: &mut Vec<u8>,

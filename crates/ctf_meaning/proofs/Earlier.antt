@@ -12,7 +12,7 @@ use Rattle.ctf_meaning.specs.Parts.{Place, Part, Located, Given, of_body, class_
 use Rattle.ctf_meaning.specs.Settings.{when, minus_faults}
 use Rattle.ctf_meaning.specs.Labels.{labels_of}
 use Rattle.ctf_meaning.specs.Shapes.{integer_in, enum, structure, variant, members_from, with_tag, container_at, declared, fields_by, fields_by_item}
-use Rattle.ctf_meaning.specs.Names.{Entry, meaning, shape_named, shape_of, entries_behind, entries_in}
+use Rattle.ctf_meaning.specs.Names.{Entry, meaning, shape_named, shape_of, entries_after, entries_in}
 use Rattle.ctf_meaning.specs.Own.{use_in, container_in, class_faults, member_faults, attribute_faults, no_integer_faults, unknown_faults, label_faults, align_faults, is_deep, depth_faults, is_taken, name_faults, part_faults, has_twins}
 use Rattle.ctf_meaning.proofs.Lists.{Each, each_front, each_back, each_map}
 use Rattle.ctf_meaning.proofs.Sees.{here}
@@ -56,9 +56,9 @@ module _ (all es : List Entry) where
     fields_same block n no_item h = refl
     fields_same block n (some_items i is) h =
         let first : List Located = located_item (n ∷ block) (of_body i) i in
-        let behind : List Located = located_items block (n + 1) is in
-        ap (λ fs. fs ++ fields_by (shape_named all) block (n + 1) is) (item_same (n ∷ block) (of_body i) i (each_front SameIn first behind h))
-        ∙ ap (λ fs. fields_by_item (shape_named es) (n ∷ block) i ++ fs) (fields_same block (n + 1) is (each_back SameIn first behind h))
+        let after : List Located = located_items block (n + 1) is in
+        ap (λ fs. fs ++ fields_by (shape_named all) block (n + 1) is) (item_same (n ∷ block) (of_body i) i (each_front SameIn first after h))
+        ∙ ap (λ fs. fields_by_item (shape_named es) (n ∷ block) i ++ fs) (fields_same block (n + 1) is (each_back SameIn first after h))
 
   unknown_same : (at : Place) → SameAt at → (o : Option Name) →
       option_map_or (λ name. when (is_none (meaning all at name)) UnknownType) o [] ≡ option_map_or (λ name. when (is_none (meaning es at name)) UnknownType) o []
@@ -86,7 +86,7 @@ any_same f g h (x ∷ xs) = ap (λ b. b || list_any f xs) (h x) ∙ ap (λ b. g 
 
 module _ (text : List Declaration) (earlier later : List Located) where
   abbrev before : List Entry
-  before = entries_behind [] earlier
+  before = entries_after [] earlier
 
   pub shape_reads_earlier : (p : Located) (form : Form) → located_from 0 text ≡ earlier ++ p ∷ later → shape_of (entries_in text) p.0 form ≡ shape_of before p.0 form
   shape_reads_earlier p form e =

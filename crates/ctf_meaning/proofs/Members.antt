@@ -47,10 +47,10 @@ module _ (text : List Declaration) (shaped : Each Shaped (entries_in text)) wher
   body_names block n no_item h = refl
   body_names block n (some_items i is) h =
       let here : List Located = located_item (n ∷ block) (of_body i) i in
-      let behind : List Located = located_items block (n + 1) is in
+      let after : List Located = located_items block (n + 1) is in
       map-append (λ f. f.name) (fields_by_item (shape_named (entries_in text)) (n ∷ block) i) (fields_by (shape_named (entries_in text)) block (n + 1) is)
-      ∙ ap (λ ns. ns ++ map (λ f. f.name) (fields_by (shape_named (entries_in text)) block (n + 1) is)) (item_names (n ∷ block) i (each_front Sound here behind h))
-      ∙ ap (λ ns. field_names i ++ ns) (body_names block (n + 1) is (each_back Sound here behind h))
+      ∙ ap (λ ns. ns ++ map (λ f. f.name) (fields_by (shape_named (entries_in text)) block (n + 1) is)) (item_names (n ∷ block) i (each_front Sound here after h))
+      ∙ ap (λ ns. field_names i ++ ns) (body_names block (n + 1) is (each_back Sound here after h))
 
   -- of a part, what its inner parts are
   abbrev pub Inner : Located → Type 0
@@ -63,9 +63,9 @@ module _ (text : List Declaration) (shaped : Each Shaped (entries_in text)) wher
   no_inner at part e other f = absurd (none_some other (sym e ∙ f))
 
   -- the parts of a class, and the part that has it
-  behind_inner : (at : Place) (part : Part) (form : Form) → class_of part ≡ Some form → Each Inner (located_form at form) → Each Sound (located_form at form ++ (at, part) ∷ []) →
+  after_inner : (at : Place) (part : Part) (form : Form) → class_of part ≡ Some form → Each Inner (located_form at form) → Each Sound (located_form at form ++ (at, part) ∷ []) →
       Each Inner (located_form at form ++ (at, part) ∷ [])
-  behind_inner at part form e inner h =
+  after_inner at part form e inner h =
       each_append Inner (located_form at form) ((at, part) ∷ []) inner
       (own_inner at part form e (each_front Sound (located_form at form) ((at, part) ∷ []) h), tt)
 
@@ -80,34 +80,34 @@ module _ (text : List Declaration) (shaped : Each Shaped (entries_in text)) wher
     inner_form at (Named name tag) h = tt
 
     inner_item : (at : Place) (part : Part) (i : Item) → class_of part ≡ Some (form_in i) → Each Sound (located_item at part i) → Each Inner (located_item at part i)
-    inner_item at part (Fields form ds) e h = behind_inner at part form e (inner_form at form (each_front Sound (located_form at form) ((at, part) ∷ []) h)) h
-    inner_item at part (Alias form words) e h = behind_inner at part form e (inner_form at form (each_front Sound (located_form at form) ((at, part) ∷ []) h)) h
-    inner_item at part (Definition form ds) e h = behind_inner at part form e (inner_form at form (each_front Sound (located_form at form) ((at, part) ∷ []) h)) h
-    inner_item at part (Compound form) e h = behind_inner at part form e (inner_form at form (each_front Sound (located_form at form) ((at, part) ∷ []) h)) h
+    inner_item at part (Fields form ds) e h = after_inner at part form e (inner_form at form (each_front Sound (located_form at form) ((at, part) ∷ []) h)) h
+    inner_item at part (Alias form words) e h = after_inner at part form e (inner_form at form (each_front Sound (located_form at form) ((at, part) ∷ []) h)) h
+    inner_item at part (Definition form ds) e h = after_inner at part form e (inner_form at form (each_front Sound (located_form at form) ((at, part) ∷ []) h)) h
+    inner_item at part (Compound form) e h = after_inner at part form e (inner_form at form (each_front Sound (located_form at form) ((at, part) ∷ []) h)) h
 
     inner_items : (block : Place) (n : ℕ) (is : Items) → Each Sound (located_items block n is) → Each Inner (located_items block n is)
     inner_items block n no_item h = tt
     inner_items block n (some_items i is) h =
         let here : List Located = located_item (n ∷ block) (of_body i) i in
-        let behind : List Located = located_items block (n + 1) is in
-        each_append Inner here behind
-        (inner_item (n ∷ block) (of_body i) i refl (each_front Sound here behind h))
-        (inner_items block (n + 1) is (each_back Sound here behind h))
+        let after : List Located = located_items block (n + 1) is in
+        each_append Inner here after
+        (inner_item (n ∷ block) (of_body i) i refl (each_front Sound here after h))
+        (inner_items block (n + 1) is (each_back Sound here after h))
 
   inner_entry : (at : Place) (e : BlockEntry) → Each Sound (located_entry at e) → Each Inner (located_entry at e)
   inner_entry at (Assigned setting) h = (no_inner at (of_block (Assigned setting)) refl, tt)
   inner_entry at (Classed words form) h =
-      behind_inner at (of_block (Classed words form)) form refl (inner_form at form (each_front Sound (located_form at form) ((at, of_block (Classed words form)) ∷ []) h)) h
+      after_inner at (of_block (Classed words form)) form refl (inner_form at form (each_front Sound (located_form at form) ((at, of_block (Classed words form)) ∷ []) h)) h
   inner_entry at (Declared item) h = inner_item at (of_block (Declared item)) item refl h
 
   inner_entries : (block : Place) (n : ℕ) (es : List BlockEntry) → Each Sound (located_entries block n es) → Each Inner (located_entries block n es)
   inner_entries block n [] h = tt
   inner_entries block n (e ∷ es) h =
       let here : List Located = located_entry (n ∷ block) e in
-      let behind : List Located = located_entries block (n + 1) es in
-      each_append Inner here behind
-      (inner_entry (n ∷ block) e (each_front Sound here behind h))
-      (inner_entries block (n + 1) es (each_back Sound here behind h))
+      let after : List Located = located_entries block (n + 1) es in
+      each_append Inner here after
+      (inner_entry (n ∷ block) e (each_front Sound here after h))
+      (inner_entries block (n + 1) es (each_back Sound here after h))
 
   inner_declaration : (at : Place) (d : Declaration) → Each Sound (located at d) → Each Inner (located at d)
   inner_declaration at (Block kind entries) h =

@@ -37,7 +37,7 @@ pub record InBlock (block : Place) (number : ℕ) (ps : List Located) : Type 0 w
   pub within : Each (Within block number) ps
   pub ordered : Ordered ps
 
--- the parts in a part, and the part itself behind them
+-- the parts in a part, and the part itself after them
 pub closed_with : (at : Place) (inner : List Located) (part : Part) → Closed at inner → Closed at (inner ++ (at, part) ∷ [])
 closed_with at inner part c = record {
   below = each_append (Below at) inner ((at, part) ∷ []) c.below (here, tt);

@@ -15,11 +15,11 @@ use Rattle.ctf_meaning.specs.declared.integer.DeclaredInteger.{DeclaredInteger}
 use Rattle.ctf_meaning.specs.Integers.{integer_faults, integer_of, good_integer, is_none_wrong}
 use Rattle.ctf_meaning.specs.Shapes.{integer_in, integer, enum, with_tag, arrays, container_name, container_at}
 use Rattle.ctf_meaning.specs.Labels.{labels_of}
-use Rattle.ctf_meaning.specs.Names.{Entry, same_place, earlier_entry, meaning, shape_named, shape_of, entries_of, entries_behind, entries_in}
+use Rattle.ctf_meaning.specs.Names.{Entry, same_place, earlier_entry, meaning, shape_named, shape_of, entries_of, entries_after, entries_in}
 use Rattle.ctf_meaning.specs.Own.{class_faults, unknown_faults, member_faults, attribute_faults, no_integer_faults, label_faults, align_faults, depth_faults, name_faults, part_faults}
 use Rattle.ctf_meaning.specs.Own as own
 use Rattle.ctf_meaning.proofs.Lists.{Each, IsThere, each_append, each_made, append_left, append_right, find_either, there_unless, map_there, then_there}
-use Rattle.ctf_meaning.proofs.Seen.{entries_behind-append, reads_earlier}
+use Rattle.ctf_meaning.proofs.Seen.{entries_after-append, reads_earlier}
 
 abbrev pub Shaped : Entry → Type 0
 Shaped e = IsThere e.shape
@@ -151,15 +151,15 @@ entries_shaped all es (number ∷ block, part) same shaped h =
     ]
 
 -- All entries of a text whose parts have no fault have shapes.
-pub all_shaped : (text : List Declaration) (before behind : List Located) → located_from 0 text ≡ before ++ behind →
-    Each (λ p. part_faults (entries_in text) p ≡ []) behind → Each Shaped (entries_behind [] before) → Each Shaped (entries_behind (entries_behind [] before) behind)
+pub all_shaped : (text : List Declaration) (before after : List Located) → located_from 0 text ≡ before ++ after →
+    Each (λ p. part_faults (entries_in text) p ≡ []) after → Each Shaped (entries_after [] before) → Each Shaped (entries_after (entries_after [] before) after)
 all_shaped text before [] e h shaped = shaped
 all_shaped text before (p ∷ ps) e h shaped =
-    let es : List Entry = entries_behind [] before in
+    let es : List Entry = entries_after [] before in
     let more : Each Shaped (es ++ entries_of es p) =
     each_append Shaped es (entries_of es p) shaped (entries_shaped (entries_in text) es p (λ name. reads_earlier text before ps p name e) shaped h.0) in
-    let next : entries_behind [] (before ++ p ∷ []) ≡ es ++ entries_of es p = entries_behind-append [] before (p ∷ []) in
-    subst (λ fs. Each Shaped (entries_behind fs ps)) next
+    let next : entries_after [] (before ++ p ∷ []) ≡ es ++ entries_of es p = entries_after-append [] before (p ∷ []) in
+    subst (λ fs. Each Shaped (entries_after fs ps)) next
     (all_shaped text (before ++ p ∷ []) ps (e ∙ sym (append_assoc before (p ∷ []) ps)) h.1 (subst (Each Shaped) (sym next) more))
 
 pub text_shaped : (text : List Declaration) → Each (λ p. part_faults (entries_in text) p ≡ []) (located_from 0 text) → Each Shaped (entries_in text)

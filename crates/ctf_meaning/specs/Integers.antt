@@ -31,15 +31,15 @@ base_of value =
     (if says value (codes "2" ∷ codes "binary" ∷ codes "b" ∷ []) || is_count 2 value then Some Binary else None)))
 
 -- what is after a beginning
-abbrev pub behind : Word → Word → Option Word
-behind [] text = Some text
-behind (b ∷ bs) [] = None
-behind (b ∷ bs) (c ∷ cs) = if nat_eq b c then behind bs cs else None
+abbrev pub after : Word → Word → Option Word
+after [] text = Some text
+after (b ∷ bs) [] = None
+after (b ∷ bs) (c ∷ cs) = if nat_eq b c then after bs cs else None
 
 -- map: `clock.NAME.value`, where the name may hold dots (own); section 8
 abbrev pub clock_of : Value → Option Word
 clock_of value =
-    option_map reverse (option_and_then (behind (reverse (codes ".value"))) (option_map reverse (option_and_then (behind (codes "clock.")) (text_of value))))
+    option_map reverse (option_and_then (after (reverse (codes ".value"))) (option_map reverse (option_and_then (after (codes "clock.")) (text_of value))))
 
 abbrev pub size_of : List Setting → ℕ
 size_of settings = known_as count_of 0 (attribute settings (one (codes "size")))

@@ -8,7 +8,7 @@ use Rattle.ctf_meaning.specs.Name.{Name}
 use Rattle.ctf_meaning.specs.Written.{Declaration, Form, items_of, body_of}
 use Rattle.ctf_meaning.specs.Parts.{Located, located_from, class_of}
 use Rattle.ctf_meaning.specs.Shapes.{Shape, fields_by, depth_of}
-use Rattle.ctf_meaning.specs.Names.{meaning, entries_behind, entries_in, shape_named, shape_of}
+use Rattle.ctf_meaning.specs.Names.{meaning, entries_after, entries_in, shape_named, shape_of}
 use Rattle.ctf_meaning.specs.Own.{field_names, part_faults, most_deep}
 use Rattle.ctf_meaning.specs.Streams.{numbered}
 use Rattle.ctf_meaning.specs.Faults.{own_faults}
@@ -36,21 +36,21 @@ abbrev pub NamesReadEarlier : Type 0
 NamesReadEarlier =
     (text : List Declaration) (earlier later : List Located) (p : Located) (name : Name) →
     located_from 0 text ≡ earlier ++ p ∷ later →
-    meaning (entries_in text) p.0 name ≡ meaning (entries_behind [] earlier) p.0 name
+    meaning (entries_in text) p.0 name ≡ meaning (entries_after [] earlier) p.0 name
 
 -- the class that is written there,
 abbrev pub ClassesReadEarlier : Type 0
 ClassesReadEarlier =
     (text : List Declaration) (earlier later : List Located) (p : Located) (form : Form) →
     located_from 0 text ≡ earlier ++ p ∷ later →
-    shape_of (entries_in text) p.0 form ≡ shape_of (entries_behind [] earlier) p.0 form
+    shape_of (entries_in text) p.0 form ≡ shape_of (entries_after [] earlier) p.0 form
 
 -- and what is wrong with the part.
 abbrev pub FaultsReadEarlier : Type 0
 FaultsReadEarlier =
     (text : List Declaration) (earlier later : List Located) (p : Located) →
     located_from 0 text ≡ earlier ++ p ∷ later →
-    part_faults (entries_in text) p ≡ part_faults (entries_behind [] earlier) p
+    part_faults (entries_in text) p ≡ part_faults (entries_after [] earlier) p
 
 -- no declaration has an own fault
 abbrev pub HasNoOwnFault : List Declaration → Type 0

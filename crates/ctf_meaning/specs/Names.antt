@@ -50,10 +50,10 @@ entries_of earlier (number ∷ block, part) =
 
 -- The entries of some parts after earlier ones. The parts are in the order in which they end, so that each entry is
 -- made from those before it.
-abbrev pub entries_behind : List Entry → List Located → List Entry
-entries_behind earlier [] = earlier
-entries_behind earlier (p ∷ ps) = entries_behind (earlier ++ entries_of earlier p) ps
+abbrev pub entries_after : List Entry → List Located → List Entry
+entries_after earlier [] = earlier
+entries_after earlier (p ∷ ps) = entries_after (earlier ++ entries_of earlier p) ps
 
 -- the entries of a text
 abbrev pub entries_in : List Declaration → List Entry
-entries_in text = entries_behind [] (located_from 0 text)
+entries_in text = entries_after [] (located_from 0 text)

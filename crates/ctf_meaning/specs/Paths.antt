@@ -100,14 +100,14 @@ abbrev pub route_from : Origin → Found → Route × Shape
 route_from origin found = (record { origin = origin; steps = found.0 }, found.1)
 
 -- the words after a beginning
-abbrev pub behind_words : Words → Words → Option Words
-behind_words [] words = Some words
-behind_words (a ∷ more) [] = None
-behind_words (a ∷ more) (b ∷ words) = if same_word a b then behind_words more words else None
+abbrev pub after_words : Words → Words → Option Words
+after_words [] words = Some words
+after_words (a ∷ more) [] = None
+after_words (a ∷ more) (b ∷ words) = if same_word a b then after_words more words else None
 
 -- the scope whose name a path begins with, and the words after it
 abbrev pub scope_named : Words → Option (Scope × Words)
-scope_named path = first (filter_map (λ scope. option_map (λ words. (scope, words)) (behind_words (words_of scope) path)) scopes)
+scope_named path = first (filter_map (λ scope. option_map (λ words. (scope, words)) (after_words (words_of scope) path)) scopes)
 
 -- A path that begins with a scope's name names a field of an earlier scope, or an earlier one of its own. It may lead into
 -- a structure in which it is itself, to a member before it.
@@ -115,7 +115,7 @@ abbrev pub found_below : Scope → Words → Origin × Frame → Option (Route �
 found_below scope words (origin, frame) = if nat_eq (rank frame.scope) (rank scope)
     then (do
       name ← frame.name
-      rest ← behind_words name words
+      rest ← after_words name words
       found ← field_at frame.fields rest
       Some (route_from origin found))
     else None

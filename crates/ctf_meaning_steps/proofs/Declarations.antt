@@ -1,4 +1,4 @@
--- A declaration: what is told of it is one of its own faults, or the names and the scopes' classes behind it.
+-- A declaration: what is told of it is one of its own faults, or the names and the scopes' classes after it.
 use Rattle.std.proofs.Common.{◌≡◌, ℕ, suc, ◌+◌, nat_lt, inl, inr, false, List, [], ◌∷◌, ◌++◌, map, length, take, Option, Some, None, Ok, refl, ap, ap₂, sym, ◌∙◌, subst, append-nil, append_assoc, flat_map, option_and_then, slice_get, sum, Contains, if◌then◌else◌, arith}
 use Rattle.std.specs.List.{list_any}
 use Rattle.std.proofs.lemmas.List.Elements.{Contains-append_left, Contains-append_right, Contains-append_cases}
@@ -14,7 +14,7 @@ use Rattle.ctf_meaning.specs.Written.{BlockEntry, Declaration, Item, Block, Tabl
 use Rattle.ctf_meaning.specs.Parts.{Located, of_text, located_entries, located}
 use Rattle.ctf_meaning.specs.Settings.{when, minus_faults}
 use Rattle.ctf_meaning.specs.Shapes.{Shape, nodes_of}
-use Rattle.ctf_meaning.specs.Names.{Entry, entries_behind, entries_in}
+use Rattle.ctf_meaning.specs.Names.{Entry, entries_after, entries_in}
 use Rattle.ctf_meaning.specs.Own.{faults_within}
 use Rattle.ctf_meaning.specs.Blocks.{same_kind, block_of, values_in, classes_in, stands_twice, is_class_of, is_value_of, entry_faults, trace_faults, stream_faults, event_faults, block_faults, twice_faults}
 use Rattle.ctf_meaning.specs.Scopes.{scope_faults, scope_by, scope_at, classes_at, nodes_before, node_faults}
@@ -25,17 +25,17 @@ use Rattle.ctf_meaning_steps.specs.Items.{item_told}
 use Rattle.ctf_meaning_steps.specs.Blocks.{NamedClass, Held, Placed, Walked, placed, plain_row, entries_told, scopes_told, declaration_told}
 use Rattle.ctf_meaning.proofs.Lists.{Each, each_map, each_none, each_back, append_left, append_right}
 use Rattle.ctf_meaning.proofs.Shaped.{when_not}
-use Rattle.ctf_meaning.proofs.Seen.{entries_behind-append}
+use Rattle.ctf_meaning.proofs.Seen.{entries_after-append}
 use Rattle.ctf_meaning.proofs.Order.{Within, order_entries, order_declaration}
 use Rattle.ctf_meaning_steps.proofs.Telling.{Tells, tells_then, tells_made, tells_unless, tells_same, tells_by, append_none}
-use Rattle.ctf_meaning_steps.proofs.Seeing.{Holds, Clear, Inside, sees_nothing, sees_text, holds_nothing, holds_next, holds_behind, unseen_deep, clear_inside, clear_next}
-use Rattle.ctf_meaning_steps.proofs.Parts.{faults_behind, faults_behind-append}
+use Rattle.ctf_meaning_steps.proofs.Seeing.{Holds, Clear, Inside, sees_nothing, sees_text, holds_nothing, holds_next, holds_after, unseen_deep, clear_inside, clear_next}
+use Rattle.ctf_meaning_steps.proofs.Parts.{faults_after, faults_after-append}
 use Rattle.ctf_meaning_steps.proofs.Items.{MadeBy, item_tells}
 use Rattle.ctf_meaning_steps.proofs.Entries.{Reads, reads_front, reads_faults, Named, EntriesBy, entries_tells}
 use Rattle.ctf_meaning_steps.proofs.Scopes.{found, placed_faults, scope_found, scope_among, nodes_placed, nodes_nowhere}
 use Rattle.ctf_meaning_steps.proofs.Rows.{Rows, rows_more, nodes_next, nodes_told}
 
--- What is known behind some declarations.
+-- What is known after some declarations.
 pub record Good (text : List Declaration) (es : List Entry) (k : ℕ) (before : List Declaration) (walked : Walked) : Type 0 where
   pub holds : Holds es [] k walked.own
   pub clear : Clear es [] k
@@ -143,7 +143,7 @@ module _ (text before : List Declaration) (k : ℕ) (es : List Entry) (walked : 
 
   table_tells : (kind : TableKind) (settings : List Setting) → Stands text before k (Table kind settings) →
       Tells (Unit {0}) (declaration_told before walked (Table kind settings)) (own_faults text (k, Table kind settings))
-      (Good text (entries_behind es (located (k ∷ []) (Table kind settings))) (k + 1) (before ++ Table kind settings ∷ []))
+      (Good text (entries_after es (located (k ∷ []) (Table kind settings))) (k + 1) (before ++ Table kind settings ∷ []))
   table_tells kind settings stands =
       let d : Declaration = Table kind settings in
       let minus : List ResolveFault = minus_faults settings in
@@ -166,16 +166,16 @@ module _ (text before : List Declaration) (k : ℕ) (es : List Entry) (walked : 
 
   names_tells : (item : Item) → Stands text before k (Names item) → Reads (entries_in text) es (located (k ∷ []) (Names item)) →
       Tells (Unit {0}) (declaration_told before walked (Names item)) (own_faults text (k, Names item))
-      (Good text (entries_behind es (located (k ∷ []) (Names item))) (k + 1) (before ++ Names item ∷ []))
+      (Good text (entries_after es (located (k ∷ []) (Names item))) (k + 1) (before ++ Names item ∷ []))
   names_tells item stands reads =
       let d : Declaration = Names item in
       let ps : List Located = located (k ∷ []) d in
-      tells_same (Unit {0}) (declaration_told before walked d) (faults_behind es ps) (own_faults text (k, d)) (Good text (entries_behind es ps) (k + 1) (before ++ d ∷ []))
-      (names_listed (faults_behind es ps)
+      tells_same (Unit {0}) (declaration_told before walked d) (faults_after es ps) (own_faults text (k, d)) (Good text (entries_after es ps) (k + 1) (before ++ d ∷ []))
+      (names_listed (faults_after es ps)
       ∙ ap₂ (λ w n. (((w ++ []) ++ []) ++ []) ++ n) (sym (reads_faults (entries_in text) es ps reads)) (sym (no_node_faults d stands (λ scope. refl))))
-      (tells_made (Unit {0}) (item_told nothing_seen walked.own item) (λ made. plain_row walked made.own) (faults_behind es ps) (MadeBy es [] k (of_text d) item) (Good text (entries_behind es ps) (k + 1) (before ++ d ∷ []))
+      (tells_made (Unit {0}) (item_told nothing_seen walked.own item) (λ made. plain_row walked made.own) (faults_after es ps) (MadeBy es [] k (of_text d) item) (Good text (entries_after es ps) (k + 1) (before ++ d ∷ []))
       (item_tells es [] k walked.own nothing_seen (of_text d) item refl refl refl good.clear good.holds (sees_nothing es))
-      (λ made e by. plain_good d stands (λ scope. refl) (entries_behind es ps) made.own by.holds (clear_next es [] k ps good.clear (order_declaration (k ∷ []) d).below)))
+      (λ made e by. plain_good d stands (λ scope. refl) (entries_after es ps) made.own by.holds (clear_next es [] k ps good.clear (order_declaration (k ∷ []) d).below)))
 
   -- The next declaration is a block.
   module _ (which : BlockKind) (entries : List BlockEntry) (stands : Stands text before k (Block which entries)) where
@@ -191,17 +191,17 @@ module _ (text before : List Declaration) (k : ℕ) (es : List Entry) (walked : 
     abbrev all : List Entry
     all = entries_in text
 
-    block_entries : entries_behind es parts ≡ entries_behind es inner
-    block_entries = entries_behind-append es inner ((k ∷ [], of_text block_here) ∷ []) ∙ append-nil (entries_behind es inner)
+    block_entries : entries_after es parts ≡ entries_after es inner
+    block_entries = entries_after-append es inner ((k ∷ [], of_text block_here) ∷ []) ∙ append-nil (entries_after es inner)
 
-    block_within : Reads all es parts → faults_behind es inner ≡ faults_within all k block_here
+    block_within : Reads all es parts → faults_after es inner ≡ faults_within all k block_here
     block_within reads =
-        sym (append-nil (faults_behind es inner)) ∙ sym (faults_behind-append es inner ((k ∷ [], of_text block_here) ∷ [])) ∙ sym (reads_faults all es parts reads)
+        sym (append-nil (faults_after es inner)) ∙ sym (faults_after-append es inner ((k ∷ [], of_text block_here) ∷ [])) ∙ sym (reads_faults all es parts reads)
 
-    block_holds : Holds (entries_behind es parts) [] (k + 1) walked.own
+    block_holds : Holds (entries_after es parts) [] (k + 1) walked.own
     block_holds =
         subst (λ fs. Holds fs [] (k + 1) walked.own) (sym block_entries)
-        (holds_behind es [] (k + 1) walked.own inner
+        (holds_after es [] (k + 1) walked.own inner
         (unseen_deep k (k + 1) [] inner (each_map (Within (k ∷ []) 0) (Inside (k ∷ [])) (λ q w. (w.0, w.2)) inner (order_entries (k ∷ []) 0 entries).within))
         (holds_next es [] k walked.own good.clear good.holds))
 
@@ -220,7 +220,7 @@ module _ (text before : List Declaration) (k : ℕ) (es : List Entry) (walked : 
       count_next = ap₂ (λ m n. m + n) good.nodes (sym (nodes_placed (scope_at text k) which classes found_here)) ∙ sym (nodes_next text k)
 
       block_good : nat_lt most_nodes (walked.nodes + count) ≡ false →
-          Good text (entries_behind es parts) (k + 1) (before ++ block_here ∷ []) (record { own = walked.own; nodes = walked.nodes + count; rows = walked.rows ++ scopes_here ∷ [] })
+          Good text (entries_after es parts) (k + 1) (before ++ block_here ∷ []) (record { own = walked.own; nodes = walked.nodes + count; rows = walked.rows ++ scopes_here ∷ [] })
       block_good few =
           let same : walked.nodes + count ≡ nodes_before text (k + 1) = count_next ∙ ap (nodes_before text) (let more : suc k ≡ k + 1 = omega arith in more) in
           record {
@@ -232,19 +232,19 @@ module _ (text before : List Declaration) (k : ℕ) (es : List Entry) (walked : 
           }
 
       scopes_tells : block_faults block_here ≡ [] →
-          Tells (Unit {0}) (scopes_told walked scopes_here) (flat_map scope_faults (classes_at text k block_here) ++ (node_faults text most_nodes k ++ [])) (Good text (entries_behind es parts) (k + 1) (before ++ block_here ∷ []))
+          Tells (Unit {0}) (scopes_told walked scopes_here) (flat_map scope_faults (classes_at text k block_here) ++ (node_faults text most_nodes k ++ [])) (Good text (entries_after es parts) (k + 1) (before ++ block_here ∷ []))
       scopes_tells clean =
           let floats : List ResolveFault = flat_map (λ p. scope_faults p.1) scopes_here in
           let many : List ResolveFault = when (nat_lt most_nodes (walked.nodes + count)) TooDeep in
           let done : Told Walked = Ok (record { own = walked.own; nodes = walked.nodes + count; rows = walked.rows ++ scopes_here ∷ [] }) in
-          let Q : Walked → Type 0 = Good text (entries_behind es parts) (k + 1) (before ++ block_here ∷ []) in
+          let Q : Walked → Type 0 = Good text (entries_after es parts) (k + 1) (before ++ block_here ∷ []) in
           tells_same (Unit {0}) (unless floats (unless many done)) (floats ++ (many ++ [])) (flat_map scope_faults (classes_at text k block_here) ++ (node_faults text most_nodes k ++ [])) Q
           (ap₂ (λ f n. f ++ (n ++ [])) (sym (placed_faults text k which entries classes named (single which entries clean))) (nodes_told text k most_nodes (walked.nodes + count) good.few count_next))
           (tells_unless (Unit {0}) floats (unless many done) (many ++ []) Q
           (λ e. tells_unless (Unit {0}) many done [] Q (λ f. (refl, block_good (when_not (nat_lt most_nodes (walked.nodes + count)) TooDeep f)))))
 
     block_tells : Reads all es parts →
-        Tells (Unit {0}) (declaration_told before walked block_here) (own_faults text (k, block_here)) (Good text (entries_behind es parts) (k + 1) (before ++ block_here ∷ []))
+        Tells (Unit {0}) (declaration_told before walked block_here) (own_faults text (k, block_here)) (Good text (entries_after es parts) (k + 1) (before ++ block_here ∷ []))
     block_tells reads =
         let w : List ResolveFault = faults_within all k block_here in
         let b : List ResolveFault = block_faults block_here in
@@ -253,18 +253,18 @@ module _ (text before : List Declaration) (k : ℕ) (es : List Entry) (walked : 
         let n : List ResolveFault = node_faults text most_nodes k in
         let none : Held = record { own = nothing_seen; classes = [] } in
         let entered : Told Walked = entries_told walked.own none entries >>= λ held. scopes_told walked (placed which held.classes) in
-        let Q : Walked → Type 0 = Good text (entries_behind es parts) (k + 1) (before ++ block_here ∷ []) in
+        let Q : Walked → Type 0 = Good text (entries_after es parts) (k + 1) (before ++ block_here ∷ []) in
         tells_same (Unit {0}) (declaration_told before walked block_here) (w ++ b ++ t ++ f ++ n) (own_faults text (k, block_here)) Q (ap (λ ds. w ++ b ++ twice_faults ds block_here ++ f ++ n) (sym stands.taken))
         (tells_by (Unit {0}) (declaration_told before walked block_here) (b ++ (t ++ (w ++ (f ++ (n ++ []))))) (w ++ b ++ t ++ f ++ n) Q (own_none w b t f n) (own_some w b t f n)
         (tells_unless (Unit {0}) b (unless t entered) (t ++ (w ++ (f ++ (n ++ [])))) Q
         (λ clean. tells_unless (Unit {0}) t entered (w ++ (f ++ (n ++ []))) Q
         (λ once. tells_then (Unit {0}) (entries_told walked.own none entries) (λ held. scopes_told walked (placed which held.classes)) w (f ++ (n ++ [])) (EntriesBy all (k ∷ []) 0 none entries) Q
-        (tells_same (Unit {0}) (entries_told walked.own none entries) (faults_behind es inner) w (EntriesBy all (k ∷ []) 0 none entries) (block_within reads)
+        (tells_same (Unit {0}) (entries_told walked.own none entries) (faults_after es inner) w (EntriesBy all (k ∷ []) 0 none entries) (block_within reads)
         (entries_tells all es (k ∷ []) 0 walked.own none entries (reads_front all es inner ((k ∷ [], of_text block_here) ∷ []) reads) (clear_inside es [] k good.clear) (holds_nothing es (k ∷ [])) (sees_text es k walked.own good.holds)))
         (λ held e by. scopes_tells held.classes (subst (Named all (k ∷ []) 0 entries) (sym by.classes) by.named) clean)))))
 
   pub declaration_tells : (d : Declaration) → Stands text before k d → Reads (entries_in text) es (located (k ∷ []) d) →
-      Tells (Unit {0}) (declaration_told before walked d) (own_faults text (k, d)) (Good text (entries_behind es (located (k ∷ []) d)) (k + 1) (before ++ d ∷ []))
+      Tells (Unit {0}) (declaration_told before walked d) (own_faults text (k, d)) (Good text (entries_after es (located (k ∷ []) d)) (k + 1) (before ++ d ∷ []))
   declaration_tells (Block which entries) stands reads = block_tells which entries stands reads
   declaration_tells (Table kind settings) stands reads = table_tells kind settings stands
   declaration_tells (Names item) stands reads = names_tells item stands reads

@@ -10,26 +10,26 @@ use Rattle.ctf_meaning.specs.Written.{Form}
 use Rattle.ctf_meaning.specs.Parts.{Place, Part, Located, Given, class_of, given_of, settings_in, settings_in_form}
 use Rattle.ctf_meaning.specs.Settings.{when, minus_faults}
 use Rattle.ctf_meaning.specs.Shapes.{Shape, arrays, depth_of}
-use Rattle.ctf_meaning.specs.Names.{Entry, earlier_entry, shape_of, entries_of, entries_behind}
+use Rattle.ctf_meaning.specs.Names.{Entry, earlier_entry, shape_of, entries_of, entries_after}
 use Rattle.ctf_meaning.specs.Own.{most_deep, has_twins, class_faults, is_deep, depth_faults, name_faults, part_faults}
 use Rattle.ctf_meaning_steps.specs.Told.{Told, ◌>>=◌}
 use Rattle.ctf_meaning_steps.specs.Seen.{Seen, declare}
 use Rattle.ctf_meaning.proofs.Lists.{append_left, append_right}
-use Rattle.ctf_meaning.proofs.Seen.{entries_behind-append}
+use Rattle.ctf_meaning.proofs.Seen.{entries_after-append}
 use Rattle.ctf_meaning_steps.proofs.Telling.{Tells, TellsDeep, then_deep, tells_made, tells_same, tells_by, append_none, contains_when}
 use Rattle.ctf_meaning_steps.proofs.Seeing.{Holds, some_both}
 use Rattle.ctf_meaning_steps.proofs.Given.{entry_by, is_too_deep, is_taken, declare_tells}
 
 -- the faults of some parts, each by the entries before it
-abbrev pub faults_behind : List Entry → List Located → List ResolveFault
-faults_behind es [] = []
-faults_behind es (p ∷ ps) = part_faults es p ++ faults_behind (es ++ entries_of es p) ps
+abbrev pub faults_after : List Entry → List Located → List ResolveFault
+faults_after es [] = []
+faults_after es (p ∷ ps) = part_faults es p ++ faults_after (es ++ entries_of es p) ps
 
-pub faults_behind-append : (es : List Entry) (ps qs : List Located) → faults_behind es (ps ++ qs) ≡ faults_behind es ps ++ faults_behind (entries_behind es ps) qs
-faults_behind-append es [] qs = refl
-faults_behind-append es (p ∷ ps) qs =
-    ap (λ fs. part_faults es p ++ fs) (faults_behind-append (es ++ entries_of es p) ps qs)
-    ∙ sym (append_assoc (part_faults es p) (faults_behind (es ++ entries_of es p) ps) (faults_behind (entries_behind (es ++ entries_of es p) ps) qs))
+pub faults_after-append : (es : List Entry) (ps qs : List Located) → faults_after es (ps ++ qs) ≡ faults_after es ps ++ faults_after (entries_after es ps) qs
+faults_after-append es [] qs = refl
+faults_after-append es (p ∷ ps) qs =
+    ap (λ fs. part_faults es p ++ fs) (faults_after-append (es ++ entries_of es p) ps qs)
+    ∙ sym (append_assoc (part_faults es p) (faults_after (es ++ entries_of es p) ps) (faults_after (entries_after (es ++ entries_of es p) ps) qs))
 
 any_mapped : {X Y : Type 0} (test : Y → Bool) (f : X → Y) (xs : List X) → list_any test (map f xs) ≡ list_any (λ x. test (f x)) xs
 any_mapped test f [] = refl
@@ -50,10 +50,10 @@ module _ (i c m d n : List ResolveFault) where
   pub listed_none : told ≡ [] → listed ≡ []
   listed_none h =
       let front : i ++ (c ++ m) ≡ [] = append_left (i ++ (c ++ m)) (d ++ n) h in
-      let behind : d ++ n ≡ [] = append_right (i ++ (c ++ m)) (d ++ n) h in
+      let after : d ++ n ≡ [] = append_right (i ++ (c ++ m)) (d ++ n) h in
       let two : c ++ m ≡ [] = append_right i (c ++ m) front in
       append_none i ((((c ++ d) ++ n) ++ m) ++ []) (append_left i (c ++ m) front)
-      (append_none (((c ++ d) ++ n) ++ m) [] (append_none ((c ++ d) ++ n) m (append_none (c ++ d) n (append_none c d (append_left c m two) (append_left d n behind)) (append_right d n behind)) (append_right c m two)) refl)
+      (append_none (((c ++ d) ++ n) ++ m) [] (append_none ((c ++ d) ++ n) m (append_none (c ++ d) n (append_none c d (append_left c m two) (append_left d n after)) (append_right d n after)) (append_right c m two)) refl)
 
   inner_listed : (f : ResolveFault) → Contains i f → Contains listed f
   inner_listed f h = Contains-append_left i ((((c ++ d) ++ n) ++ m) ++ []) f h
@@ -74,7 +74,7 @@ module _ (i c m d n : List ResolveFault) where
             | inr minus ↦ own_listed f (Contains-append_right ((c ++ d) ++ n) m f minus)
           ]
         ]
-        | inr behind ↦ elim (Contains-append_cases d n f behind) as (λ _. Contains listed f) [
+        | inr after ↦ elim (Contains-append_cases d n f after) as (λ _. Contains listed f) [
           | inl deep ↦ given_listed f (Contains-append_left (c ++ d) n f (Contains-append_right c d f deep))
           | inr names ↦ given_listed f (Contains-append_right (c ++ d) n f names)
         ]
@@ -126,27 +126,27 @@ module _ (es : List Entry) (block : Place) (number : ℕ) (part : Part) (form : 
 pub part_tells : {B : Type 0} (es : List Entry) (block : Place) (number : ℕ) (inner : List Located) (part : Part) (form : Form) (t : Told Shape) (own : Seen) (gs : List Given) (make : Shape → Seen → B)
     (R : B → Type 0) →
     class_of part ≡ Some form → settings_in part ≡ settings_in_form form → given_of part ≡ gs →
-    TellsDeep t (faults_behind es inner ++ (class_faults (entries_behind es inner) (number ∷ block) form ++ minus_faults (settings_in_form form)))
-    (is_deep_in (shape_of (entries_behind es inner) (number ∷ block) form))
-    (λ shape. shape_of (entries_behind es inner) (number ∷ block) form ≡ Some shape) →
-    Holds (entries_behind es inner) block number own → Holds (entries_behind es inner) block (number + 1) own →
-    ((shape : Shape) (after : Seen) → shape_of (entries_behind es inner) (number ∷ block) form ≡ Some shape → Holds (entries_behind es (inner ++ (number ∷ block, part) ∷ [])) block (number + 1) after → R (make shape after)) →
-    Tells (Unit {0}) (t >>= λ shape. declare own shape gs >>= λ after. Ok (make shape after)) (faults_behind es (inner ++ (number ∷ block, part) ∷ [])) R
+    TellsDeep t (faults_after es inner ++ (class_faults (entries_after es inner) (number ∷ block) form ++ minus_faults (settings_in_form form)))
+    (is_deep_in (shape_of (entries_after es inner) (number ∷ block) form))
+    (λ shape. shape_of (entries_after es inner) (number ∷ block) form ≡ Some shape) →
+    Holds (entries_after es inner) block number own → Holds (entries_after es inner) block (number + 1) own →
+    ((shape : Shape) (after : Seen) → shape_of (entries_after es inner) (number ∷ block) form ≡ Some shape → Holds (entries_after es (inner ++ (number ∷ block, part) ∷ [])) block (number + 1) after → R (make shape after)) →
+    Tells (Unit {0}) (t >>= λ shape. declare own shape gs >>= λ after. Ok (make shape after)) (faults_after es (inner ++ (number ∷ block, part) ∷ [])) R
 part_tells es block number inner part form t own gs make R here settled given told holds next made =
     let at : Place = number ∷ block in
-    let before : List Entry = entries_behind es inner in
-    let first : List ResolveFault = faults_behind es inner in
+    let before : List Entry = entries_after es inner in
+    let first : List ResolveFault = faults_after es inner in
     let classes : List ResolveFault = class_faults before at form in
     let minus : List ResolveFault = minus_faults (settings_in_form form) in
     let depths : List ResolveFault = depth_faults before (at, part) in
     let names : List ResolveFault = name_faults before (at, part) in
     let whole : part_faults before (at, part) ≡ ((classes ++ depths) ++ names) ++ minus =
     ap₂ (λ o s. option_map_or (class_faults before at) o [] ++ depths ++ names ++ minus_faults s) here settled in
-    let all : first ++ ((((classes ++ depths) ++ names) ++ minus) ++ []) ≡ faults_behind es (inner ++ (at, part) ∷ []) =
-    ap (λ fs. first ++ (fs ++ [])) (sym whole) ∙ sym (faults_behind-append es inner ((at, part) ∷ [])) in
-    let entries : entries_behind es (inner ++ (at, part) ∷ []) ≡ before ++ entries_of before (at, part) = entries_behind-append es inner ((at, part) ∷ []) in
-    subst (λ xs. Tells (Unit {0}) (t >>= λ shape. declare own shape xs >>= λ after. Ok (make shape after)) (faults_behind es (inner ++ (at, part) ∷ [])) R) given
-    (tells_same (Unit {0}) (t >>= λ shape. declare own shape (given_of part) >>= λ after. Ok (make shape after)) (first ++ ((((classes ++ depths) ++ names) ++ minus) ++ [])) (faults_behind es (inner ++ (at, part) ∷ [])) R all
+    let all : first ++ ((((classes ++ depths) ++ names) ++ minus) ++ []) ≡ faults_after es (inner ++ (at, part) ∷ []) =
+    ap (λ fs. first ++ (fs ++ [])) (sym whole) ∙ sym (faults_after-append es inner ((at, part) ∷ [])) in
+    let entries : entries_after es (inner ++ (at, part) ∷ []) ≡ before ++ entries_of before (at, part) = entries_after-append es inner ((at, part) ∷ []) in
+    subst (λ xs. Tells (Unit {0}) (t >>= λ shape. declare own shape xs >>= λ after. Ok (make shape after)) (faults_after es (inner ++ (at, part) ∷ [])) R) given
+    (tells_same (Unit {0}) (t >>= λ shape. declare own shape (given_of part) >>= λ after. Ok (make shape after)) (first ++ ((((classes ++ depths) ++ names) ++ minus) ++ [])) (faults_after es (inner ++ (at, part) ∷ [])) R all
     (tells_by (Unit {0}) (t >>= λ shape. declare own shape (given_of part) >>= λ after. Ok (make shape after)) ((first ++ (classes ++ minus)) ++ (depths ++ names)) (first ++ ((((classes ++ depths) ++ names) ++ minus) ++ [])) R
     (listed_none first classes minus depths names) (listed_some first classes minus depths names)
     (then_deep t (λ shape. declare own shape (given_of part) >>= λ after. Ok (make shape after)) (first ++ (classes ++ minus)) (depths ++ names)

@@ -4,11 +4,11 @@ use Rattle.std.specs.Option.{option_or}
 use Rattle.ctf_meaning.specs.Name.{Name, same_name}
 use Rattle.ctf_meaning.specs.Parts.{Place, Located, given_of}
 use Rattle.ctf_meaning.specs.Shapes.{Shape}
-use Rattle.ctf_meaning.specs.Names.{Entry, same_place, earlier_entry, meaning, entries_of, entries_behind}
+use Rattle.ctf_meaning.specs.Names.{Entry, same_place, earlier_entry, meaning, entries_of, entries_after}
 use Rattle.ctf_meaning_steps.specs.Seen.{Seen, nothing_seen, within}
 use Rattle.ctf_meaning.proofs.Lists.{Each, each_append, each_map, each_made, or_both, and_left, and_right, and_three, some_same, none_some, find-append}
 use Rattle.ctf_meaning.proofs.Sees.{Under, here, down, under_outer, under_length, sees, longer_differs, sees-own, sees-longer, apart}
-use Rattle.ctf_meaning.proofs.Seen.{meaning-entries_behind, earlier_entry-entries_behind}
+use Rattle.ctf_meaning.proofs.Seen.{meaning-entries_after, earlier_entry-entries_after}
 use Rattle.ctf_meaning.proofs.Order.{Unseen, Below}
 use Rattle.ctf_meaning_steps.proofs.Same.{place_same, place_itself}
 
@@ -54,7 +54,7 @@ pub alone : {X : Type 0} (o : Option X) → option_or o None ≡ o
 alone None = refl
 alone (Some x) = refl
 
--- The names of a block, and behind them those around it.
+-- The names of a block, and after them those around it.
 pub sees_within : (es : List Entry) (block : Place) (number : ℕ) (own outer : Seen) → Holds es block number own → Sees es block outer → Sees es (number ∷ block) (within own outer)
 sees_within es block number own outer h k name = either_same (earlier_entry es block number name) (meaning es block name) (own name) (outer name) (h name) (k name)
 
@@ -76,12 +76,12 @@ holds_nothing es block name =
     (λ e. and_three (same_place e.block block) (nat_lt e.number 0) (same_name e.name name) (and_right (same_place e.block block) (nat_lt e.number 0) (grind arith))) es))
 
 -- What no place of a class sees changes nothing there.
-pub sees_behind : (es : List Entry) (at : Place) (seen : Seen) (ps : List Located) → Each (Unseen at) ps → Sees es at seen → Sees (entries_behind es ps) at seen
-sees_behind es at seen ps u h name = ap (option_map (λ e. e.shape)) (meaning-entries_behind ps es at name u) ∙ h name
+pub sees_after : (es : List Entry) (at : Place) (seen : Seen) (ps : List Located) → Each (Unseen at) ps → Sees es at seen → Sees (entries_after es ps) at seen
+sees_after es at seen ps u h name = ap (option_map (λ e. e.shape)) (meaning-entries_after ps es at name u) ∙ h name
 
-pub holds_behind : (es : List Entry) (block : Place) (number : ℕ) (own : Seen) (ps : List Located) → Each (Unseen (number ∷ block)) ps → Holds es block number own →
-    Holds (entries_behind es ps) block number own
-holds_behind es block number own ps u h name = ap (option_map (λ e. e.shape)) (earlier_entry-entries_behind ps es block number name u) ∙ h name
+pub holds_after : (es : List Entry) (block : Place) (number : ℕ) (own : Seen) (ps : List Located) → Each (Unseen (number ∷ block)) ps → Holds es block number own →
+    Holds (entries_after es ps) block number own
+holds_after es block number own ps u h name = ap (option_map (λ e. e.shape)) (earlier_entry-entries_after ps es block number name u) ∙ h name
 
 -- A place sees nothing that lies in its own part,
 unseen_under : (at y : Place) → Under at y → sees at y ≡ false
@@ -131,10 +131,10 @@ entries_before : (es : List Entry) (block : Place) (number : ℕ) (p : Located) 
 entries_before es block number ([], part) h = tt
 entries_before es block number (m ∷ b, part) h = each_made (λ e. Before block number (e.number ∷ e.block)) _ (λ g. h) (given_of part)
 
-clear_behind : (es : List Entry) (block : Place) (number : ℕ) (ps : List Located) → Clear es block number → Each (λ q. Before block number q.0) ps → Clear (entries_behind es ps) block number
-clear_behind es block number [] h k = h
-clear_behind es block number (p ∷ ps) h k =
-    clear_behind (es ++ entries_of es p) block number ps
+clear_after : (es : List Entry) (block : Place) (number : ℕ) (ps : List Located) → Clear es block number → Each (λ q. Before block number q.0) ps → Clear (entries_after es ps) block number
+clear_after es block number [] h k = h
+clear_after es block number (p ∷ ps) h k =
+    clear_after (es ++ entries_of es p) block number ps
     (each_append (λ e. Before block number (e.number ∷ e.block)) es (entries_of es p) h (entries_before es block number p k.0)) k.1
 
 before_next : (block : Place) (number : ℕ) (y : Place) → Under (number ∷ block) y → Before block (number + 1) y
@@ -143,9 +143,9 @@ before_next block number y under j le u =
     let same : same_place y y ≡ true = place_itself y in
     grind (arith, differ, same)
 
-pub clear_next : (es : List Entry) (block : Place) (number : ℕ) (ps : List Located) → Clear es block number → Each (Below (number ∷ block)) ps → Clear (entries_behind es ps) block (number + 1)
+pub clear_next : (es : List Entry) (block : Place) (number : ℕ) (ps : List Located) → Clear es block number → Each (Below (number ∷ block)) ps → Clear (entries_after es ps) block (number + 1)
 clear_next es block number ps h k =
-    clear_behind es block (number + 1) ps
+    clear_after es block (number + 1) ps
     (each_map (λ e. Before block number (e.number ∷ e.block)) (λ e. Before block (number + 1) (e.number ∷ e.block)) (λ e b j le u. b j (grind (arith, le)) u) es h)
     (each_map (Below (number ∷ block)) (λ q. Before block (number + 1) q.0) (λ q u. before_next block number q.0 u) ps k)
 

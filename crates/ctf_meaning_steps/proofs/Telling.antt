@@ -22,14 +22,14 @@ module _ (P : Type 0) where
   Tells (Ok a) faults Q = (faults ≡ []) × Q a
   Tells (Err fault) faults Q = P → Contains faults fault
 
-  -- behind other faults that do not stand
-  tells_behind : {A : Type 0} (t : Told A) (F G : List ResolveFault) (Q : A → Type 0) → F ≡ [] → Tells t G Q → Tells t (F ++ G) Q
-  tells_behind (Ok a) F G Q e h = (append_none F G e h.0, h.1)
-  tells_behind (Err fault) F G Q e h = λ p. Contains-append_right F G fault (h p)
+  -- after other faults that do not stand
+  tells_after : {A : Type 0} (t : Told A) (F G : List ResolveFault) (Q : A → Type 0) → F ≡ [] → Tells t G Q → Tells t (F ++ G) Q
+  tells_after (Ok a) F G Q e h = (append_none F G e h.0, h.1)
+  tells_after (Err fault) F G Q e h = λ p. Contains-append_right F G fault (h p)
 
   pub tells_then : {A B : Type 0} (t : Told A) (next : A → Told B) (F G : List ResolveFault) (Q : A → Type 0) (R : B → Type 0) →
       Tells t F Q → ((a : A) → F ≡ [] → Q a → Tells (next a) G R) → Tells (t >>= next) (F ++ G) R
-  tells_then (Ok a) next F G Q R h k = tells_behind (next a) F G R h.0 (k a h.0 h.1)
+  tells_then (Ok a) next F G Q R h k = tells_after (next a) F G R h.0 (k a h.0 h.1)
   tells_then (Err fault) next F G Q R h k = λ p. Contains-append_left F G fault (h p)
 
   -- a value that is made of another
@@ -78,27 +78,27 @@ deep_by (Ok a) F G b c Q R e k r h = (sym e ∙ h.0, r a h.1)
 deep_by (Err fault) F G b c Q R e k r (inl h) = inl (subst (λ fs. Contains fs fault) e h)
 deep_by (Err fault) F G b c Q R e k r (inr h) = inr (h.0, k h.1)
 
--- behind other faults that do not stand
+-- after other faults that do not stand
 deep_more : {B : Type 0} (t : Told B) (F G : List ResolveFault) (deep : Bool) (R : B → Type 0) → F ≡ [] → TellsDeep t G deep R → TellsDeep t (F ++ G) deep R
 deep_more (Ok b) F G deep R e m = (append_none F G e m.0, m.1)
 deep_more (Err fault) F G deep R e (inl m) = inl (Contains-append_right F G fault m)
 deep_more (Err fault) F G deep R e (inr m) = inr m
 
 -- first faults that are told of no deep class
-pub deep_behind : {A B : Type 0} (t : Told A) (next : A → Told B) (F G : List ResolveFault) (deep : Bool) (Q : A → Type 0) (R : B → Type 0) →
+pub deep_after : {A B : Type 0} (t : Told A) (next : A → Told B) (F G : List ResolveFault) (deep : Bool) (Q : A → Type 0) (R : B → Type 0) →
     Tells (Unit {0}) t F Q → ((a : A) → F ≡ [] → Q a → TellsDeep (next a) G deep R) → TellsDeep (t >>= next) (F ++ G) deep R
-deep_behind (Ok a) next F G deep Q R h k = deep_more (next a) F G deep R h.0 (k a h.0 h.1)
-deep_behind (Err fault) next F G deep Q R h k = inl (Contains-append_left F G fault (h tt))
+deep_after (Ok a) next F G deep Q R h k = deep_more (next a) F G deep R h.0 (k a h.0 h.1)
+deep_after (Err fault) next F G deep Q R h k = inl (Contains-append_left F G fault (h tt))
 
 pub deep_then : {A B : Type 0} (t : Told A) (next : A → Told B) (F G : List ResolveFault) (b c : Bool) (Q : A → Type 0) (R : B → Type 0) → (b ≡ true → c ≡ true) →
     TellsDeep t F b Q → ((a : A) → F ≡ [] → Q a → Tells (Unit {0}) (next a) G R) → TellsDeep (t >>= next) (F ++ G) c R
-deep_then (Ok a) next F G b c Q R k h n = deep_as (next a) (F ++ G) c R (tells_behind (Unit {0}) (next a) F G R h.0 (n a h.0 h.1))
+deep_then (Ok a) next F G b c Q R k h n = deep_as (next a) (F ++ G) c R (tells_after (Unit {0}) (next a) F G R h.0 (n a h.0 h.1))
 deep_then (Err fault) next F G b c Q R k (inl h) n = inl (Contains-append_left F G fault h)
 deep_then (Err fault) next F G b c Q R k (inr h) n = inr (h.0, k h.1)
 
 -- where the faults that follow have that a class is too deep
 pub then_deep : {A B : Type 0} (t : Told A) (next : A → Told B) (F G : List ResolveFault) (deep : Bool) (Q : A → Type 0) (R : B → Type 0) → (deep ≡ true → Contains G TooDeep) →
     TellsDeep t F deep Q → ((a : A) → F ≡ [] → Q a → Tells (Unit {0}) (next a) G R) → Tells (Unit {0}) (t >>= next) (F ++ G) R
-then_deep (Ok a) next F G deep Q R k h n = tells_behind (Unit {0}) (next a) F G R h.0 (n a h.0 h.1)
+then_deep (Ok a) next F G deep Q R k h n = tells_after (Unit {0}) (next a) F G R h.0 (n a h.0 h.1)
 then_deep (Err fault) next F G deep Q R k (inl h) n = λ u. Contains-append_left F G fault h
 then_deep (Err fault) next F G deep Q R k (inr h) n = λ u. Contains-append_right F G fault (subst (λ f. Contains G f) (sym h.0) (k h.1))

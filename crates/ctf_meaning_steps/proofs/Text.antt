@@ -6,7 +6,7 @@ use Rattle.ctf_class.specs.declared.route.Scope.{Scope}
 use Rattle.ctf_meaning.specs.declared.fault.ResolveFault.{ResolveFault}
 use Rattle.ctf_meaning.specs.Written.{Declaration}
 use Rattle.ctf_meaning.specs.Parts.{located, located_from}
-use Rattle.ctf_meaning.specs.Names.{Entry, entries_behind, entries_in}
+use Rattle.ctf_meaning.specs.Names.{Entry, entries_after, entries_in}
 use Rattle.ctf_meaning.specs.Scopes.{scope_at}
 use Rattle.ctf_meaning.specs.Streams.{numbered}
 use Rattle.ctf_meaning.specs.Faults.{own_faults, first_faults}
@@ -15,7 +15,7 @@ use Rattle.ctf_meaning_steps.specs.Blocks.{Walked, start, declaration_told, decl
 use Rattle.ctf_meaning_steps.specs.Laws.{class_in_row}
 use Rattle.ctf_meaning.proofs.Lists.{Each, each_unmapped}
 use Rattle.ctf_meaning.proofs.Clean.{IsNone, first_none}
-use Rattle.ctf_meaning.proofs.Seen.{entries_behind-append}
+use Rattle.ctf_meaning.proofs.Seen.{entries_after-append}
 use Rattle.ctf_meaning_steps.proofs.Telling.{Tells, append_none}
 use Rattle.ctf_meaning_steps.proofs.Entries.{Reads, reads_text}
 use Rattle.ctf_meaning_steps.proofs.Rows.{Rows, rows_get, number_here}
@@ -23,8 +23,8 @@ use Rattle.ctf_meaning_steps.proofs.Declarations.{Good, Stands, declaration_tell
 
 -- a group of faults before others, which count where it is empty
 module _ (F : List ResolveFault) (Gs : List (List ResolveFault)) where
-  behind_none : {A : Type 0} (t : Told A) (Q : A → Type 0) → F ≡ [] → Tells (Unit {0}) t (first_faults Gs) Q → Tells (Unit {0}) t (first_faults (F ∷ Gs)) Q
-  behind_none t Q e h = subst (λ fs. Tells (Unit {0}) t (first_faults (fs ∷ Gs)) Q) (sym e) h
+  after_none : {A : Type 0} (t : Told A) (Q : A → Type 0) → F ≡ [] → Tells (Unit {0}) t (first_faults Gs) Q → Tells (Unit {0}) t (first_faults (F ∷ Gs)) Q
+  after_none t Q e h = subst (λ fs. Tells (Unit {0}) t (first_faults (fs ∷ Gs)) Q) (sym e) h
 
   contains_group : (f : ResolveFault) → Contains F f → Contains (first_faults (F ∷ Gs)) f
   contains_group f h = by_case F h
@@ -35,7 +35,7 @@ module _ (F : List ResolveFault) (Gs : List (List ResolveFault)) where
 
   tells_group : {A B : Type 0} (t : Told A) (next : A → Told B) (Q : A → Type 0) (R : B → Type 0) → Tells (Unit {0}) t F Q →
       ((a : A) → Q a → Tells (Unit {0}) (next a) (first_faults Gs) R) → Tells (Unit {0}) (t >>= next) (first_faults (F ∷ Gs)) R
-  tells_group (Ok a) next Q R h k = behind_none (next a) R h.0 (k a h.1)
+  tells_group (Ok a) next Q R h k = after_none (next a) R h.0 (k a h.1)
   tells_group (Err fault) next Q R h k = λ u. contains_group fault (h u)
 
 located_from-append : (n : ℕ) (xs ys : List Declaration) → located_from n (xs ++ ys) ≡ located_from n xs ++ located_from (n + length xs) ys
@@ -47,7 +47,7 @@ located_from-append n (x ∷ xs) ys =
 
 -- the entries of some declarations
 abbrev entries_before : List Declaration → List Entry
-entries_before before = entries_behind [] (located_from 0 before)
+entries_before before = entries_after [] (located_from 0 before)
 
 module _ (text : List Declaration) where
   -- where a declaration stands among the others
@@ -66,19 +66,19 @@ module _ (text : List Declaration) where
       ∙ ap (λ m. located_from 0 before ++ located_from m (d ∷ ds)) (let same : 0 + length before ≡ k = grind (arith, long) in same)
       ∙ sym (append_assoc (located_from 0 before) (located (k ∷ []) d) (located_from (k + 1) ds)))
 
-  entries_more : (before : List Declaration) (d : Declaration) (k : ℕ) → length before ≡ k → entries_behind (entries_before before) (located (k ∷ []) d) ≡ entries_before (before ++ d ∷ [])
+  entries_more : (before : List Declaration) (d : Declaration) (k : ℕ) → length before ≡ k → entries_after (entries_before before) (located (k ∷ []) d) ≡ entries_before (before ++ d ∷ [])
   entries_more before d k long =
-      sym (ap (entries_behind []) (located_from-append 0 before (d ∷ [])
+      sym (ap (entries_after []) (located_from-append 0 before (d ∷ [])
       ∙ ap (λ m. located_from 0 before ++ located_from m (d ∷ [])) (let same : 0 + length before ≡ k = grind (arith, long) in same)
       ∙ ap (λ ps. located_from 0 before ++ ps) (append-nil (located (k ∷ []) d)))
-      ∙ entries_behind-append [] (located_from 0 before) (located (k ∷ []) d))
+      ∙ entries_after-append [] (located_from 0 before) (located (k ∷ []) d))
 
   declarations_tells : (before ds : List Declaration) (k : ℕ) (walked : Walked) → text ≡ before ++ ds → length before ≡ k → Good text (entries_before before) k before walked →
       Tells (Unit {0}) (declarations_told before walked ds) (first_faults (map (own_faults text) (enumerate_from k ds))) (λ last. Rows text 0 last.rows text)
   declarations_tells before [] k walked e long good = (refl, subst (Rows text 0 walked.rows) (sym (e ∙ append-nil before)) good.rows)
   declarations_tells before (d ∷ ds) k walked e long good =
       tells_group (own_faults text (k, d)) (map (own_faults text) (enumerate_from (k + 1) ds)) (declaration_told before walked d) (λ next. declarations_told (before ++ d ∷ []) next ds)
-      (Good text (entries_behind (entries_before before) (located (k ∷ []) d)) (k + 1) (before ++ d ∷ [])) (λ last. Rows text 0 last.rows text)
+      (Good text (entries_after (entries_before before) (located (k ∷ []) d)) (k + 1) (before ++ d ∷ [])) (λ last. Rows text 0 last.rows text)
       (declaration_tells text before k (entries_before before) walked good d (stands_here before d ds k e long) (reads_here before d ds k e long))
       (λ next by. declarations_tells (before ++ d ∷ []) ds (k + 1) next (e ∙ sym (append_assoc before (d ∷ []) ds))
       (let more : length (before ++ d ∷ []) ≡ length before + 1 = length-append before (d ∷ []) in grind (arith, more, long))

@@ -10,7 +10,7 @@ use Rattle.ctf_packet.specs.ItemTimes.{time_of}
 use Rattle.ctf_stream.specs.Peeked.{told}
 use Rattle.ctf_stream.specs.Reader as reader
 use Rattle.stream_laws.specs.Times.{is_before, Rises}
-use Rattle.ctf_merge.specs.Merged.{Merged, Placed, First, item, broken, nothing, later, least, with_first, first_of, head_of, head_by, run_at, of_stream, advance, behind_first, count, ends, then, merged, InOrder, IsPlacedBefore, IsMerged, IsCut, whole, at_once, after}
+use Rattle.ctf_merge.specs.Merged.{Merged, Placed, First, item, broken, nothing, later, least, with_first, first_of, head_of, head_by, run_at, of_stream, advance, after_first, count, ends, then, merged, InOrder, IsPlacedBefore, IsMerged, IsCut, whole, at_once, after}
 use Rattle.ctf_merge.specs.Turns.{Turn, turn_cmp, turns_from, fault_at}
 use Rattle.ctf_merge.specs.declared.fault.MergeFault.TheVariants.{Stream}
 use Rattle.ctf_merge.proofs.Merging.{item-count, merged-item, merged-broken, merged-nothing}
@@ -22,14 +22,14 @@ use Rattle.ctf_merge.proofs.Rising.{low_heads}
 
 -- ---- one item less of one stream
 
-behind_item : (items : List (Item Classes)) (fault : Option StreamFault) (x : Item Classes) → head_by items fault ≡ reader.item x → items ≡ x ∷ behind_first items
-behind_item [] None x e = absurd cc
-behind_item [] (Some f) x e = absurd cc
-behind_item (y ∷ ys) fault x e = ap (λ (z : Item Classes). z ∷ ys) (let same : y ≡ x = cc in same)
+after_item : (items : List (Item Classes)) (fault : Option StreamFault) (x : Item Classes) → head_by items fault ≡ reader.item x → items ≡ x ∷ after_first items
+after_item [] None x e = absurd cc
+after_item [] (Some f) x e = absurd cc
+after_item (y ∷ ys) fault x e = ap (λ (z : Item Classes). z ∷ ys) (let same : y ≡ x = cc in same)
 
 at_same : (runs : List (Run Classes)) (n : ℕ) (x : Item Classes) → first_of (map head_of runs) ≡ item n x → (run_at n runs).items ≡ x ∷ (run_at n (advance n runs)).items
 at_same [] n x e = absurd cc
-at_same (r ∷ rs) zero x e = behind_item r.items r.fault x (front_by (head_of r) (first_of (map head_of rs)) x e)
+at_same (r ∷ rs) zero x e = after_item r.items r.fault x (front_by (head_of r) (first_of (map head_of rs)) x e)
 at_same (r ∷ rs) (suc m) x e = at_same rs m x (next_by (head_of r) (first_of (map head_of rs)) m x e)
 
 at_other : (runs : List (Run Classes)) (n i : ℕ) → n ≢ i → run_at i (advance n runs) ≡ run_at i runs
@@ -145,16 +145,16 @@ no_fault_by [] None f n x e = (refl, λ g is none. absurd cc)
 no_fault_by [] (Some g) f n x e = absurd cc
 no_fault_by (y ∷ ys) fault f n x e = (refl, λ g is none. absurd cc)
 
-behind_sound : (h : reader.Peeked) (f : First) (n : ℕ) (x : Item Classes) → with_first h (later f) ≡ item n x → (f ≡ nothing) ⊎ ((k : ℕ) × (z : Item Classes) × (f ≡ item k z))
-behind_sound h (item k z) n x e = inr (k, z, refl)
-behind_sound h (broken k g) n x e = absurd (by_head h e)
+after_sound : (h : reader.Peeked) (f : First) (n : ℕ) (x : Item Classes) → with_first h (later f) ≡ item n x → (f ≡ nothing) ⊎ ((k : ℕ) × (z : Item Classes) × (f ≡ item k z))
+after_sound h (item k z) n x e = inr (k, z, refl)
+after_sound h (broken k g) n x e = absurd (by_head h e)
   where
     by_head : (h : reader.Peeked) → with_first h (broken (suc k) g) ≡ item n x → ⊥
     by_head reader.start l = absurd cc
     by_head (reader.item y) l = absurd cc
     by_head reader.ended l = absurd cc
     by_head (reader.fault f) l = absurd cc
-behind_sound h nothing n x e = inl refl
+after_sound h nothing n x e = inl refl
 
 heads_same : (runs : List (Run Classes)) → ((first_of (map head_of runs) ≡ nothing) ⊎ ((k : ℕ) × (z : Item Classes) × (first_of (map head_of runs) ≡ item k z)))
     → (map head_of (faultless runs) ≡ map head_of runs) × ((i : ℕ) (g : StreamFault) → (run_at i runs).fault ≡ Some g → (run_at i runs).items ≡ [] → ⊥)
@@ -169,7 +169,7 @@ heads_same (r ∷ rs) (inl e) =
     at_each here rest (suc k) g is none = rest k g is none
 heads_same (r ∷ rs) (inr e) =
     let here = no_fault_by r.items r.fault (first_of (map head_of rs)) e.0 e.1 e.2 in
-    let rest = heads_same rs (behind_sound (head_of r) (first_of (map head_of rs)) e.0 e.1 e.2) in
+    let rest = heads_same rs (after_sound (head_of r) (first_of (map head_of rs)) e.0 e.1 e.2) in
     (λ i. here.0 i ∷ rest.0 i, at_each here.1 rest.1)
   where
     at_each : ((g : StreamFault) → r.fault ≡ Some g → r.items ≡ [] → ⊥) → ((i : ℕ) (g : StreamFault) → (run_at i rs).fault ≡ Some g → (run_at i rs).items ≡ [] → ⊥) → (i : ℕ) (g : StreamFault) → (run_at i (r ∷ rs)).fault ≡ Some g → (run_at i (r ∷ rs)).items ≡ [] → ⊥
@@ -297,13 +297,13 @@ each_rising : (low : Option ℤ) (runs : List (Run Classes)) → AllByRecursion 
 each_rising low [] each = tt
 each_rising low (r ∷ rs) each = (rises_none low r.items each.0, each_rising low rs each.1)
 
-behind_rising : (items : List (Item Classes)) → Rises None items → Rises None (behind_first items)
-behind_rising [] rises = tt
-behind_rising (x ∷ xs) rises = rises_none (time_of x) xs rises.1
+after_rising : (items : List (Item Classes)) → Rises None items → Rises None (after_first items)
+after_rising [] rises = tt
+after_rising (x ∷ xs) rises = rises_none (time_of x) xs rises.1
 
 advance_rising : (runs : List (Run Classes)) (n : ℕ) → EachRising runs → EachRising (advance n runs)
 advance_rising [] n each = tt
-advance_rising (r ∷ rs) zero each = (behind_rising r.items each.0, each.1)
+advance_rising (r ∷ rs) zero each = (after_rising r.items each.0, each.1)
 advance_rising (r ∷ rs) (suc m) each = (each.0, advance_rising rs m each.1)
 
 low_first : (from k : ℕ) (hs : List reader.Peeked) (t : Turn) (n : ℕ) (x : Item Classes) → k ≡ from + n → first_of hs ≡ item n x → IsLow t (turns_from from hs) → is_lt (turn_cmp (turn_of k x) t) ≡ false
@@ -320,19 +320,19 @@ low_more from (reader.item x) hs gs t low rest = (low.0, rest)
 low_more from reader.ended hs gs t low rest = (tt, rest)
 low_more from (reader.fault f) hs gs t low rest = (tt, rest)
 
-low_behind : (from : ℕ) (items : List (Item Classes)) (fault : Option StreamFault) (hs : List reader.Peeked) (t : Turn) (x : Item Classes) → head_by items fault ≡ reader.item x → Rises None items
-    → IsLow t (turns_from from (head_by items fault ∷ hs)) → IsLow t (turns_from from (head_by (behind_first items) fault ∷ hs))
-low_behind from [] None hs t x e rises low = absurd cc
-low_behind from [] (Some f) hs t x e rises low = absurd cc
-low_behind from (y ∷ []) None hs t x e rises low = (tt, low.1)
-low_behind from (y ∷ []) (Some f) hs t x e rises low = (tt, low.1)
-low_behind from (y ∷ (z ∷ zs)) fault hs t x e rises low =
+low_after : (from : ℕ) (items : List (Item Classes)) (fault : Option StreamFault) (hs : List reader.Peeked) (t : Turn) (x : Item Classes) → head_by items fault ≡ reader.item x → Rises None items
+    → IsLow t (turns_from from (head_by items fault ∷ hs)) → IsLow t (turns_from from (head_by (after_first items) fault ∷ hs))
+low_after from [] None hs t x e rises low = absurd cc
+low_after from [] (Some f) hs t x e rises low = absurd cc
+low_after from (y ∷ []) None hs t x e rises low = (tt, low.1)
+low_after from (y ∷ []) (Some f) hs t x e rises low = (tt, low.1)
+low_after from (y ∷ (z ∷ zs)) fault hs t x e rises low =
     (not_less_along (turn_of from z) (turn_of from y) t (later_number (time_of y) (time_of z) from from rises.1.0 (omega arith)) low.0, low.1)
 
 low_on : (from : ℕ) (runs : List (Run Classes)) (t : Turn) (n : ℕ) (x : Item Classes) → first_of (map head_of runs) ≡ item n x → EachRising runs → IsLow t (turns_from from (map head_of runs))
     → IsLow t (turns_from from (map head_of (advance n runs)))
 low_on from [] t n x e each low = absurd cc
-low_on from (r ∷ rs) t zero x e each low = low_behind from r.items r.fault (map head_of rs) t x (front_by (head_of r) (first_of (map head_of rs)) x e) each.0 low
+low_on from (r ∷ rs) t zero x e each low = low_after from r.items r.fault (map head_of rs) t x (front_by (head_of r) (first_of (map head_of rs)) x e) each.0 low
 low_on from (r ∷ rs) t (suc m) x e each low =
     low_more from (head_of r) (map head_of rs) (map head_of (advance m rs)) t low
     (low_on (suc from) rs t m x (next_by (head_of r) (first_of (map head_of rs)) m x e) each.1 (low_heads from (head_of r) (map head_of rs) t low).1)
@@ -367,8 +367,8 @@ order_by_first runs others each = by_first (first_of (map head_of runs)) refl
     by_first : (f : First) → first_of (map head_of runs) ≡ f → InOrder (merged runs).items
     by_first (item n x) e =
         let low = low_on 0 runs (turn_of n x) n x e each (lows 0 n (map head_of runs) n x (omega arith) e) in
-        let behind = low_by (count (advance n runs)) (advance n runs) (turn_of n x) refl (advance_rising runs n each) low in
-        subst (λ (m : Merged). InOrder m.items) (sym (merged-item runs n x e)) (all_placed (record { number = n; item = x }) (merged (advance n runs)).items behind, others n x e)
+        let after = low_by (count (advance n runs)) (advance n runs) (turn_of n x) refl (advance_rising runs n each) low in
+        subst (λ (m : Merged). InOrder m.items) (sym (merged-item runs n x e)) (all_placed (record { number = n; item = x }) (merged (advance n runs)).items after, others n x e)
     by_first (broken n f) e = subst (λ (m : Merged). InOrder m.items) (sym (merged-broken runs n f e)) tt
     by_first nothing e = subst (λ (m : Merged). InOrder m.items) (sym (merged-nothing runs e)) tt
 

@@ -47,11 +47,11 @@ gives_item m new h (Some y) tells told first goes =
       first.length,
       first.it.rest,
       here ∙ ap (λ (z : Item Classes). then (record { number = first.number; item = z }) first.it.rest) first.same,
-      goes.behind_item (record { number = first.number; item = first.it.next }) first.it.rest here,
+      goes.after_item (record { number = first.number; item = first.it.next }) first.it.rest here,
     )
 gives_item m new h None tells told first goes = absurd told
 
--- the reader of the item in front has left it behind
+-- the reader of the item in front has left it after
 pub leaves_front : (m : Merge) (n : ℕ) (x : Item Classes) (before after : Reader) → InFront m n x → before ≡ get_or m.readers n before → IsFetched after.ahead
     → (IsTrue before.tells → OrRefused (rest_of before) (coming after)) → LeavesFront (first_now m) m.readers (set m.readers n after)
 leaves_front m n x before after at is fetched goes =

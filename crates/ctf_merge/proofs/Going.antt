@@ -8,7 +8,7 @@ use Rattle.ctf_packet.specs.Items.{Run, Item}
 use Rattle.ctf_packet.specs.declared.fault.StreamFault.{StreamFault}
 use Rattle.ctf_packet.specs.ItemTimes.{time_of}
 use Rattle.ctf_stream.specs.Reader as reader
-use Rattle.ctf_stream.specs.Reader.{Reader, coming, rest_of, RoomTaken, with_ahead, behind_ahead, OrRefused, IsFetched}
+use Rattle.ctf_stream.specs.Reader.{Reader, coming, rest_of, RoomTaken, with_ahead, after_ahead, OrRefused, IsFetched}
 use Rattle.stream_laws.specs.Times.{is_before}
 use Rattle.ctf_merge.specs.Merged.{Merged, Placed, First, item, broken, nothing, later, least, with_first, first_of, head_of, run_at, advance, without_first, ends, then, merged}
 use Rattle.ctf_merge.specs.Merges.{Merge, coming_of, first_now, GoesOn, MergedOrRefused, EachFetched, EachTells, EachOnLine, EachAllTaken, Fetched, EachIsFetched, FetchedUpTo, room_of, RoomLeft, names_of, traces_of, writes_of, given_of, LeavesOne, EachComes}
@@ -20,15 +20,15 @@ use Rattle.ctf_merge.proofs.Merging.{later_item, least_item, merged-item, merged
 
 -- ---- what stands in front is what is to come first
 
-head-coming : (h : reader.Peeked) (cut : ℕ) (behind : Run Classes) → IsFetched h → head_of (with_ahead h (behind_ahead h cut behind)) ≡ h
-head-coming reader.start cut behind f = absurd f
-head-coming (reader.item x) cut behind f = refl
-head-coming reader.ended cut behind f = refl
-head-coming (reader.fault g) cut behind f = refl
+head-coming : (h : reader.Peeked) (cut : ℕ) (after : Run Classes) → IsFetched h → head_of (with_ahead h (after_ahead h cut after)) ≡ h
+head-coming reader.start cut after f = absurd f
+head-coming (reader.item x) cut after f = refl
+head-coming reader.ended cut after f = refl
+head-coming (reader.fault g) cut after f = refl
 
 heads-coming : (readers : List Reader) → EachFetched readers → map head_of (map coming readers) ≡ map (λ r. r.ahead) readers
 heads-coming [] each = refl
-heads-coming (r ∷ rs) each = λ i. head-coming r.ahead r.cut r.behind each.0 i ∷ heads-coming rs each.1 i
+heads-coming (r ∷ rs) each = λ i. head-coming r.ahead r.cut r.after each.0 i ∷ heads-coming rs each.1 i
 
 pub first-coming : (readers : List Reader) → EachFetched readers → first_of (map head_of (map coming readers)) ≡ first_of (map (λ r. r.ahead) readers)
 first-coming readers each = ap first_of (heads-coming readers each)
@@ -95,13 +95,13 @@ next_by h f m x e = by_head h e
     number_is : (k : ℕ) → suc m ≡ suc k → k ≡ m
     number_is k h = omega (arith, h)
 
-    behind : later f ≡ item (suc m) x → f ≡ item m x
-    behind k = let before_it = later_item f (suc m) x k in before_it.1.1 ∙ ap (λ (j : ℕ). item j x) (number_is before_it.0 before_it.1.0)
+    after : later f ≡ item (suc m) x → f ≡ item m x
+    after k = let before_it = later_item f (suc m) x k in before_it.1.1 ∙ ap (λ (j : ℕ). item j x) (number_is before_it.0 before_it.1.0)
 
     by_head : (h : reader.Peeked) → with_first h (later f) ≡ item (suc m) x → f ≡ item m x
-    by_head reader.start k = behind k
-    by_head (reader.item y) k = elim (least_item y (later f) (suc m) x k) [ inl z ↦ absurd cc | inr j ↦ behind j ]
-    by_head reader.ended k = behind k
+    by_head reader.start k = after k
+    by_head (reader.item y) k = elim (least_item y (later f) (suc m) x k) [ inl z ↦ absurd cc | inr j ↦ after j ]
+    by_head reader.ended k = after k
     by_head (reader.fault g) k = absurd cc
 
 -- the first item is what stands in front of its reader
@@ -120,12 +120,12 @@ in_range [] n x e = absurd cc
 in_range (s ∷ rs) zero x e = omega arith
 in_range (s ∷ rs) (suc m) x e = let lt = in_range rs m x (next_by s.ahead (first_of (map (λ t. t.ahead) rs)) m x e) in omega (arith, lt)
 
-rest_by : (h : reader.Peeked) (cut : ℕ) (behind : Run Classes) (y : Item Classes) → h ≡ reader.item y
-    → without_first (with_ahead h (behind_ahead h cut behind)) ≡ behind_ahead h cut behind
-rest_by reader.start cut behind y e = absurd cc
-rest_by (reader.item x) cut behind y e = refl
-rest_by reader.ended cut behind y e = absurd cc
-rest_by (reader.fault g) cut behind y e = absurd cc
+rest_by : (h : reader.Peeked) (cut : ℕ) (after : Run Classes) (y : Item Classes) → h ≡ reader.item y
+    → without_first (with_ahead h (after_ahead h cut after)) ≡ after_ahead h cut after
+rest_by reader.start cut after y e = absurd cc
+rest_by (reader.item x) cut after y e = refl
+rest_by reader.ended cut after y e = absurd cc
+rest_by (reader.fault g) cut after y e = absurd cc
 
 -- ---- a list of readers, one of them anew
 
@@ -156,7 +156,7 @@ room-set [] n old new lt is less = absurd (omega (arith, lt))
 room-set (s ∷ rs) zero old new lt is less = let same = ap (λ (r : Reader). r.room) is in omega (arith, less, same)
 room-set (s ∷ rs) (suc m) old new lt is less = let rest = room-set rs m old new (omega (arith, lt)) is less in omega (arith, rest)
 
--- ---- what stands in front is left behind
+-- ---- what stands in front is passed
 
 abbrev rest_placed : List Placed → List Placed
 rest_placed [] = []
@@ -171,26 +171,26 @@ goes-item m n x old new over open_ each e is went =
     let here = open_item m n x e in
     let at = front m.readers n x old here.1 is in
     let is_item = coming-item m n x each e in
-    let rest_is : without_first (run_at n (map coming m.readers)) ≡ rest_of old = ap without_first at.2 ∙ rest_by old.ahead old.cut old.behind x at.1 in
+    let rest_is : without_first (run_at n (map coming m.readers)) ≡ rest_of old = ap without_first at.2 ∙ rest_by old.ahead old.cut old.after x at.1 in
     let gone = gone_on (map coming m.readers) n x (coming new) (first-coming m.readers each ∙ here.1) (subst (λ (t : Run Classes). OrRefused t (coming new)) (sym rest_is) went) in
     let now : coming_of (record { readers = set m.readers n new; over = over }) ≡ merged (set (map coming m.readers) n (coming new)) =
     ap (λ (b : Bool). cond b (ends None) (merged (map coming (set m.readers n new)))) open_ ∙ ap merged (map-set coming m.readers n new) in
     record {
-      behind_item = λ y rest h. subst (λ (t : Merged). MergedOrRefused rest t) (sym now)
+      after_item = λ y rest h. subst (λ (t : Merged). MergedOrRefused rest t) (sym now)
           (subst (λ (t : Merged). MergedOrRefused t (merged (set (map coming m.readers) n (coming new)))) (then_rest _ y _ rest (sym is_item ∙ h)) gone);
-      behind_fault = λ none. absurd (let no = sym none ∙ ap (λ (t : Merged). t.items) is_item in cc);
+      after_fault = λ none. absurd (let no = sym none ∙ ap (λ (t : Merged). t.items) is_item in cc);
     }
 
 pub goes-fault : (old new : Merged) (f : MergeFault) → old ≡ ends (Some f) → new ≡ ends None → GoesOn old new
 goes-fault old new f is now = record {
-  behind_item = λ y rest h. absurd (let no = sym (ap (λ (t : Merged). t.items) is) ∙ ap (λ (t : Merged). t.items) h in cc);
-  behind_fault = λ none. now;
+  after_item = λ y rest h. absurd (let no = sym (ap (λ (t : Merged). t.items) is) ∙ ap (λ (t : Merged). t.items) h in cc);
+  after_fault = λ none. now;
 }
 
 pub goes-nothing : (m : Merged) → m ≡ ends None → GoesOn m m
 goes-nothing m is = record {
-  behind_item = λ y rest h. absurd (let no = sym (ap (λ (t : Merged). t.items) is) ∙ ap (λ (t : Merged). t.items) h in cc);
-  behind_fault = λ none. is;
+  after_item = λ y rest h. absurd (let no = sym (ap (λ (t : Merged). t.items) is) ∙ ap (λ (t : Merged). t.items) h in cc);
+  after_fault = λ none. is;
 }
 
 -- ---- a merge that was made
@@ -319,7 +319,7 @@ length-fetched [] (s ∷ ss) each = absurd each
 length-fetched (r ∷ rs) [] each = absurd each
 length-fetched (r ∷ rs) (s ∷ ss) each = let more = length-fetched rs ss each.1 in omega (arith, more)
 
--- the reader in front leaves its item behind
+-- the reader in front leaves its item after
 pub leaves_one : (readers : List Reader) (n : ℕ) (x : Item Classes) (before after : Reader) → first_of (map (λ s. s.ahead) readers) ≡ item n x → before ≡ get_or readers n before
     → IsFetched after.ahead → (IsTrue before.tells → OrRefused (rest_of before) (coming after)) → LeavesOne n readers (set readers n after)
 leaves_one readers n x before after first is fetched goes =

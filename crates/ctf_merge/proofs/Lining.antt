@@ -31,10 +31,10 @@ not_broken_by : (h : reader.Peeked) (hs : List reader.Peeked) (i : ℕ) (f : Str
     → first_of (h ∷ hs) ≡ broken i f → ⊥
 not_broken_by h hs i f others sound e = by_head h sound e
   where
-    behind : (g : First) → first_of hs ≡ g → later g ≡ broken i f → ⊥
-    behind (item j x) is l = absurd cc
-    behind (broken j k) is l = others j k is
-    behind nothing is l = absurd cc
+    after : (g : First) → first_of hs ≡ g → later g ≡ broken i f → ⊥
+    after (item j x) is l = absurd cc
+    after (broken j k) is l = others j k is
+    after nothing is l = absurd cc
 
     by_item : (y : Item Classes) (g : First) → first_of hs ≡ g → least y (later g) ≡ broken i f → ⊥
     by_item y (item j z) is l = either (is_before (time_of z) (time_of y)) l
@@ -46,9 +46,9 @@ not_broken_by h hs i f others sound e = by_head h sound e
     by_item y nothing is l = absurd cc
 
     by_head : (h : reader.Peeked) → fault_at (told h) ≡ None → with_first h (later (first_of hs)) ≡ broken i f → ⊥
-    by_head reader.start s l = behind (first_of hs) refl l
+    by_head reader.start s l = after (first_of hs) refl l
     by_head (reader.item y) s l = by_item y (first_of hs) refl l
-    by_head reader.ended s l = behind (first_of hs) refl l
+    by_head reader.ended s l = after (first_of hs) refl l
     by_head (reader.fault g) s l = absurd cc
 
 pub not_broken : (hs : List reader.Peeked) (i : ℕ) (f : StreamFault) → AllSound hs → first_of hs ≡ broken i f → ⊥
@@ -115,16 +115,16 @@ fault_is (reader.item y) f e = absurd cc
 fault_is reader.ended f e = absurd cc
 fault_is (reader.fault g) f e = ap (λ (k : StreamFault). reader.fault k) (let same : g ≡ f = cc in same)
 
-behind_sound : (h : reader.Peeked) (g : First) (i : ℕ) (f : StreamFault) → fault_at (told h) ≡ None → g ≡ broken i f → with_first h (later g) ≡ broken (suc i) f
-behind_sound reader.start g i f sound e = rw e refl
-behind_sound (reader.item y) g i f sound e = rw e refl
-behind_sound reader.ended g i f sound e = rw e refl
-behind_sound (reader.fault k) g i f sound e = absurd cc
+after_sound : (h : reader.Peeked) (g : First) (i : ℕ) (f : StreamFault) → fault_at (told h) ≡ None → g ≡ broken i f → with_first h (later g) ≡ broken (suc i) f
+after_sound reader.start g i f sound e = rw e refl
+after_sound (reader.item y) g i f sound e = rw e refl
+after_sound reader.ended g i f sound e = rw e refl
+after_sound (reader.fault k) g i f sound e = absurd cc
 
 pub broken_again : (hs : List reader.Peeked) (n : ℕ) (h : reader.Peeked) (f : StreamFault) → AllSound hs → n < length hs → fault_at (told h) ≡ Some f → first_of (set hs n h) ≡ broken n f
 broken_again [] n h f sound lt e = absurd (omega (arith, lt))
 broken_again (g ∷ hs) zero h f sound lt e = rw (fault_is h f e) refl
-broken_again (g ∷ hs) (suc m) h f sound lt e = behind_sound g (first_of (set hs m h)) m f sound.0 (broken_again hs m h f sound.1 (omega (arith, lt)) e)
+broken_again (g ∷ hs) (suc m) h f sound lt e = after_sound g (first_of (set hs m h)) m f sound.0 (broken_again hs m h f sound.1 (omega (arith, lt)) e)
 
 -- ---- the streams are lined up one after the other
 
@@ -165,7 +165,7 @@ pub broken_first : (rs : List Reader) (i : ℕ) (r : Reader) (f : StreamFault) �
     → first_of (heads_of rs) ≡ broken i f
 broken_first [] i r f lt is sound e = absurd (omega (arith, lt))
 broken_first (s ∷ rs) zero r f lt is sound e = rw (sym (ap (λ (q : Reader). q.ahead) is) ∙ fault_is r.ahead f e) refl
-broken_first (s ∷ rs) (suc m) r f lt is sound e = behind_sound s.ahead (first_of (heads_of rs)) m f sound.0 (broken_first rs m r f (omega (arith, lt)) is sound.1 e)
+broken_first (s ∷ rs) (suc m) r f lt is sound e = after_sound s.ahead (first_of (heads_of rs)) m f sound.0 (broken_first rs m r f (omega (arith, lt)) is sound.1 e)
 
 length-heads : (rs : List Reader) → length (heads_of rs) ≡ length rs
 length-heads [] = refl

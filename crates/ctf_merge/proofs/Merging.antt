@@ -49,8 +49,8 @@ count_by r rs i x others e = by_items r.items r.fault e
     one_more : (n : ℕ) (m : ℕ) → first_of (map head_of rs) ≡ item m x → n + count rs ≡ suc (n + count (advance m rs))
     one_more n m h = let falls = others m h in omega (arith, falls)
 
-    behind : (items : List (Item Classes)) → later (first_of (map head_of rs)) ≡ item i x → length items + count rs ≡ suc (count (advance i (record r { items = items } ∷ rs)))
-    behind items h =
+    after : (items : List (Item Classes)) → later (first_of (map head_of rs)) ≡ item i x → length items + count rs ≡ suc (count (advance i (record r { items = items } ∷ rs)))
+    after items h =
         let before_it = later_item (first_of (map head_of rs)) i x h in
         rw before_it.1.0 (one_more (length items) before_it.0 before_it.1.1)
 
@@ -59,9 +59,9 @@ count_by r rs i x others e = by_items r.items r.fault e
 
     by_items : (items : List (Item Classes)) (fault : Option StreamFault) → with_first (head_by items fault) (later (first_of (map head_of rs))) ≡ item i x
         → length items + count rs ≡ suc (count (advance i (record r { items = items } ∷ rs)))
-    by_items [] None h = behind [] h
+    by_items [] None h = after [] h
     by_items [] (Some f) h = absurd cc
-    by_items (y ∷ ys) fault h = elim (least_item y (later (first_of (map head_of rs))) i x h) [ inl z ↦ here y ys z | inr k ↦ behind (y ∷ ys) k ]
+    by_items (y ∷ ys) fault h = elim (least_item y (later (first_of (map head_of rs))) i x h) [ inl z ↦ here y ys z | inr k ↦ after (y ∷ ys) k ]
 
 pub item-count : (rs : List (Run Classes)) (i : ℕ) (x : Item Classes) → first_of (map head_of rs) ≡ item i x → count rs ≡ suc (count (advance i rs))
 item-count [] i x e = absurd cc
@@ -108,16 +108,16 @@ refused_by r rs (suc m) x run is others e = by_head (head_of r) e
     number_is : (k : ℕ) → suc m ≡ suc k → k ≡ m
     number_is k h = omega (arith, h)
 
-    behind : later (first_of (map head_of rs)) ≡ item (suc m) x → first_of (map head_of (set rs m run)) ≡ broken m faults.NoMemory
-    behind h =
+    after : later (first_of (map head_of rs)) ≡ item (suc m) x → first_of (map head_of (set rs m run)) ≡ broken m faults.NoMemory
+    after h =
         let before_it = later_item (first_of (map head_of rs)) (suc m) x h in
         others m (before_it.1.1 ∙ ap (λ (k : ℕ). item k x) (number_is before_it.0 before_it.1.0))
 
     by_head : (h : reader.Peeked) → with_first h (later (first_of (map head_of rs))) ≡ item (suc m) x
         → with_first h (later (first_of (map head_of (set rs m run)))) ≡ broken (suc m) faults.NoMemory
-    by_head reader.start k = rw (behind k) refl
-    by_head (reader.item y) k = elim (least_item y (later (first_of (map head_of rs))) (suc m) x k) [ inl z ↦ absurd cc | inr j ↦ rw (behind j) refl ]
-    by_head reader.ended k = rw (behind k) refl
+    by_head reader.start k = rw (after k) refl
+    by_head (reader.item y) k = elim (least_item y (later (first_of (map head_of rs))) (suc m) x k) [ inl z ↦ absurd cc | inr j ↦ rw (after j) refl ]
+    by_head reader.ended k = rw (after k) refl
     by_head (reader.fault f) k = absurd cc
 
 pub refused-first : (rs : List (Run Classes)) (n : ℕ) (x : Item Classes) (run : Run Classes) → head_of run ≡ reader.fault faults.NoMemory

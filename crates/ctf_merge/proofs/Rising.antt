@@ -38,11 +38,11 @@ rises_from low from t (r ∷ rs) is_low each =
     let here = low_heads from (head_of r) (map head_of rs) t is_low in
     (run_from low t.time r.items r.fault here.0 each.0, rises_from low (suc from) t rs here.1 each.1)
 
-behind_rises : (low : Option ℤ) (items : List (Item Classes)) (fault : Option StreamFault) (at : ℕ) (x : Item Classes) → head_by items fault ≡ reader.item x → Rises low items
+after_rises : (low : Option ℤ) (items : List (Item Classes)) (fault : Option StreamFault) (at : ℕ) (x : Item Classes) → head_by items fault ≡ reader.item x → Rises low items
     → NotBefore low (time_of x) × Rises (time_of x) (without_first (record { items = items; fault = fault; at = at })).items
-behind_rises low [] None at x e rises = absurd cc
-behind_rises low [] (Some f) at x e rises = absurd cc
-behind_rises low (y ∷ ys) fault at x e rises =
+after_rises low [] None at x e rises = absurd cc
+after_rises low [] (Some f) at x e rises = absurd cc
+after_rises low (y ∷ ys) fault at x e rises =
     let same : y ≡ x = cc in
     (subst (λ (z : Item Classes). NotBefore low (time_of z)) same rises.0, subst (λ (z : Item Classes). Rises (time_of z) ys) same rises.1)
 
@@ -51,7 +51,7 @@ advance_rises : (low time : Option ℤ) (runs : List (Run Classes)) (n : ℕ) (x
     → NotBefore low (time_of x) × RunsRise time (advance n runs)
 advance_rises low time [] n x e is each from = absurd cc
 advance_rises low time (r ∷ rs) zero x e is each from =
-    let here = behind_rises low r.items r.fault r.at x (front_by (head_of r) (first_of (map head_of rs)) x e) each.0 in
+    let here = after_rises low r.items r.fault r.at x (front_by (head_of r) (first_of (map head_of rs)) x e) each.0 in
     (here.0, (subst (λ (t : Option ℤ). Rises t (without_first r).items) (sym is) here.1, from.1))
 advance_rises low time (r ∷ rs) (suc m) x e is each from =
     let there = advance_rises low time rs m x (next_by (head_of r) (first_of (map head_of rs)) m x e) is each.1 from.1 in
@@ -99,11 +99,11 @@ pub rises_on : (old new : Merged) → GoesOn old new → PlacedRise None old.ite
 rises_on old new goes rises = by_items old.items refl
   where
     by_items : (items : List Placed) → old.items ≡ items → PlacedRise None new.items
-    by_items [] e = subst (λ (t : Merged). PlacedRise None t.items) (sym (goes.behind_fault e)) tt
+    by_items [] e = subst (λ (t : Merged). PlacedRise None t.items) (sym (goes.after_fault e)) tt
     by_items (x ∷ xs) e =
         let rest : Merged = record { items = xs; fault = old.fault } in
         let all : PlacedRise None (x ∷ xs) = subst (λ (l : List Placed). PlacedRise None l) e rises in
-        refused_rises rest new (goes.behind_item x rest (λ i. record { items = e i; fault = old.fault })) (rest_rises (time_of x.item) xs all.1)
+        refused_rises rest new (goes.after_item x rest (λ i. record { items = e i; fault = old.fault })) (rest_rises (time_of x.item) xs all.1)
 
 pub none_before : (low : Option ℤ) (items : List Placed) → PlacedRise low items → AllByRecursion (λ x. NotBefore low (time_of x.item)) items
 none_before low [] rises = tt

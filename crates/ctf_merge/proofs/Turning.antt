@@ -184,10 +184,10 @@ NoTurns turns = AllByRecursion (λ t. t ≡ None) turns
 pub no_turns_by : (from : ℕ) (h : reader.Peeked) (hs : List reader.Peeked) → (first_of hs ≡ nothing → NoTurns (turns_from (suc from) hs)) → first_of (h ∷ hs) ≡ nothing → NoTurns (turns_from from (h ∷ hs))
 no_turns_by from h hs others e = by_head h (first_of hs) refl e
   where
-    behind : (f : First) → later f ≡ nothing → f ≡ nothing
-    behind (item i x) e = absurd cc
-    behind (broken i f) e = absurd cc
-    behind nothing e = refl
+    after : (f : First) → later f ≡ nothing → f ≡ nothing
+    after (item i x) e = absurd cc
+    after (broken i f) e = absurd cc
+    after nothing e = refl
 
     not_least : (y : Item Classes) (f : First) → least y f ≡ nothing → ⊥
     not_least y (item i z) e = either (is_before (time_of z) (time_of y)) e
@@ -199,9 +199,9 @@ no_turns_by from h hs others e = by_head h (first_of hs) refl e
     not_least y nothing e = absurd cc
 
     by_head : (h : reader.Peeked) (f : First) → first_of hs ≡ f → with_first h (later f) ≡ nothing → NoTurns (turns_from from (h ∷ hs))
-    by_head reader.start f is e = (refl, others (is ∙ behind f e))
+    by_head reader.start f is e = (refl, others (is ∙ after f e))
     by_head (reader.item y) f is e = absurd (not_least y (later f) e)
-    by_head reader.ended f is e = (refl, others (is ∙ behind f e))
+    by_head reader.ended f is e = (refl, others (is ∙ after f e))
     by_head (reader.fault g) f is e = absurd cc
 
 pub no_turns : (from : ℕ) (hs : List reader.Peeked) → first_of hs ≡ nothing → NoTurns (turns_from from hs)
@@ -222,8 +222,8 @@ pub lows_by : (from k : ℕ) (h : reader.Peeked) (hs : List reader.Peeked) (n : 
     → k ≡ from + n → first_of (h ∷ hs) ≡ item n x → IsLow (turn_of k x) (turns_from from (h ∷ hs))
 lows_by from k h hs n x others is e = by_head h e
   where
-    behind : later (first_of hs) ≡ item n x → IsLow (turn_of k x) (turns_from (suc from) hs)
-    behind l =
+    after : later (first_of hs) ≡ item n x → IsLow (turn_of k x) (turns_from (suc from) hs)
+    after l =
         let it = later_item (first_of hs) n x l in
         let number = it.1.0 in
         others k it.0 x (omega (arith, is, number)) it.1.1
@@ -259,9 +259,9 @@ lows_by from k h hs n x others is e = by_head h e
         subst (λ (t : Turn). IsLow t (turns_from from (reader.item y ∷ hs))) (λ i. turn_of (k_is i) (same i)) all
 
     by_head : (h : reader.Peeked) → with_first h (later (first_of hs)) ≡ item n x → IsLow (turn_of k x) (turns_from from (h ∷ hs))
-    by_head reader.start l = (tt, behind l)
+    by_head reader.start l = (tt, after l)
     by_head (reader.item y) l = by_item y (first_of hs) refl l
-    by_head reader.ended l = (tt, behind l)
+    by_head reader.ended l = (tt, after l)
     by_head (reader.fault f) l = absurd cc
 
 pub lows : (from k : ℕ) (hs : List reader.Peeked) (n : ℕ) (x : Item Classes) → k ≡ from + n → first_of hs ≡ item n x → IsLow (turn_of k x) (turns_from from hs)

@@ -99,12 +99,12 @@ abbrev pub first_of : List reader.Peeked → First
 first_of [] = nothing
 first_of (h ∷ hs) = with_first h (later (first_of hs))
 
-abbrev pub behind_first : List (Item Classes) → List (Item Classes)
-behind_first [] = []
-behind_first (x ∷ xs) = xs
+abbrev pub after_first : List (Item Classes) → List (Item Classes)
+after_first [] = []
+after_first (x ∷ xs) = xs
 
 abbrev pub without_first : Run Classes → Run Classes
-without_first run = record { items = behind_first run.items; fault = run.fault; at = run.at }
+without_first run = record { items = after_first run.items; fault = run.fault; at = run.at }
 
 -- the runs without the first item of one of them
 abbrev pub advance : ℕ → List (Run Classes) → List (Run Classes)

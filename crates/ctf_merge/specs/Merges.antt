@@ -86,8 +86,8 @@ MergedOrRefused m actual = (actual ≡ m) ⊎ ((actual.items ≡ []) × ((f : Me
 
 -- What was current is gone past: an item, or the fault, after which nothing comes.
 pub record GoesOn (old new : Merged) : Type 0 where
-  pub behind_item : (x : Placed) (rest : Merged) → old ≡ then x rest → MergedOrRefused rest new
-  pub behind_fault : old.items ≡ [] → new ≡ ends None
+  pub after_item : (x : Placed) (rest : Merged) → old ≡ then x rest → MergedOrRefused rest new
+  pub after_fault : old.items ≡ [] → new ≡ ends None
 
 -- the number of the stream of the current item
 abbrev pub number_in : First → Option ℕ

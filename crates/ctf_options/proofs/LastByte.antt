@@ -30,7 +30,7 @@ closed : (rest : List ℕ) (r : Option (Bor (List ℕ)))
 closed rest None h = grind (arith, common_steps, not_closed rest h)
 closed rest (Some x) h = rw h (sym (within x.now))
 
--- behind a bracket the text has to end with one
+-- after a bracket the text has to end with one
 pub bracketed : (text rest : List ℕ) (r : Option (Bor (List ℕ))) → text ≡ 91 ∷ rest
     → MatchOption r ((front : List ℕ) → rest ≢ front ++ (93 ∷ [])) (λ x. rest ≡ x.now ++ (93 ∷ []))
     → given r ≡ unbracketed text

@@ -59,7 +59,7 @@ refused words error Bad memory help kind bad (inl e) = absurd (unlike (memory e)
 refused words error Bad memory help kind bad (inr among) = (kind_of error, among, bad refl)
 refused words error NoMemory memory help kind bad h = tt
 
--- the words behind the first
+-- the words after the first
 pub asked : {Z : Type 0} (words : List (String Z)) → list_any (λ word. is_help (string_bytes word)) (take (length words - 1) (drop 1 words)) ≡ asks_help (map string_bytes words)
 asked [] = refl
 asked (word ∷ words) =

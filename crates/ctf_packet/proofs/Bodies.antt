@@ -14,17 +14,17 @@ module _ (shared_class own_class : Option Form) (fields_class : Form) (bytes : L
   abbrev pub At : Scope → Option Form → Known → ℕ → Result ℕ StreamFault → Known → Type 0
   At scope k known place result after = PutsScope scope (values_of known) (scope_at fault_in_record k (input_of bytes content (values_of known)) place known.spent) result after
 
-  abbrev behind_own : Values → Stood → Result Body StreamFault
-  behind_own v own =
+  abbrev after_own : Values → Stood → Result Body StreamFault
+  after_own v own =
       let with_own = put EventContext own.value v in
       scope_at fault_in_record (Some fields_class) (input_of bytes content with_own) own.end own.spent >>= (λ fields. Ok (record { values = put EventFields fields.value with_own; end = fields.end }))
 
-  abbrev behind_shared : Values → Stood → Result Body StreamFault
-  behind_shared v shared =
+  abbrev after_shared : Values → Stood → Result Body StreamFault
+  after_shared v shared =
       let with_shared = put StreamEventContext shared.value v in
-      scope_at fault_in_record own_class (input_of bytes content with_shared) shared.end shared.spent >>= behind_own with_shared
+      scope_at fault_in_record own_class (input_of bytes content with_shared) shared.end shared.spent >>= after_own with_shared
 
-  opens : (known : Known) (place : ℕ) → bodied shared_class own_class fields_class bytes content (values_of known) place known.spent ≡ (scope_at fault_in_record shared_class (input_of bytes content (values_of known)) place known.spent >>= behind_shared (values_of known))
+  opens : (known : Known) (place : ℕ) → bodied shared_class own_class fields_class bytes content (values_of known) place known.spent ≡ (scope_at fault_in_record shared_class (input_of bytes content (values_of known)) place known.spent >>= after_shared (values_of known))
   unfolding bodied
   opens known place = refl
 
@@ -32,7 +32,7 @@ module _ (shared_class own_class : Option Form) (fields_class : Form) (bytes : L
   Refuses known place f = (bodied shared_class own_class fields_class bytes content (values_of known) place known.spent ≡ Err f) ⊎ (f ≡ faults.NoMemory)
 
   pub no_shared : (known after : Known) (place : ℕ) (f : StreamFault) → At StreamEventContext shared_class known place (Err f) after → Refuses known place f
-  no_shared known after place f (inl e) = inl (opens known place ∙ ap (λ r. r >>= behind_shared (values_of known)) e)
+  no_shared known after place f (inl e) = inl (opens known place ∙ ap (λ r. r >>= after_shared (values_of known)) e)
   no_shared known after place f (inr e) = inr e
 
   -- a scope's value leads to where the code stands
@@ -41,14 +41,14 @@ module _ (shared_class own_class : Option Form) (fields_class : Form) (bytes : L
   next scope k l known after place end h = λ i. scope_at fault_in_record l (input_of bytes content (sym h.4 i)) (sym h.2 i) (sym h.3 i)
 
   to_own : (known mid : Known) (place end : ℕ) (h : At StreamEventContext shared_class known place (Ok end) mid)
-      → bodied shared_class own_class fields_class bytes content (values_of known) place known.spent ≡ (scope_at fault_in_record own_class (input_of bytes content (values_of mid)) end mid.spent >>= behind_own (values_of mid))
+      → bodied shared_class own_class fields_class bytes content (values_of known) place known.spent ≡ (scope_at fault_in_record own_class (input_of bytes content (values_of mid)) end mid.spent >>= after_own (values_of mid))
   to_own known mid place end h =
       opens known place
-      ∙ (ap (λ r. r >>= behind_shared (values_of known)) h.1
-      ∙ (λ i. next StreamEventContext shared_class own_class known mid place end h i >>= behind_own (sym h.4 i)))
+      ∙ (ap (λ r. r >>= after_shared (values_of known)) h.1
+      ∙ (λ i. next StreamEventContext shared_class own_class known mid place end h i >>= after_own (sym h.4 i)))
 
   pub no_own : (known mid after : Known) (place end : ℕ) (f : StreamFault) → At StreamEventContext shared_class known place (Ok end) mid → At EventContext own_class mid end (Err f) after → Refuses known place f
-  no_own known mid after place end f h (inl e) = inl (to_own known mid place end h ∙ ap (λ r. r >>= behind_own (values_of mid)) e)
+  no_own known mid after place end f h (inl e) = inl (to_own known mid place end h ∙ ap (λ r. r >>= after_own (values_of mid)) e)
   no_own known mid after place end f h (inr e) = inr e
 
   to_fields : (known mid last : Known) (place end further : ℕ) (h : At StreamEventContext shared_class known place (Ok end) mid) (g : At EventContext own_class mid end (Ok further) last)
@@ -56,7 +56,7 @@ module _ (shared_class own_class : Option Form) (fields_class : Form) (bytes : L
       ≡ (scope_at fault_in_record (Some fields_class) (input_of bytes content (values_of last)) further last.spent >>= (λ fields. Ok (record { values = put EventFields fields.value (values_of last); end = fields.end })))
   to_fields known mid last place end further h g =
       to_own known mid place end h
-      ∙ (ap (λ r. r >>= behind_own (values_of mid)) g.1
+      ∙ (ap (λ r. r >>= after_own (values_of mid)) g.1
       ∙ (λ i. next EventContext own_class (Some fields_class) mid last end further g i >>= (λ fields. Ok (record { values = put EventFields fields.value (sym g.4 i); end = fields.end }))))
 
   pub no_fields : (known mid last after : Known) (place end further : ℕ) (f : StreamFault) → At StreamEventContext shared_class known place (Ok end) mid → At EventContext own_class mid end (Ok further) last → At EventFields (Some fields_class) last further (Err f) after → Refuses known place f

@@ -32,13 +32,13 @@ module _ (P : Integer → Val → Type 0) where
     ConformsOption (part n k ps) zero v = Conforms k v
     ConformsOption (part n k ps) (suc i) v = ConformsOption ps i v
 
-  -- values behind those that are done
-  abbrev Behind : (List Val → Type 0) → List Val → List Val → Type 0
-  Behind T done vs = (ws : List Val) × (vs ≡ done ++ ws) × T ws
+  -- values after those that are done
+  abbrev After : (List Val → Type 0) → List Val → List Val → Type 0
+  After T done vs = (ws : List Val) × (vs ≡ done ++ ws) × T ws
 
   module _ (read : (c : Input) (i : Integer) (b : ℕ) → P i (integer_at c i b)) where
     row_conforms : (R : ℕ → Val → ℕ → Type 0) (T : Val → Type 0) → ((p : ℕ) (v : Val) (q : ℕ) → R p v q → T v)
-        → (n : ℕ) (done : List Val) (p : ℕ) (vs : List Val) (q : ℕ) → StandsRow R n done p vs q → Behind (Each T) done vs
+        → (n : ℕ) (done : List Val) (p : ℕ) (vs : List Val) (q : ℕ) → StandsRow R n done p vs q → After (Each T) done vs
     row_conforms R T one zero done p vs q s = ([], s.0 ∙ sym (append-nil done), tt)
     row_conforms R T one (suc n) done p vs q s =
         let rest = row_conforms R T one n (done ++ s.0 ∷ []) s.1 vs q s.3 in
@@ -58,7 +58,7 @@ module _ (P : Integer → Val → Type 0) where
           (s.1.0, s.1.1, subst (Each (Conforms k)) (sym rest.1) rest.2)
       stands_conform (text a many) c env p v q s = tt
 
-      pub members_conform : (ps : Parts) (c : Input) (env : Env) (done : List Val) (p : ℕ) (vs : List Val) (q : ℕ) → StandsMembers ps c env done p vs q → Behind (ConformAll ps) done vs
+      pub members_conform : (ps : Parts) (c : Input) (env : Env) (done : List Val) (p : ℕ) (vs : List Val) (q : ℕ) → StandsMembers ps c env done p vs q → After (ConformAll ps) done vs
       members_conform no_parts c env done p vs q s = ([], s.0 ∙ sym (append-nil done), refl)
       members_conform (part n k ps) c env done p vs q s =
           let rest = members_conform ps c env (done ++ s.0 ∷ []) s.1 vs q s.3 in

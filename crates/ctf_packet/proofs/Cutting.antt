@@ -5,7 +5,7 @@ use Rattle.ctf_clock.specs.declared.moment.Moment.{Moment}
 use Rattle.ctf_packet.specs.Classes.{StreamForm, TraceForm}
 use Rattle.ctf_packet.specs.Scopes.{Values, no_values, scope_at, cut_short, fault_in_front}
 use Rattle.ctf_packet.specs.Roles.{role, number_in}
-use Rattle.ctf_packet.specs.Packets.{Opened, unless, front, stream_checked, sizes_of, are_possible, is_there, sizes_checked, clock_before, clock_behind, moves, placed, open_at, reached_behind}
+use Rattle.ctf_packet.specs.Packets.{Opened, unless, front, stream_checked, sizes_of, are_possible, is_there, sizes_checked, clock_before, clock_after, moves, placed, open_at, reached_after}
 use Rattle.ctf_packet.specs.Items.{Run, stops, from_packet, longest_stream, opened, from_cut, from_bytes}
 use Rattle.ctf_packet.specs.declared.fault.StreamFault.{StreamFault}
 use Rattle.ctf_packet.specs.declared.fault.StreamFault.TheVariants as faults
@@ -34,7 +34,7 @@ placed_ends : {C : Type 0} (stream : StreamForm C) (reached : Option Reached) (s
 unfolding placed
 placed_ends {C} stream reached start values place sizes p e =
     let a = first (clock_before stream.line reached) _ p e in
-    let b = first (clock_behind stream.line a.0 (moves stream.packet_context values.packet_context)) _ p a.2 in
+    let b = first (clock_after stream.line a.0 (moves stream.packet_context values.packet_context)) _ p a.2 in
     let starts : Result (Opened C) StreamFault → ℕ = λ r. elim r as (λ _. ℕ) [ Ok x ↦ x.start | Err f ↦ start ] in
     let ends : Result (Opened C) StreamFault → ℕ = λ r. elim r as (λ _. ℕ) [ Ok x ↦ x.end | Err f ↦ start ] in
     (sym (ap starts b.2), sym (ap ends b.2))
@@ -55,7 +55,7 @@ some_bytes {C} trace ending reached start left p e =
 
 module _ {C : Type 0} (trace : TraceForm C) (ending : Ending) where
   abbrev next : ℕ → List ℕ → Opened C → Option Moment → Run C
-  next n left packet clock = from_cut n trace ending (Some (reached_behind packet clock)) packet.end (drop (packet.end - packet.start) left)
+  next n left packet clock = from_cut n trace ending (Some (reached_after packet clock)) packet.end (drop (packet.end - packet.start) left)
 
   same : (m n at : ℕ) (left : List ℕ) (reached : Option Reached) (ih : (r : Option Reached) (a : ℕ) (l : List ℕ) → length l ≤ m → length l ≤ n → from_cut m trace ending r a l ≡ from_cut n trace ending r a l)
       → length left ≤ suc m → length left ≤ suc n → (r : Result (Opened C) StreamFault) → open_at trace ending reached at left ≡ r → opened at left (next m left) r ≡ opened at left (next n left) r
@@ -64,7 +64,7 @@ module _ {C : Type 0} (trace : TraceForm C) (ending : Ending) where
       let some = some_bytes trace ending reached at left p e in
       let shorter : length (drop (p.end - p.start) left) ≤ m = simp length-drop (omega arith) in
       let shorter-2 : length (drop (p.end - p.start) left) ≤ n = simp length-drop (omega arith) in
-      λ i. from_packet p (take (p.end - p.start) left) (λ clock. ih (Some (reached_behind p clock)) p.end (drop (p.end - p.start) left) shorter shorter-2 i)
+      λ i. from_packet p (take (p.end - p.start) left) (λ clock. ih (Some (reached_after p clock)) p.end (drop (p.end - p.start) left) shorter shorter-2 i)
 
   -- any bound that is large enough will do
   pub enough : (m n : ℕ) (reached : Option Reached) (at : ℕ) (left : List ℕ) → length left ≤ m → length left ≤ n → from_cut m trace ending reached at left ≡ from_cut n trace ending reached at left
@@ -78,19 +78,19 @@ module _ {C : Type 0} (trace : TraceForm C) (ending : Ending) where
       ap (λ x. if nat_lt longest_stream at then stops (Some faults.StreamTooLong) at else x)
       (same m n at (b ∷ bs) reached (λ r a l x y. enough m n r a l x y) h g (open_at trace ending reached at (b ∷ bs)) refl)
 
-  abbrev pub behind : List ℕ → Opened C → Option Moment → Run C
-  behind left packet clock = from_bytes trace ending (Some (reached_behind packet clock)) packet.end (drop (packet.end - packet.start) left)
+  abbrev pub after : List ℕ → Opened C → Option Moment → Run C
+  after left packet clock = from_bytes trace ending (Some (reached_after packet clock)) packet.end (drop (packet.end - packet.start) left)
 
-  step : (m at : ℕ) (left : List ℕ) (reached : Option Reached) → length left ≤ suc m → (r : Result (Opened C) StreamFault) → open_at trace ending reached at left ≡ r → opened at left (next m left) r ≡ opened at left (behind left) r
+  step : (m at : ℕ) (left : List ℕ) (reached : Option Reached) → length left ≤ suc m → (r : Result (Opened C) StreamFault) → open_at trace ending reached at left ≡ r → opened at left (next m left) r ≡ opened at left (after left) r
   step m at left reached h (Err f) e = refl
   step m at left reached h (Ok p) e =
       let some = some_bytes trace ending reached at left p e in
       let shorter : length (drop (p.end - p.start) left) ≤ m = simp length-drop (omega arith) in
       let all : length (drop (p.end - p.start) left) ≤ length (drop (p.end - p.start) left) = omega arith in
-      λ i. from_packet p (take (p.end - p.start) left) (λ clock. enough m (length (drop (p.end - p.start) left)) (Some (reached_behind p clock)) p.end (drop (p.end - p.start) left) shorter all i)
+      λ i. from_packet p (take (p.end - p.start) left) (λ clock. enough m (length (drop (p.end - p.start) left)) (Some (reached_after p clock)) p.end (drop (p.end - p.start) left) shorter all i)
 
   pub goes_on : (reached : Option Reached) (at b : ℕ) (bs : List ℕ)
-      → from_bytes trace ending reached at (b ∷ bs) ≡ (if nat_lt longest_stream at then stops (Some faults.StreamTooLong) at else opened at (b ∷ bs) (behind (b ∷ bs)) (open_at trace ending reached at (b ∷ bs)))
+      → from_bytes trace ending reached at (b ∷ bs) ≡ (if nat_lt longest_stream at then stops (Some faults.StreamTooLong) at else opened at (b ∷ bs) (after (b ∷ bs)) (open_at trace ending reached at (b ∷ bs)))
   goes_on reached at b bs =
       let all : length (b ∷ bs) ≤ suc (length bs) = omega arith in
       ap (λ x. if nat_lt longest_stream at then stops (Some faults.StreamTooLong) at else x) (step (length bs) at (b ∷ bs) reached all (open_at trace ending reached at (b ∷ bs)) refl)

@@ -13,7 +13,7 @@ use Rattle.ctf_decode.specs.Walk.{Step, walk}
 use Rattle.ctf_decode.proofs.Sound.{walk_is}
 use Rattle.ctf_packet.specs.Classes.{StreamForm}
 use Rattle.ctf_packet.specs.Scopes.{◌>>=◌, Values, put, input_of, Stood, stood, scope_at, fault_in_record}
-use Rattle.ctf_packet.specs.Packets.{Opened, unless, or_fault, moves, clock_behind}
+use Rattle.ctf_packet.specs.Packets.{Opened, unless, or_fault, moves, clock_after}
 use Rattle.ctf_packet.specs.Records.{Headed, headed, Body, bodied, Recorded, record_at, event_named, ids_in}
 use Rattle.ctf_packet.specs.Items.{Run, before, item_of, recorded, from_record, from_place}
 use Rattle.ctf_packet.specs.declared.fault.StreamFault.{StreamFault}
@@ -42,7 +42,7 @@ head_forward : {C : Type 0} (stream : StreamForm C) (bytes : List ℕ) (content 
 unfolding headed
 head_forward {C} stream bytes content values clock place h e =
     let a = first (scope_at fault_in_record stream.event_header (input_of bytes content values) place 0) _ h e in
-    let b = first (clock_behind stream.line clock (moves stream.event_header (a.0).value)) _ h a.2 in
+    let b = first (clock_after stream.line clock (moves stream.event_header (a.0).value)) _ h a.2 in
     let d = first (or_fault faults.UnknownEvent (event_named stream.events (last_or None (ids_in stream.event_header (a.0).value)))) _ h b.2 in
     let g : ◌≡◌ {A = Headed C} (record { event = d.0; clock = b.0; header = a.0 }) h = cc (d.2) in
     let i : (a.0).end ≡ h.header.end = ap (λ (z : Headed C). z.header.end) g in
@@ -66,7 +66,7 @@ body_forward k l m bytes content values place spent b e =
 some_bits : (a b : ℕ) (x : Bool) → unless faults.EmptyEvent (not (a == b)) ≡ Ok x → a ≡ b → ⊥
 some_bits a b x h e = let t : (a == b) ≡ true = grind (arith, nat_tests) in let g : unless faults.EmptyEvent (not true) ≡ Ok x = ap (λ y. unless faults.EmptyEvent (not y)) (sym t) ∙ h in cc
 
--- a record ends behind the place where it begins
+-- a record ends after the place where it begins
 pub record_forward : {C : Type 0} (packet : Opened C) (bytes : List ℕ) (clock : Option Moment) (place : ℕ) (r : Recorded C) → record_at packet bytes clock place ≡ Ok r → place < r.end
 unfolding record_at
 record_forward {C} packet bytes clock place r e =

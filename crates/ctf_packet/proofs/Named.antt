@@ -43,9 +43,9 @@ later : {X : Type 0} (t : X → Bool) (k : ℕ) (xs : List X) → position_from 
 later t k [] = refl
 later t k (x ∷ xs) = ap (cond (t x) (Some (k + 1))) (later t (k + 1) xs) ∙ later_if t k (position_from t (k + 1) xs) (t x)
 
-pair_behind : (m : Member) (ms : List Member) (v : Value) (vs : List Value) (place : Option ℕ) → pair_at (m ∷ ms) (v ∷ vs) (option_map (λ i. i + 1) place) ≡ pair_at ms vs place
-pair_behind m ms v vs None = refl
-pair_behind m ms v vs (Some i) =
+pair_after : (m : Member) (ms : List Member) (v : Value) (vs : List Value) (place : Option ℕ) → pair_at (m ∷ ms) (v ∷ vs) (option_map (λ i. i + 1) place) ≡ pair_at ms vs place
+pair_after m ms v vs None = refl
+pair_after m ms v vs (Some i) =
     let one : i + 1 ≡ suc i = omega arith in λ j. both (slice_get (m ∷ ms) (one j)) (slice_get (v ∷ vs) (one j))
 
 pub no_value : (m : Option Member) → both m None ≡ None
@@ -70,4 +70,4 @@ named_at name (m ∷ ms) (v ∷ vs) = first (bytes_eq m.name name) (named_at nam
 
     first : (b : Bool) → pair_at ms vs (place_named name ms) ≡ named_in name ms vs → pair_at (m ∷ ms) (v ∷ vs) (cond b (Some 0) (position_from named 1 ms)) ≡ cond b (Some (form m.class, val v)) (named_in name ms vs)
     first true others = refl
-    first false others = ap (pair_at (m ∷ ms) (v ∷ vs)) (later named 0 ms) ∙ pair_behind m ms v vs (place_named name ms) ∙ others
+    first false others = ap (pair_at (m ∷ ms) (v ∷ vs)) (later named 0 ms) ∙ pair_after m ms v vs (place_named name ms) ∙ others

@@ -7,7 +7,7 @@ use Rattle.ctf_decode.specs.Values.{Val}
 use Rattle.ctf_packet.specs.Classes.{StreamForm}
 use Rattle.ctf_packet.specs.Scopes.{◌>>=◌, Values}
 use Rattle.ctf_packet.specs.Roles.{role, number_in}
-use Rattle.ctf_packet.specs.Packets.{Opened, clock_before, clock_behind, clock_until, moves, since, placed}
+use Rattle.ctf_packet.specs.Packets.{Opened, clock_before, clock_after, clock_until, moves, since, placed}
 use Rattle.ctf_packet.specs.declared.fault.StreamFault.{StreamFault}
 use Rattle.ctf_packet.specs.declared.reached.Reached.{Reached}
 use Rattle.ctf_packet.specs.declared.sizes.Sizes.{Sizes}
@@ -39,7 +39,7 @@ pub record Says {C : Type 0} (stream : StreamForm C) (reached : Option Reached) 
   pub sequence : number ≡ number_in (role (codes "packet_seq_num") stream.packet_context context)
 
 pub placed_ok : {C : Type 0} (stream : StreamForm C) (reached : Option Reached) (start : ℕ) (values : Values) (first : ℕ) (sizes : Sizes) (context : Option Val) (before clock until : Option Moment) (lost dropped discarded number : Option ℕ)
-    → values.packet_context ≡ context → Ok before ≡ clock_before stream.line reached → Ok clock ≡ clock_behind stream.line before (moves stream.packet_context context)
+    → values.packet_context ≡ context → Ok before ≡ clock_before stream.line reached → Ok clock ≡ clock_after stream.line before (moves stream.packet_context context)
     → Says stream reached context clock until lost dropped discarded number
     → placed stream reached start values first sizes ≡ Ok (opened stream start values first sizes before clock until lost dropped discarded number)
 unfolding placed
@@ -51,7 +51,7 @@ placed_ok {C} stream reached start values first sizes context before clock until
     (since discarded_between (option_and_then (λ (r : Reached). r.discarded) reached) (role (codes "events_discarded") stream.packet_context x))
     (number_in (role (codes "events_discarded") stream.packet_context x))
     (number_in (role (codes "packet_seq_num") stream.packet_context x))) in result in
-    let second = λ (x : Option Val) (b : Option Moment). clock_behind stream.line b (moves stream.packet_context x) >>= (λ k. last x b k) in
+    let second = λ (x : Option Val) (b : Option Moment). clock_after stream.line b (moves stream.packet_context x) >>= (λ k. last x b k) in
     let whole = λ (x : Option Val). clock_before stream.line reached >>= (λ b. second x b) in
     ap whole e
     ∙ (ap (λ r. r >>= (λ b. second context b)) (sym f)

@@ -5,7 +5,7 @@ use Rattle.ctf_bits.specs.declared.source.Ending.TheVariants.{Clean, Failed}
 use Rattle.ctf_clock.specs.declared.moment.Moment.{Moment}
 use Rattle.ctf_packet.specs.Classes.{TraceForm}
 use Rattle.ctf_packet.specs.Scopes.{Values}
-use Rattle.ctf_packet.specs.Packets.{Opened, open_at, reached_behind}
+use Rattle.ctf_packet.specs.Packets.{Opened, open_at, reached_after}
 use Rattle.ctf_packet.specs.Records.{Recorded, record_at}
 use Rattle.ctf_packet.specs.declared.reached.Reached.{Reached}
 use Rattle.ctf_packet.specs.declared.fault.StreamFault.{StreamFault}
@@ -117,7 +117,7 @@ from_cut (suc fuel) trace ending reached at (byte ∷ bytes) =
     let left = byte ∷ bytes in
     if nat_lt longest_stream at
     then stops (Some faults.StreamTooLong) at
-    else opened at left (λ packet clock. from_cut fuel trace ending (Some (reached_behind packet clock)) packet.end (drop (packet.end - packet.start) left)) (open_at trace ending reached at left)
+    else opened at left (λ packet clock. from_cut fuel trace ending (Some (reached_after packet clock)) packet.end (drop (packet.end - packet.start) left)) (open_at trace ending reached at left)
 
 -- the items from a packet boundary on, without a bound: each packet has a byte at least
 abbrev pub from_bytes : {C : Type 0} → TraceForm C → Ending → Option Reached → ℕ → List ℕ → Run C

@@ -13,7 +13,7 @@ use Rattle.ctf_decode.specs.Walk.{walk}
 use Rattle.ctf_packet.specs.Classes.{Classes, TraceForm}
 use Rattle.ctf_packet.specs.Moved.{moved_in, moved}
 use Rattle.ctf_packet.specs.Held.{IsWidth, IsHeld, HasWidths}
-use Rattle.ctf_packet.specs.Packets.{Opened, open_at, reached_behind}
+use Rattle.ctf_packet.specs.Packets.{Opened, open_at, reached_after}
 use Rattle.ctf_packet.specs.Records.{record_at}
 use Rattle.ctf_packet.specs.Items.{Run, stops, end_fault, longest_stream, recorded, from_place, opened, from_bytes}
 use Rattle.ctf_packet.specs.declared.reached.Reached.{Reached}
@@ -44,5 +44,5 @@ pub record PacketsGoOn : Type 0 where
       from_bytes trace ending reached at left
       ≡ (if nat_lt longest_stream at
       then stops (Some faults.StreamTooLong) at
-      else opened at left (λ packet clock. from_bytes trace ending (Some (reached_behind packet clock)) packet.end (drop (packet.end - packet.start) left)) (open_at trace ending reached at left))
+      else opened at left (λ packet clock. from_bytes trace ending (Some (reached_after packet clock)) packet.end (drop (packet.end - packet.start) left)) (open_at trace ending reached at left))
   pub ends : (trace : TraceForm Classes) (ending : Ending) (reached : Option Reached) (at : ℕ) → from_bytes trace ending reached at [] ≡ stops (end_fault ending) at

@@ -106,10 +106,10 @@ clock_before (Some line) None = or_fault faults.ClockRefused (moment_at line 0) 
 clock_before (Some line) (Some reached) = Ok reached.clock
 
 -- the clock after a scope whose integers set it
-abbrev pub clock_behind : Option Line → Option Moment → List (ℕ × ℕ) → Result (Option Moment) StreamFault
-clock_behind (Some line) (Some clock) ms = or_fault faults.ClockRefused (advanced_by line clock ms) >>= (λ next. Ok (Some next))
-clock_behind (Some line) None ms = Ok None
-clock_behind None clock ms = Ok None
+abbrev pub clock_after : Option Line → Option Moment → List (ℕ × ℕ) → Result (Option Moment) StreamFault
+clock_after (Some line) (Some clock) ms = or_fault faults.ClockRefused (advanced_by line clock ms) >>= (λ next. Ok (Some next))
+clock_after (Some line) None ms = Ok None
+clock_after None clock ms = Ok None
 
 abbrev pub or_else : {A : Type 0} → Option A → Option A → Option A
 or_else (Some x) other = Some x
@@ -151,7 +151,7 @@ unfoldable pub placed : {C : Type 0} → StreamForm C → Option Reached → ℕ
 placed stream reached start values first sizes = do
   let field = λ (name : List ℕ). role name stream.packet_context values.packet_context
   before ← clock_before stream.line reached
-  clock ← clock_behind stream.line before (moves stream.packet_context values.packet_context)
+  clock ← clock_after stream.line before (moves stream.packet_context values.packet_context)
   Ok (record {
     stream = stream;
     values = values;
@@ -181,5 +181,5 @@ open_at trace ending reached start left = do
   placed stream reached start (record known { packet_context = context.value }) context.end sizes
 
 -- what is reached after a packet, where its clock came so far
-abbrev pub reached_behind : {C : Type 0} → Opened C → Option Moment → Reached
-reached_behind packet clock = record { stream = packet.stream.id; clock = clock; discarded = packet.discarded; number = packet.number }
+abbrev pub reached_after : {C : Type 0} → Opened C → Option Moment → Reached
+reached_after packet clock = record { stream = packet.stream.id; clock = clock; discarded = packet.discarded; number = packet.number }

@@ -9,7 +9,7 @@ use Rattle.ctf_decode.specs.Forms.{Form}
 use Rattle.ctf_decode.specs.Fields.{ids}
 use Rattle.ctf_packet.specs.Classes.{EventForm, StreamForm}
 use Rattle.ctf_packet.specs.Scopes.{◌>>=◌, Values, input_of, put, Stood, scope_at, fault_in_record}
-use Rattle.ctf_packet.specs.Packets.{Opened, unless, or_fault, moves, clock_behind}
+use Rattle.ctf_packet.specs.Packets.{Opened, unless, or_fault, moves, clock_after}
 use Rattle.ctf_packet.specs.declared.fault.StreamFault.{StreamFault}
 use Rattle.ctf_packet.specs.declared.fault.StreamFault.TheVariants as faults
 
@@ -48,7 +48,7 @@ pub record Headed (C : Type 0) : Type 0 where
 unfoldable pub headed : {C : Type 0} → StreamForm C → List ℕ → ℕ → Values → Option Moment → ℕ → Result (Headed C) StreamFault
 headed stream bytes content values clock place = do
   header ← scope_at fault_in_record stream.event_header (input_of bytes content values) place 0
-  next ← clock_behind stream.line clock (moves stream.event_header header.value)
+  next ← clock_after stream.line clock (moves stream.event_header header.value)
   event ← or_fault faults.UnknownEvent (event_named stream.events (last_or None (ids_in stream.event_header header.value)))
   Ok (record { event = event; clock = next; header = header })
 

@@ -12,20 +12,20 @@ use Rattle.ctf_decode.specs.Values.{Val, vals_of}
 use Rattle.ctf_decode.specs.Views.{form, member_part, val}
 use Rattle.ctf_decode.specs.declared.value.Value.{Value}
 use Rattle.ctf_packet.specs.Moved as moved
-use Rattle.ctf_packet.specs.Packets.{moves, clock_behind}
+use Rattle.ctf_packet.specs.Packets.{moves, clock_after}
 use Rattle.ctf_packet.specs.Records.{ids_in}
 use Rattle.ctf_packet.specs.declared.fault.StreamFault.{StreamFault}
 use Rattle.ctf_packet.specs.declared.moves.IdAndClock.{IdAndClock}
 use Rattle.ctf_packet.specs.declared.told.HeaderTold.{HeaderTold}
 
 -- the clock that integers set, if none of them was refused
-abbrev pub behind : Bool → IdAndClock → Option Moment
-behind true told = Some told.clock
-behind false told = None
+abbrev pub after : Bool → IdAndClock → Option Moment
+after true told = Some told.clock
+after false told = None
 
 -- it is set by these integers, one after the other, unless one of them is refused
 abbrev pub Moves : Line → List (ℕ × ℕ) → IdAndClock → Bool → IdAndClock → Type 0
-Moves line integers old result new = behind result new ≡ advanced_by line old.clock integers
+Moves line integers old result new = after result new ≡ advanced_by line old.clock integers
 
 -- the last of these numbers is kept, unless one of the integers was refused
 abbrev pub KeepsLast : List ℤ → IdAndClock → Bool → IdAndClock → Type 0
@@ -69,5 +69,5 @@ option_ids options i inner = fields.option_ids (parts_of (map member_part option
 
 -- its class number and the clock after it; or the clock is refused
 abbrev pub TellsHeader : Option Line → Option Moment → Option Form → Option Val → Result HeaderTold StreamFault → Type 0
-TellsHeader line clock k v (Ok told) = (clock_behind line clock (moves k v) ≡ Ok told.clock) × (told.id ≡ last_or None (ids_in k v))
-TellsHeader line clock k v (Err f) = clock_behind line clock (moves k v) ≡ Err f
+TellsHeader line clock k v (Ok told) = (clock_after line clock (moves k v) ≡ Ok told.clock) × (told.id ≡ last_or None (ids_in k v))
+TellsHeader line clock k v (Err f) = clock_after line clock (moves k v) ≡ Err f

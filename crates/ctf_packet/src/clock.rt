@@ -38,13 +38,13 @@ pub fn clock_before(
 /// The clock after a scope whose clock-mapped integers set it.
 ///
 /// F9 exactly where one of them is refused.
-pub fn clock_behind(
+pub fn clock_after(
     timeline: Option<&Timeline>,
     clock: Option<Moment>,
     class: Option<&Class>,
     value: Option<&Value>,
 ) -> Result<Option<Moment>, StreamFault>
-    ensures { result ≡ packets.clock_behind (option_copied timeline.entry) clock
+    ensures { result ≡ packets.clock_after (option_copied timeline.entry) clock
         (packets.moves (option_map form (option_copied class.entry))
         (option_map val (option_copied value.entry))) }
 {
@@ -64,7 +64,7 @@ fn set(
     class: Option<&Class>,
     value: Option<&Value>,
 ) -> Result<Option<Moment>, StreamFault>
-    ensures { result ≡ packets.clock_behind (Some timeline.now) (Some clock)
+    ensures { result ≡ packets.clock_after (Some timeline.now) (Some clock)
         (packets.moves (option_map form (option_copied class.entry))
         (option_map val (option_copied value.entry))) }
 {

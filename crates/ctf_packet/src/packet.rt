@@ -8,7 +8,7 @@ ghost use Rattle.ctf_packet.specs.Packets as packets;
 ghost use Rattle.ctf_packet.specs.Views.{opened_of};
 ghost use Rattle.ctf_packet.specs.Gives.{Exactly, Placed};
 
-use crate::clock::{clock_before, clock_behind, clock_until, discarded_since, lost_since};
+use crate::clock::{clock_before, clock_after, clock_until, discarded_since, lost_since};
 use crate::fault::StreamFault;
 use crate::packet_place::PacketPlace;
 use crate::reached::Reached;
@@ -105,7 +105,7 @@ pub fn packet_of_sizes<'a>(
     let reached = place.reached;
     let before = clock_before(timeline.as_ref(), reached)?;
     let class = stream.packet_context();
-    let clock = clock_behind(timeline.as_ref(), before, class, context)?;
+    let clock = clock_after(timeline.as_ref(), before, class, context)?;
     let front = stream.context_front();
     let end = field_of_role(front, context, Role::TimestampEnd);
     let number = field_of_role(front, context, Role::SequenceNumber);

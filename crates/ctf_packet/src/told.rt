@@ -50,7 +50,7 @@ pub(crate) fn told_by(
 
 /// The clock after a scope that does not set it.
 fn unchanged_clock(timeline: Option<&Timeline>, clock: Option<Moment>) -> Option<Moment>
-    ensures { packets.clock_behind (option_copied timeline.entry) clock [] ≡ Ok result }
+    ensures { packets.clock_after (option_copied timeline.entry) clock [] ≡ Ok result }
 {
     match timeline {
         None => None,

@@ -23,20 +23,20 @@ follow r next = r >>= next
 
 module _ {C : Type 0} (trace : TraceForm C) (reached : Option Reached) (have : List ℕ) where
   -- what follows from the context, from the stream class, and from the header
-  abbrev pub behind_context : StreamForm C → Values → Stood → Want C
-  behind_context stream known context =
+  abbrev pub after_context : StreamForm C → Values → Stood → Want C
+  after_context stream known context =
       let size = λ (name : List ℕ). number_in (role name stream.packet_context context.value) in
       sized (record { stream = stream; values = put PacketContext context.value known; first = context.end }) (size (codes "packet_size")) (size (codes "content_size"))
 
-  abbrev pub behind_stream : Stood → StreamForm C → Want C
-  behind_stream header stream =
+  abbrev pub after_stream : Stood → StreamForm C → Want C
+  after_stream header stream =
       let known = put PacketHeader header.value no_values in
-      follow (asked_at stream.packet_context (front have known) header.end header.spent) (behind_context stream known)
+      follow (asked_at stream.packet_context (front have known) header.end header.spent) (after_context stream known)
 
-  abbrev pub behind_header : Stood → Want C
-  behind_header header = follow (or_faulty (stream_checked trace reached header.value)) (behind_stream header)
+  abbrev pub after_header : Stood → Want C
+  after_header header = follow (or_faulty (stream_checked trace reached header.value)) (after_stream header)
 
-  pub wants : wanted trace reached have ≡ follow (asked_at trace.packet_header (front have no_values) 0 0) behind_header
+  pub wants : wanted trace reached have ≡ follow (asked_at trace.packet_header (front have no_values) 0 0) after_header
   unfolding wanted
   wants = refl
 
@@ -88,9 +88,9 @@ module _ (C : Type 0) (have : List ℕ) where
   pub sound : (trace : TraceForm C) (reached : Option Reached) → Sound (content_of have) (wanted trace reached have)
   sound trace reached =
       subst (Sound (content_of have)) (sym (wants trace reached have))
-      (sound_then (content_of have) (asked_at trace.packet_header (front have no_values) 0 0) (behind_header trace reached have) (fine_scope trace.packet_header no_values 0 0)
+      (sound_then (content_of have) (asked_at trace.packet_header (front have no_values) 0 0) (after_header trace reached have) (fine_scope trace.packet_header no_values 0 0)
       (λ header.
       let known = put PacketHeader header.value no_values in
-      sound_then (content_of have) (or_faulty (stream_checked trace reached header.value)) (behind_stream trace reached have header) (fine_checked C (content_of have) (stream_checked trace reached header.value))
-      (λ stream. sound_then (content_of have) (asked_at stream.packet_context (front have known) header.end header.spent) (behind_context trace reached have stream known) (fine_scope stream.packet_context known header.end header.spent)
+      sound_then (content_of have) (or_faulty (stream_checked trace reached header.value)) (after_stream trace reached have header) (fine_checked C (content_of have) (stream_checked trace reached header.value))
+      (λ stream. sound_then (content_of have) (asked_at stream.packet_context (front have known) header.end header.spent) (after_context trace reached have stream known) (fine_scope stream.packet_context known header.end header.spent)
       (λ context. sound_sized (record { stream = stream; values = put PacketContext context.value known; first = context.end }) (number_in (role (codes "packet_size") stream.packet_context context.value)) (number_in (role (codes "content_size") stream.packet_context context.value))))))

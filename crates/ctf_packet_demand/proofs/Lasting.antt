@@ -64,8 +64,8 @@ module _ (packet more : List ℕ) (content whole limit : ℕ) (earlier : Scope �
             let fits : j + m ≤ length packet = omega arith in
             let there : m ≤ length xs = omega (arith, left) in
             let same : (whole - b) / 8 ≡ m = omega (arith, short, there, l, longer, inside) in
-            let behind : drop j (packet ++ more) ≡ xs ++ more = drop-append-le j packet more (omega arith) in
-            ap (λ n. take n (drop j (packet ++ more))) same ∙ ap (take m) behind ∙ take-append-le m xs more there
+            let after : drop j (packet ++ more) ≡ xs ++ more = drop-append-le j packet more (omega arith) in
+            ap (λ n. take n (drop j (packet ++ more))) same ∙ ap (take m) after ∙ take-append-le m xs more there
       ]
 
   string_lasts : (b : ℕ) (f : Fault) → Lasts whole f → BreaksString c b f → BreaksString d b f

@@ -26,7 +26,7 @@ use Rattle.ctf_packet.proofs.Forward.{forward}
 use Rattle.ctf_packet_demand.specs.Wants.{Begun, Want, more, whole, rest, faulty, asked, asked_at, or_faulty, sized, wanted}
 use Rattle.ctf_packet_demand.proofs.Lasting.{Answers, walk_more, walk_beyond}
 use Rattle.ctf_packet_demand.proofs.Shorter.{stands_to}
-use Rattle.ctf_packet_demand.proofs.Following.{follow, behind_context, behind_stream, behind_header, wants}
+use Rattle.ctf_packet_demand.proofs.Following.{follow, after_context, after_stream, after_header, wants}
 
 module _ (packet more_bytes : List ℕ) (content whole_content limit : ℕ) (earlier : Scope → Option Val) (longer : content ≤ whole_content) (held : content ≤ 8 * length packet) where
   abbrev c : Input
@@ -35,7 +35,7 @@ module _ (packet more_bytes : List ℕ) (content whole_content limit : ℕ) (ear
   abbrev d : Input
   d = input_of (packet ++ more_bytes) whole_content earlier limit
 
-  -- a value ends behind each place that a beginning asked for
+  -- a value ends after each place that a beginning asked for
   pub walk_needs : (k : Form) (env : Env) (p s e : ℕ) (x : Val × ℕ × ℕ) → walk k c env p s ≡ Err (past e) → walk k d env p s ≡ Ok x → e ≤ x.1
   walk_needs k env p s e x asks gives =
       let beyond = walk_beyond packet more_bytes content whole_content limit earlier longer held k env p s e asks in
@@ -87,18 +87,18 @@ from_sized begun (Some p) q = let s = sizes_of (Some p) q 0 in from_possible beg
 from_sized begun None (Some q) = let s = sizes_of None (Some q) 0 in from_possible begun s (are_possible s begun.first)
 
 module _ {C : Type 0} (trace : TraceForm C) (reached : Option Reached) (have : List ℕ) where
-  from_context : (stream : StreamForm C) (known : Values) (context : Stood) → From context.end (behind_context trace reached have stream known context)
+  from_context : (stream : StreamForm C) (known : Values) (context : Stood) → From context.end (after_context trace reached have stream known context)
   from_context stream known context =
       from_sized (record { stream = stream; values = put PacketContext context.value known; first = context.end }) (number_in (role (codes "packet_size") stream.packet_context context.value)) (number_in (role (codes "content_size") stream.packet_context context.value))
 
-  from_header : (header : Stood) → From header.end (behind_header trace reached have header)
+  from_header : (header : Stood) → From header.end (after_header trace reached have header)
   from_header header =
-      from_checked header.end (stream_checked trace reached header.value) (behind_stream trace reached have header)
+      from_checked header.end (stream_checked trace reached header.value) (after_stream trace reached have header)
       (λ stream. let known = put PacketHeader header.value no_values in
-      from_asked stream.packet_context (front have known) header.end header.spent (behind_context trace reached have stream known)
-      (λ context l. from_less header.end context.end (behind_context trace reached have stream known context) l (from_context stream known context)))
+      from_asked stream.packet_context (front have known) header.end header.spent (after_context trace reached have stream known)
+      (λ context l. from_less header.end context.end (after_context trace reached have stream known context) l (from_context stream known context)))
 
--- what asked for so many bits has its event records behind them
+-- what asked for so many bits has its event records after them
 abbrev pub Needs : {C : Type 0} → Want C → Want C → Type 0
 Needs (more bits) w = From bits w
 Needs (whole begun sizes) w = Unit {0}
@@ -146,15 +146,15 @@ module _ (have more_bytes : List ℕ) where
   same_sized begun (Some p) q w = let s = sizes_of (Some p) q 0 in same_possible begun s (are_possible s begun.first) w
   same_sized begun None (Some q) w = let s = sizes_of None (Some q) 0 in same_possible begun s (are_possible s begun.first) w
 
-  pub begins_behind : {C : Type 0} (trace : TraceForm C) (reached : Option Reached) → Needs (wanted trace reached have) (wanted trace reached all)
-  begins_behind trace reached =
+  pub begins_after : {C : Type 0} (trace : TraceForm C) (reached : Option Reached) → Needs (wanted trace reached have) (wanted trace reached all)
+  begins_after trace reached =
       subst (λ w. Needs w (wanted trace reached all)) (sym (wants trace reached have))
-      (subst (Needs (follow (asked_at trace.packet_header (front have no_values) 0 0) (behind_header trace reached have))) (sym (wants trace reached all))
-      (needs_asked trace.packet_header no_values 0 0 (behind_header trace reached have) (behind_header trace reached all)
+      (subst (Needs (follow (asked_at trace.packet_header (front have no_values) 0 0) (after_header trace reached have))) (sym (wants trace reached all))
+      (needs_asked trace.packet_header no_values 0 0 (after_header trace reached have) (after_header trace reached all)
       (λ header. let known = put PacketHeader header.value no_values in
-      needs_checked (stream_checked trace reached header.value) (behind_stream trace reached have header) (behind_stream trace reached all header)
-      (λ stream. needs_asked stream.packet_context known header.end header.spent (behind_context trace reached have stream known) (behind_context trace reached all stream known)
-      (λ context. same_sized (record { stream = stream; values = put PacketContext context.value known; first = context.end }) (number_in (role (codes "packet_size") stream.packet_context context.value)) (number_in (role (codes "content_size") stream.packet_context context.value)) (behind_context trace reached all stream known context))
+      needs_checked (stream_checked trace reached header.value) (after_stream trace reached have header) (after_stream trace reached all header)
+      (λ stream. needs_asked stream.packet_context known header.end header.spent (after_context trace reached have stream known) (after_context trace reached all stream known)
+      (λ context. same_sized (record { stream = stream; values = put PacketContext context.value known; first = context.end }) (number_in (role (codes "packet_size") stream.packet_context context.value)) (number_in (role (codes "content_size") stream.packet_context context.value)) (after_context trace reached all stream known context))
       (from_context trace reached all stream known)))
       (from_header trace reached all)))
 
@@ -192,8 +192,8 @@ module _ {C : Type 0} where
   pub is_alone : (trace : TraceForm C) (reached : Option Reached) (have : List ℕ) → IsAlone (wanted trace reached have)
   is_alone trace reached have =
       subst IsAlone (sym (wants trace reached have))
-      (alone_asked trace.packet_header (front have no_values) 0 0 (behind_header trace reached have)
+      (alone_asked trace.packet_header (front have no_values) 0 0 (after_header trace reached have)
       (λ header. let known = put PacketHeader header.value no_values in
-      alone_checked (stream_checked trace reached header.value) (behind_stream trace reached have header)
-      (λ stream. alone_asked stream.packet_context (front have known) header.end header.spent (behind_context trace reached have stream known)
+      alone_checked (stream_checked trace reached header.value) (after_stream trace reached have header)
+      (λ stream. alone_asked stream.packet_context (front have known) header.end header.spent (after_context trace reached have stream known)
       (λ context. alone_sized (record { stream = stream; values = put PacketContext context.value known; first = context.end }) (number_in (role (codes "packet_size") stream.packet_context context.value)) (number_in (role (codes "content_size") stream.packet_context context.value)) refl))))

@@ -21,11 +21,11 @@ use Rattle.ctf_packet.proofs.Opening as opening
 use Rattle.ctf_packet_demand.specs.Wants.{Begun, Want, more, whole, rest, faulty, asked, asked_at, or_faulty, if_possible, sized, wanted}
 use Rattle.ctf_packet_demand.specs.Laws.{WantsTell}
 use Rattle.ctf_packet_demand.proofs.Lasting.{Answers, walk_more}
-use Rattle.ctf_packet_demand.proofs.Needing.{From, Needs, begins_behind, IsAlone, is_alone}
-use Rattle.ctf_packet_demand.proofs.Following.{follow, behind_context, behind_stream, behind_header, wants, Sound, sound}
+use Rattle.ctf_packet_demand.proofs.Needing.{From, Needs, begins_after, IsAlone, is_alone}
+use Rattle.ctf_packet_demand.proofs.Following.{follow, after_context, after_stream, after_header, wants, Sound, sound}
 
 module _ (C : Type 0) (ending : Ending) (reached : Option Reached) (start : ℕ) (have more_bytes : List ℕ) where
-  -- what is placed behind the sizes
+  -- what is placed after the sizes
   abbrev place_of : Begun C → Sizes → Result (Opened C) StreamFault
   place_of begun sizes = placed begun.stream reached start begun.values begun.first sizes
 
@@ -99,12 +99,12 @@ module _ (C : Type 0) (ending : Ending) (reached : Option Reached) (start : ℕ)
   settles : (trace : TraceForm C) → Settles (wanted trace reached have) (open_at trace ending reached start (have ++ more_bytes))
   settles trace =
       subst (λ w. Settles w (open_at trace ending reached start (have ++ more_bytes))) (sym (wants trace reached have))
-      (subst (Settles (follow (asked_at trace.packet_header (front have no_values) 0 0) (behind_header trace reached have))) (sym (opening.opens trace ending reached start (have ++ more_bytes)))
-      (settles_then (asked_at trace.packet_header (front have no_values) 0 0) (scope_at (fault_in_front ending) trace.packet_header (front (have ++ more_bytes) no_values) 0 0) (behind_header trace reached have) (opening.behind_header trace ending reached start (have ++ more_bytes)) (leads_scope trace.packet_header no_values 0 0)
+      (subst (Settles (follow (asked_at trace.packet_header (front have no_values) 0 0) (after_header trace reached have))) (sym (opening.opens trace ending reached start (have ++ more_bytes)))
+      (settles_then (asked_at trace.packet_header (front have no_values) 0 0) (scope_at (fault_in_front ending) trace.packet_header (front (have ++ more_bytes) no_values) 0 0) (after_header trace reached have) (opening.after_header trace ending reached start (have ++ more_bytes)) (leads_scope trace.packet_header no_values 0 0)
       (λ header.
       let known = put PacketHeader header.value no_values in
-      settles_then (or_faulty (stream_checked trace reached header.value)) (stream_checked trace reached header.value) (behind_stream trace reached have header) (opening.behind_stream trace ending reached start (have ++ more_bytes) header) (leads_checked (stream_checked trace reached header.value))
-      (λ stream. settles_then (asked_at stream.packet_context (front have known) header.end header.spent) (scope_at (fault_in_front ending) stream.packet_context (front (have ++ more_bytes) known) header.end header.spent) (behind_context trace reached have stream known) (opening.behind_context trace ending reached start (have ++ more_bytes) stream known) (leads_scope stream.packet_context known header.end header.spent)
+      settles_then (or_faulty (stream_checked trace reached header.value)) (stream_checked trace reached header.value) (after_stream trace reached have header) (opening.after_stream trace ending reached start (have ++ more_bytes) header) (leads_checked (stream_checked trace reached header.value))
+      (λ stream. settles_then (asked_at stream.packet_context (front have known) header.end header.spent) (scope_at (fault_in_front ending) stream.packet_context (front (have ++ more_bytes) known) header.end header.spent) (after_context trace reached have stream known) (opening.after_context trace ending reached start (have ++ more_bytes) stream known) (leads_scope stream.packet_context known header.end header.spent)
       (λ context. settles_sized (record { stream = stream; values = put PacketContext context.value known; first = context.end }) (number_in (role (codes "packet_size") stream.packet_context context.value)) (number_in (role (codes "content_size") stream.packet_context context.value)))))))
 
 -- the laws, of classes of any kind
@@ -116,7 +116,7 @@ wants_tell {C} = record {
   whole = λ trace ending reached start have more_bytes begun sizes e. subst (λ w. Settles C ending reached start have more_bytes w (open_at trace ending reached start (have ++ more_bytes))) e (settles C ending reached start have more_bytes trace);
   possible = λ trace reached have begun sizes e. subst (Sound (min (8 * length have) longest)) e (sound C have trace reached);
   rest = λ trace ending reached start have more_bytes begun e. subst (λ w. Settles C ending reached start have more_bytes w (open_at trace ending reached start (have ++ more_bytes))) e (settles C ending reached start have more_bytes trace);
-  begins = λ trace reached have more_bytes bits begun sizes e g. subst (From bits) g (subst (λ w. Needs w (wanted trace reached (have ++ more_bytes))) e (begins_behind have more_bytes trace reached));
+  begins = λ trace reached have more_bytes bits begun sizes e g. subst (From bits) g (subst (λ w. Needs w (wanted trace reached (have ++ more_bytes))) e (begins_after have more_bytes trace reached));
   alone = λ trace reached have begun sizes e. subst IsAlone e (is_alone trace reached have);
   rest_alone = λ trace reached have begun e. subst IsAlone e (is_alone trace reached have);
 }

@@ -41,5 +41,5 @@ named_nowhere clocks name e =
     let past = ltb-false (position_or_len is_name names) (length names) (is_none (nat_lt (position_or_len is_name names) (length names)) (position_or_len is_name names) e) in
     let same = prefix-map (λ (word : Word). not (is_name word)) (λ (c : Clock). c.name) clocks in
     let long = length-names (λ (c : Clock). c.name) clocks in
-    let behind : length clocks ≤ position_or_len (λ c. same_word c.name name) clocks = omega (arith, past, same, long) in
-    sym (slice_get_past clocks (position_or_len (λ c. same_word c.name name) clocks) behind) ∙ sym (find_at (λ c. same_word c.name name) clocks)
+    let after : length clocks ≤ position_or_len (λ c. same_word c.name name) clocks = omega (arith, past, same, long) in
+    sym (slice_get_past clocks (position_or_len (λ c. same_word c.name name) clocks) after) ∙ sym (find_at (λ c. same_word c.name name) clocks)

@@ -34,8 +34,8 @@ pub named_before : (word : Word) (n k : ℕ) (s : plain.Shape) (fields : List pl
 named_before word n k s fields h e =
     ap (λ b. if b then Some (k, s) else None) (sym (lt-ltb k n h)) ∙ ap (option_and_then (below n)) e ∙ sym (named_taken word n fields)
 
-pub named_behind : (word : Word) (n k : ℕ) (s : plain.Shape) (fields : List plain.Field) → n ≤ k → Some (k, s) ≡ class_named word fields → None ≡ class_named word (take n fields)
-named_behind word n k s fields h e =
+pub named_after : (word : Word) (n k : ℕ) (s : plain.Shape) (fields : List plain.Field) → n ≤ k → Some (k, s) ≡ class_named word fields → None ≡ class_named word (take n fields)
+named_after word n k s fields h e =
     ap (λ b. if b then Some (k, s) else None) (sym (le-ltb k n h)) ∙ ap (option_and_then (below n)) e ∙ sym (named_taken word n fields)
 
 -- a way that begins with a step
@@ -104,7 +104,7 @@ down_there steps s words i word k inner h at e =
     ∙ ap (λ o. option_map (further steps) (option_and_then (λ p. option_and_then (λ found. Some (p.0 ∷ found.0, found.1)) (down p.1 (drop (i + 1) words))) o)) e
     ∙ ap (λ ws. option_map (further steps) (down s ws)) (sym (at_place words i word h at))
 
--- the field behind a first step
+-- the field after a first step
 pub routed_there : (origin : Origin) (fields : List plain.Field) (words : Words) (word : Word) (k : ℕ) (s : plain.Shape) → 1 ≤ length words → word ≡ get_or words 0 word → Some (k, s) ≡ class_named word fields
     → option_map (λ found. route_from origin (further (k ∷ []) found)) (down s (drop 1 words)) ≡ option_map (route_from origin) (field_at fields words)
 routed_there origin fields words word k s long at e =

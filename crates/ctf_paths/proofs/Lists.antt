@@ -34,7 +34,7 @@ first_past f xs i d h n =
 pub at_place : {A : Type 0} → (xs : List A) (i : ℕ) (x : A) → i < length xs → x ≡ get_or xs i x → drop i xs ≡ x ∷ drop (i + 1) xs
 at_place xs i x h e = drop_here xs i x h ∙ ap (λ y. y ∷ drop (i + 1) xs) (sym e)
 
--- one found behind a bound is none among the first
+-- one found after a bound is none among the first
 none_below : {A : Type 0} (p : ℕ × A → Bool) (k n : ℕ) (xs : List A) → k ≤ n → option_and_then (λ q. if nat_lt q.0 k then Some q else None) (find p (enumerate_from n xs)) ≡ None
 none_below p k n [] h = refl
 none_below p k n (x ∷ xs) h =
@@ -75,7 +75,7 @@ first_left f xs ys b e = ap (λ o. option_or o (first (filter_map f ys))) e ∙ 
 pub first_right : {A B : Type 0} (f : A → Option B) (xs ys : List A) → None ≡ first (filter_map f xs) → first (filter_map f ys) ≡ first (filter_map f (xs ++ ys))
 first_right f xs ys e = ap (λ o. option_or o (first (filter_map f ys))) e ∙ sym (first-both f xs ys)
 
--- a list before and behind a place
+-- a list before and after a place
 pub drop_get : {A : Type 0} → (xs : List A) (i : ℕ) (x : A) → slice_get xs i ≡ Some x → drop i xs ≡ x ∷ drop (i + 1) xs
 drop_get xs i x e = at_place xs i x (slice_get_within xs i x e) (sym (get_or_from_slice_get xs i x x e))
 

@@ -182,9 +182,9 @@ module _ (order : Order) (clocks : List Clock) where
   structure_fails spot align ms fault e =
       bind_fails (members_told order clocks spot [] ms) (λ ms'. Ok (class_by (struct align ms) (kind.Structure ms'))) fault (same_fails _ _ fault (sym (members-each order clocks spot [] ms)) e)
 
-  -- a variant behind its tag
-  abbrev behind_tag : Spot → Option Words → Members → Route × List Label → Told Class
-  behind_tag spot tag ms found = options_told order clocks (below spot) ms >>= λ os. Ok (class_by (variant tag ms) (kind.Variant found.0 (choices_of (fields_in ms) found.1) os))
+  -- a variant after its tag
+  abbrev after_tag : Spot → Option Words → Members → Route × List Label → Told Class
+  after_tag spot tag ms found = options_told order clocks (below spot) ms >>= λ os. Ok (class_by (variant tag ms) (kind.Variant found.0 (choices_of (fields_in ms) found.1) os))
 
   pub variant_told : (spot inner : Spot) (tag : Option Words) (ms : Members) (found : Route × List Label) (made : List Member) (r : Class) → there_or LengthOrTag (tag_at spot tag) ≡ Ok found → inner ≡ below spot
       → each_told (option_told order clocks inner) [] (fields_in ms) ≡ Ok made
@@ -193,7 +193,7 @@ module _ (order : Order) (clocks : List Clock) where
       let each = ap (λ (s : Spot). each_told (option_told order clocks s) [] (fields_in ms)) (sym at) ∙ e in
       let sums = sums_kept (option_told order clocks (below spot)) (options_kept (below spot)) [] ms made each in
       let what = kind.Variant found.0 (choices_of (fields_in ms) found.1) made in
-      ap (λ t. t >>= behind_tag spot tag ms) there
+      ap (λ t. t >>= after_tag spot tag ms) there
       ∙ ap (λ t. t >>= λ os. Ok (class_by (variant tag ms) (kind.Variant found.0 (choices_of (fields_in ms) found.1) os))) (options-each order clocks (below spot) [] ms ∙ each)
       ∙ sym (λ i. told (class_around 1 (sums.depth i) (sums.nodes i) what))
       ∙ ap told (sym is)
@@ -203,7 +203,7 @@ module _ (order : Order) (clocks : List Clock) where
   variant_fails spot inner tag ms found fault there at e =
       let same = ap (λ (s : Spot). each_told (option_told order clocks s) [] (fields_in ms)) at ∙ sym (options-each order clocks (below spot) [] ms) in
       let options = bind_fails (options_told order clocks (below spot) ms) (λ os. Ok (class_by (variant tag ms) (kind.Variant found.0 (choices_of (fields_in ms) found.1) os))) fault (same_fails _ _ fault same e) in
-      same_fails _ _ fault (ap (λ t. t >>= behind_tag spot tag ms) (sym there)) options
+      same_fails _ _ fault (ap (λ t. t >>= after_tag spot tag ms) (sym there)) options
 
   pub array_told : (spot inner : Spot) (count : ℕ) (element : Shape) (c r : Class) → inner ≡ below spot → class_told order clocks inner element ≡ Ok c
       → r ≡ class_around c.align c.depth c.nodes (array_kind (lengths.Fixed count) element c) → class_told order clocks spot (array count element) ≡ Ok r

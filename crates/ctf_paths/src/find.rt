@@ -12,7 +12,7 @@ ghost use Rattle.ctf_paths.specs.Finding.{class_named, further, down, enclosing,
 
 use crate::name::scope_named;
 use crate::spot::{Around, EarlierStructure, Frame, Spot};
-use crate::trail::behind_trail;
+use crate::trail::after_trail;
 use ctf_class::{Origin, Route, Scope};
 use ctf_declared_class::{Members, Shape};
 use ctf_list::{List, NoMemory};
@@ -114,7 +114,7 @@ fn first_step(alloc: Global, place: usize) -> Result<List<u32>, NoMemory>
 }
 
 /// The field to which words lead from a class at the end of some steps.
-fn found_behind<'a>(
+fn found_after<'a>(
     origin: Origin,
     way: List<u32>,
     shape: &'a Shape,
@@ -149,7 +149,7 @@ fn found_in<'a>(
         [word, more @ ..] => match member_before(frame.members, frame.count, word.as_slice()) {
             None => Ok(None),
             Some((place, member)) => {
-                found_behind(origin, first_step(alloc, place)?, member, more)
+                found_after(origin, first_step(alloc, place)?, member, more)
             }
         },
     }
@@ -183,7 +183,7 @@ fn found_below<'a>(
     if rank(frame.scope) != rank(scope) {
         return Ok(None);
     }
-    match behind_trail(&frame.name, words) {
+    match after_trail(&frame.name, words) {
         None => Ok(None),
         Some(rest) => found_in(alloc, origin, frame, rest),
     }

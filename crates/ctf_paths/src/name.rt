@@ -2,7 +2,7 @@
 
 ghost use Rattle.std.specs.Prelude.{◌≡◌, ◌∷◌, [], option_map, option_copied};
 ghost use Rattle.ctf_meaning.specs.Paths as paths;
-ghost use Rattle.ctf_meaning.specs.Paths.{behind_words, words_of};
+ghost use Rattle.ctf_meaning.specs.Paths.{after_words, words_of};
 ghost use Rattle.ctf_paths.specs.Names.{absolute};
 
 use ctf_class::Scope;
@@ -27,8 +27,8 @@ pub struct Absolute<'a> {
 }
 
 /// The words after a first one.
-pub fn behind_word<'a>(word: &[u8], path: &'a [Word]) -> Option<&'a [Word]>
-    ensures { option_copied result ≡ behind_words (word.now ∷ []) path.now }
+pub fn after_word<'a>(word: &[u8], path: &'a [Word]) -> Option<&'a [Word]>
+    ensures { option_copied result ≡ after_words (word.now ∷ []) path.now }
 {
     match path {
         [first, rest @ ..] if word == first.as_slice() => Some(rest),
@@ -37,36 +37,36 @@ pub fn behind_word<'a>(word: &[u8], path: &'a [Word]) -> Option<&'a [Word]>
 }
 
 /// The words after two.
-fn behind_two<'a>(first: &[u8], second: &[u8], path: &'a [Word]) -> Option<&'a [Word]>
-    ensures { option_copied result ≡ behind_words (first.now ∷ second.now ∷ []) path.now }
+fn after_two<'a>(first: &[u8], second: &[u8], path: &'a [Word]) -> Option<&'a [Word]>
+    ensures { option_copied result ≡ after_words (first.now ∷ second.now ∷ []) path.now }
 {
-    behind_word(second, behind_word(first, path)?)
+    after_word(second, after_word(first, path)?)
 }
 
 /// The words after three.
-fn behind_three<'a>(
+fn after_three<'a>(
     first: &[u8],
     second: &[u8],
     third: &[u8],
     path: &'a [Word],
 ) -> Option<&'a [Word]>
     ensures { option_copied result ≡
-        behind_words (first.now ∷ second.now ∷ third.now ∷ []) path.now }
+        after_words (first.now ∷ second.now ∷ third.now ∷ []) path.now }
 {
-    behind_word(third, behind_two(first, second, path)?)
+    after_word(third, after_two(first, second, path)?)
 }
 
 /// The words after the name of a scope.
-fn behind_scope<'a>(scope: Scope, path: &'a [Word]) -> Option<&'a [Word]>
-    ensures { option_copied result ≡ behind_words (words_of scope) path.now }
+fn after_scope<'a>(scope: Scope, path: &'a [Word]) -> Option<&'a [Word]>
+    ensures { option_copied result ≡ after_words (words_of scope) path.now }
 {
     match scope {
-        Scope::PacketHeader => behind_three(b"trace", b"packet", b"header", path),
-        Scope::PacketContext => behind_three(b"stream", b"packet", b"context", path),
-        Scope::EventHeader => behind_three(b"stream", b"event", b"header", path),
-        Scope::StreamEventContext => behind_three(b"stream", b"event", b"context", path),
-        Scope::EventContext => behind_two(b"event", b"context", path),
-        Scope::EventFields => behind_two(b"event", b"fields", path),
+        Scope::PacketHeader => after_three(b"trace", b"packet", b"header", path),
+        Scope::PacketContext => after_three(b"stream", b"packet", b"context", path),
+        Scope::EventHeader => after_three(b"stream", b"event", b"header", path),
+        Scope::StreamEventContext => after_three(b"stream", b"event", b"context", path),
+        Scope::EventContext => after_two(b"event", b"context", path),
+        Scope::EventFields => after_two(b"event", b"fields", path),
     }
 }
 
@@ -75,7 +75,7 @@ pub fn scope_named<'a>(path: &'a [Word]) -> Option<Absolute<'a>>
     ensures { option_map absolute result ≡ paths.scope_named path.now }
 {
     for scope in SCOPES {
-        if let Some(words) = behind_scope(scope, path) {
+        if let Some(words) = after_scope(scope, path) {
             return Some(Absolute { scope, words });
         }
     }

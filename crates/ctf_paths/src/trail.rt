@@ -1,10 +1,10 @@
 //! How a class is reached from its scope.
 
 ghost use Rattle.std.specs.Prelude.{◌≡◌, option_and_then, option_copied};
-ghost use Rattle.ctf_meaning.specs.Paths.{behind_words};
+ghost use Rattle.ctf_meaning.specs.Paths.{after_words};
 ghost use Rattle.ctf_paths.specs.Names.{name_of};
 
-use crate::name::behind_word;
+use crate::name::after_word;
 use tsdl_tree::Word;
 
 /// The name of a class from its scope down.
@@ -19,13 +19,13 @@ pub enum Trail<'a> {
 }
 
 /// What is after the name of a class.
-pub fn behind_trail<'a>(trail: &Trail<'_>, path: &'a [Word]) -> Option<&'a [Word]>
+pub fn after_trail<'a>(trail: &Trail<'_>, path: &'a [Word]) -> Option<&'a [Word]>
     ensures { option_copied result ≡
-        option_and_then (λ name. behind_words name path.now) (name_of trail.now) }
+        option_and_then (λ name. after_words name path.now) (name_of trail.now) }
 {
     match trail {
         Trail::Broken => None,
         Trail::Scope => Some(path),
-        Trail::Member(word, outer) => behind_word(word, behind_trail(outer, path)?),
+        Trail::Member(word, outer) => after_word(word, after_trail(outer, path)?),
     }
 }

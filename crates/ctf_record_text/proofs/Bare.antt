@@ -10,7 +10,7 @@ use Rattle.ctf_decode.specs.Views.{form}
 use Rattle.ctf_record_text.specs.Headers.{TellsHead, clock_kept}
 use Rattle.ctf_record_text.specs.declared.header.ToldHead.{ToldHead}
 use Rattle.ctf_packet.specs.Classes.{Classes, StreamForm, EventForm, stream_form, event_form}
-use Rattle.ctf_packet.specs.Packets.{or_fault, moves, clock_behind}
+use Rattle.ctf_packet.specs.Packets.{or_fault, moves, clock_after}
 use Rattle.ctf_packet.specs.Records.{Headed, headed, event_named, ids_in}
 use Rattle.ctf_packet.specs.Scopes.{◌>>=◌, Values, Stood, scope_at, input_of, fault_in_record}
 use Rattle.ctf_packet.specs.declared.fault.StreamFault.{StreamFault}
@@ -18,7 +18,7 @@ use Rattle.ctf_packet.specs.declared.fault.StreamFault.TheVariants as faults
 use Rattle.std.specs.Prelude.{option_map}
 
 -- without integers that set it the clock stays
-stays : (line : Option Line) (clock : Option Moment) → clock_behind line clock [] ≡ Ok (clock_kept line clock)
+stays : (line : Option Line) (clock : Option Moment) → clock_after line clock [] ≡ Ok (clock_kept line clock)
 stays (Some line) (Some clock) = refl
 stays (Some line) None = refl
 stays None clock = refl
@@ -27,7 +27,7 @@ module _ (stream : StreamForm Classes) (bytes : List ℕ) (content : ℕ) (value
   abbrev named : Option Form → Stood → Option Moment → Result (Headed Classes) StreamFault
   named class header next = or_fault faults.UnknownEvent (event_named stream.events (last_or None (ids_in class header.value))) >>= (λ event. Ok (record { event = event; clock = next; header = header }))
 
-  opens : headed stream bytes content values clock place ≡ (scope_at fault_in_record stream.event_header (input_of bytes content values) place 0 >>= (λ header. clock_behind stream.line clock (moves stream.event_header header.value) >>= named stream.event_header header))
+  opens : headed stream bytes content values clock place ≡ (scope_at fault_in_record stream.event_header (input_of bytes content values) place 0 >>= (λ header. clock_after stream.line clock (moves stream.event_header header.value) >>= named stream.event_header header))
   unfolding headed
   opens = refl
 
@@ -35,7 +35,7 @@ module _ (stream : StreamForm Classes) (bytes : List ℕ) (content : ℕ) (value
       → headed stream bytes content values clock place ≡ Ok (record { event = event; clock = clock_kept stream.line clock; header = record { value = None; end = place; spent = 0 } })
   headed_bare event no_class is =
       let s : Stood = record { value = None; end = place; spent = 0 } in
-      opens ∙ (λ i. scope_at fault_in_record (no_class i) (input_of bytes content values) place 0 >>= (λ header. clock_behind stream.line clock (moves (no_class i) header.value) >>= named (no_class i) header))
+      opens ∙ (λ i. scope_at fault_in_record (no_class i) (input_of bytes content values) place 0 >>= (λ header. clock_after stream.line clock (moves (no_class i) header.value) >>= named (no_class i) header))
       ∙ ap (λ r. r >>= named None s) (stays stream.line clock)
       ∙ ap (λ o. or_fault faults.UnknownEvent o >>= (λ event. Ok (record { event = event; clock = clock_kept stream.line clock; header = s }))) is
 

@@ -16,20 +16,20 @@ use Rattle.ctf_record_text.specs.declared.header.Telling.{Telling}
 use Rattle.ctf_record_text.specs.declared.header.ToldHead.{ToldHead}
 use Rattle.ctf_packet.specs.Classes.{Classes, StreamForm, EventForm, stream_form, event_form}
 use Rattle.ctf_packet.specs.Moved.{moved}
-use Rattle.ctf_packet.specs.Packets.{or_fault, moves, clock_behind}
+use Rattle.ctf_packet.specs.Packets.{or_fault, moves, clock_after}
 use Rattle.ctf_packet.specs.Records.{Headed, headed, event_named, ids_in}
 use Rattle.ctf_packet.specs.Scopes.{◌>>=◌, Values, Stood, stood, scope_at, input_of, value_in, fault_in_record}
 use Rattle.ctf_packet.specs.declared.fault.StreamFault.{StreamFault}
 use Rattle.ctf_packet.specs.declared.fault.StreamFault.TheVariants as faults
 
 module _ (stream : StreamForm Classes) (bytes : List ℕ) (content : ℕ) (values : Values) (place : ℕ) where
-  abbrev behind_clock : Option Form → Stood → Option Moment → Result (Headed Classes) StreamFault
-  behind_clock class header next = or_fault faults.UnknownEvent (event_named stream.events (last_or None (ids_in class header.value))) >>= (λ event. Ok (record { event = event; clock = next; header = header }))
+  abbrev after_clock : Option Form → Stood → Option Moment → Result (Headed Classes) StreamFault
+  after_clock class header next = or_fault faults.UnknownEvent (event_named stream.events (last_or None (ids_in class header.value))) >>= (λ event. Ok (record { event = event; clock = next; header = header }))
 
-  abbrev behind_header : Option Form → Option Line → Moment → Stood → Result (Headed Classes) StreamFault
-  behind_header class line clock header = clock_behind line (Some clock) (moves class header.value) >>= behind_clock class header
+  abbrev after_header : Option Form → Option Line → Moment → Stood → Result (Headed Classes) StreamFault
+  after_header class line clock header = clock_after line (Some clock) (moves class header.value) >>= after_clock class header
 
-  opens : (clock : Moment) → headed stream bytes content values (Some clock) place ≡ (scope_at fault_in_record stream.event_header (input_of bytes content values) place 0 >>= behind_header stream.event_header stream.line clock)
+  opens : (clock : Moment) → headed stream bytes content values (Some clock) place ≡ (scope_at fault_in_record stream.event_header (input_of bytes content values) place 0 >>= after_header stream.event_header stream.line clock)
   unfolding headed
   opens clock = refl
 
@@ -38,13 +38,13 @@ module _ (stream : StreamForm Classes) (bytes : List ℕ) (content : ℕ) (value
       → headed stream bytes content values (Some clock) place ≡ Ok (record { event = event; clock = Some next; header = record { value = Some v; end = end; spent = spent } })
   headed_is k line clock next v end spent event has_class has_line stands moves_on named =
       let s : Stood = record { value = Some v; end = end; spent = spent } in
-      opens clock ∙ (λ i. scope_at fault_in_record (has_class i) (input_of bytes content values) place 0 >>= behind_header (has_class i) (has_line i) clock)
-      ∙ ap (λ r. stood fault_in_record r >>= behind_header (Some k) (Some line) clock) stands
-      ∙ ap (λ o. (or_fault faults.ClockRefused o >>= (λ n. Ok (Some n))) >>= behind_clock (Some k) s) moves_on
+      opens clock ∙ (λ i. scope_at fault_in_record (has_class i) (input_of bytes content values) place 0 >>= after_header (has_class i) (has_line i) clock)
+      ∙ ap (λ r. stood fault_in_record r >>= after_header (Some k) (Some line) clock) stands
+      ∙ ap (λ o. (or_fault faults.ClockRefused o >>= (λ n. Ok (Some n))) >>= after_clock (Some k) s) moves_on
       ∙ ap (λ o. or_fault faults.UnknownEvent o >>= (λ event. Ok (record { event = event; clock = Some next; header = s }))) named
 
   -- the same without a clock
-  untimed_opens : (clock : Option Moment) → headed stream bytes content values clock place ≡ (scope_at fault_in_record stream.event_header (input_of bytes content values) place 0 >>= (λ header. clock_behind stream.line clock (moves stream.event_header header.value) >>= behind_clock stream.event_header header))
+  untimed_opens : (clock : Option Moment) → headed stream bytes content values clock place ≡ (scope_at fault_in_record stream.event_header (input_of bytes content values) place 0 >>= (λ header. clock_after stream.line clock (moves stream.event_header header.value) >>= after_clock stream.event_header header))
   unfolding headed
   untimed_opens clock = refl
 
@@ -52,8 +52,8 @@ module _ (stream : StreamForm Classes) (bytes : List ℕ) (content : ℕ) (value
       → headed stream bytes content values clock place ≡ Ok (record { event = event; clock = None; header = record { value = Some v; end = end; spent = spent } })
   untimed_is k clock v end spent event has_class no_line stands named =
       let s : Stood = record { value = Some v; end = end; spent = spent } in
-      untimed_opens clock ∙ (λ i. scope_at fault_in_record (has_class i) (input_of bytes content values) place 0 >>= (λ header. clock_behind (no_line i) clock (moves (has_class i) header.value) >>= behind_clock (has_class i) header))
-      ∙ ap (λ r. stood fault_in_record r >>= (λ header. Ok None >>= behind_clock (Some k) header)) stands
+      untimed_opens clock ∙ (λ i. scope_at fault_in_record (has_class i) (input_of bytes content values) place 0 >>= (λ header. clock_after (no_line i) clock (moves (has_class i) header.value) >>= after_clock (has_class i) header))
+      ∙ ap (λ r. stood fault_in_record r >>= (λ header. Ok None >>= after_clock (Some k) header)) stands
       ∙ ap (λ o. or_fault faults.UnknownEvent o >>= (λ event. Ok (record { event = event; clock = None; header = s }))) named
 
 pub tells_head : (class : StreamClass) (shift : Shift) (k : Class) (line : Line) (clock : Moment) (bytes : List ℕ) (content place : ℕ) (from to : Telling) (told : ToldHead)

@@ -7,9 +7,9 @@ use Rattle.std.specs.List.{last_or}
 use Rattle.std.specs.Str.{bytes_eq}
 use Rattle.std.proofs.lemmas.Int.{ints}
 use Rattle.ctf_bits.specs.Number.{number, signed_number}
-use Rattle.ctf_bits.specs.Placed.{Placed, number_behind}
+use Rattle.ctf_bits.specs.Placed.{Placed, number_after}
 use Rattle.ctf_bits.specs.declared.number.Order.TheVariants.{Le}
-use Rattle.ctf_class.proofs.AlignmentLemmas.{divides_too, next_behind}
+use Rattle.ctf_class.proofs.AlignmentLemmas.{divides_too, next_after}
 use Rattle.ctf_class.specs.declared.class.Class.{Class}
 use Rattle.ctf_class.specs.declared.class.Member.{Member}
 use Rattle.ctf_class.specs.declared.header_plan.HeaderPlan.{HeaderPlan}
@@ -106,7 +106,7 @@ up_multiple : (begin align : ℕ) → begin % align ≡ 0 → next_multiple_of b
 up_multiple begin align multiple =
     ap (λ k. begin + (align - k) % align) multiple ∙ ap (λ k. begin + k % align) (sub-zero align) ∙ ap (λ k. begin + k) (mod_self align) ∙ add-zero begin
 
--- a header whose parts stand at fixed places behind its begin
+-- a header whose parts stand at fixed places after its begin
 pub tells_planned : (line : Line) (plan : HeaderPlan) (class : Class) (packet : List ℕ) (content place : ℕ) (clock next : Moment) (begin end id n : ℕ) (is : IsHeaderPlan plan class)
     → begin ≡ next_multiple_of place plan.align → begin % plan.align ≡ 0
     → end ≡ begin + plan.end → end ≤ content
@@ -120,9 +120,9 @@ tells_planned line plan class packet content place clock next begin end id n is 
     let option = is.option.class.align in
     let tag_begin : next_multiple_of begin is.tag.class.align ≡ begin = up_multiple begin is.tag.class.align (divides_too begin plan.align is.tag.class.align multiple at.tag_divides) in
     let inner = next_multiple_of (begin + size) option in
-    let opens : inner ≡ begin + next_multiple_of size option = next_behind begin size option (divides_too begin plan.align option multiple at.option_divides) in
+    let opens : inner ≡ begin + next_multiple_of size option = next_after begin size option (divides_too begin plan.align option multiple at.option_divides) in
     let stamp_begin : next_multiple_of inner is.stamp_align ≡ begin + plan.stamp_place =
-    ap (λ b. next_multiple_of b is.stamp_align) opens ∙ next_behind begin (next_multiple_of size option) is.stamp_align (divides_too begin plan.align is.stamp_align multiple at.stamp_divides) ∙ ap (λ b. begin + b) (sym at.is)
+    ap (λ b. next_multiple_of b is.stamp_align) opens ∙ next_after begin (next_multiple_of size option) is.stamp_align (divides_too begin plan.align is.stamp_align multiple at.stamp_divides) ∙ ap (λ b. begin + b) (sym at.is)
     in
     let reaches : begin + plan.stamp_place ≤ content = omega (arith, is.near.stamp) in
     let before : inner ≤ next_multiple_of inner is.stamp_align = le-add_right inner ((is.stamp_align - inner % is.stamp_align) % is.stamp_align) in
@@ -138,9 +138,9 @@ pos_same : (a b : ℕ) → pos a ≡ pos b → a ≡ b
 pos_same a b same = omega (arith, ints, same)
 
 -- what is read of an unsigned integer
-pub read_so : (w : Placed) (i : Integer) (bytes : List ℕ) (first begin place n : ℕ) → number_behind w bytes first ≡ pos n → w ≡ record { place = place; size = bits_of i; is_signed = false } → i.order ≡ Le → 8 * first ≡ begin → n ≡ number i.order bytes (begin + place) (bits_of i)
+pub read_so : (w : Placed) (i : Integer) (bytes : List ℕ) (first begin place n : ℕ) → number_after w bytes first ≡ pos n → w ≡ record { place = place; size = bits_of i; is_signed = false } → i.order ≡ Le → 8 * first ≡ begin → n ≡ number i.order bytes (begin + place) (bits_of i)
 read_so w i bytes first begin place n reads is little starts =
-    let unsigned_is : pos (number Le bytes (8 * first + place) (bits_of i)) ≡ pos n = ap (λ (v : Placed). number_behind v bytes first) (sym is) ∙ reads in
+    let unsigned_is : pos (number Le bytes (8 * first + place) (bits_of i)) ≡ pos n = ap (λ (v : Placed). number_after v bytes first) (sym is) ∙ reads in
     sym (pos_same (number Le bytes (8 * first + place) (bits_of i)) n unsigned_is) ∙ ap (λ b. number Le bytes (b + place) (bits_of i)) starts ∙ ap (λ o. number o bytes (begin + place) (bits_of i)) (sym little)
 
 -- whole bytes stand before what begins at a byte

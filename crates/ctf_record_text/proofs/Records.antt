@@ -26,18 +26,18 @@ module _ (shift : Shift) (o : OpenPacket) (old : Values) (bytes : List ℕ) (clo
   abbrev stands : Result (Recorded Classes) StreamFault
   stands = record_at (opened_of shift (packet_values old) o) bytes clock place
 
-  abbrev behind_body : Headed Classes → Body → Result (Recorded Classes) StreamFault
-  behind_body h body = unless faults.EmptyEvent (not (body.end == place)) >>= (λ some_bits. Ok (record { event = h.event; clock = h.clock; values = body.values; end = body.end }))
+  abbrev after_body : Headed Classes → Body → Result (Recorded Classes) StreamFault
+  after_body h body = unless faults.EmptyEvent (not (body.end == place)) >>= (λ some_bits. Ok (record { event = h.event; clock = h.clock; values = body.values; end = body.end }))
 
   abbrev body_of : Headed Classes → Result Body StreamFault
   body_of h = bodied (option_map form o.stream.now.event_context) h.event.context h.event.fields bytes o.content (put EventHeader h.header.value (packet_values old)) h.header.end h.header.spent
 
-  opens : stands ≡ (headed (stream_form shift o.stream.now) bytes o.content (packet_values old) clock place >>= (λ h. body_of h >>= behind_body h))
+  opens : stands ≡ (headed (stream_form shift o.stream.now) bytes o.content (packet_values old) clock place >>= (λ h. body_of h >>= after_body h))
   unfolding record_at
   opens = refl
 
   abbrev goes : Headed Classes → Result (Recorded Classes) StreamFault
-  goes h = body_of h >>= behind_body h
+  goes h = body_of h >>= after_body h
 
   -- a fault of the header
   pub no_head : (known : Known) (f : StreamFault) → PutsHead o.stream.now (packet_values old) (headed (stream_form shift o.stream.now) bytes o.content (packet_values old) clock place) (Err f) known → (stands ≡ Err f) ⊎ (f ≡ faults.NoMemory)
@@ -49,27 +49,27 @@ module _ (shift : Shift) (o : OpenPacket) (old : Values) (bytes part : List ℕ)
   abbrev there : Result (Recorded Classes) StreamFault
   there = stands shift o old bytes clock place
 
-  abbrev behind : Headed Classes → Body → Result (Recorded Classes) StreamFault
-  behind = behind_body shift o old bytes clock place
+  abbrev body_after : Headed Classes → Body → Result (Recorded Classes) StreamFault
+  body_after = after_body shift o old bytes clock place
 
   abbrev Has_head : Type 0
   Has_head =
       (h : Headed Classes) × (headed (stream_form shift o.stream.now) bytes o.content (packet_values old) clock place ≡ Ok h) × (event_form o.stream.now head.event.now ≡ h.event) × (head.clock ≡ h.clock) × (head.end ≡ h.header.end) × (spent ≡ h.header.spent)
       × (known ≡ put EventHeader h.header.value (packet_values old))
 
-  -- the scopes behind the header, as the code reads them
+  -- the scopes after the header, as the code reads them
   abbrev read : Result Body StreamFault
   read = bodied (option_map form o.stream.now.event_context) (option_map form head.event.now.context) (form head.event.now.fields) bytes o.content known head.end spent
 
-  to_body : (g : Has_head) (r : Result Body StreamFault) → read ≡ r → there ≡ (r >>= behind g.0)
+  to_body : (g : Has_head) (r : Result Body StreamFault) → read ≡ r → there ≡ (r >>= body_after g.0)
   to_body g r is =
       let reads : body_of shift o old bytes clock place g.0 ≡ read = (λ i. bodied (option_map form o.stream.now.event_context) ((sym g.2 i).context) ((sym g.2 i).fields) bytes o.content (sym g.6 i) (sym g.4 i) (sym g.5 i)) in
-      opens shift o old bytes clock place ∙ ap (λ h. h >>= goes shift o old bytes clock place) g.1 ∙ ap (λ b. b >>= behind g.0) (reads ∙ is)
+      opens shift o old bytes clock place ∙ ap (λ h. h >>= goes shift o old bytes clock place) g.1 ∙ ap (λ b. b >>= body_after g.0) (reads ∙ is)
 
   all : (g : Has_head) (b : Body) (r : EventRecord) → read ≡ Ok b → place < b.end → r ≡ record { event = head.event; clock = head.clock; end = b.end } → there ≡ Ok (recorded_of o.stream.now b.values r)
   all g b r is further same =
       let some : not (b.end == place) ≡ true = grind (arith, nat_tests) in
-      let ends : behind g.0 b ≡ Ok (record { event = g.0.event; clock = g.0.clock; values = b.values; end = b.end }) =
+      let ends : body_after g.0 b ≡ Ok (record { event = g.0.event; clock = g.0.clock; values = b.values; end = b.end }) =
       ap (λ t. unless faults.EmptyEvent t >>= (λ some_bits. Ok (record { event = g.0.event; clock = g.0.clock; values = b.values; end = b.end }))) some
       in
       let shown : Ok (record { event = g.0.event; clock = g.0.clock; values = b.values; end = b.end }) ≡ Ok (recorded_of o.stream.now b.values (record { event = head.event; clock = head.clock; end = b.end })) =

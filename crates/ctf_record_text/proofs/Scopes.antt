@@ -1,4 +1,4 @@
--- The scopes behind the header of an event record, one after the other, and their texts.
+-- The scopes after the header of an event record, one after the other, and their texts.
 use Rattle.std.proofs.Common.{◌≡◌, ℕ, ◌<◌, List, [], ◌∷◌, ◌++◌, length, Option, Some, None, Result, Ok, codes, option_map, refl, sym, ap, ◌∙◌, append_assoc, append-nil, arith}
 use Rattle.std.specs.List.{flat_map}
 use Rattle.std.specs.Prelude.{⊤}
@@ -38,17 +38,17 @@ puts_some known members k bytes content from to before text after puts added val
     (record { value = Some p.0; end = to.place; spent = to.spent }, ap (stood fault_in_record) p.1, refl, refl, added ∙ ap followed p.2 ∙ append_assoc before shown (codes ", ") ∙ ap (λ xs. before ++ xs) (sym (append-nil (followed shown))), p.3)
 
 module _ (known : Known) (stream : StreamClass) (event : EventClass) (part bytes : List ℕ) (content : ℕ) where
-  abbrev behind_own : Values → Stood → Result Body StreamFault
-  behind_own v own =
+  abbrev after_own : Values → Stood → Result Body StreamFault
+  after_own v own =
       let with_own = put EventContext own.value v in
       scope_at fault_in_record (Some (form event.fields)) (input_of bytes content with_own) own.end own.spent >>= (λ fields. Ok (record { values = put EventFields fields.value with_own; end = fields.end }))
 
-  abbrev behind_shared : Values → Stood → Result Body StreamFault
-  behind_shared v shared =
+  abbrev after_shared : Values → Stood → Result Body StreamFault
+  after_shared v shared =
       let with_shared = put StreamEventContext shared.value v in
-      scope_at fault_in_record (option_map form event.context) (input_of bytes content with_shared) shared.end shared.spent >>= behind_own with_shared
+      scope_at fault_in_record (option_map form event.context) (input_of bytes content with_shared) shared.end shared.spent >>= after_own with_shared
 
-  opens : (values : Values) (place spent : ℕ) → bodied (option_map form stream.event_context) (option_map form event.context) (form event.fields) bytes content values place spent ≡ (scope_at fault_in_record (option_map form stream.event_context) (input_of bytes content values) place spent >>= behind_shared values)
+  opens : (values : Values) (place spent : ℕ) → bodied (option_map form stream.event_context) (option_map form event.context) (form event.fields) bytes content values place spent ≡ (scope_at fault_in_record (option_map form stream.event_context) (input_of bytes content values) place spent >>= after_shared values)
   unfolding bodied
   opens values place spent = refl
 
@@ -78,13 +78,13 @@ module _ (known : Known) (stream : StreamClass) (event : EventClass) (part bytes
       (λ i. scope_at fault_in_record (Some (form event.fields)) (input_of bytes content with_own) (sym b.2 i) (sym b.3 i)) ∙ ap (stood fault_in_record) f.1
       in
       let is : bodied (option_map form stream.event_context) (option_map form event.context) (form event.fields) bytes content values from.place from.spent ≡ Ok body =
-      opens values from.place from.spent ∙ ap (λ r. r >>= behind_shared values) a.1 ∙ ap (λ r. r >>= behind_own with_shared) at_own
+      opens values from.place from.spent ∙ ap (λ r. r >>= after_shared values) a.1 ∙ ap (λ r. r >>= after_own with_shared) at_own
       ∙ ap (λ r. r >>= (λ (fields : Stood). Ok (record { values = put EventFields fields.value with_own; end = fields.end }))) at_fields
       in
       let chain = record_chain [] (heading_text event.heading) (value_text event.fields f.0) (heading_text event.heading) front first second (if_shown part) (scope_texts stream.event_context a.0.value) (scope_texts event.context b.0.value) refl wrote a.4 b.4 in
       (body, is, refl, refl, f.2 ∙ chain)
 
--- The scopes behind a header, where each knows the members of those before it.
+-- The scopes after a header, where each knows the members of those before it.
 pub puts_body : (known : Known) (none nothing first_members second_members last : Members) (stream : StreamClass) (event : EventClass) (part bytes : List ℕ) (content : ℕ) (from shared own : Standing) (place spent : ℕ) (front first second text : List ℕ) → MembersAre none [] → MembersAre nothing [] → front ≡ heading_text event.heading ++ flat_map followed (if_shown part)
     → PutsScope (record { packet = known; stream_context = none; event_context = nothing }) first_members stream.event_context bytes content from front shared first
     → PutsScope (record { packet = known; stream_context = first_members; event_context = nothing }) second_members event.context bytes content shared first own second
@@ -102,7 +102,7 @@ StandsPlain class bytes content from before to after =
     (values : Values) → (s : Stood) × (scope_at fault_in_record (option_map form class) (input_of bytes content values) from.place from.spent ≡ Ok s)
     × (to.place ≡ s.end) × (to.spent ≡ s.spent) × (after ≡ before ++ flat_map followed (scope_texts class s.value))
 
--- scopes that were written one behind the other
+-- scopes that were written one after the other
 pub scope_step : (o : Option Class) (ks : List Class) (bytes : List ℕ) (content place spent end total : ℕ) (before after : List ℕ) → 0 < length ks → PutsScopes (and_scope o ks) bytes content place spent end total before after
     → (to : Standing) × (text : List ℕ) × StandsPlain o bytes content (record { place = place; spent = spent; end = 0 }) before to text × PutsScopes ks bytes content to.place to.spent end total text after
 scope_step None ks bytes content place spent end total before after some puts =

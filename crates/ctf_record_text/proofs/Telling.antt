@@ -45,7 +45,7 @@ use Rattle.ctf_format.specs.Standing.{among}
 leaf_in : (c : Input) (e s : ℕ) (v : Val) → s < c.limit → e ≤ c.content → begin c s (leaf c e s v) ≡ Ok (v, e, s + 1)
 leaf_in c e s v few within = sym (begin_in c s (leaf c e s v) few) ∙ ap (λ b. cond b (Err (past e)) (Ok (v, e, s + 1))) (le-ltb c.content e within)
 
--- the clock behind integers and others behind them
+-- the clock after integers and others after them
 set_by-append : (line : Option Line) (from : Moment) (xs ys : List (ℕ × ℕ)) → set_by line from (xs ++ ys) ≡ option_and_then (λ d. set_by line d ys) (set_by line from xs)
 set_by-append None from xs ys = refl
 set_by-append (Some line) from xs ys = advanced_by-append line from xs ys
@@ -104,7 +104,7 @@ ids_snoc (n ∷ ms) m (w ∷ vs) v same =
     let first = named_id (member_part n).0 (member_part n).1 w ++ ids (member_part n).1 w in
     ap (λ xs. first ++ xs) (ids_snoc ms m vs v (omega (arith, same))) ∙ sym (append_assoc first (member_ids (parts_of (map member_part ms)) (vals_of vs)) (named_id m.name (form m.class) v ++ ids (form m.class) v))
 
--- As many members as an index tells were told, and the others stand behind them: so the loop over members goes.
+-- As many members as an index tells were told, and the others stand after them: so the loop over members goes.
 abbrev pub Going : Option Line → List Member → List ℕ → ℕ → Telling → ℕ → Telling → Type 0
 Going line ms packet content from i at =
     (earlier : Scope → Option Val) (env : Env)
@@ -208,10 +208,10 @@ tells_pair line tag other i ls route choices options packet content from at (Som
     sym (begin_in c (from.spent + 1) (with_option (option_at route choices earlier inner) (λ k. and_then (walk_option ps k c inner read.place (from.spent + 1 + 1)) (as_choice k))) few)
     ∙ ap (λ o. with_option o (λ k. and_then (walk_option ps k c inner read.place (from.spent + 1 + 1)) (as_choice k))) (chooses earlier env) ∙ chosen
     in
-    let behind_tag = λ (x : Val) (q s : ℕ). walk_members (part other.name second no_parts) c env (x ∷ []) q s in
-    let behind_variant = λ (x : Val) (q s : ℕ). walk_members no_parts c env (z ∷ x ∷ []) q s in
+    let after_tag = λ (x : Val) (q s : ℕ). walk_members (part other.name second no_parts) c env (x ∷ []) q s in
+    let after_variant = λ (x : Val) (q s : ℕ). walk_members no_parts c env (z ∷ x ∷ []) q s in
     let walked : walk_members (parts_of (map member_part (tag ∷ other ∷ []))) c env [] from.place from.spent ≡ Ok (z ∷ v ∷ [], to.place, to.spent) =
-    ap (λ p. walk_members p c env [] from.place from.spent) parts ∙ ap (λ r. and_then r behind_tag) (stands earlier ([] ∷ env) from.spent (omega (arith, few))) ∙ ap (λ r. and_then r behind_variant) of_variant
+    ap (λ p. walk_members p c env [] from.place from.spent) parts ∙ ap (λ r. and_then r after_tag) (stands earlier ([] ∷ env) from.spent (omega (arith, few))) ∙ ap (λ r. and_then r after_variant) of_variant
     in
     let all = vals_of (z ∷ v ∷ []) in
     let moves : member_moved (parts_of (map member_part (tag ∷ other ∷ []))) all ≡ moved (form m.class) w =

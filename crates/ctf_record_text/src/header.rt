@@ -457,7 +457,7 @@ fn tell_number(
 {
     let mut id = after.id;
     named_id(member, value, &mut id);
-    let clock = clock_behind(timeline, integer, value, after.clock)?;
+    let clock = clock_after(timeline, integer, value, after.clock)?;
     Some(Telling {
         id,
         clock,
@@ -468,7 +468,7 @@ fn tell_number(
 
 /// The moment after an integer of this value, where there is a clock that it may set.
 #[inline(always)]
-fn clock_behind(
+fn clock_after(
     timeline: Option<&Timeline>,
     integer: &Integer,
     value: &Value,

@@ -165,7 +165,7 @@ fn read_values<'a>(
     scopes: &mut Scopes,
 ) -> Result<EventRecord<'a>, StreamFault>
     requires start { head.end ≤ at.now.packet.now.content }
-    requires behind { at.now.place ≤ head.end }
+    requires after { at.now.place ≤ head.end }
     ensures values { let stream = at.now.packet.now.stream.now in
         let event = head.entry.event.now in
         MakesValues stream head.entry (bodied (option_map form stream.event_context)

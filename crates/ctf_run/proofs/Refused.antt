@@ -52,16 +52,16 @@ module _ {S : Type 0} (given : S → Given) where
 
   told : (number : ℕ) (fault : LoadFault) (outcome : Outcome) (w : Written) (traces : List (declared.Trace S)) → TellsFault traces number fault outcome w → SettledBy outcome w.settled → SaysSettled w
       → Answered (one_piece number (name_at traces number) fault) outcome w
-  told number fault outcomes.Done w traces tells behind said = absurd tells
-  told number fault (outcomes.Fault f) w traces tells behind said =
-      (ap outcomes.Fault tells.0, record { wrote = rw and_then-none tells.1; settled = λ last. behind })
-  told number fault outcomes.WriteFailed w traces tells behind said = stopped_first (fault_texts traces number fault) [] w tells said
-  told number fault outcomes.NoMemory w traces tells behind said = stopped_first (fault_texts traces number fault) [] w tells said
+  told number fault outcomes.Done w traces tells after said = absurd tells
+  told number fault (outcomes.Fault f) w traces tells after said =
+      (ap outcomes.Fault tells.0, record { wrote = rw and_then-none tells.1; settled = λ last. after })
+  told number fault outcomes.WriteFailed w traces tells after said = stopped_first (fault_texts traces number fault) [] w tells said
+  told number fault outcomes.NoMemory w traces tells after said = stopped_first (fault_texts traces number fault) [] w tells said
 
   pub run_broken : (traces : List (declared.Trace S)) (options : Options) (number : ℕ) (fault : LoadFault) (outcome : Outcome) (w : Written) → IsFirstFault traces number fault
       → TellsFault traces number fault outcome w → SettledBy outcome w.settled → SaysSettled w → Runs (traces_of given traces) options outcome w
-  run_broken traces options number fault outcome w first tells behind said = answered (record {
+  run_broken traces options number fault outcome w first tells after said = answered (record {
     answer = refused (are_several (traces_of given traces)) number (string_bytes first.trace.name) fault;
     is_answer = broken number (trace_of given first.trace) first.classes fault (trace_at traces number first.trace first.at) (have_first number traces first.classes first.before) first.broken first.named;
-    answered = subst (λ name. Answered (one_piece number name fault) outcome w) (named_so traces number first.trace first.at) (told number fault outcome w traces tells behind said);
+    answered = subst (λ name. Answered (one_piece number name fault) outcome w) (named_so traces number first.trace first.at) (told number fault outcome w traces tells after said);
   })

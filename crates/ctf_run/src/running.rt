@@ -39,7 +39,7 @@ pub fn run<S: Source + Drop, W: Log, E: Sink>(
     ensures named { IsNamed result }
 
     // Nothing of the log is held back after the line of a fault, nor where the messages failed or ran out of memory.
-    ensures behind { SettledBy result (W.settled out.new) }
+    ensures after { SettledBy result (W.settled out.new) }
     ensures settled { let counts = counts_by W.failures W.refusals E.failures E.refusals in
         SameForMessages (counts out.old err.old) (counts out.new err.new)
         ⊎ IsTrue (W.settled out.new) }
@@ -88,7 +88,7 @@ fn tell<S, W: Log, E: Sink>(
         CountsAfter result (counts out.old err.old) (counts out.new err.new) }
     ensures named { IsNamed result }
     ensures settled { (err.new ≡ err.old) ⊎ IsTrue (W.settled out.new) }
-    ensures behind { SettledBy result (W.settled out.new) }
+    ensures after { SettledBy result (W.settled out.new) }
     ensures out_tells { IsTrue (W.tells out.old) → IsTrue (W.tells out.new) }
     ensures err_tells { IsTrue (E.tells err.old) → IsTrue (E.tells err.new) }
 {

@@ -1,4 +1,4 @@
--- What streams have given of their bytes, from what is said of each item that is left behind.
+-- What streams have given of their bytes, from what is said of each item that is passed.
 use Rattle.std.proofs.Common.{◌≡◌, ℕ, zero, suc, ◌+◌, List, [], ◌∷◌, map, set, length, Some, refl, sym, ap, ◌∙◌, subst, arith}
 use Rattle.std.specs.Prelude.{slice_get}
 use Rattle.std.specs.List.{AllByRecursion}
@@ -8,27 +8,27 @@ use Rattle.ctf_merge.proofs.Going.{each_set}
 use Rattle.ctf_packet.specs.Classes.{Classes}
 use Rattle.ctf_packet.specs.Items.{Run, Item}
 use Rattle.ctf_stream.specs.Reader as reader
-use Rattle.ctf_stream.specs.Reader.{Reader, coming, rest_of, with_ahead, behind_ahead, IsFetched, OnLine, IsOnLine, IsAllTaken}
+use Rattle.ctf_stream.specs.Reader.{Reader, coming, rest_of, with_ahead, after_ahead, IsFetched, OnLine, IsOnLine, IsAllTaken}
 use Rattle.ctf_session.specs.Passing.{GivenBy, HasGiven, without, Pass}
 
 -- ---- one reader
 
-rest_by : (h : reader.Peeked) (cut : ℕ) (behind : Run Classes) (x : Item Classes) → h ≡ reader.item x
-    → behind_ahead h cut behind ≡ without_first (with_ahead h (behind_ahead h cut behind))
-rest_by reader.start cut behind x e = absurd cc
-rest_by (reader.item y) cut behind x e = refl
-rest_by reader.ended cut behind x e = absurd cc
-rest_by (reader.fault f) cut behind x e = absurd cc
+rest_by : (h : reader.Peeked) (cut : ℕ) (after : Run Classes) (x : Item Classes) → h ≡ reader.item x
+    → after_ahead h cut after ≡ without_first (with_ahead h (after_ahead h cut after))
+rest_by reader.start cut after x e = absurd cc
+rest_by (reader.item y) cut after x e = refl
+rest_by reader.ended cut after x e = absurd cc
+rest_by (reader.fault f) cut after x e = absurd cc
 
 abbrev given_run : Run Classes → ℕ → ℕ → ℕ → Type 0
 given_run run all taken held = GivenBy run.items run.fault run.at all taken held
 
-given_as : (h : reader.Peeked) (cut : ℕ) (behind : Run Classes) (taken held : ℕ) (left : List ℕ) → IsFetched h → OnLine h taken cut held → IsAllTaken h left
-    → given_run (with_ahead h (behind_ahead h cut behind)) (taken + length left) taken held
-given_as reader.start cut behind taken held left fetched line all = absurd fetched
-given_as (reader.item x) cut behind taken held left fetched line all = (line.0, line.1)
-given_as reader.ended cut behind taken held left fetched line all = (let none = ap length all in omega (arith, none), line.1)
-given_as (reader.fault f) cut behind taken held left fetched line all = line
+given_as : (h : reader.Peeked) (cut : ℕ) (after : Run Classes) (taken held : ℕ) (left : List ℕ) → IsFetched h → OnLine h taken cut held → IsAllTaken h left
+    → given_run (with_ahead h (after_ahead h cut after)) (taken + length left) taken held
+given_as reader.start cut after taken held left fetched line all = absurd fetched
+given_as (reader.item x) cut after taken held left fetched line all = (line.0, line.1)
+given_as reader.ended cut after taken held left fetched line all = (let none = ap length all in omega (arith, none), line.1)
+given_as (reader.fault f) cut after taken held left fetched line all = line
 
 -- ---- several readers
 
@@ -51,11 +51,11 @@ set_one (s ∷ rs) zero before after at same =
     ap (λ (run : Run Classes). run ∷ map coming rs) (same ∙ ap (λ (r : Reader). without_first (coming r)) is)
 set_one (s ∷ rs) (suc n) before after at same = ap (λ (runs : List (Run Classes)). coming s ∷ runs) (set_one rs n before after at same)
 
--- one item is left behind
+-- one item is passed
 pass_one : (n : ℕ) (old new : List Reader) (it : LeavesOne n old new) → coming it.after ≡ rest_of it.before → map coming new ≡ advance n (map coming old)
 pass_one n old new it goes =
     ap (λ (rs : List Reader). map coming rs) it.others
-    ∙ set_one old n it.before it.after it.at (goes ∙ rest_by it.before.ahead it.before.cut it.before.behind it.left it.ahead)
+    ∙ set_one old n it.before it.after it.at (goes ∙ rest_by it.before.ahead it.before.cut it.before.after it.left it.ahead)
 
 pass_coming : (items : List Placed) (old new : List Reader) → Pass items old new → map coming new ≡ without items (map coming old)
 pass_coming [] old new pass = ap (λ (rs : List Reader). map coming rs) pass
@@ -75,7 +75,7 @@ given items first readers fetched pass line all i r at =
     let run_is : coming r ≡ run_at i (without items (map coming first)) =
     sym (comes_at readers i r at) ∙ ap (λ (runs : List (Run Classes)). run_at i runs) (pass_coming items first readers pass) in
     subst (λ (run : Run Classes). HasGiven run (r.taken + length r.left) r) run_is
-    (given_as r.ahead r.cut r.behind r.taken r.held r.left
+    (given_as r.ahead r.cut r.after r.taken r.held r.left
     (at_one (λ s. IsFetched s.ahead) readers i r at (pass_fetched items first readers pass fetched))
     (at_one IsOnLine readers i r at line).0
     (at_one (λ s. IsAllTaken s.ahead s.left) readers i r at all))

@@ -18,7 +18,7 @@ printed_line (Ok done) text line o0 o1 err settled is all part = record { output
 printed_line (Err sink.Failed) text line o0 o1 err settled is all part = record { output = rw is at part; messages = WritesPart-none err [] }
 printed_line (Err sink.NoMemory) text line o0 o1 err settled is all part = record { output = rw is at part; messages = WritesPart-none err [] }
 
--- a message, behind a log that was passed on
+-- a message, after a log that was passed on
 pub printed_message : (r : Result Unit SinkFault) (text o0 o1 e0 e1 : List ℕ) (settled : Bool) → o1 ≡ o0 → OnOk r (e1 ≡ e0 ++ text) → OnErr r (WritesPart e0 e1 text)
     → Prints (record { output = []; messages = text }) (stop_of r) (written o0 o1 e0 e1 settled)
 printed_message (Ok done) text o0 o1 e0 e1 settled kept all part = record { output = kept ∙ sym (append-nil o0); messages = all }

@@ -12,7 +12,7 @@ use Rattle.ctf_timestamp.specs.declared.trim.Verdict.{Verdict}
 use Rattle.ctf_timestamp.specs.declared.trim.Verdict.TheVariants.{Before, Within, After}
 use Rattle.ctf_session.specs.Answers.{Setting, Answer, answer, verdict, is_after, is_within, text_of, fault_texts, fault_pieces, fault_of, outcome_of}
 use Rattle.ctf_session.specs.Steps.{Session, Goes, Ends, EndsBy, EachAfter, IsQuiet, IsQuietBy, SettledBy, told_by, next_texts, shown_text, last_shown, Answered, IsNamed, IsWant, answer_of}
-use Rattle.ctf_session.specs.Writing.{Texts, no_texts, and_then, joined, first_of, behind, Written, Writes, WritesParts, SaysSettled, Stopped, Finished, EndsInMessage}
+use Rattle.ctf_session.specs.Writing.{Texts, no_texts, and_then, joined, first_of, after_texts, Written, Writes, WritesParts, SaysSettled, Stopped, Finished, EndsInMessage}
 use Rattle.ctf_session.proofs.Pieces.{WritesPart-longer}
 use Rattle.ctf_session.proofs.Runs.{add, shown_pieces, joined-append, joined-shown, joined-fault, ends_last, answer-then, answer-end, next-first}
 
@@ -51,7 +51,7 @@ reaches-start s out err settled = record {
   settled = λ none. absurd none;
 }
 
--- nothing goes on behind a refused growth
+-- nothing goes on after a refused growth
 refused_over : (m : Merged) (x : Placed) (rest : Merged) → IsRefused m → m ≡ then x rest → ⊥
 refused_over m x rest is e = let none = sym is.0 ∙ ap (λ (n : Merged). n.items) e in cc
 
@@ -176,21 +176,21 @@ module _ (o0 o1 o2 e0 e1 e2 : List ℕ) (s1 s2 : Bool) where
   end_left : (whole : Answer) (done : List Texts) (now : Session) (outcome : Outcome) → IsNamed outcome → Left whole done now → Writes (written o0 o1 e0 e1 s1) (joined done)
       → Ends now outcome (written o1 o2 e1 e2 s2) → (EndsInMessage done → IsTrue s1) → (IsQuiet now → s2 ≡ s1) → SettledBy outcome s2
       → (outcome ≡ whole.outcome) × Finished whole.pieces (written o0 o2 e0 e2 s2)
-  end_left whole done now outcome named (exactly is) wrote ends so_far quiet behind =
+  end_left whole done now outcome named (exactly is) wrote ends so_far quiet after =
       let told : Option MergeFault = told_by now.coming.items now.coming.fault in
       let all : whole ≡ add done (record { pieces = fault_pieces now.setting told; outcome = outcome_of now.setting told }) = is ∙ ap (add done) (answer-end now.setting now.last now.coming ends.none_left) in
       let texts_are = joined-append done (fault_pieces now.setting told) ∙ ap (and_then (joined done)) (joined-fault now.setting told) in (
         ends.outcome_is ∙ sym (ap (λ (a : Answer). a.outcome) all),
         rw all (record {
           wrote = rw texts_are (Writes-more (joined done) (fault_texts now.setting told) wrote ends.wrote);
-          settled = by_told told refl (subst (λ o. SettledBy o s2) ends.outcome_is behind);
+          settled = by_told told refl (subst (λ o. SettledBy o s2) ends.outcome_is after);
         }),
       )
     where
       by_told : (told : Option MergeFault) → told ≡ told_by now.coming.items now.coming.fault → SettledBy (outcome_of now.setting told) s2 → EndsInMessage (done ++ fault_pieces now.setting told) → IsTrue s2
-      by_told None is_told behind in_message = subst IsTrue (sym (quiet (quiet_end now ends.none_left is_told))) (so_far (subst EndsInMessage (append-nil done) in_message))
-      by_told (Some f) is_told behind in_message = behind
-  end_left whole done now outcome named (refused more is left) wrote ends so_far quiet behind =
+      by_told None is_told after in_message = subst IsTrue (sym (quiet (quiet_end now ends.none_left is_told))) (so_far (subst EndsInMessage (append-nil done) in_message))
+      by_told (Some f) is_told after in_message = after
+  end_left whole done now outcome named (refused more is left) wrote ends so_far quiet after =
       let told : outcome ≡ outcomes.Fault (fault_of now.setting left.1.0) = ends.outcome_is ∙ rw (left.0, left.1.1) refl in
       absurd (not_named outcome (fault_of now.setting left.1.0) told (refusal_want now.setting left.1.0 left.1.2) named)
     where
@@ -202,10 +202,10 @@ module _ (o0 o1 o2 e0 e1 e2 : List ℕ) (s1 s2 : Bool) where
 
   pub reaches-end : (old now : Session) (outcome : Outcome) → IsNamed outcome → Reaches old now (written o0 o1 e0 e1 s1) → EndsBy now outcome (written o1 o2 e1 e2 s2)
       → (IsQuiet now → s2 ≡ s1) → (e2 ≡ e1) ⊎ IsTrue s2 → SettledBy outcome s2 → Answered (answer_of old) outcome (written o0 o2 e0 e2 s2)
-  reaches-end old now outcomes.Done named so_far ends quiet said behind = end_left (answer_of old) so_far.done now outcomes.Done named so_far.left so_far.wrote ends so_far.settled quiet behind
-  reaches-end old now (outcomes.Fault f) named so_far ends quiet said behind = end_left (answer_of old) so_far.done now (outcomes.Fault f) named so_far.left so_far.wrote ends so_far.settled quiet behind
-  reaches-end old now outcomes.WriteFailed named so_far parts quiet said behind = part_left (answer_of old) so_far.done now so_far.left so_far.wrote parts said
-  reaches-end old now outcomes.NoMemory named so_far parts quiet said behind = part_left (answer_of old) so_far.done now so_far.left so_far.wrote parts said
+  reaches-end old now outcomes.Done named so_far ends quiet said after = end_left (answer_of old) so_far.done now outcomes.Done named so_far.left so_far.wrote ends so_far.settled quiet after
+  reaches-end old now (outcomes.Fault f) named so_far ends quiet said after = end_left (answer_of old) so_far.done now (outcomes.Fault f) named so_far.left so_far.wrote ends so_far.settled quiet after
+  reaches-end old now outcomes.WriteFailed named so_far parts quiet said after = part_left (answer_of old) so_far.done now so_far.left so_far.wrote parts said
+  reaches-end old now outcomes.NoMemory named so_far parts quiet said after = part_left (answer_of old) so_far.done now so_far.left so_far.wrote parts said
 
 -- ---- a run over what a refused growth left, where the whole was asked for
 
@@ -218,13 +218,13 @@ one_empty (t ∷ (u ∷ ts)) after e = absurd cc
 stopped_before : (pieces : List Texts) (w : Written) → Stopped (no_texts ∷ []) w → Stopped pieces w
 stopped_before pieces w s =
     let none = one_empty s.before s.after s.splits in
-    let parts : WritesParts (behind no_texts w) no_texts = rw (none.0, none.1) at s.wrote in
+    let parts : WritesParts (after_texts no_texts w) no_texts = rw (none.0, none.1) at s.wrote in
     record {
       before = [];
       after = pieces;
       splits = refl;
-      wrote = WritesParts-none (behind no_texts w) (first_of pieces) parts;
-      settled = subst (λ (t : Texts). SaysSettled (behind t w)) none.0 s.settled;
+      wrote = WritesParts-none (after_texts no_texts w) (first_of pieces) parts;
+      settled = subst (λ (t : Texts). SaysSettled (after_texts t w)) none.0 s.settled;
     }
 
 pub answered_whole : (whole : Merged) (s : Session) (outcome : Outcome) (w : Written) → MergedOrRefused whole s.coming → IsNamed outcome

@@ -32,7 +32,7 @@ use Rattle.ctf_session.specs.declared.step.Stop.TheVariants as stops
 use Rattle.ctf_session.specs.Writing.{no_texts, Written, Writes, WritesParts}
 use Rattle.ctf_session.proofs.Reaching.{written}
 
--- ---- behind an item after the end all are after it
+-- ---- after an item after the end all are after it
 
 later_past : (end l t : ℤ) → int_lt end l ≡ true → int_lt t l ≡ false → int_lt end t ≡ true
 later_past end l t past not_before = by_test (int_lt end t) refl
@@ -80,7 +80,7 @@ each_after setting low (x ∷ xs) h rise =
 pub open_coming : (ended : Option Outcome) (m : Merged) → ended ≡ None → left_by ended m ≡ m
 open_coming ended m e = rw e refl
 
--- ---- the item that is left behind is the first one to come
+-- ---- the item that is passed is the first one to come
 
 abbrev head_in : Option Reader → reader.Peeked
 head_in None = reader.start
@@ -117,7 +117,7 @@ went old new w m n x rest v e f shows goes_on is not_after wrote last = record {
   takes = e ∙ shows;
   not_after = ap is_after is ∙ not_after;
   wrote = rw is wrote;
-  leaves = rw f (goes_on.behind_item x rest shows);
+  leaves = rw f (goes_on.after_item x rest shows);
   last_is = rw is last;
 }
 
@@ -164,7 +164,7 @@ not_quiet setting coming m x rest e shows is quiet =
 
 -- what is to come rises still
 pub still_rises : (m n : Merged) (x : Placed) (rest : Merged) → m ≡ then x rest → GoesOn m n → PlacedRise None m.items → PlacedRise None n.items
-still_rises m n x rest shows goes_on rise = by_rest (goes_on.behind_item x rest shows)
+still_rises m n x rest shows goes_on rise = by_rest (goes_on.after_item x rest shows)
   where
     from_none : (low : Option ℤ) (xs : List Placed) → PlacedRise low xs → PlacedRise None xs
     from_none low [] r = tt

@@ -9,7 +9,7 @@ use Rattle.ctf_packet.specs.Classes.{Classes}
 use Rattle.ctf_packet.specs.Items.{Item, event, discarded, lost}
 use Rattle.ctf_session.specs.Answers.{Setting, answer, trimmed, by_kind, last_after, fault_pieces, pieces_of}
 use Rattle.ctf_session.specs.Laws.{FirstParts, OneSinkEach, WholeInOne}
-use Rattle.ctf_session.specs.Writing.{Texts, joined, first_of, behind, Written, WritesPart, WritesParts}
+use Rattle.ctf_session.specs.Writing.{Texts, joined, first_of, after_texts, Written, WritesPart, WritesParts}
 use Rattle.ctf_session.proofs.Pieces.{WritesPart-after, WritesPart-longer}
 use Rattle.ctf_session.proofs.Runs.{joined-append}
 
@@ -24,7 +24,7 @@ first_joined w (t ∷ ts) parts = record {
 
 pub first_parts : FirstParts
 first_parts pieces w s =
-    let parts = first_joined (behind (joined s.before) w) s.after s.wrote in
+    let parts = first_joined (after_texts (joined s.before) w) s.after s.wrote in
     rw (s.splits, joined-append s.before s.after) (record {
       output = WritesPart-after w.old_output _ w.new_output (joined s.before).output (joined s.after).output refl parts.output;
       messages = WritesPart-after w.old_messages _ w.new_messages (joined s.before).messages (joined s.after).messages refl parts.messages;

@@ -56,8 +56,8 @@ pub record WritesParts (w : Written) (texts : Texts) : Type 0 where
 -- ---- pieces in their order
 
 -- what was written after these texts
-abbrev pub behind : Texts → Written → Written
-behind texts w = record w { old_output = w.old_output ++ texts.output; old_messages = w.old_messages ++ texts.messages }
+abbrev pub after_texts : Texts → Written → Written
+after_texts texts w = record w { old_output = w.old_output ++ texts.output; old_messages = w.old_messages ++ texts.messages }
 
 -- no message was written, or nothing of the log is held back
 abbrev pub SaysSettled : Written → Type 0
@@ -74,8 +74,8 @@ pub record Stopped (pieces : List Texts) (w : Written) : Type 0 where
   pub before : List Texts
   pub after : List Texts
   pub splits : pieces ≡ before ++ after
-  pub wrote : WritesParts (behind (joined before) w) (first_of after)
-  pub settled : SaysSettled (behind (joined before) w)
+  pub wrote : WritesParts (after_texts (joined before) w) (first_of after)
+  pub settled : SaysSettled (after_texts (joined before) w)
 
 -- the last piece has a message
 abbrev pub EndsInMessage : List Texts → Type 0

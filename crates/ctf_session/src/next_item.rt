@@ -13,7 +13,7 @@ ghost use Rattle.ctf_session.specs.Steps.{counts_by};
 ghost use Rattle.ctf_session.specs.Writing.{written_by};
 
 use crate::log::Log;
-use crate::printing::{last_after, last_behind, print, print_text};
+use crate::printing::{last_after, last_moment, print, print_text};
 use crate::step::Stop;
 use ctf_bits::{Sink, Source};
 use ctf_log::Printer;
@@ -81,7 +81,7 @@ pub(crate) fn print_front<'a, S: Source + Drop, W: Log, E: Sink>(
             Some(stop) => Err(stop),
         },
         CurrentItem::Text(event) => match print_text(printer, &event, last, out) {
-            None => Ok(last_behind(last, event.moment)),
+            None => Ok(last_moment(last, event.moment)),
             Some(stop) => Err(stop),
         },
     }

@@ -26,14 +26,14 @@ pub(crate) fn last_after(last: Option<i64>, item: &Item<'_>) -> Option<i64>
     ensures { (end length : ℕ) → result ≡ answers.last_after last (item_of item.now end length) }
 {
     match item {
-        Item::Event(event) => last_behind(last, event.moment),
+        Item::Event(event) => last_moment(last, event.moment),
         Item::Discarded(_gap) => last,
         Item::Lost(_gap) => last,
     }
 }
 
 /// The last printed time, after an event record at this moment was printed.
-pub(crate) fn last_behind(last: Option<i64>, moment: Option<Moment>) -> Option<i64>
+pub(crate) fn last_moment(last: Option<i64>, moment: Option<Moment>) -> Option<i64>
     ensures { result ≡ answers.or_last last (option_map (λ m. m.time) moment) }
 {
     match moment {
@@ -106,7 +106,7 @@ pub fn say<W: Log, E: Sink>(text: &[u8], out: &mut W, err: &mut E) -> Option<Sto
     ensures counts { let counts = counts_by W.failures W.refusals E.failures E.refusals in
         CountsAfterPrint result (counts out.old err.old) (counts out.new err.new) }
     ensures settled { (err.new ≡ err.old) ⊎ IsTrue (W.settled out.new) }
-    ensures behind { result ≡ None → IsTrue (W.settled out.new) }
+    ensures after { result ≡ None → IsTrue (W.settled out.new) }
     ensures out_tells { IsTrue (W.tells out.old) → IsTrue (W.tells out.new) }
     ensures err_tells { IsTrue (E.tells err.old) → IsTrue (E.tells err.new) }
 {

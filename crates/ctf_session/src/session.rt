@@ -142,7 +142,7 @@ impl<'a, S: Source + Drop> Session<'a, S> {
 
         // No message is written while lines are held back, and where nothing is to be written no sink is touched.
         ensures settled { (err.new ≡ err.old) ⊎ IsTrue (W.settled out.new) }
-        ensures behind { self.old.ended ≡ None → SettledByStep result (W.settled out.new) }
+        ensures after { self.old.ended ≡ None → SettledByStep result (W.settled out.new) }
         ensures quiet { Tells self.old → self.old.ended ≡ None → IsQuiet self.old
             → (out.new ≡ out.old) × (err.new ≡ err.old) }
 
@@ -209,7 +209,7 @@ impl<'a, S: Source + Drop> Session<'a, S> {
             CountsAfter outcome (counts out.old err.old) (counts out.new err.new) }
         ensures named { IsNamed (endings.outcome_of result) }
         ensures settled { (err.new ≡ err.old) ⊎ IsTrue (W.settled out.new) }
-        ensures behind { SettledBy (endings.outcome_of result) (W.settled out.new) }
+        ensures after { SettledBy (endings.outcome_of result) (W.settled out.new) }
         ensures quiet { EachTells self.now.readers → self.now.ended ≡ None
             → self.now.coming ≡ ends None → (out.new ≡ out.old) × (err.new ≡ err.old) }
         ensures out_tells { IsTrue (W.tells out.old) → IsTrue (W.tells out.new) }
@@ -239,7 +239,7 @@ impl<'a, S: Source + Drop> Session<'a, S> {
             CountsAfter outcome (counts out.old err.old) (counts out.new err.new) }
         ensures named { IsNamed (endings.outcome_of result) }
         ensures settled { (err.new ≡ err.old) ⊎ IsTrue (W.settled out.new) }
-        ensures behind { SettledBy (endings.outcome_of result) (W.settled out.new) }
+        ensures after { SettledBy (endings.outcome_of result) (W.settled out.new) }
         ensures out_tells { IsTrue (W.tells out.old) → IsTrue (W.tells out.new) }
         ensures err_tells { IsTrue (E.tells err.old) → IsTrue (E.tells err.new) }
     {
@@ -300,7 +300,7 @@ pub fn print_all<'a, S: Source + Drop, W: Log, E: Sink>(
 
     // Of any sources and sinks: nothing of the log is held back after the line of a fault, nor where the messages failed or
     // ran out of memory.
-    ensures behind { SettledBy result (W.settled out.new) }
+    ensures after { SettledBy result (W.settled out.new) }
     ensures settled { let counts = counts_by W.failures W.refusals E.failures E.refusals in
         SameForMessages (counts out.old err.old) (counts out.new err.new)
         ⊎ IsTrue (W.settled out.new) }

@@ -13,8 +13,8 @@ use Rattle.ctf_packet.specs.Views.{values_of, packet_values, opened_of}
 use Rattle.ctf_packet.specs.declared.fault.StreamFault.{StreamFault}
 use Rattle.ctf_packet.specs.declared.reached.Reached.{Reached}
 use Rattle.ctf_stream.specs.Coming.{opened_in, left_in, item_in, TakesItem}
-use Rattle.ctf_fetch.specs.Fetching.{OrNoMemory, behind_packet}
-use Rattle.ctf_stream.specs.Reader.{behind_ahead, with_ahead}
+use Rattle.ctf_fetch.specs.Fetching.{OrNoMemory, after_packet}
+use Rattle.ctf_stream.specs.Reader.{after_ahead, with_ahead}
 use Rattle.ctf_stream.specs.Standing.{item_at}
 use Rattle.ctf_stream.specs.ReadState.{trace_of, coming_at, Inside, StandsAt, coming_of, StepsWithin, Enters, Advances}
 use Rattle.ctf_stream.specs.declared.read_state.ReadState.{ReadState}
@@ -24,11 +24,11 @@ use Rattle.ctf_stream.specs.declared.packet.Front.{Front}
 
 module _ (cut : PacketStart) (ending : Ending) (left : List ℕ) (bytes : List ℕ) where
   abbrev pub follows : Known → Packet → Option Moment → Run Classes
-  follows known p = behind_packet (trace_of cut) ending (opened_in cut.shift known p.opened) left
+  follows known p = after_packet (trace_of cut) ending (opened_in cut.shift known p.opened) left
 
   same_follows : (known after : Known) (p q : Packet) → q.opened ≡ p.opened → packet_values (values_of after) ≡ packet_values (values_of known) → follows known p ≡ follows after q
   same_follows known after p q same values =
-      ap (λ v. behind_packet (trace_of cut) ending (opened_of cut.shift v p.opened) left) (sym values) ∙ ap (λ o. behind_packet (trace_of cut) ending (opened_in cut.shift after o) left) (sym same)
+      ap (λ v. after_packet (trace_of cut) ending (opened_of cut.shift v p.opened) left) (sym values) ∙ ap (λ o. after_packet (trace_of cut) ending (opened_in cut.shift after o) left) (sym same)
 
   -- the packet at hand as it stands
   pub inside : (taken : ℕ) (held : Option Packet) (p : Packet) → held ≡ Some p → StandsAt cut bytes taken held → Inside cut bytes taken p
@@ -45,13 +45,13 @@ module _ (cut : PacketStart) (ending : Ending) (left : List ℕ) (bytes : List �
   -- the packet at hand is over
   pub is_over : (next : PacketStart) (held : Option Packet) (known after : Known) (p q : Packet) (found : Option Front) (reached : Reached) → held ≡ Some p → q.opened ≡ p.opened → found ≡ None
       → TakesItem cut.shift (follows known p) (left_in cut.shift known bytes (follows known p) p) q after bytes (Ok found)
-      → ((shift : Shift) (values : Values) → reached ≡ packets.reached_behind (opened_of shift values q.opened) q.clock)
+      → ((shift : Shift) (values : Values) → reached ≡ packets.reached_after (opened_of shift values q.opened) q.clock)
       → next.trace ≡ cut.trace → next.shift ≡ cut.shift → next.reached ≡ Some reached → next.at ≡ p.opened.end
       → coming_at cut ending left known bytes held ≡ from_bytes (trace_of next) ending next.reached next.at left
-  is_over next held known after p q found reached is same over takes behind trace shift was at =
+  is_over next held known after p q found reached is same over takes later trace shift was at =
       let taken : left_in cut.shift known bytes (follows known p) p ≡ follows known p q.clock =
       subst (λ o. TakesItem cut.shift (follows known p) (left_in cut.shift known bytes (follows known p) p) q after bytes (Ok o)) over takes in
-      let said : packets.reached_behind (opened_in cut.shift known p.opened) q.clock ≡ reached = ap (λ o. packets.reached_behind (opened_in cut.shift known o) q.clock) (sym same) ∙ sym (behind cut.shift (packet_values (values_of known))) in
+      let said : packets.reached_after (opened_in cut.shift known p.opened) q.clock ≡ reached = ap (λ o. packets.reached_after (opened_in cut.shift known o) q.clock) (sym same) ∙ sym (later cut.shift (packet_values (values_of known))) in
       let forms : trace_of cut ≡ trace_of next = (λ i. trace_form (sym shift i) ((sym trace i).now)) in
       ap (coming_at cut ending left known bytes) is ∙ taken
       ∙ ap (λ r. from_bytes (trace_of cut) ending (Some r) p.opened.end left) said
@@ -59,13 +59,13 @@ module _ (cut : PacketStart) (ending : Ending) (left : List ℕ) (bytes : List �
       ∙ ap (λ n. from_bytes (trace_of cut) ending next.reached n left) (sym at)
       ∙ ap (λ t. from_bytes t ending next.reached next.at left) forms
 
--- an item behind steps that left what is to come
+-- an item after steps that left what is to come
 pub advanced : (old middle new : Run Classes) (cut : PacketStart) (known : Known) (bytes : List ℕ) (packet : Option Packet) (left : List ℕ) (found : Option Front) (front : Front) → old ≡ middle → found ≡ Some front
     → StepsWithin middle new cut known bytes packet (Ok found) → Advances old new cut known bytes packet left (Ok (Some front))
 advanced old middle new cut known bytes (Some p) left found front same is steps = same ∙ subst (λ o. StepsWithin middle new cut known bytes (Some p) (Ok o)) is steps
 advanced old middle new cut known bytes None left found front same is steps = absurd (subst (λ o. StepsWithin middle new cut known bytes None (Ok o)) is steps)
 
--- the same where the steps behind them give the item
+-- the same where the steps after them give the item
 pub also_before : (old middle new : Run Classes) (cut : PacketStart) (known : Known) (bytes : List ℕ) (packet : Option Packet) (left : List ℕ) (front : Front) → old ≡ middle → Advances middle new cut known bytes packet left (Ok (Some front)) → Advances old new cut known bytes packet left (Ok (Some front))
 also_before old middle new cut known bytes (Some p) left front same goes = same ∙ goes
 also_before old middle new cut known bytes None left front same goes = absurd goes
@@ -75,14 +75,14 @@ pub if_none : (written : Option Front) (P : Type 0) → written ≡ None → IfN
 if_none None P is holds = holds
 if_none (Some front) P is holds = absurd (cc)
 
--- what comes behind an item is what its read state comes to
-pub behind_item : (c : ReadState) (packet : Option Packet) (front : Front) (at : ℕ) (run : Run Classes) → behind_ahead (item_at c packet front) at run ≡ run
-behind_item c (Some p) front at run = refl
-behind_item c None front at run = refl
+-- what comes after an item is what its read state comes to
+pub after_item : (c : ReadState) (packet : Option Packet) (front : Front) (at : ℕ) (run : Run Classes) → after_ahead (item_at c packet front) at run ≡ run
+after_item c (Some p) front at run = refl
+after_item c None front at run = refl
 
 -- the item that was found stands in front, and what is to come begins with it
 pub comes : (old new : Run Classes) (c : ReadState) (packet : Option Packet) (left : List ℕ) (front : Front) (at : ℕ) → Advances old new c.cut c.scopes c.buffer packet left (Ok (Some front))
-    → with_ahead (item_at c packet front) (behind_ahead (item_at c packet front) at new) ≡ old
+    → with_ahead (item_at c packet front) (after_ahead (item_at c packet front) at new) ≡ old
 comes old new c (Some p) left front at goes = sym goes
 comes old new c None left front at goes = absurd goes
 

@@ -54,10 +54,10 @@ Gives old new (Ok None) = (old ≡ stops None new.cut) × (coming new ≡ old)
 Gives old new (Err f) = OrNoMemory (λ g. old ≡ stops (Some g) new.cut) f × (coming new ≡ stops (Some f) new.cut)
 
 -- what comes next then: nothing yet after an item that was given, and the end or the fault that was reported
-abbrev pub ahead_behind : Result (Option OwnedItem) StreamFault → Peeked
-ahead_behind (Ok (Some x)) = start
-ahead_behind (Ok None) = ended
-ahead_behind (Err f) = fault f
+abbrev pub ahead_after : Result (Option OwnedItem) StreamFault → Peeked
+ahead_after (Ok (Some x)) = start
+ahead_after (Ok None) = ended
+ahead_after (Err f) = fault f
 
 -- a current item is the one that is given, out of the packet that is held, unless an allocation failed
 abbrev pub GivesAhead : Peeked → Reader → Result (Option OwnedItem) StreamFault → Type 0
@@ -81,7 +81,7 @@ GivesRoom old new (Ok None) = new ≤ old
 GivesRoom old new (Err f) = new ≤ old
 
 -- what comes after an item that is given stays
-abbrev pub KeepsBehind : Run Classes → Run Classes → Result (Option OwnedItem) StreamFault → Type 0
-KeepsBehind old new (Ok (Some x)) = new ≡ old
-KeepsBehind old new (Ok None) = Unit {0}
-KeepsBehind old new (Err f) = Unit {0}
+abbrev pub KeepsAfter : Run Classes → Run Classes → Result (Option OwnedItem) StreamFault → Type 0
+KeepsAfter old new (Ok (Some x)) = new ≡ old
+KeepsAfter old new (Ok None) = Unit {0}
+KeepsAfter old new (Err f) = Unit {0}

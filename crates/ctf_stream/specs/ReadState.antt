@@ -8,7 +8,7 @@ use Rattle.ctf_packet.specs.Scopes.{Values}
 use Rattle.ctf_packet.specs.Views.{values_of, packet_values}
 use Rattle.ctf_packet.specs.declared.fault.StreamFault.{StreamFault}
 use Rattle.ctf_stream.specs.Coming.{opened_in, left_in, item_in, room_in, HoldsFront}
-use Rattle.ctf_fetch.specs.Fetching.{OrNoMemory, most_taken, behind_packet, FetchedAt}
+use Rattle.ctf_fetch.specs.Fetching.{OrNoMemory, most_taken, after_packet, FetchedAt}
 use Rattle.ctf_fetch.specs.declared.packet_start.PacketStart.{PacketStart}
 use Rattle.ctf_stream.specs.declared.packet.Packet.{Packet}
 use Rattle.ctf_stream.specs.declared.packet.Front.{Front}
@@ -22,7 +22,7 @@ trace_of cut = trace_form cut.shift cut.trace.now
 abbrev pub coming_at : PacketStart → Ending → List ℕ → Known → List ℕ → Option Packet → Run Classes
 coming_at cut ending left known bytes None = from_bytes (trace_of cut) ending cut.reached cut.at left
 coming_at cut ending left known bytes (Some p) =
-    left_in cut.shift known bytes (behind_packet (trace_of cut) ending (opened_in cut.shift known p.opened) left) p
+    left_in cut.shift known bytes (after_packet (trace_of cut) ending (opened_in cut.shift known p.opened) left) p
 
 -- what is to come, where so much is left of the stream
 abbrev pub coming_of : Ending → List ℕ → ReadState → Run Classes

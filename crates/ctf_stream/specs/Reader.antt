@@ -25,7 +25,7 @@ pub record Reader : Type 0 where
   pub writes : Bool
   pub ahead : Peeked
   -- what is to come after that, where the source tells
-  pub behind : Run Classes
+  pub after : Run Classes
   -- the bytes that the source has left
   pub left : List ℕ
   -- how many bytes were taken from it
@@ -38,11 +38,11 @@ pub record Reader : Type 0 where
   pub room : ℕ
 
 -- what is to come after what is current: nothing after an end or a fault
-abbrev pub behind_ahead : Peeked → ℕ → Run Classes → Run Classes
-behind_ahead start cut behind = behind
-behind_ahead (item x) cut behind = behind
-behind_ahead ended cut behind = stops None cut
-behind_ahead (fault f) cut behind = stops (Some f) cut
+abbrev pub after_ahead : Peeked → ℕ → Run Classes → Run Classes
+after_ahead start cut after = after
+after_ahead (item x) cut after = after
+after_ahead ended cut after = stops None cut
+after_ahead (fault f) cut after = stops (Some f) cut
 
 -- what is to come: what is current, and what comes after it
 abbrev pub with_ahead : Peeked → Run Classes → Run Classes
@@ -52,7 +52,7 @@ with_ahead ended run = run
 with_ahead (fault f) run = run
 
 abbrev pub rest_of : Reader → Run Classes
-rest_of r = behind_ahead r.ahead r.cut r.behind
+rest_of r = after_ahead r.ahead r.cut r.after
 
 abbrev pub coming : Reader → Run Classes
 coming r = with_ahead r.ahead (rest_of r)

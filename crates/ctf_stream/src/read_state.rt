@@ -142,7 +142,7 @@ impl<'a> ReadState<'a> {
         ensures trace { self.new.cut.trace ≡ self.old.cut.trace }
         ensures room { TakesRoom (room_of self.old) (room_of self.new) result }
         ensures forward { self.old.taken ≤ self.new.taken }
-        ensures behind { OnErr result (self.new.cut.at ≤ self.new.taken) }
+        ensures after { OnErr result (self.new.cut.at ≤ self.new.taken) }
         ensures near { OnErr result (self.new.taken ≤ self.new.cut.at + longest_bytes + 1) }
         ensures most { OnErr result (self.new.taken ≤ most_taken) }
     {
@@ -187,7 +187,7 @@ impl<'a> ReadState<'a> {
         ensures room { EntersRoom (room_of self.old) (room_of self.new) result }
         ensures writes { self.new.writes ≡ self.old.writes }
         ensures cut { self.new.cut ≡ self.old.cut }
-        ensures behind { self.old.taken ≤ self.new.taken }
+        ensures after { self.old.taken ≤ self.new.taken }
         ensures near { self.new.taken ≤ self.old.taken + longest_bytes + 1 }
         ensures most { OnErr result (self.new.taken ≤ most_taken) }
     {
@@ -246,7 +246,7 @@ impl<'a> ReadState<'a> {
             Err(fault) => Err(fault),
             Ok(Some(front)) => Ok(Some(front)),
             Ok(None) => {
-                let reached = reached_behind(packet);
+                let reached = reached_after(packet);
                 self.leave(reached);
                 Ok(None)
             }
@@ -321,9 +321,9 @@ impl<'a> ReadState<'a> {
 }
 
 /// What a stream has come to after a packet.
-fn reached_behind(packet: &Packet<'_>) -> Reached
+fn reached_after(packet: &Packet<'_>) -> Reached
     ensures { (shift : Shift) (values : Values) →
-        result ≡ packets.reached_behind (opened_of shift values packet.now.opened)
+        result ≡ packets.reached_after (opened_of shift values packet.now.opened)
         packet.now.clock }
 {
     Reached {

@@ -5,7 +5,7 @@ ghost use Rattle.ctf_packet.specs.Classes.{trace_form};
 ghost use Rattle.ctf_packet.specs.Items.{run_of};
 ghost use Rattle.ctf_stream.specs.Shown.{ShowsValues, Tells, IsMade, IsMadeTold, IsAsked};
 ghost use Rattle.ctf_stream.specs.Reader.{start, fault_ahead, coming, rest_of, OrRefused, IsFetched, IsLast, IsOnLine, IsAllTaken, RoomTaken};
-ghost use Rattle.ctf_stream.specs.Owned.{Gives, GivesAhead, GivesOf, GivesRoom, KeepsBehind, ahead_behind};
+ghost use Rattle.ctf_stream.specs.Owned.{Gives, GivesAhead, GivesOf, GivesRoom, KeepsAfter, ahead_after};
 
 use crate::item::{CurrentItem, Item};
 use crate::owned::OwnedItem;
@@ -62,7 +62,7 @@ impl<'a, S: Source + Drop> Model for StreamReader<'a, S> {
       tells = S.tells r.source;
       writes = r.read_state.writes;
       ahead = ahead_of r.read_state r.head;
-      behind = coming_of (S.ending r.source) (S.left r.source) r.read_state;
+      after = coming_of (S.ending r.source) (S.left r.source) r.read_state;
       left = S.left r.source;
       taken = r.read_state.taken;
       cut = r.read_state.cut.at;
@@ -195,7 +195,7 @@ impl<'a, S: Source + Drop> StreamReader<'a, S> {
         // Of any source: what was current is given, an end and a fault stay as they are, and an item that is given took
         // room and is no longer current.
         ensures told { GivesAhead self.old.ahead self.new result }
-        ensures ahead { self.new.ahead ≡ ahead_behind result }
+        ensures ahead { self.new.ahead ≡ ahead_after result }
         ensures stays { IsLast self.old.ahead → self.new ≡ self.old }
         ensures room { GivesRoom self.old.room self.new.room result }
         ensures trace { self.new.trace ≡ self.old.trace }
@@ -242,9 +242,9 @@ impl<'a, S: Source + Drop> StreamReader<'a, S> {
         requires { IsFetched self.old.ahead }
         ensures told { GivesAhead self.old.ahead self.new result }
         ensures of { GivesOf self.old.trace self.old.name result }
-        ensures ahead { self.new.ahead ≡ ahead_behind result }
+        ensures ahead { self.new.ahead ≡ ahead_after result }
         ensures stays { IsLast self.old.ahead → self.new ≡ self.old }
-        ensures behind { KeepsBehind self.old.behind self.new.behind result }
+        ensures after { KeepsAfter self.old.after self.new.after result }
         ensures room { GivesRoom self.old.room self.new.room result }
         ensures trace { self.new.trace ≡ self.old.trace }
         ensures writes { self.new.writes ≡ self.old.writes }

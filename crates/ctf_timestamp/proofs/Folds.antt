@@ -35,8 +35,8 @@ by_if : (b a : Offset) (t : Bool) (o p : AmbiguousOffset) → (t ≡ true → Go
 by_if b a true o p h g = h refl
 by_if b a false o p h g = g
 
-behind : (b a std dst : Offset) (w : ℤ × ℤ) (n : ℤ) → dst.seconds <ℤ std.seconds → GoesBack b a (Rule.ambiguous_behind std dst w n)
-behind b a std dst w n h =
+after : (b a std dst : Offset) (w : ℤ × ℤ) (n : ℤ) → dst.seconds <ℤ std.seconds → GoesBack b a (Rule.ambiguous_after std dst w n)
+after b a std dst w n h =
     by_if b a _ _ _ (λ _. one b a dst) (by_if b a _ _ _ (λ _. fold b a std dst h) (by_if b a _ _ _ (λ _. gap b a dst std) (one b a std)))
 
 ahead : (b a std dst : Offset) (w : ℤ × ℤ) (n : ℤ) → std.seconds <ℤ dst.seconds → GoesBack b a (Rule.ambiguous_ahead std dst w n)
@@ -48,7 +48,7 @@ below x y e = omega (arith, signed_arith)
 
 by_rule : (b a std dst : Offset) (w : ℤ × ℤ) (n : ℤ) → GoesBack b a (Rule.ambiguous_by std dst w n)
 by_rule b a std dst w n =
-    by_if b a _ _ _ (λ t. behind b a std dst w n (below _ _ t)) (by_if b a _ _ _ (λ t. ahead b a std dst w n (below _ _ t)) (one b a std))
+    by_if b a _ _ _ (λ t. after b a std dst w n (below _ _ t)) (by_if b a _ _ _ (λ t. ahead b a std dst w n (below _ _ t)) (one b a std))
 
 by_dst : (b a std : Offset) (d : Option Dst) (dt : DateTime) → GoesBack b a (Rule.ambiguous_at_by std d dt)
 by_dst b a std None dt = one b a std

@@ -47,15 +47,15 @@ lt_yes a b h = grind (arith, ints)
 lt_no : (a b : ℤ) → b ≤ℤ a → int_lt a b ≡ false
 lt_no a b h = grind (arith, ints)
 
-behind : (w a k q : ℤ) → w ≤ℤ nanos_of_seconds k → nanos_of_seconds q ≤ℤ a → int_le k q ≡ true → w ≤ℤ a
-behind w a k q h l t = omega (arith, signed_arith)
+after : (w a k q : ℤ) → w ≤ℤ nanos_of_seconds k → nanos_of_seconds q ≤ℤ a → int_le k q ≡ true → w ≤ℤ a
+after w a k q h l t = omega (arith, signed_arith)
 
 before : (w a k q : ℤ) → nanos_of_seconds k ≤ℤ (w +ℤ pos 1) → (a +ℤ pos 1) <ℤ (nanos_of_seconds q +ℤ pos 1000000000) → int_le k q ≡ false → a <ℤ w
 before w a k q h l t = omega (arith, signed_arith)
 
 side : (w a b : ℤ) → IsEdge w → SameSecond a b → ((w ≤ℤ a) × (w ≤ℤ b)) ⊎ ((a <ℤ w) × (b <ℤ w))
 side w a b e s = elim (by_test (int_le e.start (second_of a))) [
-  | inl t ↦ inl (behind w a e.start _ e.high (starts a) t, behind w b e.start _ e.high (starts b) (ap (int_le e.start) (sym s.same) ∙ t))
+  | inl t ↦ inl (after w a e.start _ e.high (starts a) t, after w b e.start _ e.high (starts b) (ap (int_le e.start) (sym s.same) ∙ t))
   | inr t ↦ inr (before w a e.start _ e.low (ends a s.first) t, before w b e.start _ e.low (ends b s.second) (ap (int_le e.start) (sym s.same) ∙ t))
 ]
 

@@ -3,7 +3,7 @@ use Rattle.std.proofs.Common.{◌≡◌, ℕ, zero, suc, ◌+◌, ◌<◌, ◌^�
 use Rattle.std.specs.Prelude.{Contains, option_map, option_and_then, slice_get, codes}
 use Rattle.std.specs.Option.{option_map_or}
 use Rattle.std.specs.List.{list_any}
-use Rattle.std.proofs.lemmas.List.Elements.{Contains-append_left as in_front, Contains-append_right as behind}
+use Rattle.std.proofs.lemmas.List.Elements.{Contains-append_left as in_front, Contains-append_right as after}
 use Rattle.std.proofs.lemmas.List.Folds.{list_any-append}
 use Rattle.std.proofs.lemmas.Option.{slice_get_within, slice_get-map}
 use Rattle.tsdl_tree.specs.declared.tree.BlockKind.TheVariants.{Trace, Stream as StreamKind, Event}
@@ -80,7 +80,7 @@ module _ (text : List Declaration) (k : ℕ) (es : List BlockEntry) where
 
   pub class_fails : (home : Home) (f : ResolveFault) → home ≡ home_of_event text k es → Contains (scope_links text home Event) f → Contains (link_faults text (k, Block Event es)) f
   class_fails home f same h =
-      behind (event_links text k es) (scope_links text (home_of_event text k es) Event) f (subst (λ x. Contains (scope_links text x Event) f) same h)
+      after (event_links text k es) (scope_links text (home_of_event text k es) Event) f (subst (λ x. Contains (scope_links text x Event) f) same h)
 
   pub row_made : (order : Order) (home : Home) (event : EventSettings) (ss : List StreamAt) (st : StreamAt) (e : EventClass) (j : ℕ) →
       home ≡ home_of_event text k es → IsEvent es event → map stream_at ss ≡ streams text → ArePlaced ss →

@@ -2,7 +2,7 @@
 use Rattle.std.proofs.Common.{◌≡◌, ℕ, suc, ◌<◌, Bool, true, false, ◌||◌, List, [], ◌∷◌, ◌++◌, length, get_or, Option, Some, None, refl, sym, ap, ◌∙◌, subst, arith}
 use Rattle.std.specs.Prelude.{Contains, flat_map, filter_map, slice_get, is_none, option_and_then}
 use Rattle.std.specs.List.{list_any}
-use Rattle.std.proofs.lemmas.List.Elements.{Contains-append_left as in_front, Contains-append_right as behind}
+use Rattle.std.proofs.lemmas.List.Elements.{Contains-append_left as in_front, Contains-append_right as after}
 use Rattle.std.proofs.lemmas.Option.{slice_get_within}
 use Rattle.ctf_bits.specs.declared.number.Order.{Order}
 use Rattle.ctf_class.specs.declared.trace.EventClass.{EventClass}
@@ -41,7 +41,7 @@ module _ (text : List Declaration) (order : Order) where
           Contains (several s ++ flat_map several ss) SeveralClocks
       by_this true is any later =
           in_front (several s) (flat_map several ss) SeveralClocks (subst (λ b. Contains (when b SeveralClocks) SeveralClocks) (sym is ∙ h.0.several) (0, omega arith, refl))
-      by_this false is any later = behind (several s) (flat_map several ss) SeveralClocks (later any)
+      by_this false is any later = after (several s) (flat_map several ss) SeveralClocks (later any)
 
   none_several : (ss : List Stream) (hs : List StreamHead) → AreHeads text order ss hs → list_any (λ h. h.has_several) hs ≡ false → flat_map several ss ≡ []
   none_several [] [] h any = refl
@@ -79,7 +79,7 @@ module _ (text : List Declaration) (trace : Option TraceAt) (host : Option Word)
   pub several_clocks : list_any (λ h. h.has_several) (or_plain_head parts.heads) ≡ true → Contains (faults text) SeveralClocks
   several_clocks any =
       whole_told text f.own links SeveralClocks
-      (behind (when (is_none (trace_of text)) Attribute) (flat_map (several text f.order) (streams text)) SeveralClocks (some_several text f.order (streams text) (or_plain_head parts.heads) heads any))
+      (after (when (is_none (trace_of text)) Attribute) (flat_map (several text f.order) (streams text)) SeveralClocks (some_several text f.order (streams text) (or_plain_head parts.heads) heads any))
 
   pub no_faults : (n : ℕ) → trace_of text ≡ Some n → list_any (λ h. h.has_several) (or_plain_head parts.heads) ≡ false → faults text ≡ []
   no_faults n traced any =

@@ -1,4 +1,4 @@
--- The first trace block behind declarations that are none.
+-- The first trace block after declarations that are none.
 use Rattle.std.proofs.Common.{◌≡◌, ℕ, ◌+◌, ◌<◌, ◌≤◌, true, false, List, length, get_or, map, Option, Some, None, refl, ap, ◌∙◌, arith}
 use Rattle.std.specs.Prelude.{filter_map, find, option_map, if◌then◌else◌}
 use Rattle.std.specs.List.{cons_option}

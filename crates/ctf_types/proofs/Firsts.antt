@@ -35,7 +35,7 @@ of_front [] more fault h = absurd (omega (arith, h.1))
 of_front ([] ∷ xs) more fault h = of_front xs more fault h
 of_front ((g ∷ gs) ∷ xs) more fault h = h
 
--- a fault of a declaration behind others that have none
+-- a fault of a declaration after others that have none
 pub of_later : {X : Type 0} (f : X → List ResolveFault) (before : List X) (x : X) (after : List X) (fault : ResolveFault) → flat_map f before ≡ [] → Contains (f x) fault →
     Contains (first_faults (map f (before ++ x ∷ after))) fault
 of_later f [] x after fault h k = of_first (f x) (map f after) fault k
@@ -51,20 +51,20 @@ module _ (text : List Declaration) where
       of_front (map (own_faults text) (numbered text) ++ map (link_faults text) (numbered text)) (whole_faults text ∷ []) fault
       (of_front (map (own_faults text) (numbered text)) (map (link_faults text) (numbered text)) fault h)
 
-  behind_own : HasNoOwn text → first_faults (map (link_faults text) (numbered text) ++ whole_faults text ∷ []) ≡ faults text
-  behind_own own =
+  after_own : HasNoOwn text → first_faults (map (link_faults text) (numbered text) ++ whole_faults text ∷ []) ≡ faults text
+  after_own own =
       sym (passed (own_faults text) (numbered text) (map (link_faults text) (numbered text) ++ whole_faults text ∷ []) own)
       ∙ ap first_faults (sym (append_assoc (map (own_faults text) (numbered text)) (map (link_faults text) (numbered text)) (whole_faults text ∷ [])))
 
   pub link_told : HasNoOwn text → (fault : ResolveFault) → Contains (first_faults (map (link_faults text) (numbered text))) fault → Contains (faults text) fault
   link_told own fault h =
-      subst (λ fs. Contains fs fault) (behind_own own) (of_front (map (link_faults text) (numbered text)) (whole_faults text ∷ []) fault h)
+      subst (λ fs. Contains fs fault) (after_own own) (of_front (map (link_faults text) (numbered text)) (whole_faults text ∷ []) fault h)
 
-  behind_links : HasNoOwn text → HasNoLink text → first_faults (whole_faults text ∷ []) ≡ faults text
-  behind_links own links = sym (passed (link_faults text) (numbered text) (whole_faults text ∷ []) links) ∙ behind_own own
+  after_links : HasNoOwn text → HasNoLink text → first_faults (whole_faults text ∷ []) ≡ faults text
+  after_links own links = sym (passed (link_faults text) (numbered text) (whole_faults text ∷ []) links) ∙ after_own own
 
   pub whole_told : HasNoOwn text → HasNoLink text → (fault : ResolveFault) → Contains (whole_faults text) fault → Contains (faults text) fault
-  whole_told own links fault h = subst (λ fs. Contains fs fault) (behind_links own links) (of_first (whole_faults text) [] fault h)
+  whole_told own links fault h = subst (λ fs. Contains fs fault) (after_links own links) (of_first (whole_faults text) [] fault h)
 
   pub none_told : HasNoOwn text → HasNoLink text → whole_faults text ≡ [] → faults text ≡ []
-  none_told own links whole = sym (behind_links own links) ∙ ap (λ fs. first_faults (fs ∷ [])) whole
+  none_told own links whole = sym (after_links own links) ∙ ap (λ fs. first_faults (fs ∷ [])) whole

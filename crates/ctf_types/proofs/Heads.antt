@@ -1,7 +1,7 @@
 -- The faults of the scopes of a block, one after another.
 use Rattle.std.proofs.Common.{◌≡◌, ℕ, List, [], ◌++◌, Option, Some, None, refl, ap, ◌∙◌, inl, inr, ◌⊎◌, subst}
 use Rattle.std.specs.Prelude.{Contains}
-use Rattle.std.proofs.lemmas.List.Elements.{Contains-append_left as in_front, Contains-append_right as behind}
+use Rattle.std.proofs.lemmas.List.Elements.{Contains-append_left as in_front, Contains-append_right as after}
 use Rattle.tsdl_tree.specs.declared.tree.BlockKind.TheVariants as kind
 use Rattle.ctf_bits.specs.declared.number.Order.{Order}
 use Rattle.ctf_class.specs.declared.class.Class.{Class}
@@ -52,14 +52,14 @@ module _ (text : List Declaration) (order : Order) (k : ℕ) where
 
   pub header_fails : (trace : Option ℕ) → trace ≡ trace_of text → (f : ResolveFault) → Contains (scope_fails text (home_at trace) EventHeader) f → Contains (scope_links text home kind.Stream) f
   header_fails trace traced f h =
-      behind (scope_fails text home PacketContext) (scope_fails text home EventHeader ++ (scope_fails text home StreamEventContext ++ [])) f
+      after (scope_fails text home PacketContext) (scope_fails text home EventHeader ++ (scope_fails text home StreamEventContext ++ [])) f
       (in_front (scope_fails text home EventHeader) (scope_fails text home StreamEventContext ++ []) f
       (subst (λ t. Contains (scope_fails text (home_at t) EventHeader) f) traced h))
 
   pub events_fail : (trace : Option ℕ) → trace ≡ trace_of text → (f : ResolveFault) → Contains (scope_fails text (home_at trace) StreamEventContext) f → Contains (scope_links text home kind.Stream) f
   events_fail trace traced f h =
-      behind (scope_fails text home PacketContext) (scope_fails text home EventHeader ++ (scope_fails text home StreamEventContext ++ [])) f
-      (behind (scope_fails text home EventHeader) (scope_fails text home StreamEventContext ++ []) f
+      after (scope_fails text home PacketContext) (scope_fails text home EventHeader ++ (scope_fails text home StreamEventContext ++ [])) f
+      (after (scope_fails text home EventHeader) (scope_fails text home StreamEventContext ++ []) f
       (in_front (scope_fails text home StreamEventContext) [] f (subst (λ t. Contains (scope_fails text (home_at t) StreamEventContext) f) traced h)))
 
   -- the packet header, by a trace block
@@ -80,4 +80,4 @@ module _ (text : List Declaration) (order : Order) (home : Home) where
   event_context_fails f h = in_front (scope_fails text home EventContext) (scope_fails text home EventFields ++ []) f h
 
   pub fields_fail : (f : ResolveFault) → Contains (scope_fails text home EventFields) f → Contains (scope_links text home kind.Event) f
-  fields_fail f h = behind (scope_fails text home EventContext) (scope_fails text home EventFields ++ []) f (in_front (scope_fails text home EventFields) [] f h)
+  fields_fail f h = after (scope_fails text home EventContext) (scope_fails text home EventFields ++ []) f (in_front (scope_fails text home EventFields) [] f h)

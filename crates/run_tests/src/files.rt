@@ -31,8 +31,8 @@ pub fn add_bytes(
     }
 }
 
-/// The bytes of a file: repeated behind `*`, without the last ones behind `-`, with others behind them behind `+`, and
-/// with others at a place behind `@`.
+/// The bytes of a file: repeated after `*`, without the last ones after `-`, with others after them after `+`, and
+/// with others at a place after `@`.
 pub fn file_of(rt: &HostRuntime, word: &str) -> Vec<u8> {
     let end = word.find(['*', '-', '+', '@']).unwrap_or(word.len());
     let (path, change) = word.split_at(end);

@@ -5,7 +5,7 @@
 //! files, and the others are metadata and streams. A line that begins with `#` is a comment, each other line is a row. What
 //! comes of each is written down in `stdout`, from the rules of the format, of runs and of the layout.
 //!
-//! Behind the rows the program starts as itself, over the words of this one's command line: a folder that is not there. It
+//! After the rows the program starts as itself, over the words of this one's command line: a folder that is not there. It
 //! prints nothing, and its status, 1, is that of this one; where a table can't be read or printed that is 2.
 //!
 //! What costs is where a value is dropped. So what puts something owns little and answers nothing. What is refused memory,

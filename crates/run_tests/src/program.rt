@@ -6,9 +6,9 @@
 //! - `HELD OUT ERR WORD ..` is a command line over the made-up files: how many bytes of the log are held back, after how
 //!   many bytes the log and the messages fail once (`-`: never), and the words, of which `''` is the empty one.
 //! - `disk WORD ..` is a command line over the folders of `data/` itself.
-//! - `read BEFORE PATH` reads a file there that is opened behind so many others, three bytes at a time.
+//! - `read BEFORE PATH` reads a file there that is opened after so many others, three bytes at a time.
 //!
-//! Behind a row stand the lines of the log, those of the messages and the status, or the text of the file.
+//! After a row stand the lines of the log, those of the messages and the status, or the text of the file.
 
 mod made_up;
 
@@ -111,7 +111,7 @@ fn words_of(alloc: Global, line: &str) -> Vec<String> {
     words
 }
 
-/// Puts the text of a file, which is opened behind so many others.
+/// Puts the text of a file, which is opened after so many others.
 fn put_file(rt: &HostRuntime, row: &mut Row<'_>) {
     let disk = Disk::new(rt);
     let before = row.word().parse::<usize>().unwrap_or(0);

@@ -35,20 +35,20 @@ impl<'a> Row<'a> {
         let _ = self.text.extend_from_slice(bytes);
     }
 
-    /// Puts a number behind a text.
+    /// Puts a number after a text.
     pub fn put_number(&mut self, lead: &[u8], number: i128) {
         self.put(lead);
         let _ = write!(self.text, "{number}");
     }
 
-    /// Puts a line behind a mark.
+    /// Puts a line after a mark.
     pub fn put_line(&mut self, mark: &[u8], line: &[u8]) {
         self.put(mark);
         self.put(line);
         self.put(b"\n");
     }
 
-    /// Puts each line of a text behind a mark.
+    /// Puts each line of a text after a mark.
     pub fn put_lines(&mut self, mark: &[u8], text: &[u8]) {
         let mut begins = true;
         for byte in text {

@@ -11,10 +11,10 @@
 //!   failure, `once:N`, N bytes, then one failure, and then all, or `refuse:N`, no memory at the Nth call. Of a stream only
 //!   the first two count.
 //!
-//! Behind a file, `*N` has it N times, `-N` leaves out its last N bytes, `+BYTES` has bytes behind it, and `@PLACE@BYTES`
+//! After a file, `*N` has it N times, `-N` leaves out its last N bytes, `+BYTES` has bytes after it, and `@PLACE@BYTES`
 //! has other bytes at a place.
 //!
-//! Behind a row stand the lines of its output, its messages behind `! ` and its status behind `= `. A row whose
+//! After a row stand the lines of its output, its messages after `! ` and its status after `= `. A row whose
 //! last word ends in `FIRST..LAST` is run for each of these numbers. Then a line stands for each: how many bytes
 //! the output and the messages have, `other` where they are no beginning of those of the row without the last word, and the
 //! last message, `done` where the run did not fail.
@@ -85,7 +85,7 @@ fn put_beginning(row: &mut Row<'_>, text: &[u8], whole: &[u8]) {
     row.put_number(b"", text.len() as i128);
 }
 
-/// The last message of a run and of the program behind it.
+/// The last message of a run and of the program after it.
 fn last_message(run: &Run) -> &[u8] {
     if run.status == 0 {
         return b"done";

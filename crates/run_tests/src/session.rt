@@ -8,8 +8,8 @@
 //! - `out=fail:N` and `err=fail:N`, where what takes the output or the messages of a step takes N bytes and then fails,
 //! - `crossing` in the place of streams, for the thousands of streams of `crossing.rt`.
 //!
-//! Behind a row stand `new`, and for each step the lines that it wrote, its messages behind `! ` and its answer; with
-//! each of them stand the bytes that each stream has given and holds, `GIVEN/HELD`. Behind its end a session is asked
+//! After a row stand `new`, and for each step the lines that it wrote, its messages after `! ` and its answer; with
+//! each of them stand the bytes that each stream has given and holds, `GIVEN/HELD`. After its end a session is asked
 //! for one step more.
 
 mod crossing;

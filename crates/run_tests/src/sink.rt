@@ -16,7 +16,7 @@ pub struct RowSink {
     piece: usize,
     /// How many bytes it takes before it fails.
     room: usize,
-    /// Whether it takes all bytes behind its first failure.
+    /// Whether it takes all bytes after its first failure.
     recovers: bool,
     /// How many calls are left before it is refused memory.
     calls: usize,

@@ -10,7 +10,7 @@ use Rattle.ctf_decode.specs.Values.{Val}
 use Rattle.ctf_packet.specs.Classes.{StreamForm, TraceForm}
 use Rattle.ctf_packet.specs.Scopes.{◌>>=◌, Values, Stood, no_values, longest, cut_short, fault_in_front}
 use Rattle.ctf_packet.specs.Roles.{role, number_in, is_magic, uuid_field, is_of_trace}
-use Rattle.ctf_packet.specs.Packets.{Opened, unless, or_fault, front, stream_named, same_stream, stream_checked, sizes_of, are_possible, is_clean, sizes_checked, clock_before, clock_behind, moves, placed, open_at}
+use Rattle.ctf_packet.specs.Packets.{Opened, unless, or_fault, front, stream_named, same_stream, stream_checked, sizes_of, are_possible, is_clean, sizes_checked, clock_before, clock_after, moves, placed, open_at}
 use Rattle.ctf_packet.specs.declared.reached.Reached.{Reached}
 use Rattle.ctf_packet.specs.declared.sizes.Sizes.{Sizes}
 use Rattle.ctf_packet.specs.declared.fault.StreamFault.{StreamFault}
@@ -18,7 +18,7 @@ use Rattle.ctf_packet.specs.declared.fault.StreamFault.TheVariants as faults
 use Rattle.ctf_packet.proofs.Going.{first}
 use Rattle.ctf_packet.proofs.Measures.{possible}
 use Rattle.ctf_packet_demand.specs.Wants.{Begun, Want, more, whole, rest, faulty, asked_at, or_faulty, wanted}
-use Rattle.ctf_packet_demand.proofs.Following.{follow, behind_stream, behind_header, wants}
+use Rattle.ctf_packet_demand.proofs.Following.{follow, after_stream, after_header, wants}
 use Rattle.ctf_packet_demand.proofs.Telling.{wants_tell}
 use Rattle.stream_laws.specs.Holding.{is_rest}
 use Rattle.stream_laws.proofs.Named.{same, there}
@@ -45,7 +45,7 @@ module _ {C : Type 0} where
   unfolding placed
   placed_at stream reached start values place sizes p e =
       let a = first (clock_before stream.line reached) _ p e in
-      let b = first (clock_behind stream.line a.0 (moves stream.packet_context values.packet_context)) _ p a.2 in
+      let b = first (clock_after stream.line a.0 (moves stream.packet_context values.packet_context)) _ p a.2 in
       let starts : Result (Opened C) StreamFault → ℕ = λ r. elim r as (λ _. ℕ) [ Ok x ↦ x.start | Err f ↦ start ] in
       let ends : Result (Opened C) StreamFault → ℕ = λ r. elim r as (λ _. ℕ) [ Ok x ↦ x.end | Err f ↦ start ] in
       (sym (ap starts b.2), sym (ap ends b.2))
@@ -83,12 +83,12 @@ module _ {C : Type 0} where
       wants trace None have
       ∙ (step (asked_at trace.packet_header (front have no_values) 0 0) (subst (λ w. asks w ≡ true) (wants trace reached have) h) ∙ sym (wants trace reached have))
     where
-      stream : (header : Stood) (r : Result (StreamForm C) StreamFault) → stream_checked trace reached header.value ≡ r → asks (follow (or_faulty r) (behind_stream trace reached have header)) ≡ true
-          → follow (or_faulty (stream_checked trace None header.value)) (behind_stream trace None have header) ≡ follow (or_faulty r) (behind_stream trace reached have header)
+      stream : (header : Stood) (r : Result (StreamForm C) StreamFault) → stream_checked trace reached header.value ≡ r → asks (follow (or_faulty r) (after_stream trace reached have header)) ≡ true
+          → follow (or_faulty (stream_checked trace None header.value)) (after_stream trace None have header) ≡ follow (or_faulty r) (after_stream trace reached have header)
       stream header (Err f) e g = cc
-      stream header (Ok s) e g = ap (λ r. follow (or_faulty r) (behind_stream trace None have header)) (checked_first trace reached header.value s e)
+      stream header (Ok s) e g = ap (λ r. follow (or_faulty r) (after_stream trace None have header)) (checked_first trace reached header.value s e)
 
-      step : (r : Result Stood (Want C)) → asks (follow r (behind_header trace reached have)) ≡ true → follow r (behind_header trace None have) ≡ follow r (behind_header trace reached have)
+      step : (r : Result Stood (Want C)) → asks (follow r (after_header trace reached have)) ≡ true → follow r (after_header trace None have) ≡ follow r (after_header trace reached have)
       step (Err w) g = refl
       step (Ok header) g = stream header (stream_checked trace reached header.value) refl g
 
@@ -171,7 +171,7 @@ module _ {C : Type 0} where
     pub sized_ends : Sized → is_rest (wanted trace None left) ≡ false
     sized_ends s = ap is_rest (asked_first trace reached left (ap asks s.2) ∙ s.2)
 
-    -- its bytes, with others behind them, open the same packet
+    -- its bytes, with others after them, open the same packet
     pub opens_again : (ending : Ending) (more_bytes : List ℕ) → Sized → open_at trace ending reached start (take (p.end - p.start) left ++ more_bytes) ≡ Ok p
     opens_again ending more_bytes s = one (wanted trace reached own) refl
       where
@@ -181,8 +181,8 @@ module _ {C : Type 0} where
         own : List ℕ
         own = take m left
 
-        behind : List ℕ
-        behind = drop m left
+        after : List ℕ
+        after = drop m left
 
         begun : Begun C
         begun = s.0
@@ -190,7 +190,7 @@ module _ {C : Type 0} where
         sizes : Sizes
         sizes = s.1
 
-        parts : own ++ behind ≡ left
+        parts : own ++ after ≡ left
         parts = take-append-drop m left
 
         can : (0 < sizes.packet) × (sizes.packet % 8 ≡ 0) × (sizes.packet ≤ longest) × (sizes.content ≤ sizes.packet) × (begun.first ≤ sizes.content)
@@ -205,28 +205,28 @@ module _ {C : Type 0} where
         eight : sizes.packet ≡ 8 * m
         eight = omega (arith, at.0, at.1, can.1)
 
-        here : (e : Ending) → open_at trace e reached start (own ++ behind) ≡ Ok p
+        here : (e : Ending) → open_at trace e reached start (own ++ after) ≡ Ok p
         here e = ap (open_at trace e reached start) parts ∙ sized_opens e s
 
-        resting : (b : Begun C) → (sizes_checked None None Failed (8 * length (own ++ behind)) b.first >>= placed_of b) ≡ Ok p → ⊥
+        resting : (b : Begun C) → (sizes_checked None None Failed (8 * length (own ++ after)) b.first >>= placed_of b) ≡ Ok p → ⊥
         resting b h =
-            let a = first (sizes_checked None None Failed (8 * length (own ++ behind)) b.first) (placed_of b) p h in
-            let c = rest_sizes Failed (8 * length (own ++ behind)) b.first a.0 a.1 in
+            let a = first (sizes_checked None None Failed (8 * length (own ++ after)) b.first) (placed_of b) p h in
+            let c = rest_sizes Failed (8 * length (own ++ after)) b.first a.0 a.1 in
             let bad : Failed ≡ Clean = c.0 in cc
 
-        other : (b : Begun C) (z : Sizes) (c : Bool) → nat_le z.packet (8 * length (own ++ behind)) ≡ c → (if c then placed_of b z else Err (cut_short ending)) ≡ Ok p → placed_of b z ≡ Ok p
+        other : (b : Begun C) (z : Sizes) (c : Bool) → nat_le z.packet (8 * length (own ++ after)) ≡ c → (if c then placed_of b z else Err (cut_short ending)) ≡ Ok p → placed_of b z ≡ Ok p
         other b z true e h = h
         other b z false e h = cc
 
         one : (w : Want C) → wanted trace reached own ≡ w → open_at trace ending reached start (own ++ more_bytes) ≡ Ok p
-        one (faulty fault) e = let bad : Err fault ≡ Ok p = sym (wants_tell.faulty trace ending reached start own behind fault e) ∙ here ending in cc
+        one (faulty fault) e = let bad : Err fault ≡ Ok p = sym (wants_tell.faulty trace ending reached start own after fault e) ∙ here ending in cc
         one (more bits) e =
             let l : min (8 * length own) longest < bits = wants_tell.beyond trace reached own bits e in
-            let g : bits ≤ begun.first = wants_tell.begins trace reached own behind bits begun sizes e (ap (wanted trace reached) parts ∙ s.2) in
+            let g : bits ≤ begun.first = wants_tell.begins trace reached own after bits begun sizes e (ap (wanted trace reached) parts ∙ s.2) in
             absurd (omega (arith, l, g, can.2, can.3, can.4, long, eight))
-        one (rest b) e = absurd (resting b (sym (wants_tell.rest trace Failed reached start own behind b e) ∙ here Failed))
+        one (rest b) e = absurd (resting b (sym (wants_tell.rest trace Failed reached start own after b e) ∙ here Failed))
         one (whole b z) e =
-            let h = other b z (nat_le z.packet (8 * length (own ++ behind))) refl (sym (wants_tell.whole trace ending reached start own behind b z e) ∙ here ending) in
+            let h = other b z (nat_le z.packet (8 * length (own ++ after))) refl (sym (wants_tell.whole trace ending reached start own after b z e) ∙ here ending) in
             let there = placed_at b.stream reached start b.values b.first z p h in
             let round = possible z b.first (wants_tell.possible trace reached own b z e) in
             let total = length-append own more_bytes in

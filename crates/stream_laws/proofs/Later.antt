@@ -43,6 +43,6 @@ pub rises_under : {C : Type 0} (low time : Option ℤ) (items : List (Item C)) �
 rises_under low time [] h r = tt
 rises_under low time (x ∷ xs) h r = (not_before_through low time (time_of x) h r.0, r.1)
 
--- those behind the first one rise too
+-- those after the first one rise too
 pub rest_rises : {C : Type 0} (low : Option ℤ) (x : Item C) (xs : List (Item C)) → Rises low (x ∷ xs) → Rises None xs
 rest_rises low x xs r = rises_under None (time_of x) xs (not_before_none (time_of x)) r.1

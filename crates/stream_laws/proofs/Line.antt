@@ -9,7 +9,7 @@ use Rattle.ctf_clock.specs.declared.moment.Moment.{Moment}
 use Rattle.ctf_clock.specs.Counting.{least_from}
 use Rattle.ctf_clock.specs.Clock.{Line, nanoseconds, fits, with_time, moment_at, advanced, advanced_by}
 use Rattle.ctf_packet.specs.Scopes.{◌>>=◌}
-use Rattle.ctf_packet.specs.Packets.{or_fault, clock_before, clock_behind}
+use Rattle.ctf_packet.specs.Packets.{or_fault, clock_before, clock_after}
 use Rattle.ctf_packet.specs.declared.reached.Reached.{Reached}
 use Rattle.ctf_packet.specs.declared.fault.StreamFault.TheVariants as faults
 use Rattle.stream_laws.specs.Times.{time_at, NotBefore}
@@ -96,13 +96,13 @@ reaches line from to on h =
     let e = h.1 in
     (h.1, not_less to.time from.time (omega (arith, ints)))
 
--- the clock behind a scope is not before the one before it
-pub behind_reaches : (line : Option Line) (clock next : Option Moment) (ms : List (ℕ × ℕ)) → OnLine line clock → clock_behind line clock ms ≡ Ok next → Reaches line clock next
-behind_reaches None clock next ms on h =
+-- the clock after a scope is not before the one before it
+pub after_reaches : (line : Option Line) (clock next : Option Moment) (ms : List (ℕ × ℕ)) → OnLine line clock → clock_after line clock ms ≡ Ok next → Reaches line clock next
+after_reaches None clock next ms on h =
     let e : next ≡ None = cc in
     (e, subst (λ c. NotBefore (time_at c) (time_at next)) (sym on) (not_before_none (time_at next)))
-behind_reaches (Some line) None next ms on h = absurd on
-behind_reaches (Some line) (Some m) next ms on h = one (advanced_by line m ms) refl h
+after_reaches (Some line) None next ms on h = absurd on
+after_reaches (Some line) (Some m) next ms on h = one (advanced_by line m ms) refl h
   where
     one : (o : Option Moment) → advanced_by line m ms ≡ o → (or_fault faults.ClockRefused o >>= (λ n. Ok (Some n))) ≡ Ok next → Reaches (Some line) (Some m) next
     one None e g = cc

@@ -7,7 +7,7 @@ use Rattle.ctf_bits.specs.declared.source.Ending.{Ending}
 use Rattle.ctf_bits.specs.declared.source.Ending.TheVariants.{Clean}
 use Rattle.ctf_clock.specs.declared.moment.Moment.{Moment}
 use Rattle.ctf_packet.specs.Classes.{TraceForm}
-use Rattle.ctf_packet.specs.Packets.{Opened, open_at, reached_behind}
+use Rattle.ctf_packet.specs.Packets.{Opened, open_at, reached_after}
 use Rattle.ctf_packet.specs.Items.{Item, Run, stops, from_packet, longest_stream, opened, from_bytes, run_of}
 use Rattle.ctf_packet.specs.declared.reached.Reached.{Reached}
 use Rattle.ctf_packet.specs.declared.fault.StreamFault.{StreamFault}
@@ -15,31 +15,31 @@ use Rattle.ctf_packet.specs.declared.fault.StreamFault.TheVariants as faults
 use Rattle.ctf_packet.proofs.Cutting as cutting
 use Rattle.ctf_packet_demand.specs.Wants.{wanted}
 use Rattle.stream_laws.specs.Holding.{packet_end, packet_start, is_rest, is_in_rest, IsHeld}
-use Rattle.stream_laws.proofs.Splitting.{IsOf, Within, Behind, empty, packet_splits}
+use Rattle.stream_laws.proofs.Splitting.{IsOf, Within, After, empty, packet_splits}
 use Rattle.stream_laws.proofs.Again.{Sized, Resting, opened_how, sized_length, sized_ends, opens_again, rest_at_first}
 
 module _ {C : Type 0} (trace : TraceForm C) where
   -- what comes from a cut point with bytes on
   goes_on : (ending : Ending) (reached : Option Reached) (at : ℕ) (xs : List ℕ) → 1 ≤ length xs
-      → from_bytes trace ending reached at xs ≡ (if nat_lt longest_stream at then stops (Some faults.StreamTooLong) at else opened at xs (cutting.behind trace ending xs) (open_at trace ending reached at xs))
+      → from_bytes trace ending reached at xs ≡ (if nat_lt longest_stream at then stops (Some faults.StreamTooLong) at else opened at xs (cutting.after trace ending xs) (open_at trace ending reached at xs))
   goes_on ending reached at [] h = absurd (omega arith)
   goes_on ending reached at (byte ∷ bytes) h = cutting.goes_on trace ending reached at byte bytes
 
   -- where a packet was opened there
   goes_into : (ending : Ending) (reached : Option Reached) (at : ℕ) (xs : List ℕ) (p : Opened C) → 1 ≤ length xs → nat_lt longest_stream at ≡ false → open_at trace ending reached at xs ≡ Ok p
-      → from_bytes trace ending reached at xs ≡ from_packet p (take (p.end - p.start) xs) (cutting.behind trace ending xs p)
+      → from_bytes trace ending reached at xs ≡ from_packet p (take (p.end - p.start) xs) (cutting.after trace ending xs p)
   goes_into ending reached at xs p h short e =
       goes_on ending reached at xs h
-      ∙ (ap (λ b. if b then stops (Some faults.StreamTooLong) at else opened at xs (cutting.behind trace ending xs) (open_at trace ending reached at xs)) short
-      ∙ ap (opened at xs (cutting.behind trace ending xs)) e)
+      ∙ (ap (λ b. if b then stops (Some faults.StreamTooLong) at else opened at xs (cutting.after trace ending xs) (open_at trace ending reached at xs)) short
+      ∙ ap (opened at xs (cutting.after trace ending xs)) e)
 
-  -- the items from a cut point on, up to one: `left` was cut behind its packet, and more bytes follow there
-  abbrev pub cut_behind : ℕ → List ℕ → List ℕ → Item C → List ℕ
-  cut_behind at left more_bytes x = take (packet_end x - at) left ++ more_bytes
+  -- the items from a cut point on, up to one: `left` was cut after its packet, and more bytes follow there
+  abbrev pub cut_after : ℕ → List ℕ → List ℕ → Item C → List ℕ
+  cut_after at left more_bytes x = take (packet_end x - at) left ++ more_bytes
 
   abbrev Same : Ending → Option Reached → ℕ → List ℕ → List ℕ → List (Item C) → Item C → Type 0
   Same other reached at left more_bytes first x =
-      (others : List (Item C)) × ((from_bytes trace other reached at (cut_behind at left more_bytes x)).items ≡ first ++ x ∷ others)
+      (others : List (Item C)) × ((from_bytes trace other reached at (cut_after at left more_bytes x)).items ≡ first ++ x ∷ others)
 
   -- where its packet is the rest of the stream, the other one ends there cleanly
   abbrev Ends : Ending → ℕ → List ℕ → List ℕ → Item C → Type 0
@@ -54,10 +54,10 @@ module _ {C : Type 0} (trace : TraceForm C) where
   abbrev Holds : Ending → Ending → Option Reached → ℕ → List ℕ → List ℕ → List (Item C) → Item C → Type 0
   Holds ending other reached at left more_bytes first x = Peeked ending at left x × (Ends other at left more_bytes x → Same other reached at left more_bytes first x)
 
-  -- the packet's own bytes, with others behind them
+  -- the packet's own bytes, with others after them
   sized_again : (other : Ending) (reached : Option Reached) (at : ℕ) (left : List ℕ) (p : Opened C) (ys : List ℕ) → nat_lt longest_stream at ≡ false → Sized trace reached at left p
       → let own = take (p.end - p.start) left in
-      (from_bytes trace other reached at (own ++ ys) ≡ from_packet p own (cutting.behind trace other (own ++ ys) p)) × (drop (p.end - p.start) (own ++ ys) ≡ ys)
+      (from_bytes trace other reached at (own ++ ys) ≡ from_packet p own (cutting.after trace other (own ++ ys) p)) × (drop (p.end - p.start) (own ++ ys) ≡ ys)
   sized_again other reached at left p ys short s =
       let m = p.end - p.start in
       let own = take m left in
@@ -68,26 +68,26 @@ module _ {C : Type 0} (trace : TraceForm C) where
       let g = goes_into other reached at (own ++ ys) p (omega (arith, total, long, some)) short (opens_again trace reached at left p other ys s) in
       let seam : take m (own ++ ys) ≡ own = ap (λ k. take k (own ++ ys)) (sym long) ∙ take-append_seam own ys in
       let rest : drop m (own ++ ys) ≡ ys = ap (λ k. drop k (own ++ ys)) (sym long) ∙ drop-append_seam own ys in
-      (g ∙ ap (λ xs. from_packet p xs (cutting.behind trace other (own ++ ys) p)) seam, rest)
+      (g ∙ ap (λ xs. from_packet p xs (cutting.after trace other (own ++ ys) p)) seam, rest)
 
   -- an item that follows a packet that tells a size
-  behind_sized : (other : Ending) (reached : Option Reached) (at : ℕ) (left more_bytes : List ℕ) (first : List (Item C)) (x : Item C) (p : Opened C) (clock : Option Moment) (later : List (Item C)) → nat_lt longest_stream at ≡ false → Sized trace reached at left p → p.end ≤ packet_end x
+  after_sized : (other : Ending) (reached : Option Reached) (at : ℕ) (left more_bytes : List ℕ) (first : List (Item C)) (x : Item C) (p : Opened C) (clock : Option Moment) (later : List (Item C)) → nat_lt longest_stream at ≡ false → Sized trace reached at left p → p.end ≤ packet_end x
       → ((g : Option Moment → Run C) (others : List (Item C)) → (g clock).items ≡ later ++ x ∷ others → (from_packet p (take (p.end - p.start) left) g).items ≡ first ++ x ∷ others)
-      → Same other (Some (reached_behind p clock)) p.end (drop (p.end - p.start) left) more_bytes later x
+      → Same other (Some (reached_after p clock)) p.end (drop (p.end - p.start) left) more_bytes later x
       → Same other reached at left more_bytes first x
-  behind_sized other reached at left more_bytes first x p clock later short s far back same =
+  after_sized other reached at left more_bytes first x p clock later short s far back same =
       let m = p.end - p.start in
       let own = take m left in
-      let ys = cut_behind p.end (drop m left) more_bytes x in
+      let ys = cut_after p.end (drop m left) more_bytes x in
       let l = sized_length trace reached at left p s in
       let starts = l.0 in
       let some = l.1 in
       let n : packet_end x - at ≡ m + (packet_end x - p.end) = omega arith in
-      let parts : cut_behind at left more_bytes x ≡ own ++ ys =
+      let parts : cut_after at left more_bytes x ≡ own ++ ys =
       ap (λ k. take k left ++ more_bytes) n ∙ (ap (λ xs. xs ++ more_bytes) (take-add m (packet_end x - p.end) left) ∙ append_assoc own (take (packet_end x - p.end) (drop m left)) more_bytes) in
       let g = sized_again other reached at left p ys short s in
-      let next : (cutting.behind trace other (own ++ ys) p clock).items ≡ later ++ x ∷ same.0 = ap (λ xs. (from_bytes trace other (Some (reached_behind p clock)) p.end xs).items) g.1 ∙ same.1 in
-      (same.0, ap (λ xs. (from_bytes trace other reached at xs).items) parts ∙ (ap (λ (r : Run C). r.items) g.0 ∙ back (cutting.behind trace other (own ++ ys) p) same.0 next))
+      let next : (cutting.after trace other (own ++ ys) p clock).items ≡ later ++ x ∷ same.0 = ap (λ xs. (from_bytes trace other (Some (reached_after p clock)) p.end xs).items) g.1 ∙ same.1 in
+      (same.0, ap (λ xs. (from_bytes trace other reached at xs).items) parts ∙ (ap (λ (r : Run C). r.items) g.0 ∙ back (cutting.after trace other (own ++ ys) p) same.0 next))
 
   -- an item of a packet that tells a size
   in_sized : (other : Ending) (reached : Option Reached) (at : ℕ) (left more_bytes : List ℕ) (first : List (Item C)) (x : Item C) (p : Opened C) → nat_lt longest_stream at ≡ false → Sized trace reached at left p
@@ -98,7 +98,7 @@ module _ {C : Type 0} (trace : TraceForm C) where
       let l = sized_length trace reached at left p s in
       let n : packet_end x - at ≡ m = ap (λ k. k - at) w.0.0 ∙ ap (λ k. p.end - k) (sym l.0) in
       let g = sized_again other reached at left p more_bytes short s in
-      let all = w.1 (cutting.behind trace other (own ++ more_bytes) p) in
+      let all = w.1 (cutting.after trace other (own ++ more_bytes) p) in
       (all.0, ap (λ k. (from_bytes trace other reached at (take k left ++ more_bytes)).items) n ∙ (ap (λ (r : Run C). r.items) g.0 ∙ all.1))
 
   -- an item of the packet at a place
@@ -125,28 +125,28 @@ module _ {C : Type 0} (trace : TraceForm C) where
       let c = premise (ap (λ xs. is_rest (wanted trace None xs)) whole ∙ rest_at_first trace reached left r.0) in
       let far = r.3 in
       let n : packet_end x - at ≡ length left = omega arith in
-      let bytes : cut_behind at left more_bytes x ≡ left = ap (λ k. take k left ++ more_bytes) n ∙ (ap (λ xs. xs ++ more_bytes) (take-length left) ∙ (ap (λ xs. left ++ xs) c.1 ∙ append-nil left)) in
+      let bytes : cut_after at left more_bytes x ≡ left = ap (λ k. take k left ++ more_bytes) n ∙ (ap (λ xs. xs ++ more_bytes) (take-length left) ∙ (ap (λ xs. left ++ xs) c.1 ∙ append-nil left)) in
       (rest, (λ i. (from_bytes trace (c.0 i) reached at (bytes i)).items) ∙ ((λ i. (from_bytes trace (sym r.1 i) reached at left).items) ∙ h))
 
   -- what follows a packet
-  behind_goes : (n : ℕ) → Comes n → (ending other : Ending) (reached : Option Reached) (at : ℕ) (left more_bytes : List ℕ) (first rest : List (Item C)) (x : Item C) (p : Opened C) → length left ≤ suc n → nat_lt longest_stream at ≡ false
+  after_goes : (n : ℕ) → Comes n → (ending other : Ending) (reached : Option Reached) (at : ℕ) (left more_bytes : List ℕ) (first rest : List (Item C)) (x : Item C) (p : Opened C) → length left ≤ suc n → nat_lt longest_stream at ≡ false
       → Sized trace reached at left p ⊎ Resting trace reached at left p ending
-      → Behind (from_packet p (take (p.end - p.start) left)) (cutting.behind trace ending left p) first x rest
+      → After (from_packet p (take (p.end - p.start) left)) (cutting.after trace ending left p) first x rest
       → Holds ending other reached at left more_bytes first x
-  behind_goes n ih ending other reached at left more_bytes first rest x p h short (inr r) b =
+  after_goes n ih ending other reached at left more_bytes first rest x p h short (inr r) b =
       let m = p.end - p.start in
       let starts = r.2 in
       let ends = r.3 in
       let none : drop m left ≡ [] = drop_of_length-le left (omega arith) in
-      absurd (empty b.1 rest x (ap (λ xs. (from_bytes trace ending (Some (reached_behind p b.0)) p.end xs).items) (sym none) ∙ b.2))
-  behind_goes n ih ending other reached at left more_bytes first rest x p h short (inl s) b =
+      absurd (empty b.1 rest x (ap (λ xs. (from_bytes trace ending (Some (reached_after p b.0)) p.end xs).items) (sym none) ∙ b.2))
+  after_goes n ih ending other reached at left more_bytes first rest x p h short (inl s) b =
       let m = p.end - p.start in
       let l = sized_length trace reached at left p s in
       let starts = l.0 in
       let some = l.1 in
       let fits = l.2 in
       let shorter : length (drop m left) ≤ n = omega (arith, length-drop m left) in
-      let g = ih ending other (Some (reached_behind p b.0)) p.end (drop m left) more_bytes b.1 rest x shorter b.2 in
+      let g = ih ending other (Some (reached_after p b.0)) p.end (drop m left) more_bytes b.1 rest x shorter b.2 in
       let from = g.0.0 in
       let some_more = g.0.1 in
       let there = g.0.2 in
@@ -157,7 +157,7 @@ module _ {C : Type 0} (trace : TraceForm C) where
       let same_rest : is_rest (wanted trace None (drop (packet_start x - p.end) (drop m left))) ≡ is_rest (wanted trace None (drop (packet_start x - at) left)) = ap (λ xs. is_rest (wanted trace None xs)) same_place in (
         (omega arith, g.0.1, omega arith, λ i. let r = g.0.3 (same_rest ∙ i) in (r.0, r.1 ∙ total)),
         λ premise.
-            behind_sized other reached at left more_bytes first x p b.0 b.1 short s (omega arith) b.3 (g.1 (λ e. premise (sym same_rest ∙ e))),
+            after_sized other reached at left more_bytes first x p b.0 b.1 short s (omega arith) b.3 (g.1 (λ e. premise (sym same_rest ∙ e))),
       )
 
   -- a packet and what follows it
@@ -165,10 +165,10 @@ module _ {C : Type 0} (trace : TraceForm C) where
       → 1 ≤ p.end - p.start
       → (from_bytes trace ending reached at left).items ≡ first ++ x ∷ rest
       → Sized trace reached at left p ⊎ Resting trace reached at left p ending
-      → Within p (from_packet p (take (p.end - p.start) left)) first x ⊎ Behind (from_packet p (take (p.end - p.start) left)) (cutting.behind trace ending left p) first x rest
+      → Within p (from_packet p (take (p.end - p.start) left)) first x ⊎ After (from_packet p (take (p.end - p.start) left)) (cutting.after trace ending left p) first x rest
       → Holds ending other reached at left more_bytes first x
   packet_goes n ih ending other reached at left more_bytes first rest x p h short some all how (inr b) =
-      behind_goes n ih ending other reached at left more_bytes first rest x p h short how b
+      after_goes n ih ending other reached at left more_bytes first rest x p h short how b
   packet_goes n ih ending other reached at left more_bytes first rest x p h short some all (inl s) (inl w) =
       let l = sized_length trace reached at left p s in
       let starts = l.0 in
@@ -182,17 +182,17 @@ module _ {C : Type 0} (trace : TraceForm C) where
 
   opened_goes : (n : ℕ) → Comes n → (ending other : Ending) (reached : Option Reached) (at : ℕ) (left more_bytes : List ℕ) (first rest : List (Item C)) (x : Item C) → length left ≤ suc n → nat_lt longest_stream at ≡ false
       → (from_bytes trace ending reached at left).items ≡ first ++ x ∷ rest
-      → (r : Result (Opened C) StreamFault) → open_at trace ending reached at left ≡ r → (opened at left (cutting.behind trace ending left) r).items ≡ first ++ x ∷ rest
+      → (r : Result (Opened C) StreamFault) → open_at trace ending reached at left ≡ r → (opened at left (cutting.after trace ending left) r).items ≡ first ++ x ∷ rest
       → Holds ending other reached at left more_bytes first x
   opened_goes n ih ending other reached at left more_bytes first rest x h short all (Err f) e g = absurd (empty first rest x g)
   opened_goes n ih ending other reached at left more_bytes first rest x h short all (Ok p) e g =
       packet_goes n ih ending other reached at left more_bytes first rest x p h short (cutting.some_bytes trace ending reached at left p e) all (opened_how trace reached at left p ending e)
-      (packet_splits p (take (p.end - p.start) left) (cutting.behind trace ending left p) first x rest g)
+      (packet_splits p (take (p.end - p.start) left) (cutting.after trace ending left p) first x rest g)
 
   tested : (n : ℕ) → Comes n → (ending other : Ending) (reached : Option Reached) (at : ℕ) (left more_bytes : List ℕ) (first rest : List (Item C)) (x : Item C) → length left ≤ suc n
       → (from_bytes trace ending reached at left).items ≡ first ++ x ∷ rest
       → (b : Bool) → nat_lt longest_stream at ≡ b
-      → (if b then stops (Some faults.StreamTooLong) at else opened at left (cutting.behind trace ending left) (open_at trace ending reached at left)).items ≡ first ++ x ∷ rest
+      → (if b then stops (Some faults.StreamTooLong) at else opened at left (cutting.after trace ending left) (open_at trace ending reached at left)).items ≡ first ++ x ∷ rest
       → Holds ending other reached at left more_bytes first x
   tested n ih ending other reached at left more_bytes first rest x h all true short g = absurd (empty first rest x g)
   tested n ih ending other reached at left more_bytes first rest x h all false short g =
@@ -206,7 +206,7 @@ module _ {C : Type 0} (trace : TraceForm C) where
       tested n (comes n) ending other reached at (byte ∷ bytes) more_bytes first rest x h e (nat_lt longest_stream at) refl
       (ap (λ (r : Run C). r.items) (sym (cutting.goes_on trace ending reached at byte bytes)) ∙ e)
 
-  -- the items of a stream up to one, whatever comes behind its packet
+  -- the items of a stream up to one, whatever comes after its packet
   pub run_comes : (ending other : Ending) (bytes more_bytes : List ℕ) (first rest : List (Item C)) (x : Item C) → (run_of trace ending bytes).items ≡ first ++ x ∷ rest
       → (is_in_rest trace bytes x ≡ true → (other ≡ Clean) × (more_bytes ≡ []))
       → (others : List (Item C)) × ((run_of trace other (take (packet_end x) bytes ++ more_bytes)).items ≡ first ++ x ∷ others)

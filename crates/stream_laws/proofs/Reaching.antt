@@ -8,7 +8,7 @@ use Rattle.ctf_clock.specs.declared.moment.Moment.{Moment}
 use Rattle.ctf_packet.specs.Classes.{StreamForm, TraceForm}
 use Rattle.ctf_packet.specs.Scopes.{◌>>=◌, Values, no_values, put, input_of, scope_at, fault_in_front, fault_in_record}
 use Rattle.ctf_packet.specs.Roles.{role, number_in}
-use Rattle.ctf_packet.specs.Packets.{Opened, unless, or_fault, front, stream_checked, sizes_checked, clock_before, clock_behind, moves, placed, open_at, reached_behind}
+use Rattle.ctf_packet.specs.Packets.{Opened, unless, or_fault, front, stream_checked, sizes_checked, clock_before, clock_after, moves, placed, open_at, reached_after}
 use Rattle.ctf_packet.specs.Records.{Headed, headed, bodied, Recorded, record_at, event_named, ids_in}
 use Rattle.ctf_packet.specs.declared.reached.Reached.{Reached}
 use Rattle.ctf_packet.specs.declared.sizes.Sizes.{Sizes}
@@ -18,7 +18,7 @@ use Rattle.ctf_packet.proofs.Going.{first}
 use Rattle.ctf_packet.proofs.Opening as opening
 use Rattle.stream_laws.specs.Times.{time_at}
 use Rattle.stream_laws.proofs.Later.{not_before_through}
-use Rattle.stream_laws.proofs.Line.{OnLine, Reaches, Stands, clock_in, behind_reaches, before_reaches}
+use Rattle.stream_laws.proofs.Line.{OnLine, Reaches, Stands, clock_in, after_reaches, before_reaches}
 use Rattle.stream_laws.proofs.Named.{IsNamed, IsSame, checked}
 
 module _ {C : Type 0} where
@@ -34,7 +34,7 @@ module _ {C : Type 0} where
       let i : h.0 ≡ s = cc in
       subst (λ (x : StreamForm C). OnLine x.line r.clock) i h.2
 
-  -- a packet, and its clock behind its context
+  -- a packet, and its clock after its context
   abbrev pub IsPlaced : StreamForm C → Option Reached → Opened C → Type 0
   IsPlaced stream reached p = (p.stream ≡ stream) × Reaches p.stream.line (clock_in reached) p.clock
 
@@ -42,9 +42,9 @@ module _ {C : Type 0} where
   unfolding placed
   placed_reaches stream reached start values place sizes p h e =
       let a = first (clock_before stream.line reached) _ p e in
-      let b = first (clock_behind stream.line a.0 (moves stream.packet_context values.packet_context)) _ p a.2 in
+      let b = first (clock_after stream.line a.0 (moves stream.packet_context values.packet_context)) _ p a.2 in
       let f = before_reaches stream.line reached a.0 h a.1 in
-      let g = behind_reaches stream.line a.0 b.0 (moves stream.packet_context values.packet_context) f.0 b.1 in
+      let g = after_reaches stream.line a.0 b.0 (moves stream.packet_context values.packet_context) f.0 b.1 in
       let stream_of : Result (Opened C) StreamFault → StreamForm C = λ r. elim r as (λ _. StreamForm C) [ Ok x ↦ x.stream | Err _ ↦ stream ] in
       let clock_of : Result (Opened C) StreamFault → Option Moment = λ r. elim r as (λ _. Option Moment) [ Ok x ↦ x.clock | Err _ ↦ None ] in
       let s : stream ≡ p.stream = ap stream_of b.2 in
@@ -58,10 +58,10 @@ module _ {C : Type 0} where
 
   pub open_reaches : (trace : TraceForm C) (ending : Ending) (reached : Option Reached) (start : ℕ) (left : List ℕ) (p : Opened C) → IsReached trace reached → open_at trace ending reached start left ≡ Ok p → IsOpened trace reached p
   open_reaches trace ending reached start left p h e =
-      let a = first (scope_at (fault_in_front ending) trace.packet_header (front left no_values) 0 0) (opening.behind_header trace ending reached start left) p (sym (opening.opens trace ending reached start left) ∙ e) in
-      let b = first (stream_checked trace reached (a.0).value) (opening.behind_stream trace ending reached start left a.0) p a.2 in
+      let a = first (scope_at (fault_in_front ending) trace.packet_header (front left no_values) 0 0) (opening.after_header trace ending reached start left) p (sym (opening.opens trace ending reached start left) ∙ e) in
+      let b = first (stream_checked trace reached (a.0).value) (opening.after_stream trace ending reached start left a.0) p a.2 in
       let known = put PacketHeader (a.0).value no_values in
-      let d = first (scope_at (fault_in_front ending) (b.0).packet_context (front left known) (a.0).end (a.0).spent) (opening.behind_context trace ending reached start left b.0 known) p b.2 in
+      let d = first (scope_at (fault_in_front ending) (b.0).packet_context (front left known) (a.0).end (a.0).spent) (opening.after_context trace ending reached start left b.0 known) p b.2 in
       let values = put PacketContext (d.0).value known in
       let size = λ (name : List ℕ). number_in (role name (b.0).packet_context (d.0).value) in
       let s = first (sizes_checked (size (codes "packet_size")) (size (codes "content_size")) ending (8 * length left) (d.0).end) (placed b.0 reached start values (d.0).end) p d.2 in
@@ -69,19 +69,19 @@ module _ {C : Type 0} where
       let g = placed_reaches b.0 reached start values (d.0).end s.0 p (stands trace reached b.0 h c.0 c.1) s.2 in
       (subst (IsNamed trace.streams) (sym g.0) c.0, subst (IsSame reached) (sym g.0) c.1, g.1)
 
-  -- what is reached behind such a packet, where its clock came to a moment on its line
-  pub reaches_behind : (trace : TraceForm C) (reached : Option Reached) (p : Opened C) (clock : Option Moment) → IsOpened trace reached p → OnLine p.stream.line clock → IsReached trace (Some (reached_behind p clock))
-  reaches_behind trace reached p clock h on = (p.stream, h.0, on)
+  -- what is reached after such a packet, where its clock came to a moment on its line
+  pub reaches_after : (trace : TraceForm C) (reached : Option Reached) (p : Opened C) (clock : Option Moment) → IsOpened trace reached p → OnLine p.stream.line clock → IsReached trace (Some (reached_after p clock))
+  reaches_after trace reached p clock h on = (p.stream, h.0, on)
 
   head_reaches : (stream : StreamForm C) (bytes : List ℕ) (content : ℕ) (values : Values) (clock : Option Moment) (place : ℕ) (h : Headed C) → OnLine stream.line clock → headed stream bytes content values clock place ≡ Ok h → Reaches stream.line clock h.clock
   unfolding headed
   head_reaches stream bytes content values clock place h on e =
       let a = first (scope_at fault_in_record stream.event_header (input_of bytes content values) place 0) _ h e in
-      let b = first (clock_behind stream.line clock (moves stream.event_header (a.0).value)) _ h a.2 in
+      let b = first (clock_after stream.line clock (moves stream.event_header (a.0).value)) _ h a.2 in
       let d = first (or_fault faults.UnknownEvent (event_named stream.events (last_or None (ids_in stream.event_header (a.0).value)))) _ h b.2 in
       let g : ◌≡◌ {A = Headed C} (record { event = d.0; clock = b.0; header = a.0 }) h = cc (d.2) in
       let i : b.0 ≡ h.clock = ap (λ (z : Headed C). z.clock) g in
-      subst (Reaches stream.line clock) i (behind_reaches stream.line clock b.0 (moves stream.event_header (a.0).value) on b.1)
+      subst (Reaches stream.line clock) i (after_reaches stream.line clock b.0 (moves stream.event_header (a.0).value) on b.1)
 
   kept : (b : Bool) (x r : Recorded C) → (unless faults.EmptyEvent b >>= (λ _. Ok x)) ≡ Ok r → x.clock ≡ r.clock
   kept true x r h = let g : x ≡ r = cc in ap (λ (z : Recorded C). z.clock) g

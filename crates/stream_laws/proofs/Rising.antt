@@ -3,7 +3,7 @@ use Rattle.std.proofs.Common.{◌≡◌, ℕ, zero, suc, ◌-◌, Bool, true, fa
 use Rattle.ctf_bits.specs.declared.source.Ending.{Ending}
 use Rattle.ctf_clock.specs.declared.moment.Moment.{Moment}
 use Rattle.ctf_packet.specs.Classes.{TraceForm}
-use Rattle.ctf_packet.specs.Packets.{Opened, open_at, reached_behind}
+use Rattle.ctf_packet.specs.Packets.{Opened, open_at, reached_after}
 use Rattle.ctf_packet.specs.Records.{Recorded, record_at}
 use Rattle.ctf_packet.specs.Items.{Item, Run, stops, lost_before, discarded_before, recorded, from_record, from_packet, longest_stream, opened, from_cut, run_of}
 use Rattle.ctf_packet.specs.declared.reached.Reached.{Reached}
@@ -12,7 +12,7 @@ use Rattle.ctf_packet.specs.declared.fault.StreamFault.TheVariants as faults
 use Rattle.stream_laws.specs.Times.{time_at, Rises}
 use Rattle.stream_laws.proofs.Later.{not_before_itself, rises_under}
 use Rattle.stream_laws.proofs.Line.{OnLine, clock_in}
-use Rattle.stream_laws.proofs.Reaching.{IsReached, IsOpened, open_reaches, reaches_behind, record_reaches}
+use Rattle.stream_laws.proofs.Reaching.{IsReached, IsOpened, open_reaches, reaches_after, record_reaches}
 
 module _ {C : Type 0} where
   -- what follows from each clock on a packet's line rises from its time
@@ -62,10 +62,10 @@ module _ {C : Type 0} where
   cut_rises zero trace ending reached at left h = tt
   cut_rises (suc n) trace ending reached at [] h = tt
   cut_rises (suc n) trace ending reached at (byte ∷ bytes) h =
-      one (nat_lt longest_stream at) (opened_rises trace ending reached at (byte ∷ bytes) next h (λ p o clock on. cut_rises n trace ending (Some (reached_behind p clock)) p.end (drop (p.end - p.start) (byte ∷ bytes)) (reaches_behind trace reached p clock o on)) (open_at trace ending reached at (byte ∷ bytes)) refl)
+      one (nat_lt longest_stream at) (opened_rises trace ending reached at (byte ∷ bytes) next h (λ p o clock on. cut_rises n trace ending (Some (reached_after p clock)) p.end (drop (p.end - p.start) (byte ∷ bytes)) (reaches_after trace reached p clock o on)) (open_at trace ending reached at (byte ∷ bytes)) refl)
     where
       next : Opened C → Option Moment → Run C
-      next p clock = from_cut n trace ending (Some (reached_behind p clock)) p.end (drop (p.end - p.start) (byte ∷ bytes))
+      next p clock = from_cut n trace ending (Some (reached_after p clock)) p.end (drop (p.end - p.start) (byte ∷ bytes))
 
       one : (b : Bool) → Rises (time_at (clock_in reached)) (opened at (byte ∷ bytes) next (open_at trace ending reached at (byte ∷ bytes))).items
           → Rises (time_at (clock_in reached)) (if b then stops (Some faults.StreamTooLong) at else opened at (byte ∷ bytes) next (open_at trace ending reached at (byte ∷ bytes))).items

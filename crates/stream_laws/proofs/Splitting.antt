@@ -20,13 +20,13 @@ module _ {C : Type 0} where
   Within packet go first x = IsOf packet x × ((g : Option Moment → Run C) → (others : List (Item C)) × ((go g).items ≡ first ++ x ∷ others))
 
   -- it is among those that follow from a clock, and comes there whenever it is among those that follow
-  abbrev pub Behind : Goes C → (Option Moment → Run C) → List (Item C) → Item C → List (Item C) → Type 0
-  Behind go follows first x rest =
+  abbrev pub After : Goes C → (Option Moment → Run C) → List (Item C) → Item C → List (Item C) → Type 0
+  After go follows first x rest =
       (clock : Option Moment) × (later : List (Item C)) × ((follows clock).items ≡ later ++ x ∷ rest) × ((g : Option Moment → Run C) (others : List (Item C)) → (g clock).items ≡ later ++ x ∷ others → (go g).items ≡ first ++ x ∷ others)
 
   abbrev pub Splits : Opened C → Goes C → Type 0
   Splits packet go =
-      (follows : Option Moment → Run C) (first : List (Item C)) (x : Item C) (rest : List (Item C)) → (go follows).items ≡ first ++ x ∷ rest → Within packet go first x ⊎ Behind go follows first x rest
+      (follows : Option Moment → Run C) (first : List (Item C)) (x : Item C) (rest : List (Item C)) → (go follows).items ≡ first ++ x ∷ rest → Within packet go first x ⊎ After go follows first x rest
 
   pub empty : (first rest : List (Item C)) (x : Item C) → ◌≡◌ {A = List (Item C)} [] (first ++ x ∷ rest) → ⊥
   empty [] rest x h = cc

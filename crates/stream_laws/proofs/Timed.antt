@@ -5,7 +5,7 @@ use Rattle.ctf_bits.specs.declared.source.Ending.{Ending}
 use Rattle.ctf_class.specs.Items.{first_of_id}
 use Rattle.ctf_clock.specs.declared.moment.Moment.{Moment}
 use Rattle.ctf_packet.specs.Classes.{StreamForm, TraceForm}
-use Rattle.ctf_packet.specs.Packets.{Opened, open_at, reached_behind}
+use Rattle.ctf_packet.specs.Packets.{Opened, open_at, reached_after}
 use Rattle.ctf_packet.specs.Records.{Recorded, record_at}
 use Rattle.ctf_packet.specs.Items.{Item, Run, stops, lost_before, discarded_before, recorded, from_record, from_packet, longest_stream, opened, from_cut, run_of}
 use Rattle.ctf_packet.specs.declared.reached.Reached.{Reached}
@@ -13,7 +13,7 @@ use Rattle.ctf_packet.specs.declared.fault.StreamFault.{StreamFault}
 use Rattle.ctf_packet.specs.declared.fault.StreamFault.TheVariants as faults
 use Rattle.stream_laws.specs.Times.{AreTimed}
 use Rattle.stream_laws.proofs.Line.{OnLine, timed}
-use Rattle.stream_laws.proofs.Reaching.{IsReached, IsOpened, open_reaches, reaches_behind, record_reaches}
+use Rattle.stream_laws.proofs.Reaching.{IsReached, IsOpened, open_reaches, reaches_after, record_reaches}
 
 module _ {C : Type 0} where
   -- whether the stream class of a packet has a clock
@@ -76,7 +76,7 @@ module _ {C : Type 0} where
         subst (λ c. AreTimed c (from_packet p (take (p.end - p.start) left) (follows p)).items) (stays trace b reached p one o) (packet_timed p (take (p.end - p.start) left) (follows p) (g p o) o.2.0)
 
     next : ℕ → List ℕ → Opened C → Option Moment → Run C
-    next n left p clock = from_cut n trace ending (Some (reached_behind p clock)) p.end (drop (p.end - p.start) left)
+    next n left p clock = from_cut n trace ending (Some (reached_after p clock)) p.end (drop (p.end - p.start) left)
 
     tested : (b c : Bool) (at : ℕ) (run : Run C) → AreTimed b run.items → AreTimed b (if c then stops (Some faults.StreamTooLong) at else run).items
     tested b true at run h = tt
@@ -87,8 +87,8 @@ module _ {C : Type 0} where
     cut_timed (suc n) b reached at [] h one = tt
     cut_timed (suc n) b reached at (byte ∷ bytes) h one =
         tested b (nat_lt longest_stream at) at _
-        (opened_timed b reached at (byte ∷ bytes) (λ p clock. from_cut n trace ending (Some (reached_behind p clock)) p.end (drop (p.end - p.start) (byte ∷ bytes))) h
-        (λ p o clock on. cut_timed n (has_clock p) (Some (reached_behind p clock)) p.end (drop (p.end - p.start) (byte ∷ bytes)) (reaches_behind trace reached p clock o on) (p.stream, o.0, refl)) one
+        (opened_timed b reached at (byte ∷ bytes) (λ p clock. from_cut n trace ending (Some (reached_after p clock)) p.end (drop (p.end - p.start) (byte ∷ bytes))) h
+        (λ p o clock on. cut_timed n (has_clock p) (Some (reached_after p clock)) p.end (drop (p.end - p.start) (byte ∷ bytes)) (reaches_after trace reached p clock o on) (p.stream, o.0, refl)) one
         (open_at trace ending reached at (byte ∷ bytes)) refl)
 
     -- the first packet says whether there is a clock
@@ -104,8 +104,8 @@ module _ {C : Type 0} where
     all_timed zero at left = (true, tt)
     all_timed (suc n) at [] = (true, tt)
     all_timed (suc n) at (byte ∷ bytes) =
-        let h = first_timed at (byte ∷ bytes) (λ p clock. from_cut n trace ending (Some (reached_behind p clock)) p.end (drop (p.end - p.start) (byte ∷ bytes)))
-        (λ p o clock on. cut_timed n (has_clock p) (Some (reached_behind p clock)) p.end (drop (p.end - p.start) (byte ∷ bytes)) (reaches_behind trace None p clock o on) (p.stream, o.0, refl))
+        let h = first_timed at (byte ∷ bytes) (λ p clock. from_cut n trace ending (Some (reached_after p clock)) p.end (drop (p.end - p.start) (byte ∷ bytes)))
+        (λ p o clock on. cut_timed n (has_clock p) (Some (reached_after p clock)) p.end (drop (p.end - p.start) (byte ∷ bytes)) (reaches_after trace None p clock o on) (p.stream, o.0, refl))
         (open_at trace ending None at (byte ∷ bytes)) refl in
         (h.0, tested h.0 (nat_lt longest_stream at) at _ h.1)
 

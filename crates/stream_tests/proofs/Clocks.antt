@@ -21,7 +21,7 @@ pub compact_be : items_of (compact Be) Clean (0x28 ∷ 0 ∷ 0x03 ∷ 0xE8 ∷ [
 unfolding number found role uuid_field stream_checked sizes_checked placed open_at headed bodied record_at run_of
 compact_be = refl
 
--- stamps of 27 bits: the largest, then 0 behind it, then the same again: no wrap is added where the bits are equal
+-- stamps of 27 bits: the largest, then 0 after it, then the same again: no wrap is added where the bits are equal
 pub wraps : items_of (compact Le) Clean (0xE0 ∷ 0xFF ∷ 0xFF ∷ 0xFF ∷ 0 ∷ 0 ∷ 0 ∷ 0 ∷ 0 ∷ 0 ∷ 0 ∷ 0 ∷ [])
     ≡ (told 0 (Some 134217727) ∷ told 0 (Some 134217728) ∷ told 0 (Some 134217728) ∷ [], None, 12)
 unfolding number found role uuid_field stream_checked sizes_checked placed open_at headed bodied record_at run_of

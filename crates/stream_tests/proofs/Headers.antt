@@ -98,10 +98,10 @@ pub last_byte_missing : items_of kernel Clean (take 143 packet)
 unfolding number signed_number found string_at role uuid_field stream_checked sizes_checked placed open_at headed bodied record_at run_of
 last_byte_missing = refl
 
-pub part_behind : items_of kernel Clean (packet ++ (0xC1 ∷ 0x1F ∷ []))
+pub part_after : items_of kernel Clean (packet ++ (0xC1 ∷ 0x1F ∷ []))
     ≡ (told 0 (Some 1500) ∷ [], Some faults.CutShort, 144)
 unfolding number signed_number found string_at role uuid_field stream_checked sizes_checked placed open_at headed bodied record_at run_of
-part_behind = refl
+part_after = refl
 
 -- the order of the checks
 pub magic_before_uuid : items_of kernel Clean (slice_set (slice_set packet 0 0xC0) 4 0x2B)

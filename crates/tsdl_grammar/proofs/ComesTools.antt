@@ -67,7 +67,7 @@ pub open_is : {o : Token} (d : ℕ) (ts : List Token) → Is s.OpenBrace o → o
 unfolding open_at
 open_is {o} d ts i = let e : (suc d == 0) ≡ false = grind (arith, nat_tests) in rw (expect_is s.OpenBrace o ts i) (rw e refl)
 
--- an opening brace, and what stands behind it
+-- an opening brace, and what stands after it
 pub comes_open : {B : Type 0} (d : ℕ) {o : Token} {ts : List Token} (f : List Token → Result B Refusal) {y : B} → Is s.OpenBrace o → Comes (f ts) y → Comes (open_at d (o ∷ ts) >>= f) y
 comes_open zero f i h = deep_then f (open_deep _ i)
 comes_open (suc d) f i h = comes_then f (comes_is (open_is d _ i)) h
@@ -77,7 +77,7 @@ comes_open (suc d) f i h = comes_then f (comes_is (open_is d _ i)) h
 pub no_turn : {A : Type 0} (ts us : List A) → 1 ≤ length ts → length (ts ++ us) ≤ 0 → ⊥
 no_turn ts us h le = omega (arith, length-append ts us)
 
--- what is left of a list's length behind a first part
+-- what is left of a list's length after a first part
 pub shorter : {A : Type 0} (ts us : List A) (n : ℕ) → 1 ≤ length ts → length (ts ++ us) ≤ suc n → length us ≤ n
 shorter ts us n h le = omega (arith, length-append ts us)
 
@@ -94,26 +94,26 @@ module _ {A : Type 0} {P : A → List Token → Type 0} (go : List Token → Boo
   many_come (Many.more {ts = ts} {us = us} p m) post z (suc n) le =
       rw append_assoc (comes_more go item n (turns _ ts p (us ++ post)) (reads _ ts p (us ++ post)) (many_come m post z n (shorter ts us n (not_empty go ts stops (turns _ ts p [])) le)))
 
-behind_first : (ts us : List Token) (c : Token) (n : ℕ) → suc (length (ts ++ (c ∷ us))) ≤ suc n → suc (length us) ≤ n
-behind_first ts us c n le = omega (arith, length-append ts (c ∷ us))
+after_first : (ts us : List Token) (c : Token) (n : ℕ) → suc (length (ts ++ (c ∷ us))) ≤ suc n → suc (length us) ≤ n
+after_first ts us c n le = omega (arith, length-append ts (c ∷ us))
 
 enough : (us post : List Token) → suc (length us) ≤ suc (length (us ++ post))
 enough us post = omega (arith, length-append us post)
 
--- items with commas between them, where what stands behind an item has a property
-module _ {A : Type 0} {P : A → List Token → Type 0} (go : List Token → Bool) (item next : Parse A) (Behind : List Token → Type 0)
+-- items with commas between them, where what stands after an item has a property
+module _ {A : Type 0} {P : A → List Token → Type 0} (go : List Token → Bool) (item next : Parse A) (After : List Token → Type 0)
     (turns : (x : A) (ts : List Token) → P x ts → (c : Token) (post : List Token) → Is s.Comma c → go (c ∷ (ts ++ post)) ≡ true)
-    (commas : (c : Token) (post : List Token) → Is s.Comma c → Behind (c ∷ post))
-    (reads : (x : A) (ts : List Token) → P x ts → (post : List Token) → Behind post → Comes (item (ts ++ post)) (x, post))
+    (commas : (c : Token) (post : List Token) → Is s.Comma c → After (c ∷ post))
+    (reads : (x : A) (ts : List Token) → P x ts → (post : List Token) → After post → Comes (item (ts ++ post)) (x, post))
     (steps : (c : Token) (ts : List Token) (x : A × List Token) → Is s.Comma c → Comes (item ts) x → Comes (next (c ∷ ts)) x) where
-  next_come : {xs : List A} {ts : List Token} → Listed P xs ts → (post : List Token) → Behind post → go post ≡ false → (n : ℕ) → suc (length ts) ≤ n → (c : Token) → Is s.Comma c → Comes (loop go next n (c ∷ (ts ++ post))) (xs, post)
+  next_come : {xs : List A} {ts : List Token} → Listed P xs ts → (post : List Token) → After post → go post ≡ false → (n : ℕ) → suc (length ts) ≤ n → (c : Token) → Is s.Comma c → Comes (loop go next n (c ∷ (ts ++ post))) (xs, post)
   next_come (Listed.last p) post b z zero le c i = let never : ⊥ = omega arith in absurd never
   next_come (Listed.last p) post b z (suc n) le c i = comes_more go next n (turns _ _ p c post i) (steps c _ _ i (reads _ _ p post b)) (comes_end go next n post z)
   next_come (Listed.more p j l) post b z zero le c i = let never : ⊥ = omega arith in absurd never
   next_come (Listed.more {ts = ts} {us = us} {c = m} p j l) post b z (suc n) le c i =
-      rw append_assoc (comes_more go next n (turns _ _ p c (m ∷ (us ++ post)) i) (steps c _ _ i (reads _ _ p (m ∷ (us ++ post)) (commas m (us ++ post) j))) (next_come l post b z n (behind_first ts us m n le) m j))
+      rw append_assoc (comes_more go next n (turns _ _ p c (m ∷ (us ++ post)) i) (steps c _ _ i (reads _ _ p (m ∷ (us ++ post)) (commas m (us ++ post) j))) (next_come l post b z n (after_first ts us m n le) m j))
 
-  pub listed_come : {B : Type 0} {xs : List A} {ts : List Token} → Listed P xs ts → (post : List Token) → Behind post → go post ≡ false → (f : List A × List Token → Result B Refusal) {y : B} → Comes (f (xs, post)) y
+  pub listed_come : {B : Type 0} {xs : List A} {ts : List Token} → Listed P xs ts → (post : List Token) → After post → go post ≡ false → (f : List A × List Token → Result B Refusal) {y : B} → Comes (f (xs, post)) y
       → Comes (item (ts ++ post) >>= λ first. all go next first.1 >>= λ more. f (first.0 ∷ more.0, more.1)) y
   listed_come (Listed.last p) post b z f h = comes_then _ (reads _ _ p post b) (comes_then _ (comes_end go next _ post z) h)
   listed_come (Listed.more {us = us} {c = m} p j l) post b z f h =

@@ -20,31 +20,31 @@ use Rattle.tsdl_grammar.specs.Repeats.{Many}
 use Rattle.tsdl_grammar.specs.Grammar.{IsPath, IsSetting, AreAttributes, IsClass, IsTypedecl, IsBlockWord, IsTableWord, IsEntry, IsDeclaration}
 use Rattle.tsdl_grammar.specs.Spelling.{Spells}
 use Rattle.tsdl_grammar.specs.Steps.{loop, all, begins, begins_declaration, before_close, before_end}
-use Rattle.tsdl_grammar.specs.Reading.{body_at, typedecl_at, class_behind, entry_at, block_kind, table_kind, block_at, table_at, declaration_at, tree_at}
+use Rattle.tsdl_grammar.specs.Reading.{body_at, typedecl_at, class_after, entry_at, block_kind, table_kind, block_at, table_at, declaration_at, tree_at}
 use Rattle.tsdl_grammar.proofs.ComesTools.{Comes, comes_is, comes_then, comes_token, comes_open, many_come}
 use Rattle.tsdl_grammar.proofs.Room.{is_other}
 use Rattle.tsdl_grammar.proofs.ComesTokens.{no_run}
-use Rattle.tsdl_grammar.proofs.CompleteTerms.{path_comes, path_begins, setting_behind_comes, setting_begins, attributes_come}
+use Rattle.tsdl_grammar.proofs.CompleteTerms.{path_comes, path_begins, setting_after_comes, setting_begins, attributes_come}
 use Rattle.tsdl_grammar.proofs.CompleteCompounds.{ends_at, Opens, IsEither, either_opens, opens_other}
 use Rattle.tsdl_grammar.proofs.CompleteBodies.{class_comes, typedecl_begins, typedecl_comes}
 
 -- ---- entries
 
-class_behind_comes : {a e : Token} {c : Specifier} {us : List Token} (d : ℕ) (n : Words) (post : List Token) → Is s.Assign a → IsClass c us → Is s.Semicolon e → Comes (class_behind (body_at d) d n (a ∷ (us ++ (e ∷ post)))) (entries.Class n c, post)
-unfolding class_behind
-class_behind_comes {e = e} d n post i p j =
+class_after_comes : {a e : Token} {c : Specifier} {us : List Token} (d : ℕ) (n : Words) (post : List Token) → Is s.Assign a → IsClass c us → Is s.Semicolon e → Comes (class_after (body_at d) d n (a ∷ (us ++ (e ∷ post)))) (entries.Class n c, post)
+unfolding class_after
+class_after_comes {e = e} d n post i p j =
     comes_token _ i (comes_then _ (class_comes p d false (e ∷ post) (ends_at post j refl refl refl refl) (no_run post j refl)) (comes_token _ j (comes_is refl)))
 
 entry_class : {t a e : Token} {n : Words} {c : Specifier} {ts us : List Token} (d : ℕ) (post : List Token) → IsEntryWord t → IsPath n (t ∷ ts) → Is s.Assign a → IsClass c us → Is s.Semicolon e
     → Comes (entry_at (body_at d) d ((t ∷ (ts ++ (a ∷ (us ++ e ∷ [])))) ++ post)) (entries.Class n c, post)
 unfolding entry_at
 entry_class {a = a} {e = e} {n = n} {us = us} d post w p i q j =
-    rw (append_assoc, append_assoc, w.holds) (comes_then _ (path_comes p (a ∷ (us ++ (e ∷ post))) (is_other s.Dot i refl)) (rw (is_other s.Equals i refl) (class_behind_comes d n post i q j)))
+    rw (append_assoc, append_assoc, w.holds) (comes_then _ (path_comes p (a ∷ (us ++ (e ∷ post))) (is_other s.Dot i refl)) (rw (is_other s.Equals i refl) (class_after_comes d n post i q j)))
 
 entry_setting : {x : Setting} {ts : List Token} (d : ℕ) (post : List Token) → IsSetting x ts → begins_declaration (ts ++ post) ≡ false → Comes (entry_at (body_at d) d (ts ++ post)) (entries.Setting x, post)
 unfolding entry_at
 entry_setting d post (IsSetting.setting {us = us} {e = e} {c = c} p i q j) z =
-    rw z (rw (append_assoc, append_assoc) (comes_then _ (path_comes p (e ∷ (us ++ (c ∷ post))) (is_other s.Dot i refl)) (rw i.holds (comes_then _ (setting_behind_comes post i q j) (comes_is refl)))))
+    rw z (rw (append_assoc, append_assoc) (comes_then _ (path_comes p (e ∷ (us ++ (c ∷ post))) (is_other s.Dot i refl)) (rw i.holds (comes_then _ (setting_after_comes post i q j) (comes_is refl)))))
 
 opens_declares : {ts : List Token} → Opens ts → begins_declaration ts ≡ true
 opens_declares (Opens.struct i) = rw i.holds refl

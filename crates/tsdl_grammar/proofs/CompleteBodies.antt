@@ -18,7 +18,7 @@ use Rattle.tsdl_grammar.specs.Repeats.{Listed}
 use Rattle.tsdl_grammar.specs.Grammar.{IsTypename, IsDeclarator, IsCompoundName, IsClass, IsPlain, IsCompound, IsBody, AreItems, IsItem, IsTypedecl}
 use Rattle.tsdl_grammar.specs.Spelling.{run}
 use Rattle.tsdl_grammar.specs.Steps.{Parse, loop, before_close}
-use Rattle.tsdl_grammar.specs.Reading.{declared_at, class_declared, fields_behind, compound_behind, compound_at, plain_at, class_at, alias_name_at, alias_at, definition_at, typedecl_at, item_at, body_at}
+use Rattle.tsdl_grammar.specs.Reading.{declared_at, class_declared, fields_after, compound_after, compound_at, plain_at, class_at, alias_name_at, alias_at, definition_at, typedecl_at, item_at, body_at}
 use Rattle.tsdl_grammar.proofs.ComesTools.{Comes, comes_is, comes_then, deep_then, comes_as, comes_token, comes_more, comes_end, open_deep, open_is, not_empty, shorter, no_turn}
 use Rattle.tsdl_grammar.proofs.Room.{is_other}
 use Rattle.tsdl_grammar.proofs.ComesTokens.{no_run}
@@ -44,12 +44,12 @@ unfolding definition_at
 definition_comes {e = e} ts body d post i q l h =
     rw (append_assoc, append_assoc) (comes_token _ i (comes_then _ h (comes_then _ (declared_come e post q l) (comes_is refl))))
 
-behind_comes : {e : Token} (n : Word) (c : Compound) (post : List Token) → Is s.Semicolon e → Comes (compound_behind (classes.Compound (Some n) c) (e ∷ post)) (typedecls.Compound n c, post)
-unfolding compound_behind
-behind_comes n c post l = comes_token _ l (comes_is refl)
+after_comes : {e : Token} (n : Word) (c : Compound) (post : List Token) → Is s.Semicolon e → Comes (compound_after (classes.Compound (Some n) c) (e ∷ post)) (typedecls.Compound n c, post)
+unfolding compound_after
+after_comes n c post l = comes_token _ l (comes_is refl)
 
-fields_come : {c : Specifier} {ds : List Declarator} {us : List Token} (e : Token) (post : List Token) → Listed IsDeclarator ds us → Is s.Semicolon e → Comes (fields_behind c (us ++ (e ∷ post))) (items.Fields c ds, post)
-unfolding fields_behind
+fields_come : {c : Specifier} {ds : List Declarator} {us : List Token} (e : Token) (post : List Token) → Listed IsDeclarator ds us → Is s.Semicolon e → Comes (fields_after c (us ++ (e ∷ post))) (items.Fields c ds, post)
+unfolding fields_after
 fields_come e post q i = comes_then _ (declared_come e post q i) (comes_is refl)
 
 typedecl_alias : {t : Token} (ts : List Token) {x : TypeDeclaration × List Token} (body : Parse (List Item)) (d : ℕ) → Is s.Typealias t → Comes (alias_at body d (t ∷ ts)) x → Comes (typedecl_at body d (t ∷ ts)) x
@@ -64,7 +64,7 @@ typedecl_compound : {e : Token} {n : Word} {c : Compound} (ts : List Token) (bod
     → Comes (compound_at body d (ts ++ (e ∷ post))) (classes.Compound (Some n) c, e ∷ post) → Comes (typedecl_at body d ((ts ++ e ∷ []) ++ post)) (typedecls.Compound n c, post)
 unfolding typedecl_at
 typedecl_compound ts body d post o l h =
-    rw (append_assoc, opens_other s.Typealias o refl refl refl, opens_other s.Typedef o refl refl refl) (comes_then _ h (behind_comes _ _ post l))
+    rw (append_assoc, opens_other s.Typealias o refl refl refl, opens_other s.Typedef o refl refl refl) (comes_then _ h (after_comes _ _ post l))
 
 -- ---- items
 
@@ -81,7 +81,7 @@ item_compound : {e : Token} {n : Word} {c : Compound} (ts : List Token) (body : 
 unfolding item_at
 item_compound ts body d post o l h =
     rw (append_assoc, opens_other s.Typealias o refl refl refl, opens_other s.Typedef o refl refl refl, opens_is o)
-    (comes_then _ h (rw l.holds (comes_then _ (behind_comes _ _ post l) (comes_is refl))))
+    (comes_then _ h (rw l.holds (comes_then _ (after_comes _ _ post l) (comes_is refl))))
 
 -- the fields of a compound
 fields_compound : {c : Specifier} {ds : List Declarator} (ts : List Token) {us : List Token} (body : Parse (List Item)) (d : ℕ) (e : Token) (post : List Token) → Opens ts → Listed IsDeclarator ds us → Is s.Semicolon e

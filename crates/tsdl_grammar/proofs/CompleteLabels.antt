@@ -15,7 +15,7 @@ use Rattle.tsdl_grammar.proofs.Room.{is_other}
 use Rattle.tsdl_grammar.proofs.ComesTokens.{past_is, past_none, word_other, string_no_word, string_other}
 use Rattle.tsdl_grammar.proofs.CompleteTerms.{number_comes}
 
--- what may stand behind a label
+-- what may stand after a label
 record EndsLabel (post : List Token) : Type 0 where
   no_equals : begins s.Equals post ≡ false
   no_ellipsis : begins s.Ellipsis post ≡ false
@@ -55,7 +55,7 @@ next_label : (c : Token) (ts : List Token) (x : Label × List Token) → Is s.Co
 unfolding next_label_at
 next_label c ts x i h = comes_token _ i h
 
--- a label behind a comma
+-- a label after a comma
 label_turns : {x : Label} {ts : List Token} → IsLabel x ts → (c : Token) (post : List Token) → Is s.Comma c → before_label (c ∷ (ts ++ post)) ≡ true
 label_turns (IsLabel.word w p) c post i = rw (i.holds, word_other s.CloseBrace w refl) refl
 label_turns (IsLabel.string t p) c post i = rw (i.holds, string_other s.CloseBrace t) refl

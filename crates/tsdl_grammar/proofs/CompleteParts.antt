@@ -23,11 +23,11 @@ use Rattle.tsdl_grammar.proofs.CompleteTerms.{identifier_is, constant_is, path_c
 
 -- ---- names of types
 
-pub run_behind : {ws : Words} {ts : List Token} → AreTypewords ws ts → (post : List Token) → run (ts ++ post) ≡ length ts + run post
+pub run_after : {ws : Words} {ts : List Token} → AreTypewords ws ts → (post : List Token) → run (ts ++ post) ≡ length ts + run post
 unfolding run
-run_behind AreTypewords.none post = omega arith
-run_behind (AreTypewords.skip {ts = ts} i p) post = let w = typeword_by i in let r = run_behind p post in rw w (omega arith)
-run_behind (AreTypewords.more {ts = ts} i p) post = let r = run_behind p post in rw i.holds (omega arith)
+run_after AreTypewords.none post = omega arith
+run_after (AreTypewords.skip {ts = ts} i p) post = let w = typeword_by i in let r = run_after p post in rw w (omega arith)
+run_after (AreTypewords.more {ts = ts} i p) post = let r = run_after p post in rw i.holds (omega arith)
 
 words_are : {ws : Words} {ts : List Token} → AreTypewords ws ts → words_of ts ≡ ws
 unfolding words_of
@@ -36,8 +36,8 @@ words_are (AreTypewords.skip i p) = rw i.holds (words_are p)
 words_are (AreTypewords.more {w = w} i p) = rw i.kept (ap (λ (ws : Words). w.text.now ∷ ws) (words_are p))
 
 len_is : {ws : Words} {ts : List Token} → AreTypewords ws ts → (before : Bool) (post : List Token) → run post ≡ cond before 1 0 → typename_len before (ts ++ post) ≡ length ts
-len_is p true post z = let r = run_behind p post in omega arith
-len_is p false post z = let r = run_behind p post in omega arith
+len_is p true post z = let r = run_after p post in omega arith
+len_is p false post z = let r = run_after p post in omega arith
 
 pub typename_comes : {n : Typename} {ts : List Token} → IsTypename n ts → (before : Bool) (post : List Token) → run post ≡ cond before 1 0 → Comes (typename_at before (ts ++ post)) (n, post)
 unfolding typename_at

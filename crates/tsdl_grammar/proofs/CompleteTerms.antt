@@ -11,7 +11,7 @@ use Rattle.tsdl_grammar.specs.Terminals.{Word, Words, Is, IsIdentifier, IsConsta
 use Rattle.tsdl_grammar.specs.Repeats.{Many}
 use Rattle.tsdl_grammar.specs.Grammar.{IsPath, IsNumber, IsValue, IsSetting, AreAttributes}
 use Rattle.tsdl_grammar.specs.Steps.{loop, begins, before_close}
-use Rattle.tsdl_grammar.specs.Reading.{word_at, identifier_at, constant_at, dotted_at, path_at, magnitude_at, number_at, value_at, setting_behind, setting_at, attributes_at}
+use Rattle.tsdl_grammar.specs.Reading.{word_at, identifier_at, constant_at, dotted_at, path_at, magnitude_at, number_at, value_at, setting_after, setting_at, attributes_at}
 use Rattle.tsdl_grammar.proofs.ComesTools.{Comes, comes_is, comes_then, comes_token, comes_open, comes_more, comes_end, many_come}
 use Rattle.tsdl_grammar.proofs.Room.{is_other}
 use Rattle.tsdl_grammar.proofs.ComesTokens.{past_is, past_none, word_by, word_other, string_no_word, symbol_no_string, constant_no_word, constant_no_string, constant_other}
@@ -72,14 +72,14 @@ value_comes (IsValue.name (IsPath.more i e p)) post z = rw i.holds (comes_then _
 
 -- ---- settings
 
-pub setting_behind_comes : {n : Words} {v : Value} {us : List Token} {e c : Token} (post : List Token) → Is s.Equals e → IsValue v us → Is s.Semicolon c → Comes (setting_behind n (e ∷ (us ++ (c ∷ post)))) (record { name = n; value = v }, post)
-unfolding setting_behind
-setting_behind_comes {c = c} post i q j = comes_token _ i (comes_then _ (value_comes q (c ∷ post) (is_other s.Dot j refl)) (comes_token _ j (comes_is refl)))
+pub setting_after_comes : {n : Words} {v : Value} {us : List Token} {e c : Token} (post : List Token) → Is s.Equals e → IsValue v us → Is s.Semicolon c → Comes (setting_after n (e ∷ (us ++ (c ∷ post)))) (record { name = n; value = v }, post)
+unfolding setting_after
+setting_after_comes {c = c} post i q j = comes_token _ i (comes_then _ (value_comes q (c ∷ post) (is_other s.Dot j refl)) (comes_token _ j (comes_is refl)))
 
 pub setting_comes : {x : Setting} {ts : List Token} → IsSetting x ts → (post : List Token) → Comes (setting_at (ts ++ post)) (x, post)
 unfolding setting_at
 setting_comes (IsSetting.setting {us = us} {e = e} {c = c} p i q j) post =
-    rw (append_assoc, append_assoc) (comes_then _ (path_comes p (e ∷ (us ++ (c ∷ post))) (is_other s.Dot i refl)) (setting_behind_comes post i q j))
+    rw (append_assoc, append_assoc) (comes_then _ (path_comes p (e ∷ (us ++ (c ∷ post))) (is_other s.Dot i refl)) (setting_after_comes post i q j))
 
 pub path_begins : {ws : Words} {ts : List Token} → IsPath ws ts → (post : List Token) → before_close (ts ++ post) ≡ true
 path_begins (IsPath.last i) post = rw (word_other s.CloseBrace i refl) refl

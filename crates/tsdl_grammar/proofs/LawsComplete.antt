@@ -13,7 +13,7 @@ use Rattle.tsdl_grammar.specs.Spelling.{Spells, IsUnspelled, OneTree, WholeRun, 
 use Rattle.tsdl_grammar.specs.Steps.{Refusal, bad, deep}
 use Rattle.tsdl_grammar.specs.Reading.{tree_at}
 use Rattle.tsdl_grammar.proofs.ComesTools.{Comes}
-use Rattle.tsdl_grammar.proofs.CompleteParts.{run_behind}
+use Rattle.tsdl_grammar.proofs.CompleteParts.{run_after}
 use Rattle.tsdl_grammar.proofs.CompleteCompounds.{declarators_run}
 use Rattle.tsdl_grammar.proofs.CompleteBlocks.{tree_comes}
 use Rattle.tsdl_grammar.proofs.LawsSound.{never_deep, read_is_spelled, deep_is_deeper}
@@ -45,10 +45,10 @@ unfolding run
 run_ends e rest h = rw h refl
 
 run_alone : {n : Typename} {ts : List Token} → IsTypename n ts → (e : Token) (rest : List Token) → is_typeword e.kind ≡ false → run (ts ++ (e ∷ rest)) ≡ length ts
-run_alone (IsTypename.typename p) e rest h = let r = run_behind p (e ∷ rest) in let z = run_ends e rest h in omega arith
+run_alone (IsTypename.typename p) e rest h = let r = run_after p (e ∷ rest) in let z = run_ends e rest h in omega arith
 
 run_before : {n : Typename} {ts : List Token} → IsTypename n ts → (post : List Token) → run post ≡ 1 → run (ts ++ post) ≡ suc (length ts)
-run_before (IsTypename.typename p) post h = let r = run_behind p post in omega arith
+run_before (IsTypename.typename p) post h = let r = run_after p post in omega arith
 
 first_is : {ds : List Declarator} {vs : List Token} → Listed IsDeclarator ds vs → (n : Token) (us : List Token) → vs ≡ n ∷ us → IsIdentifier n
 first_is (Listed.last (IsDeclarator.declarator {n = m} i l)) n us e = let p : m ≡ n = cc in subst IsIdentifier p i

@@ -1,4 +1,4 @@
--- What a reading took from the front of the tokens, and the room for braces behind it.
+-- What a reading took from the front of the tokens, and the room for braces after it.
 use Rattle.std.proofs.Common.{◌≡◌, ℕ, zero, suc, ◌⊎◌, inl, inr, Bool, true, false, cond, List, [], ◌∷◌, ◌++◌, Option, Some, None, Result, Ok, Err, refl, sym, ap, subst, ◌∙◌, append_assoc, arith}
 use Rattle.std.proofs.lemmas.Bool.{cases_Bool}
 use Rattle.std.specs.Prelude.{◌==◌}
@@ -248,7 +248,7 @@ pub reads_optional : {A : Type 0} (go : List Token → Bool) (item : Parse A) {d
 unfolding optional
 reads_optional go item P h ts = reads_if (go ts) (λ e. reads_last (λ x. Some x) (h ts) (λ x us p. Optional.some p)) (λ e. reads_done Optional.none)
 
--- one more behind a comma
+-- one more after a comma
 pub data IsNext {A : Type 0} (P : A → List Token → Type 0) : A → List Token → Type 0 where
   next : {c : Token} {x : A} {ts : List Token} → Is s.Comma c → P x ts → IsNext P x (c ∷ ts)
 

@@ -1,4 +1,4 @@
--- How many more braces may be opened behind tokens.
+-- How many more braces may be opened after tokens.
 use Rattle.std.proofs.Common.{◌≡◌, ℕ, zero, suc, ◌+◌, ◌<◌, inl, inr, Bool, true, false, cond, List, [], ◌∷◌, ◌++◌, Option, Some, None, refl, sym, ap, ◌∙◌, arith}
 use Rattle.std.specs.Prelude.{count_by}
 use Rattle.std.proofs.lemmas.Bool.{cases_Bool}
@@ -109,7 +109,7 @@ string_no_brace t e = no_brace t (string_plain t.kind e)
 pub constant_no_brace : (t : Token) (n : ℕ) → constant_of t.kind ≡ Some n → NoBrace t
 constant_no_brace t n e = no_brace t (constant_plain t.kind n e)
 
--- ---- the room behind a token
+-- ---- the room after a token
 
 pub room_same : {t : Token} → NoBrace t → (n : ℕ) (ts : List Token) → room n (t ∷ ts) ≡ room n ts
 unfolding room

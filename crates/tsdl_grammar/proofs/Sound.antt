@@ -17,7 +17,7 @@ use Rattle.tsdl_grammar.specs.Repeats.{Many, Listed, Optional}
 use Rattle.tsdl_grammar.specs.Grammar.{IsPath, IsNumber, IsValue, IsSetting, AreAttributes, AreTypewords, IsTypename, IsLength, IsDeclarator, IsName, IsAlign, IsTag, IsContainer, IsSpan, IsLabel, AreLabels}
 use Rattle.tsdl_grammar.specs.Spelling.{run}
 use Rattle.tsdl_grammar.specs.Steps.{◌>>=◌, or_bad, expect, begins}
-use Rattle.tsdl_grammar.specs.Reading.{word_at, identifier_at, constant_at, dotted_at, path_at, magnitude_at, number_at, value_at, setting_behind, setting_at, attributes_at, words_of, some_words, typename_len, typename_at, bound_by, bound_at, length_at, declarator_at, next_declarator_at, declarators_at, align_at, tag_at, container_at, range_end_at, span_at, label_name_at, label_at, next_label_at, labels_at}
+use Rattle.tsdl_grammar.specs.Reading.{word_at, identifier_at, constant_at, dotted_at, path_at, magnitude_at, number_at, value_at, setting_after, setting_at, attributes_at, words_of, some_words, typename_len, typename_at, bound_by, bound_at, length_at, declarator_at, next_declarator_at, declarators_at, align_at, tag_at, container_at, range_end_at, span_at, label_name_at, label_at, next_label_at, labels_at}
 use Rattle.tsdl_grammar.proofs.Room.{room, word_no_brace, typeword_no_brace, identifier_no_brace, string_no_brace, constant_no_brace, room_same}
 use Rattle.tsdl_grammar.proofs.ReadsTools.{Reads, reads_then, reads_last, reads_as, reads_done, reads_bad, reads_first, reads_if, reads_token, reads_close, reads_past, reads_shut, reads_open, reads_loop, reads_optional, reads_front, IsNext, listed_of}
 
@@ -107,13 +107,13 @@ value_reads {d} (t ∷ ts) = reads_if (is_word t.kind)
     (λ f. reads_last (λ n. values.Number n) (number_reads (t ∷ ts)) (λ n us p. IsValue.number p)))
 
 -- a setting, of which the name was read
-pub setting_behind_reads : {d : ℕ} {n : Words} {us : List Token} (ts : List Token) → IsPath n us → Reads (setting_behind n ts) d d ts (λ x vs. IsSetting x (us ++ vs))
-unfolding setting_behind
-setting_behind_reads ts p = reads_token s.Equals _ refl (λ e rest i. reads_then _ (value_reads rest) (λ v rest vs q. reads_token s.Semicolon _ refl (λ c rest j. reads_done (IsSetting.setting p i q j))))
+pub setting_after_reads : {d : ℕ} {n : Words} {us : List Token} (ts : List Token) → IsPath n us → Reads (setting_after n ts) d d ts (λ x vs. IsSetting x (us ++ vs))
+unfolding setting_after
+setting_after_reads ts p = reads_token s.Equals _ refl (λ e rest i. reads_then _ (value_reads rest) (λ v rest vs q. reads_token s.Semicolon _ refl (λ c rest j. reads_done (IsSetting.setting p i q j))))
 
 pub setting_reads : {d : ℕ} (ts : List Token) → Reads (setting_at ts) d d ts IsSetting
 unfolding setting_at
-setting_reads ts = reads_then _ (path_reads ts) (λ n rest us p. setting_behind_reads rest p)
+setting_reads ts = reads_then _ (path_reads ts) (λ n rest us p. setting_after_reads rest p)
 
 pub attributes_read : (d : ℕ) (ts : List Token) → Reads (attributes_at d ts) d d ts AreAttributes
 unfolding attributes_at

@@ -14,10 +14,10 @@ use Rattle.tsdl_tree.specs.declared.tree.Declaration.TheVariants as declarations
 use Rattle.tsdl_grammar.specs.Terminals.{Words, is, Is, IsEntryWord}
 use Rattle.tsdl_grammar.specs.Grammar.{IsPath, AreAttributes, IsBody, IsBlockWord, IsTableWord, IsEntry, IsDeclaration}
 use Rattle.tsdl_grammar.specs.Steps.{◌>>=◌, Parse, begins, begins_declaration}
-use Rattle.tsdl_grammar.specs.Reading.{setting_behind, class_behind, entry_at, body_at, block_kind, table_kind, block_at, table_at, declaration_by, declaration_at}
+use Rattle.tsdl_grammar.specs.Reading.{setting_after, class_after, entry_at, body_at, block_kind, table_kind, block_at, table_at, declaration_by, declaration_at}
 use Rattle.tsdl_grammar.proofs.Room.{room, symbol_no_brace, room_same}
 use Rattle.tsdl_grammar.proofs.ReadsTools.{Reads, reads_then, reads_then_at, reads_last, reads_done, reads_bad, reads_after, reads_if, reads_token, reads_close, reads_shut, reads_open, reads_loop}
-use Rattle.tsdl_grammar.proofs.Sound.{path_reads, setting_behind_reads, attributes_read}
+use Rattle.tsdl_grammar.proofs.Sound.{path_reads, setting_after_reads, attributes_read}
 use Rattle.tsdl_grammar.proofs.SoundClasses.{class_reads, typedecl_reads, body_reads}
 
 -- ---- entries
@@ -30,12 +30,12 @@ entry_words_of : {ws : Words} {us : List Token} (ts rest : List Token) → begin
 entry_words_of ts rest e q (IsPath.last i) = AreEntryWords.words (record { holds = sym (ap begins_declaration q) ∙ e }) (IsPath.last i)
 entry_words_of ts rest e q (IsPath.more i j p) = AreEntryWords.words (record { holds = sym (ap begins_declaration q) ∙ e }) (IsPath.more i j p)
 
-setting_entry_reads : {d : ℕ} {n : Words} {us : List Token} (ts : List Token) → AreEntryWords n us → Reads (setting_behind n ts >>= λ x. Ok (entries.Setting x.0, x.1)) d d ts (λ x vs. IsEntry x (us ++ vs))
-setting_entry_reads ts (AreEntryWords.words i p) = reads_last (λ x. entries.Setting x) (setting_behind_reads ts p) (λ x us q. IsEntry.setting i q)
+setting_entry_reads : {d : ℕ} {n : Words} {us : List Token} (ts : List Token) → AreEntryWords n us → Reads (setting_after n ts >>= λ x. Ok (entries.Setting x.0, x.1)) d d ts (λ x vs. IsEntry x (us ++ vs))
+setting_entry_reads ts (AreEntryWords.words i p) = reads_last (λ x. entries.Setting x) (setting_after_reads ts p) (λ x us q. IsEntry.setting i q)
 
 module _ (body : Parse (List Item)) (d : ℕ) (h : (ts : List Token) → Reads (body ts) d d ts IsBody) where
-  class_entry_reads : {n : Words} {us : List Token} (ts : List Token) → AreEntryWords n us → Reads (class_behind body d n ts) d d ts (λ x vs. IsEntry x (us ++ vs))
-  unfolding class_behind
+  class_entry_reads : {n : Words} {us : List Token} (ts : List Token) → AreEntryWords n us → Reads (class_after body d n ts) d d ts (λ x vs. IsEntry x (us ++ vs))
+  unfolding class_after
   class_entry_reads ts (AreEntryWords.words i p) = reads_token s.Assign _ refl (λ a rest j. reads_then _ (class_reads body d h false rest) (λ c rest us q. reads_token s.Semicolon _ refl (λ e rest l. reads_done (IsEntry.class i p j q l))))
 
   entry_reads : (ts : List Token) → Reads (entry_at body d ts) d d ts IsEntry

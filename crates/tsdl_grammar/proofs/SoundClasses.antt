@@ -16,7 +16,7 @@ use Rattle.tsdl_grammar.specs.Terminals.{Word, Words, Is}
 use Rattle.tsdl_grammar.specs.Repeats.{Many, Listed, Optional}
 use Rattle.tsdl_grammar.specs.Grammar.{IsName, IsAlign, IsTag, IsContainer, IsTypename, IsDeclarator, IsCompoundName, IsClass, IsPlain, IsCompound, IsBody, AreItems, IsItem, IsTypedecl}
 use Rattle.tsdl_grammar.specs.Steps.{Parse, begins, begins_compound, begins_labels}
-use Rattle.tsdl_grammar.specs.Reading.{named_by, enum_at, integer_at, floating_point_at, string_at, declared_at, class_declared, fields_behind, compound_behind, alias_name_at, struct_at, variant_at, compound_at, plain_at, class_at, alias_at, definition_at, typedecl_at, item_at, body_at}
+use Rattle.tsdl_grammar.specs.Reading.{named_by, enum_at, integer_at, floating_point_at, string_at, declared_at, class_declared, fields_after, compound_after, alias_name_at, struct_at, variant_at, compound_at, plain_at, class_at, alias_at, definition_at, typedecl_at, item_at, body_at}
 use Rattle.tsdl_grammar.proofs.ReadsTools.{Reads, Ended, reads_ended, reads_then, reads_last, reads_as, reads_done, reads_bad, reads_if, reads_token, reads_close, reads_past, reads_shut, reads_open, reads_loop, reads_optional}
 use Rattle.tsdl_grammar.proofs.Sound.{identifier_reads, attributes_read, typename_reads, declarators_read, align_reads, tag_reads, container_reads, labels_read}
 use Rattle.tsdl_grammar.proofs.CompleteCompounds.{IsEither}
@@ -47,7 +47,7 @@ string_reads d ts = reads_token s.String _ refl (λ t rest i. reads_if (begins s
     (λ e. reads_last (λ xs. classes.String xs) (attributes_read d rest) (λ xs us p. IsPlain.string_with i p))
     (λ e. reads_done (IsPlain.string i)))
 
--- ---- what stands behind a class
+-- ---- what stands after a class
 
 -- that class, with declarators up to their semicolon
 data IsDeclared (c : Specifier) : Specifier × List Declarator → List Token → Type 0 where
@@ -60,9 +60,9 @@ class_declared_reads c ts = reads_last (λ ds. (c, ds)) (reads_ended (declarator
 fields_of : {c : Specifier} {x : Specifier × List Declarator} {us vs : List Token} → IsClass c us → IsDeclared c x vs → IsItem (items.Fields x.0 x.1) (us ++ vs)
 fields_of p (IsDeclared.declared (Ended.ended q i)) = IsItem.fields p q i
 
-fields_behind_read : {d : ℕ} {c : Specifier} {us : List Token} (ts : List Token) → IsClass c us → Reads (fields_behind c ts) d d ts (λ x vs. IsItem x (us ++ vs))
-unfolding fields_behind
-fields_behind_read {c = c} ts p = reads_last (λ x. items.Fields x.0 x.1) (class_declared_reads c ts) (λ x vs q. fields_of p q)
+fields_after_read : {d : ℕ} {c : Specifier} {us : List Token} (ts : List Token) → IsClass c us → Reads (fields_after c ts) d d ts (λ x vs. IsItem x (us ++ vs))
+unfolding fields_after
+fields_after_read {c = c} ts p = reads_last (λ x. items.Fields x.0 x.1) (class_declared_reads c ts) (λ x vs q. fields_of p q)
 
 -- the name of an alias, up to its semicolon
 data IsAliasName : Typename → List Token → Type 0 where
@@ -78,11 +78,11 @@ alias_of i p (IsAliasName.name j (Ended.ended q l)) = IsTypedecl.alias i p j q l
 definition_of : {t : Token} {c : Specifier} {x : Specifier × List Declarator} {us vs : List Token} → Is s.Typedef t → IsClass c us → IsDeclared c x vs → IsTypedecl (typedecls.Definition x.0 x.1) (t ∷ (us ++ vs))
 definition_of i p (IsDeclared.declared (Ended.ended q l)) = IsTypedecl.definition i p q l
 
-compound_behind_reads : {d : ℕ} {c : Specifier} {us : List Token} (ts : List Token) → IsEither c us → Reads (compound_behind c ts) d d ts (λ x vs. IsTypedecl x (us ++ vs))
-unfolding compound_behind
-compound_behind_reads ts (IsEither.whole {n = Some n} p) = reads_token s.Semicolon _ refl (λ e rest i. reads_done (IsTypedecl.declared p i))
-compound_behind_reads ts (IsEither.whole {n = None} p) = reads_bad
-compound_behind_reads ts (IsEither.name p) = reads_bad
+compound_after_reads : {d : ℕ} {c : Specifier} {us : List Token} (ts : List Token) → IsEither c us → Reads (compound_after c ts) d d ts (λ x vs. IsTypedecl x (us ++ vs))
+unfolding compound_after
+compound_after_reads ts (IsEither.whole {n = Some n} p) = reads_token s.Semicolon _ refl (λ e rest i. reads_done (IsTypedecl.declared p i))
+compound_after_reads ts (IsEither.whole {n = None} p) = reads_bad
+compound_after_reads ts (IsEither.name p) = reads_bad
 
 -- ---- compounds
 
@@ -147,7 +147,7 @@ module _ (body : Parse (List Item)) (d : ℕ) (h : (ts : List Token) → Reads (
   unfolding typedecl_at
   typedecl_reads ts = reads_if (begins s.Typealias ts) (λ e. alias_reads ts)
       (λ e. reads_if (begins s.Typedef ts) (λ f. definition_reads ts)
-      (λ f. reads_then _ (compound_reads ts) (λ c rest us p. compound_behind_reads rest p)))
+      (λ f. reads_then _ (compound_reads ts) (λ c rest us p. compound_after_reads rest p)))
 
   item_reads : (ts : List Token) → Reads (item_at body d ts) d d ts IsItem
   unfolding item_at
@@ -155,9 +155,9 @@ module _ (body : Parse (List Item)) (d : ℕ) (h : (ts : List Token) → Reads (
       (λ e. reads_if (begins s.Typedef ts) (λ f. reads_last (λ x. items.Types x) (definition_reads ts) (λ x us p. IsItem.typedecl p))
       (λ f. reads_if (begins_compound ts)
       (λ g. reads_then _ (compound_reads ts) (λ c rest us p. reads_if (begins s.Semicolon rest)
-      (λ l. reads_last (λ x. items.Types x) (compound_behind_reads rest p) (λ x vs q. IsItem.typedecl q))
-      (λ l. fields_behind_read rest (IsClass.plain (either_plain p)))))
-      (λ g. reads_then _ (class_reads true ts) (λ c rest us p. fields_behind_read rest p))))
+      (λ l. reads_last (λ x. items.Types x) (compound_after_reads rest p) (λ x vs q. IsItem.typedecl q))
+      (λ l. fields_after_read rest (IsClass.plain (either_plain p)))))
+      (λ g. reads_then _ (class_reads true ts) (λ c rest us p. fields_after_read rest p))))
 
 items_of : {es : List Item} {ts : List Token} → Many IsItem es ts → AreItems es ts
 items_of Many.none = AreItems.none

@@ -79,8 +79,8 @@ value_at (t ∷ ts) =
     else (if is_string t.kind then Ok (values.Text (string_value t.text.now), ts) else (number_at (t ∷ ts) >>= λ n. Ok (values.Number n.0, n.1)))
 
 -- a setting's rest, after its name
-unfoldable pub setting_behind : Words → Parse Setting
-setting_behind n ts = do
+unfoldable pub setting_after : Words → Parse Setting
+setting_after n ts = do
   equals ← expect s.Equals ts
   v ← value_at equals
   end ← expect s.Semicolon v.1
@@ -89,7 +89,7 @@ setting_behind n ts = do
 unfoldable pub setting_at : Parse Setting
 setting_at ts = do
   n ← path_at ts
-  setting_behind n.0 n.1
+  setting_after n.0 n.1
 
 -- settings in braces
 unfoldable pub attributes_at : ℕ → Parse (List Setting)
@@ -258,15 +258,15 @@ class_declared c ts = do
   ds ← declared_at ts
   Ok ((c, ds.0), ds.1)
 
-unfoldable pub fields_behind : Specifier → Parse Item
-fields_behind c ts = do
+unfoldable pub fields_after : Specifier → Parse Item
+fields_after c ts = do
   x ← class_declared c ts
   Ok (items.Fields x.0.0 x.0.1, x.1)
 
 -- the semicolon after a compound with a name and a body
-unfoldable pub compound_behind : Specifier → Parse TypeDeclaration
-compound_behind (classes.Compound (Some n) c) ts = expect s.Semicolon ts >>= λ e. Ok (typedecls.Compound n c, e)
-compound_behind _ ts = Err bad
+unfoldable pub compound_after : Specifier → Parse TypeDeclaration
+compound_after (classes.Compound (Some n) c) ts = expect s.Semicolon ts >>= λ e. Ok (typedecls.Compound n c, e)
+compound_after _ ts = Err bad
 
 -- the name of an alias, after its class
 unfoldable pub alias_name_at : Parse Typename
@@ -329,19 +329,19 @@ module _ (body : Parse (List Item)) where
   unfoldable pub typedecl_at : ℕ → Parse TypeDeclaration
   typedecl_at d ts =
       if begins s.Typealias ts then alias_at d ts
-      else (if begins s.Typedef ts then definition_at d ts else (compound_at d ts >>= λ c. compound_behind c.0 c.1))
+      else (if begins s.Typedef ts then definition_at d ts else (compound_at d ts >>= λ c. compound_after c.0 c.1))
 
   unfoldable pub item_at : ℕ → Parse Item
   item_at d ts =
       if begins s.Typealias ts then as_item (alias_at d ts)
       else (if begins s.Typedef ts then as_item (definition_at d ts)
-      else (if begins_compound ts then (compound_at d ts >>= λ c. if begins s.Semicolon c.1 then as_item (compound_behind c.0 c.1) else fields_behind c.0 c.1)
-      else (class_at true d ts >>= λ c. fields_behind c.0 c.1)))
+      else (if begins_compound ts then (compound_at d ts >>= λ c. if begins s.Semicolon c.1 then as_item (compound_after c.0 c.1) else fields_after c.0 c.1)
+      else (class_at true d ts >>= λ c. fields_after c.0 c.1)))
 
   -- ---- blocks
 
-  unfoldable pub class_behind : ℕ → Words → Parse BlockEntry
-  class_behind d n ts = do
+  unfoldable pub class_after : ℕ → Words → Parse BlockEntry
+  class_after d n ts = do
     a ← expect s.Assign ts
     c ← class_at false d a
     e ← expect s.Semicolon c.1
@@ -350,7 +350,7 @@ module _ (body : Parse (List Item)) where
   unfoldable pub entry_at : ℕ → Parse BlockEntry
   entry_at d ts =
       if begins_declaration ts then (typedecl_at d ts >>= λ x. Ok (entries.Types x.0, x.1))
-      else (path_at ts >>= λ n. if begins s.Equals n.1 then (setting_behind n.0 n.1 >>= λ x. Ok (entries.Setting x.0, x.1)) else class_behind d n.0 n.1)
+      else (path_at ts >>= λ n. if begins s.Equals n.1 then (setting_after n.0 n.1 >>= λ x. Ok (entries.Setting x.0, x.1)) else class_after d n.0 n.1)
 
 -- A body, with braces that nest no deeper than the number.
 unfoldable pub body_at : ℕ → Parse (List Item)

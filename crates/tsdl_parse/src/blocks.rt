@@ -2,13 +2,13 @@
 
 ghost use Rattle.std.specs.Prelude.{◌≡◌, ◌<◌, ◌-◌, length, refl, IfOk};
 ghost use Rattle.tsdl_grammar.specs.Steps.{before_close, before_end, begins_declaration};
-ghost use Rattle.tsdl_grammar.specs.Reading.{class_behind, entry_at, body_at, block_kind, table_kind, block_at, table_at, declaration_at};
+ghost use Rattle.tsdl_grammar.specs.Reading.{class_after, entry_at, body_at, block_kind, table_kind, block_at, table_at, declaration_at};
 ghost use Rattle.tsdl_parse.specs.Gives.{Gives};
 
 use crate::classes::{class, type_declaration};
 use crate::failure::{Failure, Read};
 use crate::part::{Part, many};
-use crate::settings::{attributes, path, setting_behind};
+use crate::settings::{attributes, path, setting_after};
 use crate::terminals::{begins, end_with, expect, goes_on, has_more, open};
 use std::alloc::Global;
 use tsdl_text::{Symbol, Token};
@@ -26,15 +26,15 @@ fn begins_declaration(tokens: &[Token<'_>]) -> bool
 }
 
 /// The rest of `name := class;`, after the name.
-#[tactic(auto, unfolding(tsdl_grammar::specs::Reading::class_behind))]
-fn class_behind<'t, 'a>(
+#[tactic(auto, unfolding(tsdl_grammar::specs::Reading::class_after))]
+fn class_after<'t, 'a>(
     alloc: Global,
     depth: u32,
     name: Path,
     tokens: &'t [Token<'a>],
 ) -> Read<'t, 'a, BlockEntry>
     ensures reads { Gives (λ x. (x.0, x.1.now)) result
-        (class_behind (body_at depth) depth name tokens.now) }
+        (class_after (body_at depth) depth name tokens.now) }
     ensures shorter { IfOk result (λ x. length x.1.now < length tokens.now) }
 {
     let rest = expect(Symbol::Assign, tokens)?;
@@ -69,10 +69,10 @@ impl Part for Entry {
         }
         let (name, rest) = path(alloc, tokens)?;
         if begins(Symbol::Equals, rest) {
-            let (setting, rest) = setting_behind(alloc, name, rest)?;
+            let (setting, rest) = setting_after(alloc, name, rest)?;
             return Ok((BlockEntry::Setting(setting), rest));
         }
-        class_behind(alloc, depth, name, rest)
+        class_after(alloc, depth, name, rest)
     }
 
     ghost stops = { λ _. refl };

@@ -3,7 +3,7 @@
 ghost use Rattle.std.specs.Prelude.{◌≡◌, ◌<◌, ◌≤◌, length, refl, IfOk};
 ghost use Rattle.tsdl_text.specs.declared.token.Symbol.TheVariants as s;
 ghost use Rattle.tsdl_grammar.specs.Steps.{all, begins, begins_compound, before_close};
-ghost use Rattle.tsdl_grammar.specs.Reading.{align_at, tag_at, integer_at, floating_point_at, string_at, class_declared, fields_behind, compound_behind, struct_at, variant_at, compound_at, class_at, alias_name_at, alias_at, definition_at, typedecl_at, item_at, body_at};
+ghost use Rattle.tsdl_grammar.specs.Reading.{align_at, tag_at, integer_at, floating_point_at, string_at, class_declared, fields_after, compound_after, struct_at, variant_at, compound_at, class_at, alias_name_at, alias_at, definition_at, typedecl_at, item_at, body_at};
 ghost use Rattle.tsdl_parse.specs.Gives.{Gives};
 
 use crate::declarators::declarator_list;
@@ -135,13 +135,13 @@ fn class_declared<'t, 'a>(
 }
 
 /// The fields that have a class.
-#[tactic(auto, unfolding(tsdl_grammar::specs::Reading::fields_behind))]
-fn fields_behind<'t, 'a>(
+#[tactic(auto, unfolding(tsdl_grammar::specs::Reading::fields_after))]
+fn fields_after<'t, 'a>(
     alloc: Global,
     class: Specifier,
     tokens: &'t [Token<'a>],
 ) -> Read<'t, 'a, Item>
-    ensures reads { Gives (λ x. (x.0, x.1.now)) result (fields_behind class tokens.now) }
+    ensures reads { Gives (λ x. (x.0, x.1.now)) result (fields_after class tokens.now) }
     ensures shorter { IfOk result (λ x. length x.1.now < length tokens.now) }
 {
     let ((class, declarators), rest) = class_declared(alloc, class, tokens)?;
@@ -149,12 +149,12 @@ fn fields_behind<'t, 'a>(
 }
 
 /// The semicolon after a compound with a name and a body.
-#[tactic(auto, unfolding(tsdl_grammar::specs::Reading::compound_behind))]
-fn compound_behind<'t, 'a>(
+#[tactic(auto, unfolding(tsdl_grammar::specs::Reading::compound_after))]
+fn compound_after<'t, 'a>(
     class: Specifier,
     tokens: &'t [Token<'a>],
 ) -> Read<'t, 'a, TypeDeclaration>
-    ensures reads { Gives (λ x. (x.0, x.1.now)) result (compound_behind class tokens.now) }
+    ensures reads { Gives (λ x. (x.0, x.1.now)) result (compound_after class tokens.now) }
     ensures shorter { IfOk result (λ x. length x.1.now < length tokens.now) }
 {
     let Specifier::Compound { name, compound } = class else {
@@ -321,7 +321,7 @@ pub(crate) fn type_declaration<'t, 'a>(
         return definition(alloc, depth, tokens);
     }
     let (class, rest) = compound(alloc, depth, tokens)?;
-    compound_behind(class, rest)
+    compound_after(class, rest)
 }
 
 /// A declaration of fields or of names.
@@ -341,14 +341,14 @@ fn item<'t, 'a>(alloc: Global, depth: u32, tokens: &'t [Token<'a>]) -> Read<'t, 
     }
     if !begins_compound(tokens) {
         let (class, rest) = class(alloc, true, depth, tokens)?;
-        return fields_behind(alloc, class, rest);
+        return fields_after(alloc, class, rest);
     }
     let (class, rest) = compound(alloc, depth, tokens)?;
     if begins(Symbol::Semicolon, rest) {
-        let (types, rest) = compound_behind(class, rest)?;
+        let (types, rest) = compound_after(class, rest)?;
         return Ok((Item::Types(types), rest));
     }
-    fields_behind(alloc, class, rest)
+    fields_after(alloc, class, rest)
 }
 
 /// The items up to a closing brace.

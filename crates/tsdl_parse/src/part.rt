@@ -55,7 +55,7 @@ pub(crate) fn room_for<T>(alloc: Global, comes: bool) -> Result<Vec<T>, AllocErr
 }
 
 /// What was found before, and then the parts that come next, one after the other.
-fn behind<'t, 'a, P: Part>(
+fn parts_after<'t, 'a, P: Part>(
     alloc: Global,
     found: Vec<P::Tree>,
     part: &P,
@@ -86,7 +86,7 @@ pub(crate) fn many<'t, 'a, P: Part>(
         (all (P.comes part.now) (P.part_at part.now) tokens.now) }
     ensures within { IfOk result (λ x. length x.1.now ≤ length tokens.now) }
 {
-    behind(alloc, room_for(alloc, part.comes(tokens))?, part, tokens)
+    parts_after(alloc, room_for(alloc, part.comes(tokens))?, part, tokens)
 }
 
 /// A part that was read, and then the parts that come next, one after the other.
@@ -102,7 +102,7 @@ pub(crate) fn more<'t, 'a, P: Part>(
 {
     let mut found = room_for(alloc, true)?;
     found.push(first)?;
-    behind(alloc, found, part, tokens)
+    parts_after(alloc, found, part, tokens)
 }
 
 /// The part, where it comes next.

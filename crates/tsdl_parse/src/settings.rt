@@ -3,7 +3,7 @@
 ghost use Rattle.std.specs.Prelude.{◌≡◌, ◌<◌, length, refl, IfOk};
 ghost use Rattle.tsdl_text.specs.declared.token.Symbol.TheVariants as s;
 ghost use Rattle.tsdl_grammar.specs.Steps.{begins, before_close};
-ghost use Rattle.tsdl_grammar.specs.Reading.{dotted_at, path_at, magnitude_at, number_at, value_at, setting_behind, setting_at, attributes_at};
+ghost use Rattle.tsdl_grammar.specs.Reading.{dotted_at, path_at, magnitude_at, number_at, value_at, setting_after, setting_at, attributes_at};
 ghost use Rattle.tsdl_parse.specs.Gives.{Gives};
 
 use crate::failure::{Failure, Read};
@@ -98,13 +98,13 @@ fn value<'t, 'a>(alloc: Global, tokens: &'t [Token<'a>]) -> Read<'t, 'a, Value>
 }
 
 /// The rest of a setting, after its name.
-#[tactic(auto, unfolding(tsdl_grammar::specs::Reading::setting_behind))]
-pub(crate) fn setting_behind<'t, 'a>(
+#[tactic(auto, unfolding(tsdl_grammar::specs::Reading::setting_after))]
+pub(crate) fn setting_after<'t, 'a>(
     alloc: Global,
     name: Path,
     tokens: &'t [Token<'a>],
 ) -> Read<'t, 'a, Setting>
-    ensures reads { Gives (λ x. (x.0, x.1.now)) result (setting_behind name tokens.now) }
+    ensures reads { Gives (λ x. (x.0, x.1.now)) result (setting_after name tokens.now) }
     ensures shorter { IfOk result (λ x. length x.1.now < length tokens.now) }
 {
     let rest = expect(Symbol::Equals, tokens)?;
@@ -131,7 +131,7 @@ impl Part for NextSetting {
     #[tactic(auto, unfolding(tsdl_grammar::specs::Reading::setting_at))]
     fn read<'t, 'a>(&self, alloc: Global, tokens: &'t [Token<'a>]) -> Read<'t, 'a, Setting> {
         let (name, rest) = path(alloc, tokens)?;
-        setting_behind(alloc, name, rest)
+        setting_after(alloc, name, rest)
     }
 
     ghost stops = { λ _. refl };

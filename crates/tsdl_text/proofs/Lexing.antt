@@ -9,7 +9,7 @@ use Rattle.ctf_list.proofs.Row.{AllStand-push, flat_map-push}
 use Rattle.tsdl_text.specs.declared.token.Kind.{Kind}
 use Rattle.tsdl_text.specs.declared.token.Token.{Token}
 use Rattle.tsdl_text.specs.declared.lexer.Extent.{Extent}
-use Rattle.tsdl_text.specs.Tokens.{Piece, Stands, joined, AllPieces, Lexeme, lexeme, lexemes, newlines, line_behind, Lexes, NoToken}
+use Rattle.tsdl_text.specs.Tokens.{Piece, Stands, joined, AllPieces, Lexeme, lexeme, lexemes, newlines, line_after, Lexes, NoToken}
 use Rattle.tsdl_text.specs.Scanning.{piece_at}
 use Rattle.tsdl_text.proofs.PieceLaws.{PieceFront, piece_front, piece_is_read}
 
@@ -17,15 +17,15 @@ use Rattle.tsdl_text.proofs.PieceLaws.{PieceFront, piece_front, piece_is_read}
 abbrev pub piece_token : Option Kind → List ℕ → ℕ → ℕ → List Lexeme
 piece_token kind bytes start line = option_to_list (option_map (λ k. record { kind = k; bytes = bytes; start = start; line = line }) kind)
 
-pub lexemes-push : (front : List ℕ) (pieces : List Piece) (piece : Piece) → lexemes front (pieces ++ piece ∷ []) ≡ lexemes front pieces ++ piece_token piece.kind piece.bytes (length (front ++ joined pieces)) (line_behind (front ++ joined pieces))
+pub lexemes-push : (front : List ℕ) (pieces : List Piece) (piece : Piece) → lexemes front (pieces ++ piece ∷ []) ≡ lexemes front pieces ++ piece_token piece.kind piece.bytes (length (front ++ joined pieces)) (line_after (front ++ joined pieces))
 lexemes-push front [] piece =
-    append-nil (piece_token piece.kind piece.bytes (length front) (line_behind front))
-    ∙ ap (λ bs. piece_token piece.kind piece.bytes (length bs) (line_behind bs)) (sym (append-nil front))
+    append-nil (piece_token piece.kind piece.bytes (length front) (line_after front))
+    ∙ ap (λ bs. piece_token piece.kind piece.bytes (length bs) (line_after bs)) (sym (append-nil front))
 lexemes-push front (p ∷ pieces) piece =
-    let head = piece_token p.kind p.bytes (length front) (line_behind front) in
+    let head = piece_token p.kind p.bytes (length front) (line_after front) in
     ap (λ ls. head ++ ls) (lexemes-push (front ++ p.bytes) pieces piece)
-    ∙ sym (append_assoc head (lexemes (front ++ p.bytes) pieces) (piece_token piece.kind piece.bytes (length ((front ++ p.bytes) ++ joined pieces)) (line_behind ((front ++ p.bytes) ++ joined pieces))))
-    ∙ ap (λ bs. (head ++ lexemes (front ++ p.bytes) pieces) ++ piece_token piece.kind piece.bytes (length bs) (line_behind bs)) (append_assoc front p.bytes (joined pieces))
+    ∙ sym (append_assoc head (lexemes (front ++ p.bytes) pieces) (piece_token piece.kind piece.bytes (length ((front ++ p.bytes) ++ joined pieces)) (line_after ((front ++ p.bytes) ++ joined pieces))))
+    ∙ ap (λ bs. (head ++ lexemes (front ++ p.bytes) pieces) ++ piece_token piece.kind piece.bytes (length bs) (line_after bs)) (append_assoc front p.bytes (joined pieces))
 
 -- ---- the loop
 
@@ -36,7 +36,7 @@ pub record CutTo (text : List ℕ) (start line : ℕ) (found : List Token) : Typ
   pub front : joined pieces ≡ take start text
   pub stand : AllPieces pieces (drop start text)
   pub tokens_are : map lexeme found ≡ lexemes [] pieces
-  pub line_is : line ≡ line_behind (take start text)
+  pub line_is : line ≡ line_after (take start text)
 
 pub cut_none : (text : List ℕ) → CutTo text 0 1 []
 cut_none text = record { within = omega arith; pieces = []; front = refl; stand = tt; tokens_are = refl; line_is = refl }
@@ -56,14 +56,14 @@ cut_more text start line line' found found' x e found_is line_is cut =
     let l = length-drop start text in
     let within = cut.within in
     let bound = b.2 in
-    let behind : drop (start + x.len) text ≡ f.after = sym (drop-drop x.len start text) ∙ b.1 in
+    let after : drop (start + x.len) text ≡ f.after = sym (drop-drop x.len start text) ∙ b.1 in
     let len_front : length (joined cut.pieces) ≡ start = ap length cut.front ∙ length-take-le start text within in
-    let line_front : line_behind (joined cut.pieces) ≡ line = ap line_behind cut.front ∙ sym cut.line_is in
+    let line_front : line_after (joined cut.pieces) ≡ line = ap line_after cut.front ∙ sym cut.line_is in
     record {
       within = omega arith;
       pieces = cut.pieces ++ piece ∷ [];
       front = flat_map-push (λ (p : Piece). p.bytes) cut.pieces piece ∙ ap (λ bs. bs ++ f.bytes) cut.front ∙ ap (λ bs. take start text ++ bs) (sym b.0) ∙ sym (take-add start x.len text);
-      stand = subst (AllPieces (cut.pieces ++ piece ∷ [])) (sym behind) (AllStand-push (λ (p : Piece). p.bytes) Stands cut.pieces piece f.after (subst (AllPieces cut.pieces) f.whole cut.stand) f.stands);
+      stand = subst (AllPieces (cut.pieces ++ piece ∷ [])) (sym after) (AllStand-push (λ (p : Piece). p.bytes) Stands cut.pieces piece f.after (subst (AllPieces cut.pieces) f.whole cut.stand) f.stands);
       tokens_are = found_is ∙ ap (λ ls. ls ++ piece_token x.kind (take x.len (drop start text)) start line) cut.tokens_are
           ∙ ap (λ bs. lexemes [] cut.pieces ++ piece_token x.kind bs start line) b.0
           ∙ ap (λ n. lexemes [] cut.pieces ++ piece_token x.kind f.bytes n line) (sym len_front)
@@ -72,7 +72,7 @@ cut_more text start line line' found found' x e found_is line_is cut =
       line_is = line_is ∙ ap (λ n. n + newlines (take x.len (drop start text))) cut.line_is
           ∙ lines_add (newlines (take start text)) (newlines (take x.len (drop start text)))
           ∙ ap (λ n. 1 + n) (sym (sum_by-append (λ b. cond (eqb b 10) 1 0) (take start text) (take x.len (drop start text))))
-          ∙ ap line_behind (sym (take-add start x.len text));
+          ∙ ap line_after (sym (take-add start x.len text));
     }
   where
     lines_add : (m n : ℕ) → (1 + m) + n ≡ 1 + (m + n)
@@ -99,7 +99,7 @@ cut_stuck text start line found h e cut =
       stand = cut.stand;
       goes_on = λ z. let n = ap length z in absurd (omega arith);
       nothing = nothing_stands (drop start text) e;
-      line_is = cut.line_is ∙ ap line_behind (sym cut.front);
+      line_is = cut.line_is ∙ ap line_after (sym cut.front);
     }
 
 pub cut_all : (text : List ℕ) (start line : ℕ) (found : List Token) → length text ≤ start → CutTo text start line found → Lexes text (map lexeme found)

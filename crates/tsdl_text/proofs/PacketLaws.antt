@@ -10,7 +10,7 @@ use Rattle.tsdl_text.specs.PacketReading.{HasEnds}
 use Rattle.tsdl_text.specs.declared.packet.Order.{Order}
 use Rattle.tsdl_text.specs.declared.fault.MetaFault.{MetaFault}
 use Rattle.tsdl_text.specs.declared.fault.MetaFault.TheVariants as faults
-use Rattle.tsdl_text.specs.Packets.{Stands, uuid, content_size, packet_size, sizes_fit, or_else, header_fault, first_fault, order_of, Packet, IsPacket, AllPackets, bytes_of, contents_of, IsJoined, IsBrokenBehind, MetaText, MetaBroken}
+use Rattle.tsdl_text.specs.Packets.{Stands, uuid, content_size, packet_size, sizes_fit, or_else, header_fault, first_fault, order_of, Packet, IsPacket, AllPackets, bytes_of, contents_of, IsJoined, IsBrokenAfter, MetaText, MetaBroken}
 use Rattle.std.proofs.lemmas.Option.{same_Some, none-some}
 use Rattle.tsdl_text.proofs.PacketLemmas.{Passes, Passes-none, header_fault-none, or_else-none, fits_by, sizes_fit-parts, HasEnds-fit, same_header, begins_packet}
 
@@ -36,7 +36,7 @@ packet_ends order id p after is =
     record {
       content_is = same.content ∙ is.content_size_is;
       packet_is = same.packet ∙ is.packet_size_is;
-      behind_header = is.behind_header;
+      after_header = is.after_header;
       within_packet = is.within;
       within = omega arith;
     }
@@ -98,7 +98,7 @@ one_text bytes first second f s = text_by (order_of bytes) bytes first second f.
 
 -- ---- one fault
 
-one_broken : (order : Order) (bytes : List ℕ) (first second : MetaFault) → IsBrokenBehind order bytes first → IsBrokenBehind order bytes second → first ≡ second
+one_broken : (order : Order) (bytes : List ℕ) (first second : MetaFault) → IsBrokenAfter order bytes first → IsBrokenAfter order bytes second → first ≡ second
 one_broken order bytes first second f s =
     let same = one_way order (uuid bytes) f.packets s.packets f.rest s.rest f.good s.good (nothing_good order (uuid bytes) f.rest first f.fails) (nothing_good order (uuid bytes) s.rest second s.fails) (f.whole ∙ sym s.whole) in
     same_Some first second (sym f.fails ∙ ap (first_fault order (uuid bytes)) same.1 ∙ s.fails)
@@ -109,16 +109,16 @@ one_break bytes first second (inl f) (inr s) = let a = f.0 in let b = s.0 in abs
 one_break bytes first second (inr f) (inl s) = let a = f.0 in let b = s.0 in absurd (omega arith)
 one_break bytes first second (inr f) (inr s) =
     let order : f.1.0 ≡ s.1.0 = same_Some f.1.0 s.1.0 (sym f.1.1 ∙ s.1.1) in
-    one_broken s.1.0 bytes first second (subst (λ o. IsBrokenBehind o bytes first) order f.1.2) s.1.2
+    one_broken s.1.0 bytes first second (subst (λ o. IsBrokenAfter o bytes first) order f.1.2) s.1.2
 
 -- ---- never both
 
-joined_or_broken : (order : Order) (bytes text : List ℕ) (fault : MetaFault) → IsJoined order bytes text → IsBrokenBehind order bytes fault → ⊥
+joined_or_broken : (order : Order) (bytes text : List ℕ) (fault : MetaFault) → IsJoined order bytes text → IsBrokenAfter order bytes fault → ⊥
 joined_or_broken order bytes text fault f s =
     let same = one_way order (uuid bytes) f.packets s.packets [] s.rest f.good s.good (nothing_left order (uuid bytes)) (nothing_good order (uuid bytes) s.rest fault s.fails) (append-nil (bytes_of f.packets) ∙ f.whole ∙ sym s.whole) in
     s.goes_on (sym same.1)
 
-never_by : (o : Option Order) (bytes text : List ℕ) (fault : MetaFault) (order : Order) → o ≡ Some order → MatchOption o (text ≡ bytes) (λ order. IsJoined order bytes text) → IsBrokenBehind order bytes fault → ⊥
+never_by : (o : Option Order) (bytes text : List ℕ) (fault : MetaFault) (order : Order) → o ≡ Some order → MatchOption o (text ≡ bytes) (λ order. IsJoined order bytes text) → IsBrokenAfter order bytes fault → ⊥
 never_by None bytes text fault order e f s = none-some order e
 never_by (Some known) bytes text fault order e f s = joined_or_broken order bytes text fault (subst (λ o. IsJoined o bytes text) (same_Some known order e) f) s
 
@@ -129,7 +129,7 @@ never_broken bytes text fault f (inr s) = never_by (order_of bytes) bytes text f
 -- ---- there is one
 
 abbrev Answer : Order → List ℕ → Type 0
-Answer order bytes = ((text : List ℕ) × IsJoined order bytes text) ⊎ ((fault : MetaFault) × IsBrokenBehind order bytes fault)
+Answer order bytes = ((text : List ℕ) × IsJoined order bytes text) ⊎ ((fault : MetaFault) × IsBrokenAfter order bytes fault)
 
 -- a check fails here
 abbrev Fails : Order → List ℕ → List ℕ → Type 0

@@ -9,7 +9,7 @@ use Rattle.tsdl_text.specs.declared.packet.Order.{Order}
 use Rattle.tsdl_text.specs.declared.fault.MetaFault.{MetaFault}
 use Rattle.tsdl_text.specs.declared.fault.MetaFault.TheVariants as faults
 use Rattle.tsdl_text.specs.PacketReading.{HasEnds, BeginsPacket, JoinRefused}
-use Rattle.tsdl_text.specs.Packets.{Stands, magic, word, uuid, content_size, packet_size, is_plain, is_version_1_8, sizes_fit, or_else, header_fault, first_fault, IsJoined, IsBrokenBehind, order_of, Packet, AllPackets, bytes_of, contents_of}
+use Rattle.tsdl_text.specs.Packets.{Stands, magic, word, uuid, content_size, packet_size, is_plain, is_version_1_8, sizes_fit, or_else, header_fault, first_fault, IsJoined, IsBrokenAfter, order_of, Packet, AllPackets, bytes_of, contents_of}
 
 -- ---- the checks, one by one
 
@@ -42,7 +42,7 @@ sizes_fit-parts order rest e =
     record {
       content_is = eighths _ cw;
       packet_is = eighths _ pw;
-      behind_header = leb-true _ _ c.0;
+      after_header = leb-true _ _ c.0;
       within_packet = divided _ _ within;
       within = leb-true _ _ d.1;
     }
@@ -58,7 +58,7 @@ unfolding sizes_fit
 HasEnds-fit order rest ends h =
     let ci = h.content_is in
     let pi = h.packet_is in
-    let low = h.behind_header in
+    let low = h.after_header in
     let mid = h.within_packet in
     let high = h.within in
     and_from _ _ (eq-eqb _ _ (whole _ _ ci)) (and_from _ _ (eq-eqb _ _ (whole _ _ pi)) (and_from _ _ (le-leb _ _ (least _ _ ci low)) (and_from _ _ (le-leb _ _ (scaled _ _ _ _ ci pi mid)) (le-leb _ _ (most _ _ _ pi high)))))
@@ -77,7 +77,7 @@ HasEnds-fit order rest ends h =
 
 -- sizes that are whole bytes, in order, are where the parts end; others do not fit
 pub has_ends : (order : Order) (rest : List ℕ) (cs ps : ℕ) → cs ≡ content_size order rest → ps ≡ packet_size order rest → cs % 8 ≡ 0 → ps % 8 ≡ 0 → HEADER_LEN ≤ cs / 8 → cs / 8 ≤ ps / 8 → ps / 8 ≤ length rest → HasEnds order rest (cs / 8, ps / 8)
-has_ends order rest cs ps c p cw pw low mid high = record { content_is = sym c ∙ eighths cs cw; packet_is = sym p ∙ eighths ps pw; behind_header = low; within_packet = mid; within = high }
+has_ends order rest cs ps c p cw pw low mid high = record { content_is = sym c ∙ eighths cs cw; packet_is = sym p ∙ eighths ps pw; after_header = low; within_packet = mid; within = high }
   where
     eighths : (n : ℕ) → n % 8 ≡ 0 → n ≡ 8 * (n / 8)
     eighths n h = omega arith
@@ -87,7 +87,7 @@ no_ends order rest cs ps c p none =
     false_from_ne_true _ (λ fit.
     let h = sizes_fit-parts order rest fit in
     none (whole cs (cs / 8) (c ∙ h.content_is ∙ ap (λ n. 8 * (n / 8)) (sym c))) (whole ps (ps / 8) (p ∙ h.packet_is ∙ ap (λ n. 8 * (n / 8)) (sym p)))
-    (subst (λ n. HEADER_LEN ≤ n / 8) (sym c) h.behind_header)
+    (subst (λ n. HEADER_LEN ≤ n / 8) (sym c) h.after_header)
     (subst (λ n. n / 8 ≤ ps / 8) (sym c) (subst (λ n. content_size order rest / 8 ≤ n / 8) (sym p) h.within_packet))
     (subst (λ n. n / 8 ≤ length rest) (sym p) h.within))
   where
@@ -169,12 +169,12 @@ pub begins_packet : (order : Order) (id rest content : List ℕ) (ends : ℕ × 
 begins_packet order id rest content ends p h is =
     let n = ends.1 in
     let c = ends.0 in
-    let behind = h.behind_header in
+    let after = h.after_header in
     let c_is : c ≡ HEADER_LEN + (c - HEADER_LEN) = omega arith in
     let cut : drop HEADER_LEN (take c rest) ≡ take (c - HEADER_LEN) (drop HEADER_LEN rest) = ap (λ k. drop HEADER_LEN (take k rest)) c_is ∙ drop-take HEADER_LEN (c - HEADER_LEN) rest in
     let front = take n rest in
     let l : length front ≡ n = length-take-le n rest h.within in
-    let low = h.behind_header in
+    let low = h.after_header in
     let high = h.within_packet in
     let long : HEADER_LEN ≤ length front = omega arith in
     let same = subst (λ xs. SameHeader order xs front) (take-append-drop n rest) (same_header order front (drop n rest) long) in
@@ -188,7 +188,7 @@ begins_packet order id rest content ends p h is =
         packet_size_is = sym same.packet ∙ h.packet_is ∙ ap (λ k. 8 * k) (sym l);
         content_end = c;
         content_size_is = sym same.content ∙ h.content_is;
-        behind_header = low;
+        after_header = low;
         within = omega arith;
         content_is = is ∙ sym cut ∙ ap (drop HEADER_LEN) (sym (take-take c n rest high));
       };
@@ -242,8 +242,8 @@ joined_all order bytes text start h so_far =
     record { packets = so_far.packets; good = subst (AllPackets order (uuid bytes) so_far.packets) (drop_all start bytes h) so_far.good; whole = so_far.front ∙ take_all start bytes h; text_is = so_far.text_is }
 
 -- a packet is not good
-pub broken_behind : (order : Order) (bytes text : List ℕ) (start : ℕ) (fault : MetaFault) → start < length bytes → first_fault order (uuid bytes) (drop start bytes) ≡ Some fault → JoinedSoFar order bytes start text → IsBrokenBehind order bytes fault
-broken_behind order bytes text start fault h e so_far =
+pub broken_after : (order : Order) (bytes text : List ℕ) (start : ℕ) (fault : MetaFault) → start < length bytes → first_fault order (uuid bytes) (drop start bytes) ≡ Some fault → JoinedSoFar order bytes start text → IsBrokenAfter order bytes fault
+broken_after order bytes text start fault h e so_far =
     let l = length-drop start bytes in
     record {
       packets = so_far.packets;
@@ -282,7 +282,7 @@ unfolding first_fault
 first_never order id rest line e = or_else_never (header_fault order id rest) _ line (header_never order id rest line) (sizes_never (sizes_fit order rest) line) e
 
 -- what a check tells is a refusal
-pub refused_by : (order : Order) (bytes rest : List ℕ) (fault : MetaFault) → first_fault order (uuid bytes) rest ≡ Some fault → IsBrokenBehind order bytes fault → JoinRefused order bytes fault
+pub refused_by : (order : Order) (bytes rest : List ℕ) (fault : MetaFault) → first_fault order (uuid bytes) rest ≡ Some fault → IsBrokenAfter order bytes fault → JoinRefused order bytes fault
 refused_by order bytes rest faults.CutShort e broken = broken
 refused_by order bytes rest faults.WrongMagic e broken = broken
 refused_by order bytes rest faults.SchemeUnsupported e broken = broken

@@ -105,7 +105,7 @@ string_stuck s e c =
     closing-enough (length s) (suc (length s)) s (omega arith) (omega arith) ∙ closing_later (length s) s e
     ∙ ap (option_and_then (λ y. option_map (λ k. y.1 + k) (closing_len (length s) (drop y.1 s)))) c
 
--- the byte at a place is the first behind it
+-- the byte at a place is the first after it
 begins_at : (p : ℕ → Bool) (s : List ℕ) (i : ℕ) → i < length s → begins p (drop i s) ≡ p (get_or s i 0)
 begins_at p s i h = ap (begins p) (drop_more s i 0 h)
 

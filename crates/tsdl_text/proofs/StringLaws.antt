@@ -22,7 +22,7 @@ use Rattle.tsdl_text.proofs.ScanLemmas.{string_here, string_later}
 is_base : ℕ → ℕ → Bool
 is_base base digit = is_digit digit base
 
--- a front and what is behind it
+-- a front and what is after it
 pub record NumericFront (base most skipped : ℕ) (s : List ℕ) (x : ℕ × ℕ) : Type 0 where
   pub digits : List ℕ
   pub after : List ℕ
@@ -101,7 +101,7 @@ numeric_before : (base most : ℕ) (digits after other : List ℕ) (value : ℕ)
 numeric_before base most digits after other value same is =
     record { digits_of = is.digits_of; few = is.few; ends = λ h. sym (same (λ digit. is_digit digit base)) ∙ is.ends h; value_is = is.value_is; is_byte = is.is_byte }
 
--- what is behind a character counts only by its first byte
+-- what is after a character counts only by its first byte
 pub character_before : {bytes after : List ℕ} {value : ℕ} (other : List ℕ) → ((p : ℕ → Bool) → begins p after ≡ begins p other) → Character bytes value after → Character bytes value other
 character_before other same (plain is) = plain is
 character_before other same (escape is) = escape is
@@ -204,9 +204,9 @@ string_len-is after (next {bytes} {rest} {values} {value} c r) =
     let some = closes_some r in
     let read : character_at s ≡ Some (value, length bytes) = ap character_at assoc ∙ character_at-is (character_before (rest ++ after) (λ p. sym (begins-append p rest after some)) c) in
     let first : begins (λ b. eqb b 34) s ≡ false = ap (begins (λ b. eqb b 34)) assoc ∙ no_quote (rest ++ after) c in
-    let behind : drop (length bytes) s ≡ rest ++ after = ap (drop (length bytes)) assoc ∙ drop_at bytes (rest ++ after) (length bytes) refl in
+    let left : drop (length bytes) s ≡ rest ++ after = ap (drop (length bytes)) assoc ∙ drop_at bytes (rest ++ after) (length bytes) refl in
     string_later s (value, length bytes) first read
-    ∙ ap (λ t. option_map (λ k. length bytes + k) (string_len t)) behind
+    ∙ ap (λ t. option_map (λ k. length bytes + k) (string_len t)) left
     ∙ ap (option_map (λ k. length bytes + k)) (string_len-is after r)
     ∙ ap Some (sym (length-append bytes rest))
 
@@ -238,8 +238,8 @@ quote_front (b ∷ s) n e h = record { inside = 34 ∷ []; after = s; values = [
 
 string_join : (s : List ℕ) (x : ℕ × ℕ) (n m : ℕ) → CharacterFront s x → StringFront (drop x.1 s) m → n ≡ x.1 + m → StringFront s n
 string_join s x n m c r e =
-    let behind : drop x.1 s ≡ c.after = ap (drop x.1) c.whole ∙ drop_at c.bytes c.after x.1 (sym c.len) in
-    let after_is : c.after ≡ r.inside ++ r.after = sym behind ∙ r.whole in
+    let after : drop x.1 s ≡ c.after = ap (drop x.1) c.whole ∙ drop_at c.bytes c.after x.1 (sym c.len) in
+    let after_is : c.after ≡ r.inside ++ r.after = sym after ∙ r.whole in
     let some = closes_some r.is in
     let l = length-append c.bytes r.inside in
     record {

@@ -7,7 +7,7 @@ use Rattle.ctf_list.specs.Row.{NothingStands}
 use Rattle.ctf_list.proofs.Row.{AreTold, nothing_at_end, one_row, Front, row}
 use Rattle.tsdl_text.specs.declared.token.Kind.{Kind}
 use Rattle.tsdl_text.specs.declared.lexer.Extent.{Extent}
-use Rattle.tsdl_text.specs.Tokens.{Piece, Stands, joined, AllPieces, Lexeme, lexemes, line_behind, Lexes, NoToken}
+use Rattle.tsdl_text.specs.Tokens.{Piece, Stands, joined, AllPieces, Lexeme, lexemes, line_after, Lexes, NoToken}
 use Rattle.tsdl_text.specs.Scanning.{piece_at}
 use Rattle.std.proofs.lemmas.Option.{same_Some}
 use Rattle.tsdl_text.proofs.PieceLaws.{piece_front, piece_is_read}
@@ -49,7 +49,7 @@ one_lexing text first second f s =
 pub one_line : (text : List ℕ) (first second : ℕ) → NoToken text first → NoToken text second → first ≡ second
 one_line text first second f s =
     let same = one_way f.pieces s.pieces f.after s.after f.stand s.stand f.nothing s.nothing (f.whole ∙ sym s.whole) in
-    f.line_is ∙ ap (λ ps. line_behind (joined ps)) same.0 ∙ sym s.line_is
+    f.line_is ∙ ap (λ ps. line_after (joined ps)) same.0 ∙ sym s.line_is
 
 pub never_both : (text : List ℕ) (tokens : List Lexeme) (line : ℕ) → Lexes text tokens → NoToken text line → ⊥
 never_both text tokens line f s =
@@ -69,7 +69,7 @@ lexes_or_not text =
     let r = row (λ (p : Piece). p.bytes) Stands (NothingStands (λ (p : Piece). p.bytes) Stands) (λ rest some. next_piece rest) text in
     ⊎_elim
     (λ z. inl (lexemes [] r.pieces, record { pieces = r.pieces; whole = sym (append-nil (joined r.pieces)) ∙ ap (λ a. joined r.pieces ++ a) (sym z) ∙ r.whole; stand = subst (AllPieces r.pieces) z r.stand; tokens_are = refl }))
-    (λ h. inr (line_behind (joined r.pieces), record { pieces = r.pieces; after = r.after; whole = r.whole; stand = r.stand; goes_on = h.0; nothing = h.1; line_is = refl }))
+    (λ h. inr (line_after (joined r.pieces), record { pieces = r.pieces; after = r.after; whole = r.whole; stand = r.stand; goes_on = h.0; nothing = h.1; line_is = refl }))
     r.ends
 
 -- ---- lines
@@ -83,14 +83,14 @@ rise_from : (low high : ℕ) (tokens : List Lexeme) → low ≤ high → Rise hi
 rise_from low high [] h r = tt
 rise_from low high (token ∷ tokens) h r = let a = r.0 in (omega arith, r.1)
 
-lines_behind : (front bytes : List ℕ) → line_behind front ≤ line_behind (front ++ bytes)
-lines_behind front bytes = let e = sum_by-append (λ b. cond (eqb b 10) 1 0) front bytes in omega arith
+lines_after : (front bytes : List ℕ) → line_after front ≤ line_after (front ++ bytes)
+lines_after front bytes = let e = sum_by-append (λ b. cond (eqb b 10) 1 0) front bytes in omega arith
 
-rise_by : (front : List ℕ) (kind : Option Kind) (bytes : List ℕ) (rest : List Lexeme) → Rise (line_behind (front ++ bytes)) rest → Rise (line_behind front) (piece_token kind bytes (length front) (line_behind front) ++ rest)
-rise_by front None bytes rest r = rise_from _ _ rest (lines_behind front bytes) r
-rise_by front (Some kind) bytes rest r = (omega arith, rise_from _ _ rest (lines_behind front bytes) r)
+rise_by : (front : List ℕ) (kind : Option Kind) (bytes : List ℕ) (rest : List Lexeme) → Rise (line_after (front ++ bytes)) rest → Rise (line_after front) (piece_token kind bytes (length front) (line_after front) ++ rest)
+rise_by front None bytes rest r = rise_from _ _ rest (lines_after front bytes) r
+rise_by front (Some kind) bytes rest r = (omega arith, rise_from _ _ rest (lines_after front bytes) r)
 
-rise : (front : List ℕ) (pieces : List Piece) → Rise (line_behind front) (lexemes front pieces)
+rise : (front : List ℕ) (pieces : List Piece) → Rise (line_after front) (lexemes front pieces)
 rise front [] = tt
 rise front (p ∷ pieces) = rise_by front p.kind p.bytes (lexemes (front ++ p.bytes) pieces) (rise (front ++ p.bytes) pieces)
 

@@ -3,13 +3,13 @@ use Rattle.std.specs.Prelude.{◌≡◌, ℕ, ◌*◌, ◌≤◌, List, length, 
 use Rattle.tsdl_text.specs.declared.packet.TheConstants.{HEADER_LEN}
 use Rattle.tsdl_text.specs.declared.packet.Order.{Order}
 use Rattle.tsdl_text.specs.declared.fault.MetaFault.{MetaFault}
-use Rattle.tsdl_text.specs.Packets.{content_size, packet_size, IsPacket, IsBrokenBehind, Refused}
+use Rattle.tsdl_text.specs.Packets.{content_size, packet_size, IsPacket, IsBrokenAfter, Refused}
 
 -- the content ends at this place and the packet at that one
 pub record HasEnds (order : Order) (rest : List ℕ) (ends : ℕ × ℕ) : Type 0 where
   pub content_is : content_size order rest ≡ 8 * ends.0
   pub packet_is : packet_size order rest ≡ 8 * ends.1
-  pub behind_header : HEADER_LEN ≤ ends.0
+  pub after_header : HEADER_LEN ≤ ends.0
   pub within_packet : ends.0 ≤ ends.1
   pub within : ends.1 ≤ length rest
 
@@ -20,4 +20,4 @@ pub record BeginsPacket (order : Order) (id rest content : List ℕ) (len : ℕ)
 
 -- what a refusal to join packets says
 abbrev pub JoinRefused : Order → List ℕ → MetaFault → Type 0
-JoinRefused order bytes fault = Refused (IsBrokenBehind order bytes) fault
+JoinRefused order bytes fault = Refused (IsBrokenAfter order bytes) fault

@@ -63,7 +63,7 @@ pub record IsPacket (order : Order) (id : List ℕ) (packet : Packet) : Type 0 w
   pub packet_size_is : packet_size order packet.bytes ≡ 8 * length packet.bytes
   pub content_end : ℕ
   pub content_size_is : content_size order packet.bytes ≡ 8 * content_end
-  pub behind_header : HEADER_LEN ≤ content_end
+  pub after_header : HEADER_LEN ≤ content_end
   pub within : content_end ≤ length packet.bytes
   pub content_is : packet.content ≡ drop HEADER_LEN (take content_end packet.bytes)
 
@@ -122,7 +122,7 @@ unfoldable pub first_fault : Order → List ℕ → List ℕ → Option MetaFaul
 first_fault order id rest = or_else (header_fault order id rest) (if sizes_fit order rest then None else Some faults.CutShort)
 
 -- after as many good packets as there are, bytes are left, and this is the first check that they fail
-pub record IsBrokenBehind (order : Order) (bytes : List ℕ) (fault : MetaFault) : Type 0 where
+pub record IsBrokenAfter (order : Order) (bytes : List ℕ) (fault : MetaFault) : Type 0 where
   pub packets : List Packet
   pub rest : List ℕ
   pub good : AllPackets order (uuid bytes) packets rest
@@ -134,7 +134,7 @@ pub record IsBrokenBehind (order : Order) (bytes : List ℕ) (fault : MetaFault)
 abbrev pub MetaBroken : List ℕ → MetaFault → Type 0
 MetaBroken bytes fault =
     ((MOST_BYTES < length bytes) × (fault ≡ faults.TooLong))
-    ⊎ ((length bytes ≤ MOST_BYTES) × ((order : Order) × (order_of bytes ≡ Some order) × IsBrokenBehind order bytes fault))
+    ⊎ ((length bytes ≤ MOST_BYTES) × ((order : Order) × (order_of bytes ≡ Some order) × IsBrokenAfter order bytes fault))
 
 -- what a refusal says: nothing where an allocation failed
 abbrev pub Refused : (MetaFault → Type 0) → MetaFault → Type 0

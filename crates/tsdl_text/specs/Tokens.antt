@@ -101,14 +101,14 @@ abbrev pub newlines : List ℕ → ℕ
 newlines bytes = count_by (λ b. b == 10) bytes
 
 -- the line of the place after these bytes
-abbrev pub line_behind : List ℕ → ℕ
-line_behind front = 1 + newlines front
+abbrev pub line_after : List ℕ → ℕ
+line_after front = 1 + newlines front
 
 -- the tokens among pieces that are after the bytes `front`
 abbrev pub lexemes : List ℕ → List Piece → List Lexeme
 lexemes front [] = []
 lexemes front (piece ∷ pieces) =
-    option_to_list (option_map (λ kind. record { kind = kind; bytes = piece.bytes; start = length front; line = line_behind front }) piece.kind)
+    option_to_list (option_map (λ kind. record { kind = kind; bytes = piece.bytes; start = length front; line = line_after front }) piece.kind)
     ++ lexemes (front ++ piece.bytes) pieces
 
 -- These are the tokens of the text: it is blanks, comments and tokens, one after the other.
@@ -127,7 +127,7 @@ pub record NoToken (text : List ℕ) (line : ℕ) : Type 0 where
   pub stand : AllPieces pieces after
   pub goes_on : after ≢ []
   pub nothing : NothingStands (λ (piece : Piece). piece.bytes) Stands after
-  pub line_is : line ≡ line_behind (joined pieces)
+  pub line_is : line ≡ line_after (joined pieces)
 
 -- what a refusal of a text says: nothing where an allocation failed
 abbrev pub TokensRefused : List ℕ → MetaFault → Type 0

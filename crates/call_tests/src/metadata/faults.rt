@@ -7,7 +7,7 @@
 //! `WANTED*COUNT TEXT` has the text so many times, and of a text `OPEN ~ INNER ~ CLOSE` or `OPEN ~ CLOSE` its
 //! ends, `OPEN` and `CLOSE`; `%` in them stands for the number of the repetition, from 0 on.
 //!
-//! Behind a table stands how many rows it has.
+//! After a table stands how many rows it has.
 
 use crate::metadata::outcome::put_outcome;
 use crate::metadata::reading::put_declared;
@@ -98,18 +98,18 @@ fn text_of(alloc: Global, around: Around<'_>, text: &str, count: usize) -> Vec<u
     whole.into_text()
 }
 
-/// What stands before and behind the `~` of a pattern.
+/// What stands before and after the `~` of a pattern.
 fn around_of(pattern: &str) -> Around<'_> {
     let (front, back) = halves(pattern);
     Around { front, back }
 }
 
-/// What stands before and behind the first `~`.
+/// What stands before and after the first `~`.
 fn halves(text: &str) -> (&str, &str) {
     text.split_once('~').unwrap_or((text, ""))
 }
 
-/// What stands before and behind the first `~`; without one, all is behind it.
+/// What stands before and after the first `~`; without one, all is after it.
 fn ends(text: &str) -> (&str, &str) {
     text.split_once('~').unwrap_or(("", text))
 }

@@ -97,7 +97,7 @@ fn put_reader(row: &mut Row<'_>, reader: &mut StreamReader<'_, RowSource>, asked
     put_step(row, reader, asked.step(2), asked.shown);
 }
 
-/// Puts what a call tells, and answers whether nothing comes behind it. A reader has no `leave`.
+/// Puts what a call tells, and answers whether nothing comes after it. A reader has no `leave`.
 fn put_step(
     row: &mut Row<'_>,
     reader: &mut StreamReader<'_, RowSource>,
@@ -146,7 +146,7 @@ fn put_given(
     }
 }
 
-/// Puts a fault or an end. Nothing comes behind it.
+/// Puts a fault or an end. Nothing comes after it.
 fn put_last(row: &mut Row<'_>, fault: Option<StreamFault>) -> bool {
     match fault {
         Some(fault) => row.put_shown(&fault),

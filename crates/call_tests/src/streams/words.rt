@@ -33,7 +33,7 @@ pub struct Asked {
     /// Whether event records are read as texts where they can be.
     pub writes: bool,
     pub shown: Shown,
-    /// The steps of the row, and behind them the last one again.
+    /// The steps of the row, and after them the last one again.
     steps: [Step; 3],
     count: usize,
 }

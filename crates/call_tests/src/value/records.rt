@@ -63,13 +63,13 @@ fn packet_of(alloc: Global, word: &str) -> Vec<u8> {
 /// Puts what is shown of an event record.
 fn put_shown(row: &mut Row<'_>, kind: &str, classes: Classes<'_>, scopes: &RecordScopes<'_>) {
     let made = match kind {
-        "behind" => line_of(row.alloc, classes, scopes),
+        "after" => line_of(row.alloc, classes, scopes),
         _ => record_text(row.alloc, classes.stream, classes.event, scopes),
     };
     row.put_made(made);
 }
 
-/// The text of an event record behind what stands in a line, over what stood there.
+/// The text of an event record after what stands in a line, over what stood there.
 fn line_of(
     alloc: Global,
     classes: Classes<'_>,

@@ -48,7 +48,7 @@ pub fn values_of(alloc: Global, words: &str) -> Vec<Value> {
     values
 }
 
-/// Adds the value that a word names behind those before it, or around the last of them.
+/// Adds the value that a word names after those before it, or around the last of them.
 fn add_value(alloc: Global, values: &mut Vec<Value>, word: &str) -> Option<()> {
     let (kind, rest) = word.split_once(':')?;
     let value = match kind {

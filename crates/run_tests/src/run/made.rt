@@ -15,7 +15,7 @@ pub struct Run {
     pub output: RowSink,
     pub messages: RowSink,
     pub status: u8,
-    /// The line that a program prints behind the run; empty where there is none.
+    /// The line that a program prints after the run; empty where there is none.
     pub line: &'static [u8],
 }
 

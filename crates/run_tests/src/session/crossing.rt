@@ -24,7 +24,7 @@ const LAST: u32 = 8191;
 /// How many bytes the content of a stream has.
 const CONTENT: usize = 8;
 
-/// Adds the streams: stamps of 27 bits behind the class number 0.
+/// Adds the streams: stamps of 27 bits after the class number 0.
 pub fn add_crossing(alloc: Global, streams: &mut Vec<(String, RowSource)>) {
     for time in (0..COUNT).rev() {
         let mut bytes = Row::new(alloc, "");

@@ -4,11 +4,11 @@ use Rattle.ctf_bits.specs.Number.{number}
 use Rattle.ctf_bits.proofs.Joins.{number-drop}
 use Rattle.ctf_bits.proofs.number.uint_within.Goals as goal
 
--- a number that was read behind whole bytes
+-- a number that was read after whole bytes
 placed : (order : Order) (bytes rest : List ℕ) (pos n x : ℕ) → rest ≡ drop (pos / 8) bytes → x ≡ number order rest (pos % 8) n → x ≡ number order bytes pos n
-placed order bytes rest pos n x behind is =
+placed order bytes rest pos n x after is =
     let place : 8 * (pos / 8) + pos % 8 ≡ pos = omega arith in
-    is ∙ ap (λ (b : List ℕ). number order b (pos % 8) n) behind ∙ sym (number-drop order bytes (pos / 8) (pos % 8) n)
+    is ∙ ap (λ (b : List ℕ). number order b (pos % 8) n) after ∙ sym (number-drop order bytes (pos / 8) (pos % 8) n)
     ∙ ap (λ (p : ℕ). number order bytes p n) place
 
 pub returns-then-shift-n-le64-clause-value : goal.returns-then-shift-n-le64-clause-value

@@ -9,8 +9,8 @@ loop-place-preserved c =
     elim c.if-not-is_plain.branch [
       | then-not-is_plain+in_ok-extend_from_slice+in_ok-put_escape w ↦
           let shown = shown-escape c.loop-place.text.items c.args.text.now.items c.args.bytes.now c.loop-place.start c.loop-place.place c.loop-place-test.true kept.shown in
-          record { behind = omega arith; shown = cc (w.in_ok-put_escape.ensures, w.in_ok-extend_from_slice.ensures.items) }
+          record { after = omega arith; shown = cc (w.in_ok-put_escape.ensures, w.in_ok-extend_from_slice.ensures.items) }
       | else-not-is_plain w ↦
-          let shown = shown-plain c.loop-place.text.items c.args.text.now.items c.args.bytes.now c.loop-place.start c.loop-place.place kept.behind c.loop-place-test.true (w.if-not-is_plain.ensures (search rules)) kept.shown in
-          record { behind = omega arith; shown = cc }
+          let shown = shown-plain c.loop-place.text.items c.args.text.now.items c.args.bytes.now c.loop-place.start c.loop-place.place kept.after c.loop-place-test.true (w.if-not-is_plain.ensures (search rules)) kept.shown in
+          record { after = omega arith; shown = cc }
     ]

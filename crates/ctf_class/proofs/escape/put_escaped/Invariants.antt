@@ -6,6 +6,6 @@ use Rattle.ctf_class.proofs.escape.put_escaped.Given as goal
 -- all before `start` is appended, and what stands from there on is shown as it is
 abbrev pub invariant-loop-place : goal.invariant-loop-place
 invariant-loop-place l = record {
-  behind : l.start ≤ l.place;
+  after : l.start ≤ l.place;
   shown : l.text.items ++ slice_range l.bytes l.start l.place ≡ l.fn.text.items ++ escaped (take l.place l.bytes);
 }

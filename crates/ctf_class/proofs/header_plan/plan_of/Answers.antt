@@ -37,7 +37,7 @@ returns c =
       of_stamp = subst (λ x. IsStampOf x.class stamp.align stamp.integer) (sym chosen) c.in_ok-stamp.ensures;
       placed = subst (λ x. IsStampPlace c.args.class.now.align c.tag-item.result.class.align (bits_of c.in_ok-integer.integer) x.class.align stamp.align c.in_ok-stamp_place.stamp_place) (sym chosen) c.in_ok-stamp_place.ensures.is;
       near = record {
-        tag = c.in_ok-stamp_place.ensures.behind;
+        tag = c.in_ok-stamp_place.ensures.after;
         stamp = ap (λ size. c.in_ok-stamp_place.stamp_place + size) (sym c.size_of.ensures.is);
         near = omega (arith, c.in_ok-stamp_place.ensures.near, c.size_of.ensures.few);
       };

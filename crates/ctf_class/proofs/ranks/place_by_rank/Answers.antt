@@ -2,7 +2,7 @@ use Rattle.std.proofs.Common.{◌≡◌, [], ◌+◌, ◌-◌, ◌/◌, get_or, 
 use Rattle.std.specs.Cmp.Lexicographic.{slice_cmp}
 use Rattle.std.proofs.lemmas.Bool.{cases_lt}
 use Rattle.ctf_class.specs.NameRanks.{name_in}
-use Rattle.ctf_class.proofs.RanksLemmas.{none-behind, none-before, none-ranked, found-ranked}
+use Rattle.ctf_class.proofs.RanksLemmas.{none-after, none-before, none-ranked, found-ranked}
 use Rattle.ctf_class.proofs.ranks.place_by_rank.Goals as goal
 
 pub loop-low-preserved-in-Less : goal.loop-low-preserved-in-Less
@@ -17,7 +17,7 @@ loop-low-preserved-in-Less c =
     record {
       within = omega (arith, so_far.within);
       below = so_far.below;
-      above = λ k from within. none-behind names order name middle k c.requires.ascending less from within;
+      above = λ k from within. none-after names order name middle k c.requires.ascending less from within;
     }
 
 pub returns-in-Equal : goal.returns-in-Equal

@@ -6,7 +6,7 @@ use Rattle.ctf_meaning.specs.Written.{Declaration}
 use Rattle.ctf_meaning.specs.Reading.{declaration_of}
 use Rattle.ctf_meaning_steps.specs.Blocks.{Walked, declarations_told, text_told}
 use Rattle.ctf_declarations.specs.DeclaredSoFar.{walked, Remembers}
-use Rattle.ctf_declarations.proofs.Declarations.{one_behind, text_next, text_fault}
+use Rattle.ctf_declarations.proofs.Declarations.{one_after, text_next, text_fault}
 use Rattle.ctf_declarations.proofs.Steps.{tell_same}
 use Rattle.ctf_declarations.proofs.text.scope_classes.Goals as goal
 
@@ -24,7 +24,7 @@ loop-item-preserved c =
     record {
       told = text_next ds i c.item-item.result c.item-item.is c.loop-item-test.true (walked c.loop-item.so_far) (walked c.declaration.new.so_far) (c.in_ok-declaration.ensures.told before c.loop-item.invariant.kept)
           ∙ c.loop-item.invariant.told;
-      kept = subst (λ (l : List Declaration). Remembers c.declaration.new.earlier l) (one_behind ds i c.item-item.result c.item-item.is c.loop-item-test.true) (c.in_ok-declaration.ensures.kept before c.loop-item.invariant.kept);
+      kept = subst (λ (l : List Declaration). Remembers c.declaration.new.earlier l) (one_after ds i c.item-item.result c.item-item.is c.loop-item-test.true) (c.in_ok-declaration.ensures.kept before c.loop-item.invariant.kept);
     }
 
 pub returns-in_err-declaration : goal.returns-in_err-declaration

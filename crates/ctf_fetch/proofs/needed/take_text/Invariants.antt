@@ -10,7 +10,7 @@ abbrev pub invariant-loop-next : goal.invariant-loop-next
 invariant-loop-next g l = record {
   keeps : Keeps g.S.Source l.initial.intake l.intake;
   few : length l.intake.buffer.now ≤ longest_bytes;
-  behind : first_bit l.place / 8 ≤ l.next;
+  after : first_bit l.place / 8 ≤ l.next;
   within : l.next ≤ max (length l.intake.buffer.now) (first_bit l.place / 8);
   none : NoZero l.place l.intake.buffer.now l.next;
   near : EndsNear l.place (length l.initial.intake.buffer.now) l.intake.buffer.now;

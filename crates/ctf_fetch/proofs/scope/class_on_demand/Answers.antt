@@ -16,10 +16,10 @@ returns-in-Some-scope_at_hand-clause-near g c =
     let bytes = c.fill_ahead.new.intake.buffer.now in
     let put = rw (append-nil bytes) at (c.in-Some-scope_at_hand.ensures.puts []) in
     let found = put_found next class (ap form_of c.requires.class) known bytes c.in-Some-scope_at_hand.end c.scope_at_hand.new.scopes put in
-    let behind = c.in-Some.ensures.least bytes found.0 ((λ i. walk class (there bytes known) (env-Top i) next.end (c.spent.ensures.value i)) ∙ found.1) in
+    let after = c.in-Some.ensures.least bytes found.0 ((λ i. walk class (there bytes known) (env-Top i) next.end (c.spent.ensures.value i)) ∙ found.1) in
     let same = found.2 in
     let near = c.in_ok-fill_ahead.ensures.near in
-    omega (arith, behind, same, near)
+    omega (arith, after, same, near)
 
 pub returns-in-None-clause-puts : goal.returns-in-None-clause-puts
 returns-in-None-clause-puts g c = λ more. rw c.in-None.ensures.none at (c.parts_on_demand-in-None.ensures.puts more)

@@ -11,7 +11,7 @@ use Rattle.ctf_format.specs.Standing.{array_text, structure_text}
 use Rattle.ctf_format.specs.Texts.{value_text, part_text, member_part, element_text, integer_text, enumeration_text, string_text, chosen_text}
 use Rattle.ctf_format.proofs.AroundLemmas.{agrees_within, counted_array, writes_any, writes_counted}
 use Rattle.ctf_format.proofs.ByClassLemmas as items
-use Rattle.ctf_format.proofs.ByClassLemmas.{counted_text, writes_in_as, writes_behind, member_behind, element_behind, writes_structure, writes_option, writes_items, form_enumeration, text_enumeration, form_variant, text_variant, form_any, text_any}
+use Rattle.ctf_format.proofs.ByClassLemmas.{counted_text, writes_in_as, writes_after, member_after, element_after, writes_structure, writes_option, writes_items, form_enumeration, text_enumeration, form_variant, text_variant, form_any, text_any}
 use Rattle.ctf_format.proofs.StandingLemmas as members
 use Rattle.ctf_format.proofs.StandingLemmas.{mark_next, form_integer, text_integer, form_string, text_string, form_text, text_text, form_structure}
 use Rattle.ctf_format.proofs.by_class.+standing.Goals as goal
@@ -64,8 +64,8 @@ put_member-returns-clause-puts t c =
     let m = c.args.member.now in
     let lead = c.args.lead in
     let name = c.ready-name.result.now in
-    writes_behind c.put_part.result c.args.seen.now (form m.class) (value_text m.class) (λ v. lead ∷ 32 ∷ part_text (member_part m) v) c.args.from.place (take c.args.from.text c.args.buffer.now.items) (take c.in-Ok.text c.put_ready.new.buffer.items) c.put_part.new.buffer.items (lead ∷ 32 ∷ name)
-    c.in-Ok.ensures.text (λ v. member_behind m lead name v c.ready-name.ensures) c.put_part.ensures.puts
+    writes_after c.put_part.result c.args.seen.now (form m.class) (value_text m.class) (λ v. lead ∷ 32 ∷ part_text (member_part m) v) c.args.from.place (take c.args.from.text c.args.buffer.now.items) (take c.in-Ok.text c.put_ready.new.buffer.items) c.put_part.new.buffer.items (lead ∷ 32 ∷ name)
+    c.in-Ok.ensures.text (λ v. member_after m lead name v c.ready-name.ensures) c.put_part.ensures.puts
 
 pub put_part-returns-in-Integer-clause-puts : goal.put_part-returns-in-Integer-clause-puts
 put_part-returns-in-Integer-clause-puts t c =
@@ -178,5 +178,5 @@ pub put_item-returns-clause-puts : goal.put_item-returns-clause-puts
 put_item-returns-clause-puts t c =
     let k = c.args.element.now in
     let lead = c.args.lead.mark in
-    writes_behind c.put_part.result c.args.seen.now (form k) (value_text k) (λ v. lead ∷ 32 ∷ element_text (value_text k) c.args.lead.index v) c.args.from.place (take c.args.from.text c.args.buffer.now.items) (take c.in-Ok.text c.put_index.new.buffer.items) c.put_part.new.buffer.items (lead ∷ 32 ∷ 91 ∷ (decimal c.args.lead.index ++ codes "] = "))
-    c.in-Ok.ensures.text (λ v. element_behind (value_text k) lead c.args.lead.index v) c.put_part.ensures.puts
+    writes_after c.put_part.result c.args.seen.now (form k) (value_text k) (λ v. lead ∷ 32 ∷ element_text (value_text k) c.args.lead.index v) c.args.from.place (take c.args.from.text c.args.buffer.now.items) (take c.in-Ok.text c.put_index.new.buffer.items) c.put_part.new.buffer.items (lead ∷ 32 ∷ 91 ∷ (decimal c.args.lead.index ++ codes "] = "))
+    c.in-Ok.ensures.text (λ v. element_after (value_text k) lead c.args.lead.index v) c.put_part.ensures.puts

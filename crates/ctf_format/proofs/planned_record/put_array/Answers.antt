@@ -3,13 +3,13 @@ use Rattle.ctf_class.specs.Records.{AreIntegers}
 use Rattle.ctf_class.specs.declared.route.Length.TheVariants as lengths
 use Rattle.ctf_decode.specs.Forms as forms
 use Rattle.ctf_decode.specs.Views.{form}
-use Rattle.ctf_format.specs.Records.{IsLastNumber, PutsOther, behind}
+use Rattle.ctf_format.specs.Records.{IsLastNumber, PutsOther, after_members}
 use Rattle.ctf_format.specs.Standing.{Before, elements_text}
 use Rattle.ctf_format.specs.Texts.{value_text}
 use Rattle.ctf_format.specs.declared.standing.Next.{Next}
 use Rattle.ctf_format.proofs.ByClassLemmas.{forget}
 use Rattle.ctf_format.proofs.ArrayLemmas.{next_class, form_array, text_array}
-use Rattle.ctf_format.proofs.RecordsLemmas.{no_number, behind_no_number, counts_behind}
+use Rattle.ctf_format.proofs.RecordsLemmas.{no_number, after_no_number, counts_after}
 use Rattle.ctf_format.proofs.planned_record.put_array.Goals as goal
 use Rattle.ctf_format.proofs.planned_record.put_array.Goals.{in-Fixed, in-Counted+in_ok-count-in-Counted}
 
@@ -18,7 +18,7 @@ returns-in-One-clause-puts c = λ index member are.
     let is = subst (AreIntegers index member c.args.are.now.integer c.args.are.now.align) c.in-One.is are in
     let bytes = c.args.placed.packet.now.bytes.now in
     let puts = λ (last : Option ℕ) (text : ℕ). PutsOther index last (form member.class) (value_text member.class) bytes c.args.placed.packet.now.end c.args.reach.now (take c.args.at c.args.buffer.now.items) c.put_lone.new.reach (take text c.put_lone.new.buffer.items) in
-    behind_no_number c.args.placed.run.now.numbers bytes ((c.args.placed.end - c.args.placed.run.now.span) / 8) puts c.put_lone.result (c.put_lone.ensures.puts index member is)
+    after_no_number c.args.placed.run.now.numbers bytes ((c.args.placed.end - c.args.placed.run.now.span) / 8) puts c.put_lone.result (c.put_lone.ensures.puts index member is)
 
 pub returns-clause-puts : goal.returns-clause-puts
 returns-clause-puts c = λ index member are.
@@ -38,13 +38,13 @@ returns-clause-puts c = λ index member are.
           let is = subst (AreIntegers index member i align) w.in-Fixed.is are in
           let many = lengths.Fixed w.in-Fixed.count in
           let k = is.0 in
-          let puts = c.in_ok-next.ensures.puts (behind index None) many class.align (λ earlier env vs counted last. sym w.count-is) in (
+          let puts = c.in_ok-next.ensures.puts (after_members index None) many class.align (λ earlier env vs counted last. sym w.count-is) in (
             None,
             no_number c.args.placed.run.now.numbers bytes ((c.args.placed.end - c.args.placed.run.now.span) / 8),
             (
               next.more,
               refl,
-              forget_it (behind index None) next (next_class (Some next) (behind index None) (forms.array class.align many (forms.integer align i)) (form class) (elements_text i) (value_text class) bytes content place before items
+              forget_it (after_members index None) next (next_class (Some next) (after_members index None) (forms.array class.align many (forms.integer align i)) (form class) (elements_text i) (value_text class) bytes content place before items
                   (ap (λ a. forms.array class.align many (forms.integer a i)) is.2.1 ∙ form_array class k many i is.1 is.2.0) (text_array class k many i is.1 is.2.0) puts),
             ),
           )
@@ -54,13 +54,13 @@ returns-clause-puts c = λ index member are.
           let k = is.1 in
           let last = Some c.match-are.count in
           let known : IsLastNumber last c.args.placed.run.now.numbers bytes ((c.args.placed.end - c.args.placed.run.now.span) / 8) = subst (λ o. IsLastNumber o c.args.placed.run.now.numbers bytes ((c.args.placed.end - c.args.placed.run.now.span) / 8)) (w.in_ok-count-in-Counted.was ∙ ap Some (sym w.count-is)) w.last_number.ensures in
-          let puts = c.in_ok-next.ensures.puts (behind index last) many class.align (counts_behind is.0 index c.match-are.count is.3) in (
+          let puts = c.in_ok-next.ensures.puts (after_members index last) many class.align (counts_after is.0 index c.match-are.count is.3) in (
             last,
             known,
             (
               next.more,
               refl,
-              forget_it (behind index last) next (next_class (Some next) (behind index last) (forms.array class.align many (forms.integer align i)) (form class) (elements_text i) (value_text class) bytes content place before items
+              forget_it (after_members index last) next (next_class (Some next) (after_members index last) (forms.array class.align many (forms.integer align i)) (form class) (elements_text i) (value_text class) bytes content place before items
                   (ap (λ a. forms.array class.align many (forms.integer a i)) is.4.1 ∙ form_array class k many i is.2 is.4.0) (text_array class k many i is.2 is.4.0) puts),
             ),
           )

@@ -3,12 +3,12 @@ use Rattle.ctf_class.specs.Records.{IsShown}
 use Rattle.ctf_class.specs.declared.route.Length.TheVariants.{Fixed, Field}
 use Rattle.ctf_decode.specs.Forms as forms
 use Rattle.ctf_decode.specs.Views.{form}
-use Rattle.ctf_format.specs.Records.{IsLastNumber, PutsField, behind}
+use Rattle.ctf_format.specs.Records.{IsLastNumber, PutsField, after_members}
 use Rattle.ctf_format.specs.Standing.{Counts}
 use Rattle.ctf_format.specs.Texts.{enumeration_text, string_text, value_text}
 use Rattle.ctf_format.specs.declared.standing.Last.TheVariants as lasts
 use Rattle.ctf_format.proofs.ByClassLemmas.{forget, form_enumeration, text_enumeration, writes_as, writes_text}
-use Rattle.ctf_format.proofs.RecordsLemmas.{numbers_to, counts_behind, no_number, field_alone, field_next}
+use Rattle.ctf_format.proofs.RecordsLemmas.{numbers_to, counts_after, no_number, field_alone, field_next}
 use Rattle.ctf_format.proofs.StandingLemmas.{as_one, form_string, form_text, text_string, text_text}
 use Rattle.ctf_format.proofs.planned_record.put_field.Goals as goal
 
@@ -65,11 +65,11 @@ returns-in_ok-ends-in-CountedText-clause-puts c = λ slot is.
     let begin = c.up-place.result in
     let count = c.in_ok-count-in-CountedText.count in
     let known = Some count in
-    let before = behind slot.index known in
+    let before = after_members slot.index known in
     let ends = c.in_ok-ends-in-CountedText.ends in
     let line = take c.put_before-text.result c.put_before-text.new.buffer.items in
     let items = c.put_fixed_text-in-CountedText.new.buffer.items in
-    let counts : Counts many before count = counts_behind shown.0 slot.index count shown.2 in
+    let counts : Counts many before count = counts_after shown.0 slot.index count shown.2 in
     let text = writes_text before class.align many count c.args.placed.packet.now begin ends line items counts c.in_ok-ends-in-CountedText.ensures.puts in
     let puts = writes_as (Some (record { place = ends.place; text = ends.text; more = 0; last = lasts.Unknown })) before (forms.text class.align many) (form class) string_text (value_text class) c.args.placed.packet.now begin line items (form_text class many shown.1) (text_text class many shown.1) text in
     let within : begin ≤ content = omega (arith, c.if-place-packet.false) in
@@ -89,7 +89,7 @@ returns-in_ok-next-in-Labelled-clause-puts c = λ slot is.
     let bytes = c.args.placed.packet.now.bytes.now in
     let content = c.args.placed.packet.now.end in
     let begin = c.up-place.result in
-    let before = behind slot.index None in
+    let before = after_members slot.index None in
     let next = c.in_ok-next-in-Labelled.next in
     let from = take c.args.at c.args.buffer.now.items in
     let line = take c.put_before-text.result c.put_before-text.new.buffer.items in

@@ -1,7 +1,7 @@
 use Rattle.std.proofs.Common.{◌≡◌, ℕ, ◌+◌, ◌-◌, ◌*◌, ◌/◌, List, ◌∷◌, ◌++◌, ◌≤◌, Option, None, take, ap, subst, ◌∙◌, arith, rules, vec_len}
 use Rattle.ctf_class.specs.Records.{Slot, numbers_room, room_of}
 use Rattle.ctf_format.specs.Records.{IsLastNumber, PutsFields, Reached, reached}
-use Rattle.ctf_format.proofs.RecordsLemmas.{numbers_to, no_number, room_alone, room_behind, run_numbers, behind_none, behind_some, run_field}
+use Rattle.ctf_format.proofs.RecordsLemmas.{numbers_to, no_number, room_alone, room_after, run_numbers, after_none, after_some, run_field}
 use Rattle.ctf_format.proofs.planned_record.put_run.Goals as goal
 
 pub put_run_numbers-text-requires-clause-room : goal.put_run_numbers-text-requires-clause-room
@@ -18,7 +18,7 @@ put_field-requires-clause-room c =
     let room : c.args.at + run.room ≤ vec_len c.with_room.new.buffer = search (rules, arith) in
     let same = ap numbers_room c.as_slice.ensures in
     let whole = c.requires.near.room ∙ ap (room_of run.numbers) c.in-Some.is in
-    omega (arith, room, same, whole, room_behind run.numbers f, c.put_run_numbers-text.ensures.near, c.put_run_numbers-text.ensures.length)
+    omega (arith, room, same, whole, room_after run.numbers f, c.put_run_numbers-text.ensures.near, c.put_run_numbers-text.ensures.length)
 
 pub returns-in-None-clause-puts : goal.returns-in-None-clause-puts
 returns-in-None-clause-puts c = λ slots others takes.
@@ -34,7 +34,7 @@ returns-in-None-clause-puts c = λ slots others takes.
     let within : place + run.span ≤ content = search rules in
     let kept : line ≡ before = search rules in
     let all = run_numbers slots takes.0 run.numbers numbers run.span (place / 8) place content c.args.reach.now.more None bytes before line after takes.1 c.as_slice.ensures (no_number run.numbers bytes (place / 8)) starts within kept c.put_run_numbers-text.ensures.text in
-    (all.0, all.1 ∙ ap (λ xs. all.0 ++ xs) (behind_none takes.0 others run.field c.in-None.is takes.2), all.2)
+    (all.0, all.1 ∙ ap (λ xs. all.0 ++ xs) (after_none takes.0 others run.field c.in-None.is takes.2), all.2)
 
 pub returns-in-None-clause-held : goal.returns-in-None-clause-held
 returns-in-None-clause-held c =
@@ -58,7 +58,7 @@ returns-in-Some-clause-puts c = λ slots others takes.
     let starts : 8 * first ≡ place = omega (arith, c.if-begin-ne0.false) in
     let within : place + run.span ≤ content = search rules in
     let kept : line ≡ before = search rules in
-    let one = behind_some takes.0 others run.field c.in-Some.field c.in-Some.is takes.2 in
+    let one = after_some takes.0 others run.field c.in-Some.field c.in-Some.is takes.2 in
     let mid : Option ℕ → Reached = λ last. numbers_to (place + run.span) more last text in
     let again : (place + run.span - run.span) / 8 ≡ first = omega arith in
     let known : (last : Option ℕ) → IsLastNumber last run.numbers bytes ((place + run.span - run.span) / 8) → (used : List Slot) × (slots ≡ used ++ (one.0 ∷ others)) × PutsFields used bytes content (numbers_to place more None before) (mid last) = λ last is.

@@ -19,4 +19,4 @@ returns-in_ok-first_step-in-Some c =
     let more = ap (λ (ws : Words). option_map (λ f. route_from c.args.origin (further c.in_ok-first_step-in-Some.field-0 f)) (down shape ws)) tail in
     let way = ap (λ way. option_map (λ f. route_from c.args.origin (further way f)) (down shape (drop 1 words))) c.in_ok-first_step-in-Some.ensures in
     let there = routed_there c.args.origin fields words c.word-item.result c.in-Some.place shape c.in-len1-up.len_at_least c.word-item.is named in
-    subst (λ found. IfOk c.found_behind.result (λ r. option_map found_by r ≡ found)) (more ∙ way ∙ there) c.found_behind.ensures
+    subst (λ found. IfOk c.found_after.result (λ r. option_map found_by r ≡ found)) (more ∙ way ∙ there) c.found_after.ensures

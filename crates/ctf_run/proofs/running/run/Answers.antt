@@ -13,7 +13,7 @@ pub returns-in-Err-Broken-clause-runs : goal.returns-in-Err-Broken-clause-runs
 returns-in-Err-Broken-clause-runs g c = λ tells out err.
     run_broken (given_by g.S.Source.tells g.S.Source.left g.S.Source.ending) c.args.traces.items c.args.options.now c.in-Err-Broken.trace c.in-Err-Broken.fault c.tell.result _
     (rw (← c.deref.ensures.value) (rw c.in-Err-Broken.field-0-is at c.in-Err-Broken.ensures)) (rw (← c.deref-in-Err-Broken.ensures.value) (c.tell.ensures.told out err))
-    c.tell.ensures.behind (said g.E.Sink.accepted _ _ _ c.tell.ensures.settled)
+    c.tell.ensures.after (said g.E.Sink.accepted _ _ _ c.tell.ensures.settled)
 
 pub name_traces-requires : goal.name_traces-requires
 name_traces-requires g c = rw c.deref-2.ensures.value (have_length c.args.traces.items c.in-Ok.classes.items (rw (← c.deref.ensures.value) c.in-Ok.ensures))

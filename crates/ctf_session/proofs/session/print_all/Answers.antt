@@ -51,7 +51,7 @@ returns-in-Ended-clause-runs g c = λ a b d.
     let before = c.loop-outcome.invariant in
     let step = c.in-Ended.ensures in
     reaches-end _ _ _ _ _ _ _ _ _ _ _ (step.named before.open_still) (before.reaches a b d) (step.steps (before.tells a) before.open_still (before.out_tells b) (before.err_tells d))
-    (λ nothing. ap g.W.Log.settled (step.quiet (before.tells a) before.open_still nothing).0) (said g.E.Sink.accepted _ _ _ step.settled) (step.behind before.open_still)
+    (λ nothing. ap g.W.Log.settled (step.quiet (before.tells a) before.open_still nothing).0) (said g.E.Sink.accepted _ _ _ step.settled) (step.after before.open_still)
 
 pub returns-in-Ended-clause-settled : goal.returns-in-Ended-clause-settled
 returns-in-Ended-clause-settled g c =

@@ -1,4 +1,4 @@
-use Rattle.ctf_attributes.proofs.FirstLemmas.{still, after, both, handed, handed-told, told-behind}
+use Rattle.ctf_attributes.proofs.FirstLemmas.{still, after, both, handed, handed-told, told-after}
 use Rattle.ctf_attributes.proofs.trace.TraceSettings.read.Goals as goal
 
 pub returns-in_err-check_trace : goal.returns-in_err-check_trace
@@ -31,7 +31,7 @@ returns-in_err-uuid c =
     let version = both _ _ c.in_ok-check_number.ensures.told.0 c.in_ok-check_number-2.ensures.told.0 in
     record {
       told = handed-told _ _ _ f c.from_residual-in_err-uuid.ensures
-          (told-behind _ _ f c.in_ok-check_trace.ensures.told.0 (told-behind _ _ f (both _ _ version c.in_ok-order.ensures.told.0) c.in_err-uuid.ensures.told));
+          (told-after _ _ f c.in_ok-check_trace.ensures.told.0 (told-after _ _ f (both _ _ version c.in_ok-order.ensures.told.0) c.in_err-uuid.ensures.told));
     }
 
 pub returns : goal.returns

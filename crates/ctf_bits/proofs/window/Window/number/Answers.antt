@@ -1,6 +1,6 @@
 use Rattle.std.proofs.Common.{◌+◌, ◌*◌, ◌<◌, ◌≤◌, subst}
 use Rattle.ctf_bits.specs.Placed.{Placed}
-use Rattle.ctf_bits.proofs.Placing.{last_of, only_signed, plain_behind}
+use Rattle.ctf_bits.proofs.Placing.{last_of, only_signed, plain_after}
 use Rattle.ctf_bits.proofs.window.Window.number.Goals as goal
 
 pub returns-clause-value : goal.returns-clause-value
@@ -12,7 +12,7 @@ returns-clause-value c =
     let few = subst (λ m. x ≤ m) c.self.invariant.5 c.if-number-self.false in
     let Q : Placed → Type 0 = λ p. x ≤ last_of p.is_signed p.size in
     let R : Placed → Type 0 = λ p. 1 ≤ p.size in
-    plain_behind c.args.self.now bytes first x (subst R c.self.view_is c.self.invariant.0) c.bits-number.ensures (subst Q c.self.view_is few)
+    plain_after c.args.self.now bytes first x (subst R c.self.view_is c.self.invariant.0) c.bits-number.ensures (subst Q c.self.view_is few)
 
 pub returns-then-number-self-clause-signed : goal.returns-then-number-self-clause-signed
 returns-then-number-self-clause-signed c = λ _.

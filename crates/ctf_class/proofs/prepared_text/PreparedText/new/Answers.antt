@@ -16,5 +16,5 @@ returns c =
     (c.word_at.ensures ∙ ap (λ (w : List ℕ). get_or w 0 0) c.deref-2.ensures.value)
     (c.word_at-2.ensures ∙ ap (λ (w : List ℕ). get_or w 1 0) c.deref-3.ensures.value)
     (c.word_at-3.ensures ∙ ap (λ (w : List ℕ). get_or w 2 0) c.deref-4.ensures.value)
-    (c.in_ok-rest.ensures ∙ c.behind_head.ensures ∙ ap (drop 3) c.deref.ensures.value)
+    (c.in_ok-rest.ensures ∙ c.after_head.ensures ∙ ap (drop 3) c.deref.ensures.value)
     c.in_ok-words.ensures.bytes

@@ -4,7 +4,7 @@ use Rattle.ctf_packet.specs.Classes.{trace_form}
 use Rattle.ctf_packet.specs.Packets.{open_at}
 use Rattle.ctf_packet.specs.Items.{from_packet, longest_stream}
 use Rattle.ctf_packet.specs.Views.{values_of, opened_of}
-use Rattle.ctf_fetch.specs.Fetching.{behind_packet, OrNoMemory}
+use Rattle.ctf_fetch.specs.Fetching.{after_packet, OrNoMemory}
 use Rattle.ctf_fetch.proofs.Fetched.{fetched, not_fetched}
 use Rattle.ctf_fetch.proofs.packet_start.PacketStart.fetch.Goals as goal
 
@@ -26,7 +26,7 @@ returns-in-Ok-clause-fetches g c = λ tells.
     let near : cut.at ≤ longest_stream = search rules in
     let at = c.in-Ok.ensures.at in
     let is = fetched trace ending cut.reached cut.at all c.open.new.intake.buffer.now left opened at.some near kept found at.starts at.ends in
-    let told = is ∙ ap (λ v. from_packet (opened_of cut.shift v packet) c.open.new.intake.buffer.now (behind_packet trace ending (opened_of cut.shift v packet) left)) (sym c.in-Ok.ensures.alone) in
+    let told = is ∙ ap (λ v. from_packet (opened_of cut.shift v packet) c.open.new.intake.buffer.now (after_packet trace ending (opened_of cut.shift v packet) left)) (sym c.in-Ok.ensures.alone) in
     search rules
 
 pub returns-in-Err-clause-fetches : goal.returns-in-Err-clause-fetches

@@ -12,7 +12,7 @@ returns-in-None g c = record {
   counts = c.in-None.ensures.counts;
   named = c.in_default.not-NoMemory;
   settled = c.in-None.ensures.settled;
-  behind = c.in-None.ensures.behind refl;
+  after = c.in-None.ensures.after refl;
   out_tells = c.in-None.ensures.out_tells;
   err_tells = c.in-None.ensures.err_tells;
 }

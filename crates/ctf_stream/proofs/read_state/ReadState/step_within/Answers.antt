@@ -17,7 +17,7 @@ returns-in-Ok-None-clause-steps c = λ ending left.
     let new = c.leave.new.self in
     let p = c.in-Some.packet in
     let stands = inside old.cut ending left old.buffer old.taken old.packet p c.in-Some.is c.requires.stands in
-    let over = is_over old.cut ending left old.buffer new.cut old.packet old.scopes c.next.new.scopes p c.next.new.self c.in-Ok-None.field-0 c.reached_behind-reached.result c.in-Some.is c.next.ensures.opened c.in-Ok-None.field-0-is
+    let over = is_over old.cut ending left old.buffer new.cut old.packet old.scopes c.next.new.scopes p c.next.new.self c.in-Ok-None.field-0 c.reached_after-reached.result c.in-Some.is c.next.ensures.opened c.in-Ok-None.field-0-is
     (c.in-Ok-None.ensures.takes old.cut.shift (follows old.cut ending left old.buffer old.scopes p) stands.fetched.line)
-    c.reached_behind-reached.ensures c.leave.ensures.trace c.leave.ensures.shift c.leave.ensures.reached (c.leave.ensures.at ∙ stands.here) in
+    c.reached_after-reached.ensures c.leave.ensures.trace c.leave.ensures.shift c.leave.ensures.reached (c.leave.ensures.at ∙ stands.here) in
     (over ∙ ap (coming_at new.cut ending left new.scopes new.buffer) (sym c.leave.ensures.packet), c.leave.ensures.packet)

@@ -1,6 +1,6 @@
 use Rattle.std.proofs.Common.{inl, refl, ◌≡◌, ◌∙◌, ap, sym}
 use Rattle.ctf_stream.specs.ReadState.{coming_of}
-use Rattle.ctf_stream.specs.Reader.{coming, behind_ahead, with_ahead}
+use Rattle.ctf_stream.specs.Reader.{coming, after_ahead, with_ahead}
 use Rattle.ctf_stream.proofs.ReadStates.{comes}
 use Rattle.ctf_stream.proofs.reader.StreamReader.advance.Goals as goal
 
@@ -12,6 +12,6 @@ returns-in-Some-clause-comes g c = λ tells.
     let new = c.next_written.new.self in
     let front = c.in-Some.front in
     let now = c.args.self.now in
-    let behind : now.behind ≡ old = rw (← c.self.view_is) refl in
-    let is : coming now ≡ old = ap (λ a. with_ahead a (behind_ahead a now.cut now.behind)) c.requires ∙ behind in
+    let after : now.after ≡ old = rw (← c.self.view_is) refl in
+    let is : coming now ≡ old = ap (λ a. with_ahead a (after_ahead a now.cut now.after)) c.requires ∙ after in
     inl (comes old (coming_of ending left new) new new.packet left front new.cut.at (c.in-Some.ensures.advances ending left) ∙ sym is)

@@ -1,7 +1,7 @@
 use Rattle.std.proofs.Common.{sym, ◌∙◌}
 use Rattle.std.proofs.lemmas.Result.{err_from_is_err_and}
 use Rattle.tsdl_parse.proofs.Loops.{starts, goes_on, ends, is_done}
-use Rattle.tsdl_parse.proofs.part.behind.Goals as goal
+use Rattle.tsdl_parse.proofs.part.parts_after.Goals as goal
 
 pub turns-init : goal.turns-init
 turns-init g c = rw (c.start-found.ensures.found, c.start-found.ensures.rest) (starts _ _ _ _)

@@ -1,6 +1,6 @@
 use Rattle.std.proofs.Common.{length}
 use Rattle.tsdl_parse.proofs.Loops.{Going}
-use Rattle.tsdl_parse.proofs.part.behind.Given as goal
+use Rattle.tsdl_parse.proofs.part.parts_after.Given as goal
 
 abbrev pub decreases-turns : goal.decreases-turns
 decreases-turns g l = length l.rest
