@@ -1,9 +1,9 @@
 //! Classes that are built from words.
 //!
 //! `integer:ALIGN:SIZE` is an unsigned integer, `string:ALIGN` a string, `struct:ALIGN:N` takes the last N classes as its
-//! members, and `array:ALIGN:LENGTH` and `counted:ALIGN:PLACE` take the last class as their element: as many as are told, or
-//! as the member of this place says. So many bytes have the texts `text:ALIGN:LENGTH` and `spelled:ALIGN:PLACE`.
-//! `enum:ALIGN:SIZE` is an enumeration without labels. A member is named by its word.
+//! members, and `array:ALIGN:LENGTH` and `counted:ALIGN:PLACE` take the last class as their element: as many as LENGTH
+//! says, or as the member of this place does. So many bytes have the texts `text:ALIGN:LENGTH` and
+//! `spelled:ALIGN:PLACE`. `enum:ALIGN:SIZE` is an enumeration without labels. A member is named by its word.
 
 use crate::row::Row;
 use ctf_bits::Order;
@@ -23,7 +23,7 @@ pub fn members_of(alloc: Global, words: &str) -> Vec<Member> {
     members
 }
 
-/// Adds the class that a word names after those before it, or around the last of them.
+/// Adds the class that a word names: after the classes before it, or around the last of them.
 fn add_class(alloc: Global, members: &mut Vec<Member>, word: &str) -> Option<()> {
     let (kind, rest) = word.split_once(':')?;
     let (align, number) = rest.split_once(':').unwrap_or((rest, ""));
@@ -120,7 +120,7 @@ fn member_at(alloc: Global, place: u32) -> Option<Length> {
     }))
 }
 
-/// Puts the words of an integer or of a structure, after a space each.
+/// Puts the words of an integer or of a structure, each after a space.
 pub fn put_class(row: &mut Row<'_>, class: &Class) {
     match &class.kind {
         Kind::Integer(integer) => put_word(row, b" integer:", class, integer.size.bits() as i128),

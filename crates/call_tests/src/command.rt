@@ -22,7 +22,7 @@ pub fn put_row(row: &mut Row<'_>) {
     }
 }
 
-/// A word, and those of a text after it.
+/// A word, and then those of a text.
 fn words_of(
     alloc: Global,
     first: &str,
@@ -57,7 +57,7 @@ fn put_folders(row: &mut Row<'_>) {
     }
 }
 
-/// What words ask for after the name of the program.
+/// What the words after the program's name ask for.
 fn options_from(alloc: Global, text: &str) -> Result<Options, Usage> {
     match words_of(alloc, "bt-ctf", text, "; ") {
         Ok(words) => options_of(alloc, &words),

@@ -6,7 +6,7 @@ use ctf_load::load;
 use std::alloc::Global;
 use std::fs;
 
-/// The trace that the metadata in a file declare. It stands in a box, whose drop is a call.
+/// The trace that the metadata in a file declare. It is in a box, whose drop is a call.
 pub fn trace_of(rt: &HostRuntime, path: &str) -> Option<Box<TraceClass>> {
     let metadata = fs::read(rt, path).ok()?;
     match load(rt.alloc(), &metadata) {
@@ -42,7 +42,7 @@ fn stream_of(rt: &HostRuntime, word: &str) -> Vec<u8> {
     }
 }
 
-/// The bytes of a file: without the last ones, with others after them, or with others at a place.
+/// The bytes of a file: without the last ones, with others added at the end, or with others at a place.
 fn file_of(rt: &HostRuntime, word: &str) -> Vec<u8> {
     let end = word.find(['-', '+', '@']).unwrap_or(word.len());
     let (path, change) = word.split_at(end);
@@ -74,7 +74,7 @@ fn change_bytes(alloc: Global, bytes: &mut Vec<u8>, change: &str) {
     }
 }
 
-/// Puts bytes in the place of those that stand there.
+/// Puts bytes in the place of those that are there.
 fn set(bytes: &mut [u8], place: usize, other: &[u8]) {
     for (here, byte) in bytes.iter_mut().skip(place).zip(other) {
         *here = *byte;

@@ -1,7 +1,7 @@
 //! Lists that grow.
 //!
-//! `pushed TEXT MORE` is the list of the bytes of a text after which those of another are pushed one by one, how many there
-//! are, and whether its copy is equal; `extended TEXT MORE` gets them at once.
+//! `pushed TEXT MORE` is the list of the bytes of a text to which those of another are pushed one by one, how many
+//! there are, and whether its copy is equal; `extended TEXT MORE` gets them at once.
 
 use crate::row::Row;
 use ctf_list::List;
@@ -16,7 +16,7 @@ pub fn put_row(row: &mut Row<'_>) {
     }
 }
 
-/// The list of some bytes, with more after them.
+/// The list of some bytes, with more added at its end.
 fn longer_list(
     alloc: Global,
     kind: &str,

@@ -7,10 +7,10 @@
 //! and `owners` (`metadata/owners.rt`). In the other tables, each of the calls of one module, the first word says what is
 //! called, and the module says what its rows are.
 //!
-//! After each row stands what came of it. All of this is written down in `stdout`, from the contracts of the calls and the
-//! rules of the format and of the layout. A call may answer want of memory, and no contract says that it does not: so each
-//! such call stands here with ample memory. What else a contract leaves open stands here too; what it does not is computed
-//! in `number_tests`.
+//! After each row is what came of it. All of this is written down in `stdout`, from the contracts of the calls and the
+//! rules of the format and of the layout. A call may answer that it is out of memory, and no contract says that it does
+//! not: so each such call is made here with ample memory. What else a contract leaves open is here too; what it does
+//! not is computed in `number_tests`.
 //!
 //! What costs is where a value is dropped. So what puts something owns little and answers nothing. What is refused memory,
 //! and a row that is none, puts another text than the one that is wanted.

@@ -4,7 +4,7 @@
 //! tracepoints of a provider of its own), `recorded_converted` by babeltrace2 2.0.4 from that trace, and `recorded_lines` by
 //! babeltrace2 from three lines of text; host, date, identifiers and the clock's offset were replaced by others of the same
 //! length. Ids and names of events, names, sizes and signs of fields and the numbers of labels are those that babeltrace2
-//! tells of these traces (`sink.text.details`).
+//! shows of these traces (`sink.text.details`).
 
 mod class;
 mod count;

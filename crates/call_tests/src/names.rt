@@ -1,9 +1,9 @@
 //! Texts that are kept ready to be printed.
 //!
 //! - `escaped TEXT` is how a text is shown.
-//! - `ready TEXT` is a text after three bytes of a line, and its length.
-//! - `field NAME` is the name of a member and what is printed for it, `copy NAME` those of its copy, `after NAME LEAD` what is
-//!   printed for it after a text, and `same NAME NAME` whether two names are equal.
+//! - `ready TEXT` is a line of three bytes and then a text, and the length of that text.
+//! - `field NAME` is the name of a member and what is printed for it, `copy NAME` those of its copy, `after NAME LEAD`
+//!   a text and what is printed for the name after it, and `same NAME NAME` whether two names are equal.
 //! - `label NAME` is a label, what is printed for it, and whether it is equal to itself.
 //! - `heading HOST NAME` is a host, the name of an event class, and what is printed for both.
 
@@ -29,7 +29,7 @@ fn list_of(alloc: Global, text: &str) -> List<u8> {
     List::from_vec(unquote(alloc, text))
 }
 
-/// Puts a text after three bytes of a line, and its length.
+/// Puts a line of three bytes and then a text, and the length of that text.
 fn put_ready_row(row: &mut Row<'_>) {
     if let Ok(ready) = PreparedText::new(row.alloc, &unquote(row.alloc, row.words)) {
         put_ready(row, &ready, 3);
@@ -90,7 +90,7 @@ fn put_same(row: &mut Row<'_>, name: &FieldName) {
     }
 }
 
-/// Puts what is printed for a name after a text.
+/// Puts a text and what is printed for a name after it.
 fn put_after(row: &mut Row<'_>, name: &FieldName) {
     if let Ok(ready) = name.after(row.alloc, row.words.as_bytes()) {
         put_printed(row, b"", &ready);

@@ -52,7 +52,7 @@ impl<'a> Row<'a> {
         let _ = self.text.extend_from_slice(bytes);
     }
 
-    /// Puts a number after a text.
+    /// Puts a text, and a number after it.
     pub fn put_number(&mut self, lead: &[u8], number: i128) {
         self.put(lead);
         let _ = write!(self.text, "{number}");
@@ -83,7 +83,7 @@ impl<'a> Row<'a> {
         let _ = write!(self.text, "{byte:02x}");
     }
 
-    /// Puts whether something is so, after a text.
+    /// Puts a text, and after it whether something is so.
     pub fn put_answer(&mut self, lead: &[u8], is_so: bool) {
         self.put(lead);
         self.put(if is_so { b"true" } else { b"false" });
@@ -121,7 +121,7 @@ pub fn bytes_of_digits(alloc: Global, digits: &str) -> Vec<u8> {
     hex::decode(alloc, digits).unwrap_or(Vec::new(alloc))
 }
 
-/// The bytes of a text, with those that stand in hexadecimal between backquotes.
+/// The bytes of a text, with those that are in hexadecimal between backquotes.
 pub fn unquote(alloc: Global, text: &str) -> Vec<u8> {
     let mut bytes = Row::new(alloc, "");
     let mut is_text = true;

@@ -1,4 +1,4 @@
-//! Sources, asked until they have told their end twice.
+//! Sources, asked until they have reported their end twice.
 //!
 //! `source KIND PIECE TEXT` is what a source of a text gives into a buffer of so many bytes, piece by piece, and how many bytes
 //! it says that it has given. `slice` is the text, `pieces:N` at most so many bytes at a call, `failing:N` so many bytes and
@@ -65,7 +65,7 @@ fn put_text(row: &mut Row<'_>, kind: &str, count: usize, text: &[u8], piece: usi
     }
 }
 
-/// Puts the pieces that a source gives up to its end, and what it gives after that.
+/// Puts the pieces that a source gives up to its end, and what a further call gives.
 fn put_drained<S: Source>(row: &mut Row<'_>, source: &mut S, piece: usize)
     requires some { 0 < piece }
     requires small { piece ≤ 8 }
@@ -79,7 +79,7 @@ fn put_drained<S: Source>(row: &mut Row<'_>, source: &mut S, piece: usize)
     put_taken(row, source, &mut buffer[..piece]);
 }
 
-/// Puts the next piece, or the end. Whether it is the end.
+/// Puts the next piece, or the end, and answers whether it is the end.
 fn put_taken<S: Source>(row: &mut Row<'_>, source: &mut S, buffer: &mut [u8]) -> bool
     requires { 0 < length buffer.old }
 {

@@ -8,7 +8,7 @@
 //! - `trace HOST HEADER NUMBERS STREAM` is a trace class with stream classes of these numbers: its host, its packet header,
 //!   the stream class of the number and the only one.
 //!
-//! A class stands in a list, whose drop is a call.
+//! A class is in a list, whose drop is a call.
 
 use crate::classes::{front, members_of, put_class, scope};
 use crate::plans::put_runs;

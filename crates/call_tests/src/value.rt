@@ -1,31 +1,31 @@
 //! What is decoded at places of packets, and the text of values, of event records and of packet contexts.
 //!
-//! Beside each table stand the metadata that declare its classes: `places` has rows of what is decoded, and `texts` rows of
-//! what is shown. A class is named as a member of the fields of the first event class, as `fields.N`, the fields of the event
-//! class of this id, as `S.N`, those of an event class of another stream class, or as `header.N`, the event header of the
-//! stream class of this id.
+//! Beside each table are the metadata that declare its classes: `places` has rows of what is decoded, and `texts` rows
+//! of what is shown. A class is named as a member of the fields of the first event class, as `fields.N`, the fields of
+//! the event class of this id, as `S.N`, those of an event class of another stream class, or as `header.N`, the event
+//! header of the stream class of this id.
 //!
 //! - `decode CLASS START..CONTENT BYTES SPENT` is a place of a packet, the end of its content, both in bits, and how many
 //!   values were begun before, where it is not 0. `into CLASS START..CONTENT BYTES` decodes into another value.
 //! - `front CLASS START..CONTENT BYTES` is a place of a beginning of a packet.
-//! - `standing CLASS START..CONTENT BYTES CONTEXT` is the text of the structure at a place, written out of the bits after
-//!   what stands in a line and over what stood there, where the packet context has this value, if one is given, and
-//!   `planned STREAM EVENT START..CONTENT BYTES` that of the scopes of an event record by its plan. After it stands where it
-//!   ends and how many values were begun up to there.
+//! - `standing CLASS START..CONTENT BYTES CONTEXT` is the text of the structure at a place, written from its bits to
+//!   the end of a line, over old bytes of the line's buffer, where the packet context has this value, if one is given,
+//!   and `planned STREAM EVENT START..CONTENT BYTES` that of the scopes of an event record by its plan. After it come
+//!   the place where it ends and how many values were begun up to there.
 //! - `headers CLASS START..CONTENT BYTES, ..` is one header after the other, each decoded in the place of the one before,
 //!   as headers and in the general way.
 //! - `moving CLASS VALUE` is what the value of a header says.
 //! - `value CLASS VALUE` is the text of a value.
 //! - `record STREAM EVENT PACKET VALUES` is that of an event record of the classes of these ids. `PACKET` is the text that
 //!   the records of the packet share, where `_` stands for a space, or `-`. The values are those of the stream event
-//!   context, of the event context and of the fields, or of the fields alone. `after` is the same in a line, after what
-//!   stands there and over what stood there.
+//!   context, of the event context and of the fields, or of the fields alone. `after` has the same row, and the text is
+//!   written to the end of a line, over old bytes of the line's buffer.
 //! - `packet STREAM VALUE` is the text of a packet context of the stream class of this id; `-` stands for no class and for no
 //!   value.
 //! - `digits CLASS DIGITS` is each number whose digits begin these.
 //! - `lengths CLASS TEXT` is each beginning of the text, with each of three bytes at its begin, inside and at its end.
 //!
-//! After each row stands what came of it: values with the place where they end and how many were begun up to there, a
+//! After each row is what came of it: values with the place where they end and how many were begun up to there, a
 //! fault, or a text.
 
 mod classes;

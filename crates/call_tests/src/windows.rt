@@ -1,7 +1,8 @@
 //! Integers whose place is known beforehand.
 //!
-//! `window PLACE SIZE KIND FIRST BYTES` is an integer, `u` or in two's complement `i`, after the first bytes: its place, its
-//! end, its number if that is not below zero, and that of its bits in two's complement.
+//! `window PLACE SIZE KIND FIRST BYTES` is an integer, `u` or in two's complement `i`, whose place is counted from the
+//! end of the first FIRST bytes: its place, its end, its number if that is not below zero, and that of its bits in
+//! two's complement.
 
 use crate::row::Row;
 use ctf_bits::Window;

@@ -2,7 +2,7 @@
 
 ghost use Rattle.class_laws.specs.Laws.{LengthsAndTagsAreFound, IntegersAreSized};
 
-/// With the scopes of a reader no length and no tag of a class is missing, whatever its stream holds.
+/// In the scopes that a reader decodes each length and each tag of a class is found, whatever its stream holds.
 pub fn lengths_and_tags_are_found()
     ensures { LengthsAndTagsAreFound }
 {}

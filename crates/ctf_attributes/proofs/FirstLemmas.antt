@@ -40,12 +40,12 @@ pub handed : {V : Type 0} (faults : List ResolveFault) (P : V → Type 0) (r : R
 handed faults P (Ok v) f h k = absurd h.1
 handed faults P (Err e) f h k = inr (k ∙ ap (λ x. Some x) (sym h.1))
 
--- what is told after other faults, of which there is none
+-- the first fault of two lists, of which the first is empty
 pub tells-after : {V : Type 0} (xs ys : List ResolveFault) (P : V → Type 0) (r : Result V ResolveFault) → xs ≡ [] → TellsFirst ys P r → Tells (xs ++ ys) P r
 tells-after xs ys P (Ok v) clean h = (both xs ys clean h.0, h.1)
 tells-after xs ys P (Err f) clean h = inr (after xs ys f clean h)
 
--- a fault, or that memory was refused, after faults of which there is none
+-- the first fault of two lists, of which the first is empty, or out of memory
 pub told-after : (xs ys : List ResolveFault) (f : ResolveFault) → xs ≡ [] → (f ≡ NoMemory) ⊎ (first ys ≡ Some f) → (f ≡ NoMemory) ⊎ (first (xs ++ ys) ≡ Some f)
 told-after xs ys f clean (inl refused) = inl refused
 told-after xs ys f clean (inr told) = inr (after xs ys f clean told)

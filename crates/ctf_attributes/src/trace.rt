@@ -78,7 +78,7 @@ fn order(entries: &[BlockEntry]) -> Result<Order, ResolveFault>
     trace_order(value).ok_or(ResolveFault::Attribute)
 }
 
-/// The UUID.
+/// The UUID of a trace, if it has one.
 fn uuid(alloc: Global, entries: &[BlockEntry]) -> Result<Option<[u8; 16]>, ResolveFault>
     ensures told { Tells (wrong uuid_of (blocks.value_at (map entry_of entries.now) (codes "uuid")))
         (λ uuid. uuid ≡ option_and_then uuid_of

@@ -24,7 +24,7 @@ double n some = ap (λ (k : ℕ). 2 ^ k) (let count : n ≡ n - 1 + 1 = omega ar
 pub half_of_ones : (n mask : ℕ) → 1 ≤ n → mask ≡ 2 ^ n - 1 → mask / 2 ≡ 2 ^ (n - 1) - 1
 half_of_ones n mask some is = omega (arith, is, double n some, pow_pos (n - 1))
 
--- bits of eight bytes that stand after others
+-- bits in the eight bytes that are after others
 pub read_after : (bytes : List ℕ) (at s n w mask : ℕ) → s + n ≤ 64 → w ≡ number Le (drop at bytes) 0 64 → mask ≡ 2 ^ n - 1 → bit_and (w / 2 ^ s) mask ≡ number Le bytes (8 * at + s) n
 read_after bytes at s n w mask within is ones_are =
     let whole : s + (n + (64 - (s + n))) ≡ 64 = omega arith in

@@ -18,7 +18,7 @@ pub struct DripSink {
 impl DripSink {
     ghost use Rattle.ctf_bits.specs.DripSink.{piece_of};
 
-    /// Has taken nothing, and takes at most `piece` bytes at a call, and where that is 0 one.
+    /// A sink that has taken nothing, and takes at most `piece` bytes at a call, or one where that is 0.
     pub fn new(alloc: Global, piece: usize) -> Self
         ensures accepted { ⟦<DripSink as Sink>⟧.accepted result ≡ [] }
         ensures refusals { ⟦<DripSink as Sink>⟧.refusals result ≡ 0 }

@@ -61,14 +61,14 @@ impl Window {
         })
     }
 
-    /// Its place, in bits.
+    /// The place of the integer, in bits.
     pub fn place(&self) -> u64
         ensures { result ≡ self.now.place }
     {
         8 * self.bytes as u64 + u64::from(self.shift)
     }
 
-    /// Where it ends, in bits.
+    /// Where the integer ends, in bits.
     pub fn end(&self) -> u64
         requires { self.now.place ≤ 2 ^ 63 }
         ensures { result ≡ self.now.place + self.now.size }
@@ -76,8 +76,8 @@ impl Window {
         self.place() + u64::from(self.size)
     }
 
-    /// Its number after so many of some bytes, which are known to hold the eight; `None` where that is below zero, which no
-    /// unsigned one is.
+    /// The number of the integer after the first `first` of some bytes, which hold the eight bytes that it lies in.
+    /// `None` where it is below zero, which no unsigned one is.
     #[inline(always)]
     pub fn number(&self, bytes: &[u8], first: usize) -> Option<u64>
         requires held { first + self.now.place / 8 + 8 ≤ length bytes.now }
@@ -99,7 +99,7 @@ impl Window {
         twos_complement(self.bits(bytes, first), self.size)
     }
 
-    /// The number of its bits.
+    /// The number that the integer's bits are without a sign.
     #[inline(always)]
     fn bits(&self, bytes: &[u8], first: usize) -> u64
         requires held { first + self.now.place / 8 + 8 ≤ length bytes.now }
@@ -110,7 +110,7 @@ impl Window {
     }
 }
 
-/// The first eight bytes.
+/// The first eight bytes as one number, little endian.
 #[inline(always)]
 fn word(bytes: &[u8]) -> u64
     requires { 8 ≤ length bytes.now }

@@ -18,7 +18,7 @@ before-other a b less = sym (is_eq-slice_cmp a b) ∙ ap is_eq less
 after-other : (a b : List ℕ) → slice_cmp nat_cmp a b ≡ Less → bytes_eq b a ≡ false
 after-other a b less = nat_list_eq_equiv.symm b a ∙ before-other a b less
 
--- what comes after another has it before it
+-- where a name comes after another, that one comes before it
 turned : (a b : List ℕ) → slice_cmp nat_cmp a b ≡ Greater → slice_cmp nat_cmp b a ≡ Less
 turned a b more = nat_list_cmp_total.antisymm b a ∙ ap ordering_reverse more
 
@@ -54,7 +54,8 @@ apart names order rank other up within inside differs =
     (λ more. after-other (name_in names order other) (name_in names order rank) (up.ascending other rank more within)))
     (cases_order rank other)
 
--- halving: a name that comes before the middle one, or after it, is none of those after, or before
+-- halving: a name that comes before the middle one is none of those after it; one that comes after it, none of those
+-- before
 pub none-after : (names : List (List ℕ)) (order : List ℕ) (name : List ℕ) (middle rank : ℕ) → AreAscending names order → slice_cmp nat_cmp name (name_in names order middle) ≡ Less → middle ≤ rank → rank < length names → bytes_eq (name_in names order rank) name ≡ false
 none-after names order name middle rank up less from within =
     after-other name (name_in names order rank) (⊎_elim

@@ -23,7 +23,7 @@ pub fn sorted_places(alloc: Global, labels: &[Label]) -> Result<List<usize>, NoM
     Ok(List::from_vec(places))
 }
 
-/// So many places, in their order.
+/// The first `count` places, in their order.
 pub fn places_of(alloc: Global, count: usize) -> Result<Vec<usize>, NoMemory>
     ensures { IfOk result (λ places. places.items ≡ range_with_len 0 count) }
 {

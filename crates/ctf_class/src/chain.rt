@@ -10,8 +10,8 @@ use ctf_list::{List, NoMemory};
 use std::alloc::Global;
 use std::collections::BTreeMap;
 
-/// For each label one past the place of the last label before it of its name, or 0. Of `n` labels, takes time
-/// like `n` times its logarithm.
+/// One number for each label: one past the place of the last label before it of its name, or 0. Of `n` labels, takes
+/// time like `n` times its logarithm.
 pub fn chain_of(alloc: Global, labels: &[Label]) -> Result<List<usize>, NoMemory>
     ensures { IfOk result (IsChain labels.now) }
 {

@@ -101,7 +101,7 @@ impl Choices {
 impl Kept {
     ghost use Rattle.ctf_class.specs.ChoiceSearch.{choices_named, choices_kept};
 
-    /// How choices are kept: as a list where there are no more labels than two for each option, and one.
+    /// How choices are kept: as a list where there are at most `2 * count + 1` labels.
     fn of(alloc: Global, named: Named) -> Result<Kept, NoMemory>
         ensures { IfOk result (λ kept. choices_kept kept ≡ choices_named named) }
     {

@@ -18,7 +18,8 @@ use std::marker::Model;
 pub struct FrontClass {
     class: Class,
     places: RolePlaces,
-    /// Of each member whether it has a name that no line shows of a packet context.
+    /// For each member, in their order, whether lines leave a member of its name out of a packet context, as
+    /// `packet_size`. Settled once, so that no name is compared for a line.
     hidden: List<bool>,
 }
 
@@ -66,7 +67,7 @@ impl FrontClass {
         })
     }
 
-    /// The class.
+    /// The class of the packet's header or context.
     pub fn class(&self) -> &Class
         ensures { result.now ≡ self.now }
     {
@@ -155,7 +156,7 @@ fn place_in(members: &[Member], name: &[u8]) -> Option<usize>
         .position(|member| member.name.as_slice() == name)
 }
 
-/// Of each member whether it has a name that no line shows of a packet context.
+/// For each member, in their order, whether lines leave a member of its name out of a packet context.
 fn hidden_in(alloc: Global, members: &[Member]) -> Result<List<bool>, NoMemory>
     ensures { IfOk result (λ hidden. hidden ≡ are_of_packet members.now) }
 {
@@ -166,7 +167,7 @@ fn hidden_in(alloc: Global, members: &[Member]) -> Result<List<bool>, NoMemory>
     Ok(hidden)
 }
 
-/// Whether a packet context's member of this name is shown in no line.
+/// Whether lines leave a member of this name out of a packet context.
 fn says_of_packet(name: &[u8]) -> bool
     ensures { result ≡ is_of_packet name.now }
 {

@@ -27,14 +27,14 @@ pub struct HeaderPlan {
     pub tag: Integer,
     /// How the tag is read.
     pub tag_window: Window,
-    /// The first and the last of the tag's numbers for which it holds.
+    /// The first and the last of the tag's numbers for which the plan holds.
     pub first: u64,
     pub last: u64,
-    /// What sets the clock.
+    /// The integer that sets the clock.
     pub stamp: Integer,
-    /// Where it begins, in bits from the header's first one.
+    /// Where the stamp begins, in bits from the header's first one.
     pub stamp_place: u64,
-    /// How it is read.
+    /// How the stamp is read.
     pub stamp_window: Window,
     /// Where the header ends, in bits from its first one.
     pub end: u64,
@@ -47,7 +47,8 @@ struct AlignedInteger {
     integer: Integer,
 }
 
-/// The plan of event headers of a class, if there is one and they are of the usual form.
+/// The plan for event headers of a class; `None` where there is no class, or it is not of the form that `HeaderPlan`
+/// names.
 pub(crate) fn header_plan(class: Option<&Class>) -> Option<HeaderPlan>
     ensures { IsHeaderPlanOf (option_copied class.entry) result }
 {
@@ -57,7 +58,7 @@ pub(crate) fn header_plan(class: Option<&Class>) -> Option<HeaderPlan>
     }
 }
 
-/// What is read of the headers of this class, if it is such a one.
+/// The plan for headers of this class; `None` where it is not of the form that `HeaderPlan` names.
 fn plan_of(class: &Class) -> Option<HeaderPlan>
     ensures { IfSome result (λ plan. IsHeaderPlan plan class.now) }
 {
@@ -108,7 +109,7 @@ fn plan_of(class: &Class) -> Option<HeaderPlan>
     })
 }
 
-/// Where the stamp begins, in bits from the header's first one, if that is the same wherever the header is.
+/// Where the stamp begins, in bits from the header's first one; `None` where that depends on where the header is.
 fn stamp_place(
     header: Align,
     tag: Align,
@@ -130,8 +131,8 @@ fn stamp_place(
     Some(stamp.up(option.up(size_of(integer))))
 }
 
-/// How an unsigned integer is read that is at a place after the first bit of a byte, if it is little endian and lies in
-/// eight bytes.
+/// How an unsigned integer is read that begins `place` bits after a byte's first bit; `None` where it is not little
+/// endian or reaches a ninth byte.
 fn window_of(integer: &Integer, place: u64) -> Option<Window>
     ensures is { IfSome result
         (λ window. window ≡
@@ -159,7 +160,7 @@ fn size_of(integer: &Integer) -> u64
     u64::from(integer.size.bits())
 }
 
-/// An unsigned enumeration named `id`.
+/// The integer of a member that is an unsigned enumeration named `id`; `None` of any other member.
 fn tag_of(member: &Member) -> Option<Integer>
     ensures { IfSome result (IsTagOf member.now) }
 {
@@ -172,7 +173,7 @@ fn tag_of(member: &Member) -> Option<Integer>
     Some(*container)
 }
 
-/// The member of a structure, if it is the only one, and an unsigned integer that sets the clock and is not named `id`.
+/// The only member of a structure, if it is an unsigned integer that sets the clock and is not named `id`.
 fn stamp_of(class: &Class) -> Option<AlignedInteger>
     ensures { IfSome result (λ stamp. IsStampOf class.now stamp.align stamp.integer) }
 {

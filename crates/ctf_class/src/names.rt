@@ -12,7 +12,7 @@ use ctf_list::{List, NoMemory};
 use std::alloc::Global;
 use std::marker::Model;
 
-/// So many names are found by a walk.
+/// Up to so many names are found by a walk.
 const FEW: usize = 12;
 
 /// How names are found.

@@ -60,7 +60,7 @@ pub fn place_by_rank(names: &[FieldName], order: &[usize], name: &[u8]) -> Optio
     None
 }
 
-/// Whether there is a name of a rank, which comes after that of the rank before.
+/// Whether there is a name of a rank, and it comes after that of the rank before.
 fn is_next(names: &[FieldName], order: &[usize], rank: usize) -> bool
     ensures { IsTrue result → IsNext names.now order.now rank }
 {

@@ -360,7 +360,7 @@ impl Making {
         Some((*integer, window))
     }
 
-    /// One more number of the open run.
+    /// Adds a number to the open run.
     fn add_number(&mut self, number: PlainNumber) -> Result<(), NoMemory>
         requires near { number.window.place + number.window.size ≤ 2 ^ 33 }
         requires short { length number.ready ≤ LONGEST_TEXT }

@@ -35,7 +35,7 @@ pub struct Route {
 }
 
 impl Route {
-    /// Whether it leads to the member before that of an index in the innermost structure.
+    /// Whether the route leads to the member before that of an index in the innermost structure.
     pub fn leads_before(&self, index: usize) -> bool
         ensures { IsTrue result → LeadsBefore self.now index }
     {

@@ -49,8 +49,7 @@ pub struct StreamParts {
     pub event_header: Option<Class>,
     /// The class of the stream event context (CTF 1.8.3, section 6.2).
     pub event_context: Option<Class>,
-    /// The clock of the stream (CTF 1.8.3, section 8), where a clock-mapped integer is in its packet context or event
-    /// header.
+    /// The clock of the stream (CTF 1.8.3, section 8), where an integer of its packet context or event header sets one.
     pub clock: Option<Clock>,
     /// The event classes (CTF 1.8.3, section 6), in the order of the text.
     pub events: Indexed<EventClass>,
@@ -124,7 +123,7 @@ impl HasId for StreamClass {
 }
 
 impl EventClass {
-    /// Its name.
+    /// The name of the event.
     pub fn name(&self) -> &[u8]
         ensures { result.now ≡ self.now.heading.name }
     {
@@ -223,7 +222,7 @@ impl StreamClass {
         Some(PlannedEvent { event, plan })
     }
 
-    /// The clock.
+    /// The clock of the stream, where an integer of its packet context or event header sets one.
     pub fn clock(&self) -> Option<&Clock>
         ensures { option_copied result ≡ self.now.clock }
     {
@@ -285,7 +284,7 @@ impl TraceClass {
         self.streams.only()
     }
 
-    /// The host.
+    /// The name of the host, if the metadata has one.
     pub fn host(&self) -> Option<&[u8]>
         ensures { option_copied result ≡ self.now.host }
     {

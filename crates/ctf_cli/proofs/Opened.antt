@@ -33,7 +33,7 @@ opened_more given first path name (Some s) (Ok rest) = ap (λ xs. Ok xs) (sym (a
 opened_more given first path name (Some s) (Err later) = refl
 
 module _ (files : Files) (dir : List ℕ) (names : List (String Global)) (k : ℕ) (name : String Global) (first : List Stream) where
-  -- the streams of the names from a place on, after those of the names in front of it
+  -- the streams of all names are those so far, and after them those of the names from a place on
   abbrev AreSoFar : ℕ → List Stream → Type 0
   AreSoFar n streams = streams_in files dir (map (string_bytes {Z = Global}) names) ≡ after streams (streams_in files dir (map (string_bytes {Z = Global}) (drop n names)))
 

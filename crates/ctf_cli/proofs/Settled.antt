@@ -4,7 +4,7 @@ use Rattle.std.proofs.lemmas.Bool.{false≢true}
 use Rattle.std.specs.Io.KnownBytes.{append_known}
 use Rattle.ctf_cli.specs.LogWriters.{is_empty}
 
--- then it is what the writer after it holds
+-- then the inner writer has all of it
 pub all_passed : (known : Option (List ℕ)) (held : List ℕ) → IsTrue (is_empty held) → unwrap_or known [] ≡ unwrap_or (append_known known held) []
 all_passed None [] nothing = refl
 all_passed (Some bytes) [] nothing = sym (append-nil bytes)

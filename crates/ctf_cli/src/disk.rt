@@ -23,7 +23,7 @@ const AHEAD: usize = 1_048_576;
 /// How many bytes of one stream are read ahead at the most.
 const AHEAD_OF_ONE: usize = 65_536;
 
-/// How many of the last file that is not kept open.
+/// How many bytes are read ahead at the most of the last file that was opened anew.
 const AHEAD_OF_LAST: usize = 4_096;
 
 /// The file system of a runtime, and what its streams share.
@@ -192,7 +192,7 @@ fn is_link<R: Files>(rt: &R, path: &str) -> bool {
     }
 }
 
-/// Whether this is reported of a link that leads to no file.
+/// Whether an error of this kind is reported where a link leads to no file.
 fn leads_nowhere(kind: ErrorKind) -> bool {
     match kind {
         ErrorKind::NotFound | ErrorKind::NotADirectory | ErrorKind::FilesystemLoop => true,
@@ -244,7 +244,7 @@ struct ReadFile<R: Files> {
 }
 
 impl<R: Files> ReadFile<R> {
-    /// Reads the next bytes. So many more may be read ahead.
+    /// Reads the next bytes. Up to `most` bytes after them may be read ahead.
     #[inline(always)]
     fn read(&mut self, most: usize, buf: &mut [u8]) -> io::Result<usize>
         requires { 0 < length buf.old }

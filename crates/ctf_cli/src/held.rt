@@ -43,7 +43,7 @@ impl Held {
         }
     }
 
-    /// Holds nothing, and so many bytes at the most.
+    /// Holds nothing yet, and has room for `most` bytes.
     pub(crate) fn new(alloc: Global, most: usize) -> Result<Held, NoMemory>
         ensures bytes { IfOk result (λ held. held.bytes ≡ []) }
         ensures room { IfOk result (λ held. held.room ≡ most) }
@@ -85,7 +85,7 @@ impl Held {
         self.end += bytes.len();
     }
 
-    /// Holds what a reader gives at once, as many bytes as there is room for, where nothing is held. How many.
+    /// Holds what a reader gives at once, up to the room, where nothing is held, and answers how many bytes.
     pub(crate) fn fill<R: Read>(&mut self, reader: &mut R) -> io::Result<usize>
         requires nothing { self.old.bytes ≡ [] }
         requires room { 0 < self.old.room }

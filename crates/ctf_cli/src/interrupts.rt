@@ -29,7 +29,7 @@ fn is_interrupted(error: &Error) -> bool
     error.kind() == ErrorKind::Interrupted
 }
 
-/// Reads once.
+/// Reads once, and again as long as the read was interrupted.
 pub(crate) fn read_uninterrupted<R: Read>(reader: &mut R, buf: &mut [u8]) -> io::Result<usize>
     ensures bound { ReadsAtMost result buf.new }
     ensures same { length buf.new ≡ length buf.old }
@@ -60,7 +60,7 @@ impl<W: Write> Model for Retrying<W> {
 }
 
 impl<W: Write> Retrying<W> {
-    /// A writer around this one.
+    /// A writer around this one that writes again where a signal interrupts it.
     pub(crate) fn new(inner: W) -> Retrying<W>
         ensures { result ≡ inner }
     {

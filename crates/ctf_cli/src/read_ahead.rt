@@ -9,13 +9,13 @@ use crate::interrupts::read_uninterrupted;
 use std::alloc::Global;
 use std::io::{self, Read};
 
-/// A read of so many bytes is no small one.
+/// From how many bytes on a read is no small one.
 const LARGE: usize = 8_192;
 
 /// The least room that is worth having.
 const LEAST: usize = 512;
 
-/// One part in so many of what small reads gave is read ahead.
+/// The bytes that small reads gave are divided by this: so many are read ahead.
 const PART: usize = 4;
 
 /// Bytes of a reader that are held until they are asked for. There is no room for any until small reads come, and none
@@ -40,8 +40,8 @@ impl ReadAhead {
         }
     }
 
-    /// Gives the next bytes: those that are held, or else those of the reader after them. Of that so many more may be held.
-    /// Mostly some are held, which takes no call.
+    /// Gives the next bytes: those that are held, or else those of the reader, of which up to `most` more may then be
+    /// held. Mostly some are held, which takes no call.
     #[inline(always)]
     pub(crate) fn read<R: Read>(
         &mut self,
@@ -60,7 +60,7 @@ impl ReadAhead {
         self.read_next(reader, most, buf)
     }
 
-    /// Gives the next bytes of a reader, where nothing is held. So many more may be held.
+    /// Gives the next bytes of a reader, where nothing is held. Up to `most` bytes after them may be held.
     #[inline(never)]
     fn read_next<R: Read>(
         &mut self,
@@ -147,7 +147,7 @@ impl ReadAhead {
     }
 }
 
-/// Gives the first of the bytes that are held, as many as go into the buffer. How many.
+/// Gives the first of the bytes that are held, as many as go into the buffer, and answers how many.
 #[inline(always)]
 fn give(held: &mut Held, buf: &mut [u8]) -> usize
     requires { 0 < length buf.old }

@@ -33,7 +33,7 @@ pub struct DeclaredOnce {
 }
 
 impl DeclaredOnce {
-    /// No declarations.
+    /// What is kept before the first declaration.
     pub fn new(alloc: Global) -> DeclaredOnce
         ensures { Remembers result [] }
     {

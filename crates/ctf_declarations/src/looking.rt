@@ -123,7 +123,7 @@ fn container_of(
     }
 }
 
-/// An enumeration.
+/// The class of an enumeration with this container and these labels.
 pub fn enumeration(
     alloc: Global,
     seen: &Visible<'_>,

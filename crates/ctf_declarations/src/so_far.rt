@@ -49,7 +49,7 @@ impl DeclaredSoFar {
         }
     }
 
-    /// One more declaration, which gives no class to a scope.
+    /// Adds a declaration that gives no class to a scope.
     fn push_plain(&mut self, alloc: Global) -> Result<(), AllocError>
         ensures { OnOk result (walked self.new ≡
             plain_row (walked self.old) (names_in self.old.names)) }
@@ -58,8 +58,8 @@ impl DeclaredSoFar {
         Ok(())
     }
 
-    /// One more declaration with its scopes. It fails where the class of one is no structure or has a
-    /// floating-point class in it, and where the scopes have too many classes.
+    /// Adds a declaration with its scopes. It fails where the class of one is no structure or has a floating-point
+    /// class in it, and where the scopes have too many classes.
     fn push_row(&mut self, row: List<ScopeShape>) -> Result<(), ResolveFault>
         ensures { Follows (scopes_told (walked self.old) (map placed_seen row))
             (λ _. walked self.new) result }

@@ -29,7 +29,7 @@ pub enum Visible<'a> {
 }
 
 impl BlockNames {
-    /// No names.
+    /// The names of a block before its first entry: none.
     pub fn new(alloc: Global) -> BlockNames
         ensures { names_in result ≡ nothing_seen }
     {

@@ -8,18 +8,18 @@ use ctf_class::Align;
 /// What is kept with a class, or with classes that are beside one another.
 #[derive(Clone, Copy)]
 pub struct Facts {
-    /// In bits.
+    /// The alignment, in bits.
     pub align: Align,
-    /// Stops at the largest number.
+    /// How deep classes lie in one another; at the most the largest number.
     pub depth: u32,
-    /// Stops at the largest number.
+    /// How many classes there are; at the most the largest number.
     pub nodes: u32,
     /// Whether a floating-point class is somewhere in it.
     pub has_float: bool,
 }
 
 impl Facts {
-    /// Of a class without parts.
+    /// The facts of a class without parts.
     pub fn leaf(align: Align) -> Facts
         ensures align { result.align ≡ align }
         ensures depth { result.depth ≡ 1 }
@@ -34,7 +34,7 @@ impl Facts {
         }
     }
 
-    /// Of a class around others.
+    /// The facts of a class around parts that have these facts.
     pub fn around(self) -> Facts
         ensures align { result.align ≡ self.align }
         ensures depth { result.depth ≡ stopped (1 + self.depth) }
@@ -49,7 +49,7 @@ impl Facts {
         }
     }
 
-    /// Of these classes and one beside them.
+    /// The facts of classes that have these facts and of one more class beside them.
     pub fn beside(self, part: Facts) -> Facts
         ensures align { result.align ≡ max part.align self.align }
         ensures depth { result.depth ≡ max self.depth part.depth }

@@ -42,7 +42,7 @@ impl Known {
     ghost use Rattle.ctf_declared_class.specs.Views.{shape};
     ghost use Rattle.ctf_declared_class.specs.Knowns.{known, field};
 
-    /// An integer.
+    /// The class that is this integer.
     pub fn integer(alloc: Global, integer: DeclaredInteger) -> Result<Known, NoMemory>
         ensures { IfOk result (λ k. known k ≡ plain.integer integer) }
     {
@@ -50,7 +50,7 @@ impl Known {
         Known::with_facts(alloc, Shape::Integer(integer), facts)
     }
 
-    /// A floating-point number.
+    /// The class of a floating-point number.
     pub fn float(alloc: Global) -> Result<Known, NoMemory>
         ensures { IfOk result (λ k. known k ≡ plain.float) }
     {
@@ -61,14 +61,14 @@ impl Known {
         Known::with_facts(alloc, Shape::Float, facts)
     }
 
-    /// A string.
+    /// The class of a string.
     pub fn string(alloc: Global) -> Result<Known, NoMemory>
         ensures { IfOk result (λ k. known k ≡ plain.string) }
     {
         Known::with_facts(alloc, Shape::String, Facts::leaf(one_byte()))
     }
 
-    /// An enumeration of a container.
+    /// The class of an enumeration of a container.
     pub fn enumeration(
         alloc: Global,
         container: DeclaredInteger,

@@ -64,7 +64,7 @@ impl Members {
         Members { names, shapes }
     }
 
-    /// How many there are.
+    /// The number of members.
     pub fn len(&self) -> usize
         ensures { result ≡ length (fields_in (members self.now)) }
     {
@@ -73,7 +73,7 @@ impl Members {
         names.min(shapes)
     }
 
-    /// The name of one.
+    /// The name of the member at a place.
     pub fn name(&self, place: usize) -> &[u8]
         requires { place < length (fields_in (members self.now)) }
         ensures { option_map (λ f. f.name) (slice_get (fields_in (members self.now)) place) ≡
@@ -82,7 +82,7 @@ impl Members {
         self.field_name(place).as_slice()
     }
 
-    /// The name of one, with what is printed for it.
+    /// The name of the member at a place, with what is printed for it.
     pub fn field_name(&self, place: usize) -> &FieldName
         requires { place < length (fields_in (members self.now)) }
         ensures { option_map (λ f. f.name) (slice_get (fields_in (members self.now)) place) ≡
@@ -91,7 +91,7 @@ impl Members {
         item_at(self.names.get().as_slice(), place)
     }
 
-    /// The class of one, which is less deep than the compound.
+    /// The class of the member at a place, which is less deep than the compound.
     pub fn shape(&self, place: usize) -> &Shape
         requires { place < length (fields_in (members self.now)) }
         ensures value { option_map (λ f. f.shape) (slice_get (fields_in (members self.now)) place) ≡
@@ -101,7 +101,7 @@ impl Members {
         item_at(self.shapes.get().as_slice(), place).get()
     }
 
-    /// The first of a name: its place and its class.
+    /// The place and the class of the first member of a name.
     pub fn get(&self, name: &[u8]) -> Option<(usize, &Shape)>
         ensures { option_map place_and_shape result ≡
             option_map place_and_class (member_named name.now (fields_in (members self.now))) }

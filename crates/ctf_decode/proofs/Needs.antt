@@ -79,7 +79,7 @@ none_end p xs e = elim (test (position_or_len p xs) (length xs)) [
   | inr t ↦ t.1
 ]
 
--- a text that has no such byte in its beginning has it after
+-- a text without such a byte in its beginning has it after that beginning
 position_past : (p : ℕ → Bool) (xs ys : List ℕ) (m : ℕ) → position p xs ≡ None → position p (xs ++ ys) ≡ Some m → length xs ≤ m
 position_past p xs ys m none some =
     let at = position-Some p (xs ++ ys) m 0 some in

@@ -125,7 +125,7 @@ fn number_of(value: &Value) -> u64
     0
 }
 
-/// An enumeration's number.
+/// The number of an enumeration; `None` where the value is none.
 pub(crate) fn tag_of(value: &Value) -> Option<i128>
     ensures { result ≡ routes.tag_of (Some (val value.now)) }
 {

@@ -40,7 +40,7 @@ pub fn moving_into(
     put_moved(class, value, found)
 }
 
-/// Puts the clock-mapped integers of a value after those that were found.
+/// Puts the integers of a value that set the clock after those that were found.
 #[cycle(moved)]
 fn put_moved(class: &Class, value: &Value, found: &mut Vec<(u32, u64)>) -> Result<(), NoMemory>
     requires stamps { All IsStamp found.old.items }
@@ -63,7 +63,7 @@ fn put_moved(class: &Class, value: &Value, found: &mut Vec<(u32, u64)>) -> Resul
     }
 }
 
-/// Puts those of members.
+/// Puts the integers of members that set the clock after those that were found.
 #[cycle(moved)]
 fn put_members(
     members: &[Member],
@@ -86,7 +86,7 @@ fn put_members(
     Ok(())
 }
 
-/// Puts those of elements.
+/// Puts the integers of elements that set the clock after those that were found.
 #[cycle(moved)]
 fn put_elements(
     element: &Class,
@@ -105,7 +105,7 @@ fn put_elements(
     Ok(())
 }
 
-/// Puts those of an option.
+/// Puts the integers of a variant's option that set the clock after those that were found.
 #[cycle(moved)]
 fn put_option(
     options: &[Member],
@@ -125,7 +125,7 @@ fn put_option(
     }
 }
 
-/// Puts those of the value of option i.
+/// Puts the integers of the value of option `i` that set the clock after those that were found.
 #[cycle(moved)]
 fn put_chosen(
     options: &[Member],
@@ -146,7 +146,7 @@ fn put_chosen(
     put_moved(&options[i].class, inner, found)
 }
 
-/// Puts an integer, if it is clock-mapped.
+/// Puts an integer after those that were found, if it sets the clock.
 fn put_integer(
     integer: &Integer,
     value: &Value,

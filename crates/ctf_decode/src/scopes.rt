@@ -51,7 +51,7 @@ impl Model for Scopes {
 }
 
 impl Scopes {
-    /// No values, and none begun.
+    /// Scopes without values, none of which was begun.
     pub fn new() -> Scopes
         ensures { result ≡ nothing_known }
     {
@@ -66,7 +66,7 @@ impl Scopes {
         }
     }
 
-    /// The value of a scope, in place of the one that was there.
+    /// Puts the value of a scope in place of the one that was there.
     pub fn put(&mut self, scope: Scope, value: Value)
         ensures { self.new ≡ with_value self.old scope value }
     {
@@ -74,8 +74,8 @@ impl Scopes {
         self.exchange(scope, &mut value);
     }
 
-    /// The value of a scope, in place of the one that was there. Afterwards `value` is unspecified; its
-    /// memory can be used again.
+    /// Puts the value of a scope in place of the one that was there. Afterwards `value` is unspecified; its memory can
+    /// be used again.
     #[inline(always)]
     pub fn exchange(&mut self, scope: Scope, value: &mut Value)
         ensures { self.new ≡ with_value self.old scope value.old }

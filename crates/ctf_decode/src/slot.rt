@@ -30,7 +30,7 @@ impl Model for Slot {
 }
 
 impl Slot {
-    /// No value.
+    /// A slot without a value.
     pub(crate) fn empty() -> Slot
         ensures { result ≡ None }
     {

@@ -96,7 +96,7 @@ pub fn before_zero(bytes: &[u8]) -> &[u8]
     }
 }
 
-/// So many bytes of a packet from a place on, in bits from its first one.
+/// The `count` bytes of a packet from the bit `begin` on, counted from its first one.
 #[inline(always)]
 pub fn bytes_at(packet: &[u8], begin: u64, count: u64) -> &[u8]
     requires { begin + 8 * count ≤ 8 * length packet.now }

@@ -11,7 +11,7 @@ pub take_after : (n k : ℕ) (xs ys zs : List ℕ) → length xs ≡ n → k ≤
 take_after n k xs ys zs is within =
     ap (λ m. take (m + k) (xs ++ (ys ++ zs))) (sym is) ∙ take-append-add xs (ys ++ zs) k ∙ ap (λ l. xs ++ l) (take-append-le k ys zs within)
 
--- what a call gave stands after the first n
+-- what a call gave is after the first n bytes
 pub kept_after : (ending : Ending) (n : ℕ) (xs buffer post left rest : List ℕ) (result : Result ℕ SourceFault) → n ≤ length xs → IfOk result (λ count. count ≤ length buffer)
     → Takes ending left rest result buffer → IfOk result (λ count. take (n + count) (take n xs ++ (buffer ++ post)) ++ rest ≡ take n xs ++ left)
 kept_after ending n xs buffer post left rest (Ok count) there within given =

@@ -105,7 +105,7 @@ module _ (trace : TraceForm Classes) (reached : Option Reached) where
       let named = stream_named trace.streams (number_in (role (codes "stream_id") trace.packet_header header)) in
       same_there reached named s (checked_there (is_magic (role (codes "magic") trace.packet_header header)) (is_of_trace trace.uuid (uuid_field trace.packet_header header)) (stream_of trace reached header) s checked)
 
--- a packet's context ends after the bytes that each header and context take
+-- a packet's context ends no earlier than the bytes that each header and context take
 pub front_ends : (trace : TraceClass) (shift : Shift) (reached : Option Reached) (bytes : ℕ) (have : List ℕ) (end first : ℕ) (known after : Known) (s : StreamForm Classes) → FrontTakes trace bytes
     → beginning.Header (trace_form shift trace) reached have end known → stream_checked (trace_form shift trace) reached (values_of known).packet_header ≡ Ok s
     → beginning.Context (trace_form shift trace) reached have s end known first after → 8 * bytes ≤ first

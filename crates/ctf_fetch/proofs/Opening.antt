@@ -97,7 +97,7 @@ module _ (next : NextScope) (k : Form) (is : form_of next.class ≡ Some k) (kno
       let found = asked_found (walk k (front bytes (values_of known)) [] next.end known.spent) h.0 q asks h.2 in
       (found.0, ap (λ c. walk k c [] next.end known.spent) (there_is bytes known) ∙ found.1, found.2)
 
-  -- so many bytes are no more than it needs, if there were so many before that it ends after
+  -- bytes up to a place are no more than the value needs, where it ends no earlier than that place
   pub near_put : (least before between now : ℕ) → ((x : Val × ℕ × ℕ) → walk k (there bytes known) [] next.end known.spent ≡ Ok x → least ≤ x.1) → between ≤ max before (least + 7)
       → (result : Result ℕ StreamFault) (after : Known) → IfOk result (λ end. PutsAsked next.scope (values_of known) (scope_asked next bytes known) end after)
       → IfOk result (λ end. now ≤ max between (end + 7)) → IfOk result (λ end. now ≤ max before (end + 7))

@@ -65,7 +65,7 @@ module _ (k : Form) (env : Env) (known : Known) (p s : ℕ) where
       let n = min (8 * length bytes) longest in
       walk_beyond bytes [] n n MOST_VALUES (earlier known) (omega arith) (omega arith) k env p s e asks
 
-  -- a value ends after what its beginning asked for
+  -- a value ends no earlier than what its beginning asked for
   pub ends_after : (bytes more : List ℕ) (e : ℕ) (x : Val × ℕ × ℕ) → at bytes ≡ Err (past e) → at (bytes ++ more) ≡ Ok x → e ≤ x.1
   ends_after bytes more e x asks found =
       let l = length-append bytes more in

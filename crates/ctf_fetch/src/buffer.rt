@@ -57,7 +57,7 @@ impl Buffer {
         }
     }
 
-    /// The bytes.
+    /// The bytes that came.
     pub fn as_slice(&self) -> &[u8]
         ensures { result.now ≡ self.now }
     {
@@ -115,7 +115,8 @@ impl Buffer {
         Ok(Filled::Whole)
     }
 
-    /// Takes some bytes of a source, so that there are at most `target`. How it ends, where it gave none.
+    /// Takes some bytes of a source, so that there are at most `target`. It answers how the source ends, where that
+    /// gave none.
     fn take_some<S: Source>(
         &mut self,
         source: &mut S,
@@ -145,7 +146,7 @@ impl Buffer {
     }
 }
 
-/// Takes bytes of a source after the first ones, up to `end` at most. How many.
+/// Takes bytes of a source after the first ones, up to `end` at most, and answers how many.
 fn take_after<S: Source>(
     source: &mut S,
     bytes: &mut [u8],

@@ -53,11 +53,12 @@ fn bits_of_scope(class: Option<&Class>) -> u64
     }
 }
 
-/// The bit at which a value at a place ends at least: it may end up to seven bits later.
+/// A bit, counted from the packet's first one, before which the value at a place does not end: it ends there or up to
+/// seven bits later. So the bytes up to it can be asked for at once.
 ///
-/// `None` where more of its size is in the packet, as that of a string, a variant, or an array in a structure whose length is
-/// in a field; where a part of it is not of whole bytes, or may not begin at each of them, since its end would be further away;
-/// where its parts lie deeper than `DEEPEST`; and where no packet is so long.
+/// `None` where its size depends on values in the packet, as that of a string, a variant, or an array in a structure
+/// whose length is in a field; where a part of it is not of whole bytes, or may not begin at each of them, since its
+/// end would be further away; where its parts lie deeper than `DEEPEST`; and where no packet is so long.
 pub(crate) fn least_end(class: &Class, place: &Place<'_>) -> Option<u64>
     requires { place.now.end ≤ longest }
     ensures least { IfSome result (EndsAtLeast class.now place.now) }
@@ -70,10 +71,12 @@ pub(crate) fn least_end(class: &Class, place: &Place<'_>) -> Option<u64>
     in_packet(u128::from(place.end) + u128::from(bits))
 }
 
-/// The bit at which a structure at a place ends at least, whatever the alignments of its parts are.
+/// A bit, counted from the packet's first one, before which the structure at a place does not end: its begin and the
+/// bits of its parts, without the padding that alignments may ask for between them. So the bytes up to it can be asked
+/// for at once, whatever these alignments are.
 ///
-/// `None` where the class is another one, where more of its size is in the packet, where its parts lie deeper than `DEEPEST`,
-/// and where no packet is so long.
+/// `None` where the class is no structure, where its size depends on values in the packet, where its parts lie deeper
+/// than `DEEPEST`, and where no packet is so long.
 pub(crate) fn structure_end(class: &Class, place: &Place<'_>) -> Option<u64>
     requires { place.now.end ≤ longest }
     ensures least { IfSome result (EndsAtLeast class.now place.now) }
@@ -110,7 +113,7 @@ fn is_packed(class: &Class) -> bool {
     }
 }
 
-/// Whether members are.
+/// Whether each part of the members takes whole bytes and may begin at each of them.
 #[cycle(packed)]
 fn are_packed(members: &[Member]) -> bool {
     for member in members {

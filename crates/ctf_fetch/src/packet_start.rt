@@ -56,7 +56,7 @@ pub struct PacketStart<'a> {
 #[derive(Clone, Copy)]
 pub(crate) struct Opening<'a> {
     begun: Begun<'a>,
-    /// In bits. `None` where it gives none, and is the rest of its stream.
+    /// Its sizes, in bits. `None` where its context gives none: then it is the rest of its stream.
     sizes: Option<Sizes>,
 }
 
@@ -76,7 +76,7 @@ fn fill_whole<S: Source>(intake: &mut Intake<'_, S>, count: usize) -> Result<(),
     }
 }
 
-/// Takes all bytes that are left, if a packet can have as many. How the stream ends.
+/// Takes all bytes that are left, if a packet can have as many, and answers how the stream ends.
 fn fill_rest<S: Source>(intake: &mut Intake<'_, S>) -> Result<Ending, StreamFault>
     requires { length intake.old.buffer.now ≤ longest_bytes }
     ensures keeps { Keeps S.Source intake.old intake.new }
@@ -112,7 +112,8 @@ impl<'a> PacketStart<'a> {
         }
     }
 
-    /// Goes on to where the packet ends that begins here: to what the stream came to by it, at a byte of the stream.
+    /// Goes on to the end of the packet that begins here, which is at the byte `at` of the stream. `reached` is what
+    /// the stream came to by it.
     pub fn go_on(&mut self, reached: Reached, at: u64)
         ensures trace { self.new.trace ≡ self.old.trace }
         ensures shift { self.new.shift ≡ self.old.shift }
@@ -174,8 +175,8 @@ impl<'a> PacketStart<'a> {
         }
     }
 
-    /// Takes the bytes that each header and context ask for, as far as the stream has them. How the stream ends, where it has
-    /// no byte more.
+    /// Takes the bytes that each header and context ask for, as far as the stream has them. It answers how the stream
+    /// ends, where that has no byte more.
     fn take_first<S: Source>(
         &self,
         intake: &mut Intake<'_, S>,
@@ -203,7 +204,8 @@ impl<'a> PacketStart<'a> {
         }
     }
 
-    /// The packet of which the first byte is there, and no byte that not each header and context ask for.
+    /// Opens the packet whose first bytes are in the buffer: at least one, and at most as many as each header and
+    /// context of the trace take, so that none of them is of the next packet.
     fn open<S: Source>(
         &self,
         alloc: Global,
@@ -293,14 +295,15 @@ impl<'a> PacketStart<'a> {
     }
 }
 
-/// Memory of the values of the packet before. What these are means nothing.
+/// Values of the packet before, whose memory the header and the context of the next one are decoded into. What the
+/// values are means nothing.
 #[derive(Drop)]
 struct PacketScratch {
     header: Value,
     context: Value,
 }
 
-/// Removes the values. The memory of those of the packet's header and context.
+/// Removes all values from the scopes. It gives those of the packet's header and context, for their memory.
 fn forget(scopes: &mut Scopes) -> PacketScratch
     ensures { scopes.new ≡ nothing_known }
 {
@@ -314,7 +317,7 @@ fn forget(scopes: &mut Scopes) -> PacketScratch
     PacketScratch { header, context }
 }
 
-/// Takes the bytes of a packet with this opening. Its sizes.
+/// Takes the remaining bytes of a packet with this opening, and gives the packet's sizes.
 fn fill_sizes<S: Source>(
     intake: &mut Intake<'_, S>,
     opening: Opening<'_>,

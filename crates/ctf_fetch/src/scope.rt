@@ -28,8 +28,9 @@ pub(crate) struct NextScope<'a> {
     pub(crate) alloc: Global,
 }
 
-/// Puts the value of a header or a context in its scope, for which bytes are taken as they are needed. The bit at which
-/// it ends. The memory of `spare` may be used for it, and an unspecified value is in it then.
+/// Decodes the value of a header or a context into its scope, for which bytes are taken as they are needed. The bit at
+/// which it ends, from the packet's first one. The memory of `spare` may be used for it, and an unspecified value is in
+/// it then.
 ///
 /// An error is its fault: F1, F5, F8, F11 or F13; or `NoMemory`.
 pub(crate) fn scope_on_demand<S: Source>(
@@ -65,8 +66,12 @@ pub(crate) fn scope_on_demand<S: Source>(
     }
 }
 
-/// Puts the value of this class in its scope, if all of its bytes are there. The bit at which it ends. The memory of `spare`
-/// may be used for it, and an unspecified value is in it then.
+/// Decodes the value of this class into its scope from the bytes that are in the buffer, and asks for none. The bit at
+/// which it ends, from the packet's first one.
+///
+/// `None`, with the scopes as they were, where bytes are missing, the value has a fault or an allocation fails:
+/// decoding it part by part then gives which. Tried first, since mostly all bytes are there, and a whole value is
+/// decoded faster than its parts. The memory of `spare` may be used for it, and an unspecified value is in it then.
 #[inline(always)]
 fn scope_at_hand(
     class: &Class,
@@ -101,8 +106,9 @@ fn scope_at_hand(
     }
 }
 
-/// Puts the value of this class in its scope. Where it is known how many bits that takes at least, these are asked for at once;
-/// and where it takes no more, as a structure of integers, it is made in the memory of `spare`.
+/// Decodes the value of this class into its scope, and gives the bit at which it ends. Where it is known how many bits
+/// the value takes at least, these are asked for at once; where it takes no more, as a structure of integers, it is
+/// decoded into the memory of `spare`.
 fn class_on_demand<S: Source>(
     class: &Class,
     next: &NextScope<'_>,
@@ -143,7 +149,7 @@ fn class_on_demand<S: Source>(
     }
 }
 
-/// Puts the value of this class in its scope, part by part.
+/// Decodes the value of this class into its scope part by part, and gives the bit at which it ends.
 fn parts_on_demand<S: Source>(
     class: &Class,
     next: &NextScope<'_>,

@@ -128,7 +128,7 @@ pub scope_finds : (seen : Seen) (input : ScopeInput) (l : Last) (scope : Scope) 
     → (earlier : Scope → Option Val) (env : Env) → Sees seen earlier env → Finds l (found_from (Earlier scope) steps earlier env)
 scope_finds seen input l scope steps is finds earlier env sees = finds earlier (subst (λ i. ScopesAre (known_in i) earlier) (sym is) (scopes_of seen earlier env sees))
 
--- Whatever is seen around it, what stands after any members stands in a structure.
+-- A value that is written after any members is written in a structure, whatever is seen around it.
 pub writes_any : (r : Option Next) (k : Form) (shown : Shown) (place : ℕ) (line items : List ℕ) (seen : Seen) → ((before : Before) → Writes r before k shown seen.packet.now place line items) → WritesIn r seen k shown place line items
 writes_any None k shown place line items seen writes = tt
 writes_any (Some n) k shown place line items seen writes = within

@@ -59,7 +59,7 @@ pub elements_length : (shown : Shown) (k : ℕ) (vs : List Val) → length (elem
 elements_length shown k [] = refl
 elements_length shown k (w ∷ vs) = ap suc (elements_length shown (suc k) vs)
 
--- As many elements as an index tells were written, and the others stand after them: so the loop over elements goes.
+-- The loop over elements: as many as an index says were written, and the others are after them.
 abbrev pub Going : ℕ → Integer → ℕ → List ℕ → ℕ → ℕ → ℕ → ℕ → List ℕ → List ℕ → Type 0
 Going a i count packet content place k at before line =
     (spent : ℕ) → spent + count ≤ MOST_VALUES → (earlier : Scope → Option Val) (env : Env)
@@ -154,7 +154,7 @@ next_class None before k l shown told packet content place line after forms_are 
 next_class (Some n) before k l shown told packet content place line after forms_are texts_are puts =
     subst (λ t. PutsNext before l t packet content place line n (take n.text after)) texts_are (subst (λ f. PutsNext before f shown packet content place line n (take n.text after)) forms_are puts)
 
--- a value after its name is the member
+-- a name and a value after it are the member
 pub next_named : (before : Before) (m : Member) (lead : List ℕ) (packet : List ℕ) (content place : ℕ) (from line : List ℕ) (n : Next) (after name : List ℕ) → line ≡ from ++ (lead ++ name) → name ≡ field_text m.name → PutsNext before (form m.class) (value_text m.class) packet content place line n after
     → PutsNext before (form m.class) (λ v. lead ++ part_text (member_part m) v) packet content place from n after
 next_named before m lead packet content place from line n after name wrote named puts spent room earlier env vs counted last =
@@ -168,7 +168,7 @@ pub named_some : (r : Option Next) (before : Before) (m : Member) (lead : List �
 named_some None before m lead packet content place from line after name wrote named puts = tt
 named_some (Some n) before m lead packet content place from line after name wrote named puts = next_named before m lead packet content place from line n (take n.text after) name wrote named puts
 
--- an integer after its index is an element
+-- an index and an integer after it are an element
 pub puts_element : (a : ℕ) (i : Integer) (lead k : ℕ) (packet : List ℕ) (content place end : ℕ) (before line index after : List ℕ) → line ≡ before ++ (lead ∷ 32 ∷ index) → ((v : Val) → element_text (integer_text i) k v ≡ index ++ integer_text i v)
     → PutsOne (integer a i) (integer_text i) packet content place end line after → PutsOne (integer a i) (λ v. lead ∷ 32 ∷ element_text (integer_text i) k v) packet content place end before after
 puts_element a i lead k packet content place end before line index after wrote is puts spent few earlier env =

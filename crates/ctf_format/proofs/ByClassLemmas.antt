@@ -85,7 +85,7 @@ writes_as r before k l shown told packet place line items forms_are texts_are wr
 pub writes_in_as : (r : Option Next) (seen : Seen) (k l : Form) (shown told : Shown) (place : ℕ) (line items : List ℕ) → k ≡ l → shown ≡ told → WritesIn r seen k shown place line items → WritesIn r seen l told place line items
 writes_in_as r seen k l shown told place line items forms_are texts_are writes = subst (λ t. WritesIn r seen l t place line items) texts_are (subst (λ f. WritesIn r seen f shown place line items) forms_are writes)
 
--- and it stands after what is printed before it
+-- and its text is after what is printed before it
 pub writes_after : (r : Option Next) (seen : Seen) (k : Form) (shown told : Shown) (place : ℕ) (from line items lead : List ℕ) → line ≡ from ++ lead → ((v : Val) → told v ≡ lead ++ shown v) → WritesIn r seen k shown place line items → WritesIn r seen k told place from items
 writes_after None seen k shown told place from line items lead wrote is writes = tt
 writes_after (Some n) seen k shown told place from line items lead wrote is writes = λ spent room earlier env sees.
@@ -181,8 +181,8 @@ writes_option seen a tag choices ms i m place more text next line inner items wi
     let walked = begins c spent (with_option (option_at tag choices earlier env) rest) (omega (arith, room)) ∙ ap (λ o. with_option o rest) (chooses earlier env sees) ∙ choice_ok c env ms i m within is place (spent + 1) p.0 next.place (spent + 1 + 1 + next.more) p.1 ∙ ap (λ n. Ok (choice i p.0, next.place, n)) total in
     (choice i p.0, walked, closes ∙ closed_option ms i m p.0 inner line within is p.2, tt)
 
--- As many elements as an index tells were written, with so many values in them, and the others stand after them: so the loop
--- over elements goes.
+-- The loop over elements: as many as an index says were written, with so many values in them, and the others are after
+-- them.
 abbrev pub Going : Seen → Form → Shown → ℕ → ℕ → ℕ → ℕ → ℕ → List ℕ → List ℕ → Type 0
 Going seen k shown count place i at more line now =
     (spent : ℕ) → spent + count + more ≤ MOST_VALUES → (earlier : Scope → Option Val) (env : Env) → Sees seen earlier env

@@ -26,7 +26,7 @@ cond_append : (b : Bool) (xs ys more : List ℕ) → cond b (xs ++ more) (ys ++ 
 cond_append true xs ys more = refl
 cond_append false xs ys more = refl
 
--- what stands after the digits stays there
+-- what is after the digits stays there
 pub onto_append : (k base n : ℕ) (acc more : List ℕ) → digits_onto k base true n (acc ++ more) ≡ digits_onto k base true n acc ++ more
 onto_append zero base n acc more = refl
 onto_append (suc k) base n acc more =

@@ -48,7 +48,7 @@ element_more shown vs i v line more before lead mark all in_vs v_is already wrot
     in
     ap (λ xs. xs ++ row 44 rest) wrote ∙ row_next line before text rest all lead mark (ap (λ texts. line ++ row lead texts) (sym next) ∙ already)
 
--- texts are written, and the mark after them
+-- texts are written, and then the mark after them
 pub closed_members : (ms : List Member) (vs : List Value) (line before : List ℕ) → 0 < length ms → 0 < length vs → line ≡ before ++ row 123 (members_of ms vs) → line ++ (32 ∷ 125 ∷ []) ≡ before ++ enclosed 123 125 (members_of ms vs)
 closed_members [] vs line before some_ms some_vs wrote = absurd (omega arith)
 closed_members (m ∷ ms) [] line before some_ms some_vs wrote = absurd (omega arith)

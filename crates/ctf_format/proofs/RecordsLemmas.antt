@@ -34,7 +34,7 @@ use Rattle.ctf_format.proofs.StandingLemmas.{Going, PutsAfter, anywhere, last_is
 use Rattle.ctf_format.proofs.PlainLemmas.{plain_integer}
 use Rattle.ctf_format.proofs.ArrayLemmas.{next_named, counts_last}
 
--- a value after its name is the field
+-- a name and a value after it are the field
 pub puts_named : (m : Member) (lead : List ℕ) (packet : List ℕ) (content place end : ℕ) (before line after name : List ℕ) → line ≡ before ++ (lead ++ name) → name ≡ field_text m.name → PutsOne (form m.class) (value_text m.class) packet content place end line after
     → PutsOne (form m.class) (λ v. lead ++ part_text (member_part m) v) packet content place end before after
 puts_named m lead packet content place end before line after name wrote named puts spent few earlier env =
@@ -319,7 +319,7 @@ no_number [] packet first = refl
 no_number (n ∷ []) packet first = tt
 no_number (n ∷ (m ∷ ns)) packet first = no_number (m ∷ ns) packet first
 
--- what is written after no number that is known
+-- what is written where no number before it is known
 pub after_no_number : (ns : List PlainNumber) (packet : List ℕ) (first : ℕ) (P : Option ℕ → ℕ → Type 0) (r : Option ℕ) → IfSome r (P None) → IfSome r (λ text. (last : Option ℕ) × IsLastNumber last ns packet first × P last text)
 after_no_number ns packet first P (Some text) puts = (None, no_number ns packet first, puts)
 after_no_number ns packet first P None puts = tt
@@ -337,11 +337,11 @@ last_number (m ∷ (k ∷ ns)) n r packet first some is plain read =
     let fewer : length ns - 0 ≡ suc (length ns) - 1 = omega arith in
     last_number (k ∷ ns) n r packet first (omega arith) (is ∙ ap (λ i. get_or (m ∷ (k ∷ ns)) i n) count ∙ ap (λ i. get_or (k ∷ ns) i n) fewer) plain read
 
--- nothing after them
+-- no field after the numbers of a run
 pub after_none : (rest others : List Slot) (o : Option Field) → o ≡ None → After rest o (λ xs. xs ≡ others) → rest ≡ others
 after_none rest others o is after = subst (λ f. After rest f (λ xs. xs ≡ others)) is after
 
--- a field after them
+-- a field after the numbers of a run
 pub after_some : (rest others : List Slot) (o : Option Field) (f : Field) → o ≡ Some f → After rest o (λ xs. xs ≡ others) → (s : Slot) × (rest ≡ s ∷ others) × IsField s f
 after_some rest others o f is after = one rest (subst (λ g. After rest g (λ xs. xs ≡ others)) is after)
   where
@@ -364,7 +364,7 @@ pub counts_after : (route : Route) (index n : ℕ) → LeadsBefore route index �
 counts_after route zero n leads = absurd (omega (arith, leads.1.2))
 counts_after route (suc i) n leads = counts_last route (record { index = suc i; last = known (Some n) }) n leads refl
 
--- a value after what is printed before it is its field
+-- what is printed before a value, and the value after it, are its field
 pub field_next : (s : Slot) (f : Field) (packet : List ℕ) (content begin place more some end : ℕ) (last : Option ℕ) (before line after : List ℕ) → IsField s f → begin ≡ next_multiple_of place f.align → begin ≤ content → line ≡ before ++ f.ready
     → PutsNext (after_members s.index last) (form s.member.class) (value_text s.member.class) packet content begin line (record { place = end; text = 0; more = some; last = known None }) after
     → PutsField s packet content (numbers_to place more last before) (numbers_to end (more + some) None after)

@@ -119,8 +119,8 @@ texts_length [] vs same = refl
 texts_length (p ∷ parts) [] same = absurd (omega (arith, same))
 texts_length (p ∷ parts) (w ∷ vs) same = ap suc (texts_length parts vs (omega (arith, same)))
 
--- As many members as an index tells were written, with so many values in them, and the others stand after them: so the
--- loop over members goes.
+-- The loop over members: as many as an index says were written, with so many values in them, and the others are after
+-- them.
 abbrev pub Going : ((Scope → Option Val) → Env → Type 0) → List Member → List ℕ → ℕ → ℕ → ℕ → ℕ → ℕ → (List Val → Type 0) → List ℕ → List ℕ → Type 0
 Going Where ms packet content place i at more Are before line =
     (spent : ℕ) → spent + length ms + more ≤ MOST_VALUES → (earlier : Scope → Option Val) (env : Env) → Where earlier env
@@ -132,7 +132,7 @@ Going Where ms packet content place i at more Are before line =
 abbrev pub anywhere : (Scope → Option Val) → Env → Type 0
 anywhere earlier env = ⊤
 
--- a value stands after so many members, of which this is known
+-- a value is after so many members, of which this is known
 abbrev pub PutsAfter : ((Scope → Option Val) → Env → Type 0) → (List Val → Type 0) → ℕ → Form → Shown → List ℕ → ℕ → ℕ → List ℕ → Next → List ℕ → Type 0
 PutsAfter Where Are i k shown packet content place line next after =
     (spent : ℕ) → spent + next.more < MOST_VALUES → (earlier : Scope → Option Val) (env : Env) (vs : List Val) → Where earlier env → length vs ≡ i → Are vs
@@ -299,7 +299,7 @@ as_every None P a puts = tt
 pub member-is : (m : Member) → member_part m ≡ (m.name, value_text m.class)
 member-is m = search (rules, class.the_lemmas)
 
--- a value after its name is the member
+-- a name and a value after it are the member
 pub puts_after : (m : Member) (lead : ℕ) (packet : List ℕ) (content place end : ℕ) (before line after name : List ℕ) → line ≡ before ++ (lead ∷ 32 ∷ name) → name ≡ field_text m.name → PutsOne (form m.class) (value_text m.class) packet content place end line after
     → PutsOne (form m.class) (λ v. lead ∷ 32 ∷ part_text (member_part m) v) packet content place end before after
 puts_after m lead packet content place end before line after name wrote named puts spent few earlier env =

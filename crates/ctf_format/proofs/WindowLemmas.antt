@@ -55,7 +55,7 @@ pub marked_some : (m k : ℕ) → bit_at m k ≡ 1 → 0 < m
 marked_some zero k set = absurd (omega (arith, bit_at-zero k))
 marked_some (suc m) k set = omega arith
 
--- the lowest bit is none after one that is set
+-- the lowest bit that is set is not above one that is set
 pub not_after : (m n k : ℕ) → bit_at m k ≡ 1 → ((j : ℕ) → j < n → bit_at m j ≡ 0) → n ≤ k
 not_after m n k set below = ⊎_elim (λ before. absurd (omega (arith, below k before))) (λ after. after) (cases_lt k n)
 
@@ -105,7 +105,7 @@ after_is k bytes = take_all (length bytes - k) (drop k bytes) (omega (arith, len
 take_after : (bytes : List ℕ) (k n : ℕ) → take k bytes ++ take n (bytes_after k bytes) ≡ take (k + n) bytes
 take_after bytes k n = ap (λ xs. take k bytes ++ take n xs) (after_is k bytes) ∙ sym (take-add k n bytes)
 
--- bytes that are shown as they are after others
+-- bytes that are shown as they are, after others that are
 pub plain_after : (bytes : List ℕ) (k n : ℕ) → All IsPlain (take k bytes) → All IsPlain (take n (bytes_after k bytes)) → All IsPlain (take (k + n) bytes)
 plain_after bytes k n front rest = subst (All IsPlain) (take_after bytes k n) (All-append IsPlain (take k bytes) (take n (bytes_after k bytes)) front rest)
 
@@ -134,7 +134,7 @@ window_written bytes line at count enough few room =
     sym cut ∙ ap (take (at + count)) stored ∙ ap (λ n. take (n + count) (take at line ++ piece)) (sym head) ∙ seam ∙ ap (λ xs. take at line ++ xs) wanted in
     take_more_set whole (at + count) 34 (omega arith) ∙ ap (λ xs. xs ++ (34 ∷ [])) upto ∙ append_assoc (take at line) (take count bytes) (34 ∷ [])
 
--- a window is written over the quote after another one
+-- a window is written over the quote that ends another one
 pub windows_written : (bytes line mid after : List ℕ) (at k count : ℕ) → k ≤ length bytes → k ≤ count → at ≤ length line → take (at + k + 1) mid ≡ take at line ++ (take k bytes ++ (34 ∷ []))
     → after ≡ take (at + k) mid ++ (take (count - k) (bytes_after k bytes) ++ (34 ∷ [])) → after ≡ take at line ++ (take count bytes ++ (34 ∷ []))
 windows_written bytes line mid after at k count enough many room first last =
@@ -151,7 +151,7 @@ windows_written bytes line mid after at k count enough many room first last =
     last ∙ ap (λ xs. xs ++ (rest ++ (34 ∷ []))) upto ∙ append_assoc (take at line) (take k bytes) (rest ++ (34 ∷ []))
     ∙ ap (λ xs. take at line ++ xs) (sym (append_assoc (take k bytes) rest (34 ∷ [])) ∙ ap (λ xs. xs ++ (34 ∷ [])) whole)
 
--- bytes that are shown as they are stand after a quote, in a buffer whose line was written
+-- bytes that are shown as they are, after a quote, in a buffer whose line was written
 pub quoted : (bytes items line written : List ℕ) (at end count : ℕ) → line ≡ items → length written ≡ count → end ≤ count → at < length line → All IsPlain bytes
     → take end written ≡ take (at + 1) (set line at 34) ++ (bytes ++ (34 ∷ [])) → take end (take count (written ++ drop (length written) items)) ≡ take at items ++ label_text bytes
 quoted bytes items line written at end count same long near within plain wrote =
@@ -209,7 +209,7 @@ none_before (byte ∷ bytes) (suc k) from within none =
     ap (λ b. cond b (Some from) (position_from (λ x. nat_eq x 0) (from + 1) bytes)) here
     ∙ (none_before bytes k (from + 1) (omega arith) (All-tail NotZero byte (take k bytes) none) ∙ ap (λ n. position_from (λ x. nat_eq x 0) n (drop k bytes)) next)
 
--- the first zero byte is after bytes that are none
+-- the first zero byte is no earlier than the end of bytes that are not zero
 pub zero_after : (bytes : List ℕ) (k : ℕ) (r : Option ℕ) → k ≤ length bytes → All NotZero (take k bytes) → r ≡ position (λ x. nat_eq x 0) (bytes_after k bytes) → further k r ≡ position (λ x. nat_eq x 0) bytes
 zero_after bytes k r within none found =
     let test : ℕ → Bool = λ x. nat_eq x 0 in

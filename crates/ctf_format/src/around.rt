@@ -65,7 +65,7 @@ pub(crate) struct Seen<'a> {
 }
 
 impl Members {
-    /// No members.
+    /// The members before the first one: none.
     pub fn none() -> Members
         ensures { MembersAre result [] }
     {
@@ -83,7 +83,7 @@ impl Members {
         self.count = 0;
     }
 
-    /// One member more, of this number, after so many.
+    /// Adds the last member that was read, after `index` others.
     #[inline(always)]
     pub(crate) fn push(&mut self, index: usize, last: Last)
         requires { index < 2 ^ 63 }
@@ -206,7 +206,7 @@ fn number_around(around: &Around<'_>, out: u32, index: usize) -> Last
     }
 }
 
-/// What the scope is read from that this is around.
+/// What the scope is read from in which this is.
 fn input_of<'a>(around: &'a Around<'a>) -> &'a ScopeInput<'a>
     ensures { result.now ≡ (sight around.now).input }
 {

@@ -42,7 +42,7 @@ impl Model for Printer {
 }
 
 impl Printer {
-    /// One that prints in this style, and has printed nothing. No memory is taken.
+    /// A printer in this style that has printed nothing. No memory is taken.
     pub fn new(alloc: Global, style: Style) -> Printer
         ensures style { result.style ≡ style }
         ensures text { result.text ≡ [] }

@@ -47,7 +47,7 @@ and_three true true c h = grind (arith, h)
 and_three true false c h = refl
 and_three false b c h = refl
 
--- What fails on all that stands after finds the same as before.
+-- A test that fails on all elements added at the end finds the same as before.
 pub find-append : {X : Type 0} (test : X → Bool) (xs ys : List X) → Each (λ y. test y ≡ false) ys → find test (xs ++ ys) ≡ find test xs
 find-append test [] [] hs = refl
 find-append test [] (y ∷ ys) hs = rw hs.0 (find-append test [] ys hs.1)

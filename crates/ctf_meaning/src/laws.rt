@@ -27,12 +27,12 @@ pub fn names_read_earlier()
     ensures { NamesReadEarlier }
 {}
 
-/// So does the class that is written in the part.
+/// Which class is written in a part depends on what is before the part alone.
 pub fn classes_read_earlier()
     ensures { ClassesReadEarlier }
 {}
 
-/// So does what is wrong with the part.
+/// What is wrong with a part by itself depends on what is before the part alone.
 pub fn faults_read_earlier()
     ensures { FaultsReadEarlier }
 {}

@@ -1,4 +1,4 @@
--- A declaration: what is told of it is one of its own faults, or the names and the scopes' classes after it.
+-- A declaration gives one of its own faults, or else the names and the scopes' classes as they are after it.
 use Rattle.std.proofs.Common.{◌≡◌, ℕ, suc, ◌+◌, nat_lt, inl, inr, false, List, [], ◌∷◌, ◌++◌, map, length, take, Option, Some, None, Ok, refl, ap, ap₂, sym, ◌∙◌, subst, append-nil, append_assoc, flat_map, option_and_then, slice_get, sum, Contains, if◌then◌else◌, arith}
 use Rattle.std.specs.List.{list_any}
 use Rattle.std.proofs.lemmas.List.Elements.{Contains-append_left, Contains-append_right, Contains-append_cases}

@@ -85,7 +85,7 @@ named_listed : (u n l : List ResolveFault) → (u ++ n) ++ l ≡ (((((u ++ []) +
 named_listed u n l =
     ap (λ xs. (xs ++ n) ++ l) (sym (append-nil (u ++ []) ∙ append-nil u)) ∙ sym (append-nil (((((u ++ []) ++ []) ++ n) ++ l) ++ []) ∙ append-nil ((((u ++ []) ++ []) ++ n) ++ l))
 
--- the members of a body are those that are written, all of them by the entries after it
+-- the members of a body are those that are written, each by the entries as they are after the body
 pub record Body (es : List Entry) (block : Place) (number : ℕ) (before : List Field) (is : Items) (all : List Field) : Type 0 where
   pub fields : all ≡ before ++ fields_by (shape_named (entries_after es (located_items block number is))) block number is
   pub names : map (λ f. f.name) all ≡ map (λ f. f.name) before ++ flat_map field_names (items_in is)
@@ -141,7 +141,7 @@ item_parts at part (Alias form words) = refl
 item_parts at part (Definition form ds) = refl
 item_parts at part (Compound form) = refl
 
--- The class of an item is the same after the items that follow.
+-- The class of an item is the same by the entries as they are after the items that follow.
 shape_later : (es : List Entry) (block : Place) (number : ℕ) (i : Item) (is : Items) →
     shape_of (entries_after es (located_items block number (some_items i is))) (number ∷ block) (form_in i)
     ≡ shape_of (entries_after es (located_form (number ∷ block) (form_in i))) (number ∷ block) (form_in i)
@@ -219,7 +219,7 @@ deep_members (f ∷ fs) h = by_case (nat_lt most_deep (depth_of f.shape)) refl (
 deep_compound : (fields : List Field) → has_deep fields ≡ true → nat_lt most_deep (1 + depth_of_members (members_from fields)) ≡ true
 deep_compound fields h = deep_around (depth_of_members (members_from fields)) (deep_members fields h)
 
--- whether one of the members of a body is too deep, by the entries after it
+-- whether one of the members of a body is too deep, by the entries as they are after the body
 abbrev deep_in_body : List Entry → Place → ℕ → Items → Bool
 deep_in_body es block number is = has_deep (fields_by (shape_named (entries_after es (located_items block number is))) block number is)
 
@@ -251,7 +251,7 @@ module _ (es : List Entry) (block : Place) (number : ℕ) (i : Item) (is : Items
   deep_after_item : deep_in_body next_entries block (number + 1) is ≡ true → deep_in_body es block number (some_items i is) ≡ true
   deep_after_item h = parted ∙ or_right (has_deep (fields_told i made.shape)) (deep_in_body next_entries block (number + 1) is) h
 
--- a value after members of which none is too deep
+-- a value, where no member before it is too deep
 unless_deep : {A : Type 0} (t : Told A) (b c : Bool) (F : List ResolveFault) (Q : A → Type 0) → (b ≡ true → c ≡ true) → TellsDeep t F c Q → TellsDeep (unless (when b TooDeep) t) F c Q
 unless_deep t true c F Q k h = inr (refl, k refl)
 unless_deep t false c F Q k h = h

@@ -22,7 +22,7 @@ module _ (P : Type 0) where
   Tells (Ok a) faults Q = (faults ≡ []) × Q a
   Tells (Err fault) faults Q = P → Contains faults fault
 
-  -- after other faults that do not stand
+  -- after other faults, of which there is none
   tells_after : {A : Type 0} (t : Told A) (F G : List ResolveFault) (Q : A → Type 0) → F ≡ [] → Tells t G Q → Tells t (F ++ G) Q
   tells_after (Ok a) F G Q e h = (append_none F G e h.0, h.1)
   tells_after (Err fault) F G Q e h = λ p. Contains-append_right F G fault (h p)
@@ -78,7 +78,7 @@ deep_by (Ok a) F G b c Q R e k r h = (sym e ∙ h.0, r a h.1)
 deep_by (Err fault) F G b c Q R e k r (inl h) = inl (subst (λ fs. Contains fs fault) e h)
 deep_by (Err fault) F G b c Q R e k r (inr h) = inr (h.0, k h.1)
 
--- after other faults that do not stand
+-- after other faults, of which there is none
 deep_more : {B : Type 0} (t : Told B) (F G : List ResolveFault) (deep : Bool) (R : B → Type 0) → F ≡ [] → TellsDeep t G deep R → TellsDeep t (F ++ G) deep R
 deep_more (Ok b) F G deep R e m = (append_none F G e m.0, m.1)
 deep_more (Err fault) F G deep R e (inl m) = inl (Contains-append_right F G fault m)

@@ -51,7 +51,7 @@ gives_item m new h (Some y) tells told first goes =
     )
 gives_item m new h None tells told first goes = absurd told
 
--- the reader of the item in front has left it after
+-- the reader of the current item has gone on to its next one
 pub leaves_front : (m : Merge) (n : ℕ) (x : Item Classes) (before after : Reader) → InFront m n x → before ≡ get_or m.readers n before → IsFetched after.ahead
     → (IsTrue before.tells → OrRefused (rest_of before) (coming after)) → LeavesFront (first_now m) m.readers (set m.readers n after)
 leaves_front m n x before after at is fetched goes =

@@ -319,7 +319,7 @@ length-fetched [] (s ∷ ss) each = absurd each
 length-fetched (r ∷ rs) [] each = absurd each
 length-fetched (r ∷ rs) (s ∷ ss) each = let more = length-fetched rs ss each.1 in omega (arith, more)
 
--- the reader in front leaves its item after
+-- the reader of the current item goes on to its next one
 pub leaves_one : (readers : List Reader) (n : ℕ) (x : Item Classes) (before after : Reader) → first_of (map (λ s. s.ahead) readers) ≡ item n x → before ≡ get_or readers n before
     → IsFetched after.ahead → (IsTrue before.tells → OrRefused (rest_of before) (coming after)) → LeavesOne n readers (set readers n after)
 leaves_one readers n x before after first is fetched goes =

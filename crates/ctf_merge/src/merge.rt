@@ -106,7 +106,7 @@ fn fetch_each<'a, S: Source + Drop>(readers: &mut [StreamReader<'a, S>])
     }
 }
 
-/// Gives the item in front of a reader, and fetches the next one.
+/// Gives the current item of a reader, and fetches the next one.
 fn give<'a, S: Source + Drop>(
     reader: &mut StreamReader<'a, S>,
 ) -> Result<Option<OwnedItem<'a>>, StreamFault>

@@ -22,7 +22,7 @@ const NOBODY: usize = (1 << 63) - 1;
 /// foresee it.
 #[derive(Drop)]
 pub(crate) struct TournamentTree {
-    /// A node's two lie at twice its place and after that; the first node is at 1, and nothing at 0.
+    /// The two nodes below one are at twice its place and at one more; the first node is at 1, and nothing at 0.
     nodes: Vec<u128>,
     /// How many leaves there are, and where the first one is.
     leaves: usize,

@@ -28,7 +28,7 @@ pub(crate) fn zone_of(alloc: Global, gmt: bool, rule: Option<&str>) -> Result<Zo
     }
 }
 
-/// What stamps show.
+/// The clock style that the options ask for. It fails where they ask for more than one.
 pub(crate) fn clock_of(cycles: bool, date: bool, seconds: bool) -> Result<ClockStyle, Usage>
     ensures { result ≡ ok_or (asked.clock_of cycles date seconds) Usage.Bad }
 {

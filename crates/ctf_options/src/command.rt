@@ -36,7 +36,7 @@ fn with_flag<'a>(
     command.arg(flag)
 }
 
-/// Adds the folders.
+/// Adds the folders of traces, one or more, to the command.
 fn with_dirs<'a>(alloc: Global, command: Command<'a>) -> Result<Command<'a>, AllocError>
     ensures { IfOk result (λ after. app_of after ≡
         with_rule (app_of command.entry) commands.dirs_rule) }
@@ -48,7 +48,7 @@ fn with_dirs<'a>(alloc: Global, command: Command<'a>) -> Result<Command<'a>, All
     command.arg(dirs)
 }
 
-/// The command.
+/// The command `bt-ctf` with its options.
 fn bt_ctf<'a>(alloc: Global) -> Result<Command<'a>, AllocError>
     ensures { IfOk result (λ command. app_of command ≡ commands.bt_ctf) }
 {

@@ -4,7 +4,7 @@ ghost use Rattle.std.specs.Prelude.{◌≡◌, ◌<◌, ◌^◌, MatchOption, No
 ghost use Rattle.std.specs.Str.Parse.{starts_with_minus};
 ghost use Rattle.ctf_options.specs.Numbers as numbers;
 
-/// What is before and after the first such character.
+/// What is before and after the first `mark` of a text.
 pub(crate) fn halves(text: &str, mark: char) -> Option<(&str, &str)>
     requires { mark < 128 }
     ensures { MatchOption result (numbers.halves mark text.now ≡ None)

@@ -105,7 +105,7 @@ module _ {C : Type 0} (trace : TraceForm C) (ending : Ending) (reached : Option 
 pub refused : {A B : Type 0} (view : A → B) (x : Result A StreamFault) (f : StreamFault) (r : Result B StreamFault) → x ≡ Err f → (r ≡ Err f) ⊎ (f ≡ faults.NoMemory) → OrRefused view x r
 refused view x f r e h = subst (λ y. OrRefused view y r) (sym e) h
 
--- what was placed after the sizes
+-- the packet once its sizes are known
 pub placed_or : {A B : Type 0} (view : A → B) (x : Result A StreamFault) (r s : Result B StreamFault) → r ≡ s → Exactly view x s → OrRefused view x r
 placed_or view (Ok y) r s e h = e ∙ h
 placed_or view (Err f) r s e h = inl (e ∙ h)

@@ -72,7 +72,7 @@ walked_err k bytes content known place TooManyValues h =
     ap (λ (x : Input). walk k x [] place known.spent) (sym (same_input bytes content known)) ∙ sym (walk_only k (input_in bytes content known) [] place known.spent (Err too_many) h)
 walked_err k bytes content known place NoMemory h = tt
 
--- what stands after the scopes
+-- the value at a place, put into its scope
 pub puts_ok : (k : Form) (bytes : List ℕ) (content : ℕ) (old after : Known) (scope : Scope) (place : ℕ) (value : Value) (q t : ℕ)
     → Stands k (input_in bytes content old) [] place (val value) q → t ≡ old.spent + count (val value) → t ≤ MOST_VALUES → after ≡ with_spent (with_value old scope value) t
     → PutsValue scope (values_of old) (walk k (input_of bytes content (values_of old)) [] place old.spent) (Ok q) after
@@ -102,7 +102,7 @@ pub told_none : (scope : Scope) (old after : Known) (place : ℕ) → after ≡ 
 told_none scope old after place e =
     (record { value = None; end = place; spent = old.spent }, refl, refl, ap (λ (x : Known). x.spent) e ∙ without_spent old scope, ap values_of e ∙ without_is old scope)
 
--- a class after a reference
+-- a class behind a reference
 abbrev pub form_of : Option (Bor Class) → Option Form
 form_of class = option_map form (option_copied class)
 

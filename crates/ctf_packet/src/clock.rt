@@ -35,7 +35,7 @@ pub fn clock_before(
     }
 }
 
-/// The clock after a scope whose clock-mapped integers set it.
+/// The clock after a scope whose integers set it.
 ///
 /// F9 exactly where one of them is refused.
 pub fn clock_after(

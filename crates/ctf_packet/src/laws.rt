@@ -2,7 +2,7 @@
 
 ghost use Rattle.ctf_packet.specs.Laws.{WalkFindsWhatStands, ClockGoesByMoving, RecordsGoOn, PacketsGoOn};
 
-/// The value or fault that packets and event records are made of is the one that stands.
+/// The value or fault that packets and event records are made of is the one that is at the place in the bits.
 pub fn walk_finds_what_stands()
     ensures { WalkFindsWhatStands }
 {}

@@ -18,8 +18,8 @@ pub(crate) struct IdAndClock {
     pub(crate) clock: Moment,
 }
 
-/// The moment that is reached where the clock-mapped integers of a value set the clock, in the order in which
-/// they were decoded. `None` exactly where one of them is refused.
+/// The moment that is reached where the integers of a value that set the clock do so, in the order in which they were
+/// decoded. `None` exactly where one of them is refused.
 pub fn moment_after(
     timeline: &Timeline,
     class: &Class,
@@ -37,8 +37,8 @@ pub fn moment_after(
     }
 }
 
-/// Sets the clock by the clock-mapped integers of a value, in the order in which they were decoded, and keeps the
-/// last number of a structure member named `id`, if there is one. Whether no clock-mapped integer was refused.
+/// Sets the clock by the integers of a value that set it, in the order in which they were decoded, and keeps the last
+/// number of a structure member named `id`, if there is one. It answers whether none of these integers was refused.
 ///
 /// Few classes are told apart at once, here and in a structure: comparisons are foreseen better than a table of jumps.
 #[cycle(told)]
@@ -208,7 +208,7 @@ fn tell_chosen(
     tell(timeline, &options[i].class, inner, told)
 }
 
-/// Sets the clock by an integer, if it is clock-mapped.
+/// Sets the clock by an integer, if it is one that sets it. It answers whether it was not refused.
 #[inline(always)]
 fn set_by(timeline: &Timeline, integer: &Integer, value: &Value, told: &mut IdAndClock) -> bool
     ensures clock { Moves timeline.now (integer_moves integer.now value.now) told.old result
@@ -228,8 +228,8 @@ fn set_by(timeline: &Timeline, integer: &Integer, value: &Value, told: &mut IdAn
     }
 }
 
-/// The moment that is reached where an integer of this value sets the clock, if it is clock-mapped. `None` exactly where
-/// it is refused.
+/// The moment that is reached where an integer of this value sets the clock, if it is one that sets it. `None` exactly
+/// where it is refused.
 #[inline(always)]
 pub fn moved_by_integer(
     timeline: &Timeline,

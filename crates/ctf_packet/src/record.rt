@@ -76,9 +76,9 @@ pub fn planned_named(stream: &StreamClass, id: Option<i128>) -> Option<PlannedEv
     }
 }
 
-/// The scopes after the header of the event record at a place: the contexts and the fields (CTF 1.8.3, section 6.2). The place
-/// where the last one ends, in bits from the packet's first one. Their values are in `scopes` then, and the memory of `scratch`
-/// is used.
+/// Decodes the scopes after the header of the event record at a place, the contexts and the fields (CTF 1.8.3, section
+/// 6.2), and gives the place where the last one ends, in bits from the packet's first one. Their values are in `scopes`
+/// then, and the memory of `scratch` is used.
 ///
 /// An error is the first fault of these scopes: F6, F8, F11, or `NoMemory`.
 #[tactic(auto, unfolding(crate::specs::Records::bodied))]
@@ -143,7 +143,8 @@ pub fn put_body(
     record_scope(alloc, Some(fields), &third, &mut body.fields, scopes)
 }
 
-/// Puts the header of an event record. Its class, and the clock after it.
+/// Decodes the header of the event record at a place into its scope, and gives what it says: the event class, the clock
+/// after it, and where it ends.
 #[tactic(auto, unfolding(crate::specs::Records::headed))]
 fn put_head<'a>(
     alloc: Global,

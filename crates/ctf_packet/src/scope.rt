@@ -29,8 +29,8 @@ pub struct ScopePlace<'a> {
     ghost held: { content ≤ 8 * length bytes.now },
 }
 
-/// Puts the value of a class that is at a place in the scope there. The place where it ends, in bits from the packet's first
-/// one. The memory of `spare` is used for it, and an unspecified value is in it then.
+/// Decodes the value of a class at a place into the scope there, and gives the place where it ends, in bits from the
+/// packet's first one. The memory of `spare` is used for it, and an unspecified value is in it then.
 #[inline(always)]
 pub fn scope_into(
     alloc: Global,
@@ -97,8 +97,8 @@ fn fault_in_record(fault: DecodeFault) -> StreamFault
     }
 }
 
-/// Puts the value of a scope of an event record that is at a place in the scope there. The place where it ends, in bits from
-/// the packet's first one. The memory of `spare` is used for it, and an unspecified value is in it then.
+/// Decodes the value of a scope of an event record at a place into that scope, and gives the place where it ends, in
+/// bits from the packet's first one. The memory of `spare` is used for it, and an unspecified value is in it then.
 #[inline(always)]
 pub fn record_scope(
     alloc: Global,

@@ -14,14 +14,14 @@ const MOST_BODIES: u64 = 1024;
 /// The index of memory that is not there.
 const NOWHERE: u16 = 65_535;
 
-/// The longest event record, in bits, and the most values in one, whose memory is kept. So no trace makes a
-/// reader hold many long ones.
+/// The longest event record, in bits, whose memory is kept: so no trace makes a reader hold many long ones.
 const LONGEST_KEPT: u64 = 32_768;
 
+/// The most values of an event record whose memory is kept.
 const MOST_KEPT: u64 = 256;
 
-/// Memory of event records that were decoded before, which is used for the next ones. What its values are
-/// means nothing.
+/// Memory of event records that were decoded before, which is used for the next ones. What the values in it are means
+/// nothing.
 #[derive(Drop)]
 pub struct Scratch {
     pub(crate) header: Value,
@@ -32,7 +32,7 @@ pub struct Scratch {
     places: Vec<u16>,
     /// The index of that class whose values are lent to the scopes.
     lent: usize,
-    /// Whether their memory is not kept.
+    /// Whether the memory of the values that are lent is not kept.
     is_long: bool,
 }
 
@@ -44,7 +44,7 @@ pub(crate) struct SpareBody {
 }
 
 impl Scratch {
-    /// No memory is taken.
+    /// Scratch without memory. None is allocated.
     pub fn new(alloc: Global) -> Scratch {
         Scratch {
             header: Value::Unsigned(0),
@@ -62,7 +62,7 @@ impl Scratch {
         self.is_long = bits > LONGEST_KEPT || values > MOST_KEPT;
     }
 
-    /// Takes the values back that are by class.
+    /// Takes the lent values back, those of the event context and of the fields, where their memory is kept.
     pub(crate) fn take_back(&mut self, scopes: &mut Scopes)
         ensures { (scopes.new ≡ scopes.old) ⊎
             (scopes.new ≡ without_value (without_value scopes.old EventContext) EventFields) }

@@ -22,7 +22,7 @@ pub(crate) struct HeaderTold {
 
 /// What a header says, where the clock came so far.
 ///
-/// F9 exactly where one of its clock-mapped integers is refused.
+/// F9 exactly where one of its integers that set the clock is refused.
 pub(crate) fn told_by(
     timeline: Option<&Timeline>,
     clock: Option<Moment>,

@@ -35,7 +35,7 @@ module _ (packet more_bytes : List ℕ) (content whole_content limit : ℕ) (ear
   abbrev d : Input
   d = input_of (packet ++ more_bytes) whole_content earlier limit
 
-  -- a value ends after each place that a beginning asked for
+  -- a value ends no earlier than each place that a beginning asked for
   pub walk_needs : (k : Form) (env : Env) (p s e : ℕ) (x : Val × ℕ × ℕ) → walk k c env p s ≡ Err (past e) → walk k d env p s ≡ Ok x → e ≤ x.1
   walk_needs k env p s e x asks gives =
       let beyond = walk_beyond packet more_bytes content whole_content limit earlier longer held k env p s e asks in
@@ -98,7 +98,7 @@ module _ {C : Type 0} (trace : TraceForm C) (reached : Option Reached) (have : L
       from_asked stream.packet_context (front have known) header.end header.spent (after_context trace reached have stream known)
       (λ context l. from_less header.end context.end (after_context trace reached have stream known context) l (from_context stream known context)))
 
--- what asked for so many bits has its event records after them
+-- where so many bits were asked for, event records begin no earlier than their end
 abbrev pub Needs : {C : Type 0} → Want C → Want C → Type 0
 Needs (more bits) w = From bits w
 Needs (whole begun sizes) w = Unit {0}

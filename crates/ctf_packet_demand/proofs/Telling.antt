@@ -25,7 +25,7 @@ use Rattle.ctf_packet_demand.proofs.Needing.{From, Needs, begins_after, IsAlone,
 use Rattle.ctf_packet_demand.proofs.Following.{follow, after_context, after_stream, after_header, wants, Sound, sound}
 
 module _ (C : Type 0) (ending : Ending) (reached : Option Reached) (start : ℕ) (have more_bytes : List ℕ) where
-  -- what is placed after the sizes
+  -- the packet once its sizes are known
   abbrev place_of : Begun C → Sizes → Result (Opened C) StreamFault
   place_of begun sizes = placed begun.stream reached start begun.values begun.first sizes
 

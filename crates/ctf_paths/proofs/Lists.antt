@@ -34,7 +34,7 @@ first_past f xs i d h n =
 pub at_place : {A : Type 0} → (xs : List A) (i : ℕ) (x : A) → i < length xs → x ≡ get_or xs i x → drop i xs ≡ x ∷ drop (i + 1) xs
 at_place xs i x h e = drop_here xs i x h ∙ ap (λ y. y ∷ drop (i + 1) xs) (sym e)
 
--- one found after a bound is none among the first
+-- what is found at a bound or after it is not among the first
 none_below : {A : Type 0} (p : ℕ × A → Bool) (k n : ℕ) (xs : List A) → k ≤ n → option_and_then (λ q. if nat_lt q.0 k then Some q else None) (find p (enumerate_from n xs)) ≡ None
 none_below p k n [] h = refl
 none_below p k n (x ∷ xs) h =

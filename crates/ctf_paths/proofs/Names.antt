@@ -1,4 +1,4 @@
--- Words after beginnings.
+-- The words of a path after those that it begins with.
 use Rattle.std.proofs.Common.{◌≡◌, true, false, [], ◌∷◌, ◌++◌, Option, Some, None, option_map, Bor, refl, ap, sym, ◌∙◌, rules}
 use Rattle.std.specs.Prelude.{if◌then◌else◌, option_and_then}
 use Rattle.ctf_meaning.specs.Name.{Word, Words, same_word}

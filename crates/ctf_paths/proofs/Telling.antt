@@ -182,7 +182,7 @@ module _ (order : Order) (clocks : List Clock) where
   structure_fails spot align ms fault e =
       bind_fails (members_told order clocks spot [] ms) (λ ms'. Ok (class_by (struct align ms) (kind.Structure ms'))) fault (same_fails _ _ fault (sym (members-each order clocks spot [] ms)) e)
 
-  -- a variant after its tag
+  -- the class of a variant, once its tag is found
   abbrev after_tag : Spot → Option Words → Members → Route × List Label → Told Class
   after_tag spot tag ms found = options_told order clocks (below spot) ms >>= λ os. Ok (class_by (variant tag ms) (kind.Variant found.0 (choices_of (fields_in ms) found.1) os))
 

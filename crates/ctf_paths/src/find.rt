@@ -243,7 +243,7 @@ fn has_member(path: &[Word], frame: &Frame<'_>) -> bool
     }
 }
 
-/// The nearest structure around that has such a member, from this one on.
+/// The nearest structure around, from this one on, that has an earlier member of the name with which a path begins.
 fn start_around<'a>(
     path: &[Word],
     around: &'a Around<'a>,
@@ -267,7 +267,7 @@ fn start_around<'a>(
     }
 }
 
-/// The nearest scope before that has such a member.
+/// The nearest scope before that has a member of the name with which a path begins.
 fn start_before<'a>(path: &[Word], before: &'a [EarlierStructure<'a>]) -> Option<Start<'a>>
     ensures { option_map start_by result ≡
         find (λ p. paths.has_member path.now p.1) (of_scopes (map earlier_by before.now)) }

@@ -34,7 +34,7 @@ impl<'a> Moved<'a> {
         }
     }
 
-    /// One clock more, where there is one.
+    /// What is kept with one clock more, or as it is where there is none.
     fn with(self, clock: Option<&'a Clock>) -> Moved<'a>
         ensures { (old : List trace.Clock) → Tells self.entry old →
             Tells result (old ++ cons_option (option_copied clock.entry) []) }
@@ -45,7 +45,7 @@ impl<'a> Moved<'a> {
         }
     }
 
-    /// One clock more.
+    /// What is kept with one clock more.
     fn and(self, next: &'a Clock) -> Moved<'a>
         ensures { (old : List trace.Clock) → Tells self.entry old →
             Tells result (old ++ next.now ∷ []) }
@@ -96,7 +96,7 @@ pub fn moved_in<'a>(
     }
 }
 
-/// Those of the members of a structure.
+/// The clocks that the integers in the members of a structure set, after those set so far.
 #[cycle(moved)]
 fn moved_members<'a>(
     clocks: &'a Clocks<'_>,
@@ -114,7 +114,7 @@ fn moved_members<'a>(
     moved
 }
 
-/// Those of the member at a place of a structure.
+/// The clocks that the integers in one member of a structure set, after those set so far.
 #[cycle(moved)]
 fn moved_member<'a>(
     clocks: &'a Clocks<'_>,
@@ -135,7 +135,8 @@ fn moved_member<'a>(
     moved_in(clocks, &inner, members.shape(place), moved)
 }
 
-/// Those of the options of a variant, each at a spot below it.
+/// The clocks that the integers in the options of a variant set, after those set so far. The options are at a spot
+/// below it.
 #[cycle(moved)]
 fn moved_options<'a>(
     clocks: &'a Clocks<'_>,
@@ -153,7 +154,7 @@ fn moved_options<'a>(
     moved
 }
 
-/// Those of the option at a place of a variant.
+/// The clocks that the integers in one option of a variant set, after those set so far.
 #[cycle(moved)]
 fn moved_option<'a>(
     clocks: &'a Clocks<'_>,

@@ -65,7 +65,7 @@ impl<'a> EarlierStructure<'a> {
 }
 
 impl<'a> Around<'a> {
-    /// Whether there is none.
+    /// Whether there is no structure around a class.
     pub fn is_outside(&self) -> bool
         ensures { result ≡ is_outermost (frames_around self.now) }
     {

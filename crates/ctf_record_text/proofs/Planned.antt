@@ -106,7 +106,7 @@ up_multiple : (begin align : ℕ) → begin % align ≡ 0 → next_multiple_of b
 up_multiple begin align multiple =
     ap (λ k. begin + (align - k) % align) multiple ∙ ap (λ k. begin + k % align) (sub-zero align) ∙ ap (λ k. begin + k) (mod_self align) ∙ add-zero begin
 
--- a header whose parts stand at fixed places after its begin
+-- a header whose parts are at fixed places after its begin
 pub tells_planned : (line : Line) (plan : HeaderPlan) (class : Class) (packet : List ℕ) (content place : ℕ) (clock next : Moment) (begin end id n : ℕ) (is : IsHeaderPlan plan class)
     → begin ≡ next_multiple_of place plan.align → begin % plan.align ≡ 0
     → end ≡ begin + plan.end → end ≤ content

@@ -45,7 +45,7 @@ use Rattle.ctf_format.specs.Standing.{among}
 leaf_in : (c : Input) (e s : ℕ) (v : Val) → s < c.limit → e ≤ c.content → begin c s (leaf c e s v) ≡ Ok (v, e, s + 1)
 leaf_in c e s v few within = sym (begin_in c s (leaf c e s v) few) ∙ ap (λ b. cond b (Err (past e)) (Ok (v, e, s + 1))) (le-ltb c.content e within)
 
--- the clock after integers and others after them
+-- the clock after integers, and after others that follow them
 set_by-append : (line : Option Line) (from : Moment) (xs ys : List (ℕ × ℕ)) → set_by line from (xs ++ ys) ≡ option_and_then (λ d. set_by line d ys) (set_by line from xs)
 set_by-append None from xs ys = refl
 set_by-append (Some line) from xs ys = advanced_by-append line from xs ys
@@ -104,7 +104,7 @@ ids_snoc (n ∷ ms) m (w ∷ vs) v same =
     let first = named_id (member_part n).0 (member_part n).1 w ++ ids (member_part n).1 w in
     ap (λ xs. first ++ xs) (ids_snoc ms m vs v (omega (arith, same))) ∙ sym (append_assoc first (member_ids (parts_of (map member_part ms)) (vals_of vs)) (named_id m.name (form m.class) v ++ ids (form m.class) v))
 
--- As many members as an index tells were told, and the others stand after them: so the loop over members goes.
+-- The loop over members: as many as an index says were read, and the others are after them.
 abbrev pub Going : Option Line → List Member → List ℕ → ℕ → Telling → ℕ → Telling → Type 0
 Going line ms packet content from i at =
     (earlier : Scope → Option Val) (env : Env)

@@ -39,8 +39,8 @@ abbrev pub set_by : Option Line → Moment → List (ℕ × ℕ) → Option Mome
 set_by None from ms = Some from
 set_by (Some line) from ms = advanced_by line from ms
 
--- A value is at a place, whatever was decoded before. Its clock-mapped integers set the clock so, and its last number named
--- `id` is this (own).
+-- A value is at a place, whatever was decoded before. Its integers that set the clock set it so, and its last number
+-- named `id` is this (own).
 abbrev pub Tells : Option Line → Form → List ℕ → ℕ → Telling → Telling → Type 0
 Tells line k packet content from to =
     (earlier : Scope → Option Val) (env : Env)

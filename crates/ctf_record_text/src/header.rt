@@ -168,7 +168,7 @@ fn told_untimed<'a>(at: &RecordPlace<'_, 'a>, class: &Class) -> Option<PlannedHe
     Some(head_of(planned, to, None))
 }
 
-/// Nothing of a header at this place is decoded yet, where the clock came so far.
+/// What is decoded of the header at a place before its first member: nothing. `clock` is how far the clock came.
 #[inline(always)]
 fn begins_at(clock: Moment, place: u64) -> Telling
     ensures { result ≡ begins_telling clock place }
@@ -346,7 +346,7 @@ fn tell_pair(
     tell_structure(timeline, &options[i].class, packet, at)
 }
 
-/// Reads a tag.
+/// Reads the tag of a header's variant.
 #[inline(always)]
 fn tag_at(container: &Integer, align: Align, packet: &Content<'_>, place: u64) -> Option<Tag>
     requires start { place ≤ packet.now.end }

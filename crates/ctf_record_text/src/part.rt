@@ -31,7 +31,7 @@ impl Model for PacketPart {
 }
 
 impl PacketPart {
-    /// No text. No memory is taken.
+    /// A part without text. No memory is taken.
     pub fn new(alloc: Global) -> PacketPart
         ensures { result ≡ [] }
     {
@@ -58,7 +58,7 @@ impl PacketPart {
         Ok(())
     }
 
-    /// The text.
+    /// The text of the part.
     pub fn as_slice(&self) -> &[u8]
         ensures { result.now ≡ self.now }
     {

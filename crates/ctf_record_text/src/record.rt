@@ -39,7 +39,7 @@ pub struct LineBuffer {
 }
 
 impl LineBuffer {
-    /// No text. No memory is taken.
+    /// A buffer without text. No memory is taken.
     pub fn new(alloc: Global) -> LineBuffer {
         LineBuffer {
             bytes: Vec::new(alloc),

@@ -51,7 +51,7 @@ reaches-start s out err settled = record {
   settled = λ none. absurd none;
 }
 
--- nothing goes on after a refused growth
+-- no item comes where an allocation failed
 refused_over : (m : Merged) (x : Placed) (rest : Merged) → IsRefused m → m ≡ then x rest → ⊥
 refused_over m x rest is e = let none = sym is.0 ∙ ap (λ (n : Merged). n.items) e in cc
 

@@ -32,7 +32,7 @@ use Rattle.ctf_session.specs.declared.step.Stop.TheVariants as stops
 use Rattle.ctf_session.specs.Writing.{no_texts, Written, Writes, WritesParts}
 use Rattle.ctf_session.proofs.Reaching.{written}
 
--- ---- after an item after the end all are after it
+-- ---- once an item is past the end of the interval, all later ones are
 
 later_past : (end l t : ℤ) → int_lt end l ≡ true → int_lt t l ≡ false → int_lt end t ≡ true
 later_past end l t past not_before = by_test (int_lt end t) refl

@@ -46,7 +46,7 @@ struct Opened<'a, S: Source + Drop> {
     numbers: Vec<usize>,
 }
 
-/// A reader more for each stream of a trace, and the number of the trace for each.
+/// Adds a reader for each stream of a trace, and for each the number of the trace.
 fn open_streams<'a, S: Source + Drop>(
     alloc: Global,
     number: usize,

@@ -59,13 +59,13 @@ module _ (cut : PacketStart) (ending : Ending) (left : List ℕ) (bytes : List �
       ∙ ap (λ n. from_bytes (trace_of cut) ending next.reached n left) (sym at)
       ∙ ap (λ t. from_bytes t ending next.reached next.at left) forms
 
--- an item after steps that left what is to come
+-- an item after steps that kept what is to come
 pub advanced : (old middle new : Run Classes) (cut : PacketStart) (known : Known) (bytes : List ℕ) (packet : Option Packet) (left : List ℕ) (found : Option Front) (front : Front) → old ≡ middle → found ≡ Some front
     → StepsWithin middle new cut known bytes packet (Ok found) → Advances old new cut known bytes packet left (Ok (Some front))
 advanced old middle new cut known bytes (Some p) left found front same is steps = same ∙ subst (λ o. StepsWithin middle new cut known bytes (Some p) (Ok o)) is steps
 advanced old middle new cut known bytes None left found front same is steps = absurd (subst (λ o. StepsWithin middle new cut known bytes None (Ok o)) is steps)
 
--- the same where the steps after them give the item
+-- steps that kept what is to come, before steps that give the item
 pub also_before : (old middle new : Run Classes) (cut : PacketStart) (known : Known) (bytes : List ℕ) (packet : Option Packet) (left : List ℕ) (front : Front) → old ≡ middle → Advances middle new cut known bytes packet left (Ok (Some front)) → Advances old new cut known bytes packet left (Ok (Some front))
 also_before old middle new cut known bytes (Some p) left front same goes = same ∙ goes
 also_before old middle new cut known bytes None left front same goes = absurd goes
@@ -75,7 +75,7 @@ pub if_none : (written : Option Front) (P : Type 0) → written ≡ None → IfN
 if_none None P is holds = holds
 if_none (Some front) P is holds = absurd (cc)
 
--- what comes after an item is what its read state comes to
+-- what comes after an item is what its read state gives next
 pub after_item : (c : ReadState) (packet : Option Packet) (front : Front) (at : ℕ) (run : Run Classes) → after_ahead (item_at c packet front) at run ≡ run
 after_item c (Some p) front at run = refl
 after_item c None front at run = refl

@@ -24,7 +24,7 @@ pub record Reader : Type 0 where
   -- whether event records are given as texts, where they can
   pub writes : Bool
   pub ahead : Peeked
-  -- what is to come after that, where the source tells
+  -- what is to come after the current item, where the source tells its bytes
   pub after : Run Classes
   -- the bytes that the source has left
   pub left : List ℕ

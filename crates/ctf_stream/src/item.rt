@@ -65,7 +65,7 @@ pub enum CurrentItem<'r> {
 }
 
 impl<'r> Event<'r> {
-    /// Its time, in nanoseconds since the epoch.
+    /// The time of the event, in nanoseconds since the epoch.
     pub fn time(&self) -> Option<i64>
         ensures { result ≡ option_map (λ m. m.time) self.now.moment }
     {

@@ -85,7 +85,7 @@ impl<'a> OwnedEvent<'a> {
         }
     }
 
-    /// Its time, in nanoseconds since the epoch.
+    /// The time of the event, in nanoseconds since the epoch.
     pub fn time(&self) -> Option<i64>
         ensures { result ≡ option_map (λ m. m.time) self.now.moment }
     {

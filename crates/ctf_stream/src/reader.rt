@@ -321,7 +321,7 @@ impl<'a, S: Source + Drop> StreamReader<'a, S> {
         self.read_state.buffer.len()
     }
 
-    /// The source.
+    /// The source of the stream.
     pub fn source(&self) -> &S
         ensures tells { self.now.tells ≡ S.tells result.now }
         ensures left { self.now.left ≡ S.left result.now }

@@ -13,7 +13,7 @@ use jiff_core::civil::{Date, Time};
 /// The bytes of the longest head.
 pub(crate) const MOST_HEAD: usize = 19;
 
-/// `hh:mm:ss`, 8 bytes.
+/// Writes `hh:mm:ss`, 8 bytes.
 #[tactic(auto, using(crate::proofs::Groups::digits_long))]
 fn put_clock(time: Time, line: &mut [u8], at: usize) -> usize
     requires { at + 8 ≤ length line.old }
@@ -27,7 +27,7 @@ fn put_clock(time: Time, line: &mut [u8], at: usize) -> usize
     put_pair(u32::from(time.second), line, at)
 }
 
-/// `YYYY-MM-DD`, 10 bytes.
+/// Writes `YYYY-MM-DD`, 10 bytes.
 #[tactic(auto, using(crate::proofs::Groups::digits_long))]
 fn put_date(date: Date, line: &mut [u8], at: usize) -> usize
     requires { at + 10 ≤ length line.old }
@@ -41,7 +41,7 @@ fn put_date(date: Date, line: &mut [u8], at: usize) -> usize
     put_pair(u32::from(date.day), line, at)
 }
 
-/// What a civil style shows of a time before the dot.
+/// Writes what a civil style shows of a time before the dot.
 #[inline(never)]
 pub(crate) fn put_head(style: &Style, time: i64, line: &mut [u8], at: usize) -> usize
     requires { at + MOST_HEAD ≤ length line.old }

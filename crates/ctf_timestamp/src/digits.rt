@@ -10,7 +10,7 @@ use itoa::Buffer;
 /// Nanoseconds in a second.
 const SECOND: u64 = 1_000_000_000;
 
-/// One byte.
+/// Writes one byte.
 #[inline(always)]
 pub(crate) fn put_byte(byte: u8, line: &mut [u8], at: usize) -> usize
     requires { at + 1 ≤ length line.old }
@@ -20,7 +20,7 @@ pub(crate) fn put_byte(byte: u8, line: &mut [u8], at: usize) -> usize
     at + 1
 }
 
-/// Two bytes. They are put as one slice, which the compiler writes by one store.
+/// Writes two bytes as one slice, which the compiler writes by one store.
 #[inline(always)]
 pub(crate) fn put_two(first: u8, second: u8, line: &mut [u8], at: usize) -> usize
     requires { at + 2 ≤ length line.old }
@@ -30,7 +30,7 @@ pub(crate) fn put_two(first: u8, second: u8, line: &mut [u8], at: usize) -> usiz
     put_bytes(&bytes, line, at)
 }
 
-/// Two digits, by one store too.
+/// Writes the two digits of a number below 100 by one store.
 #[inline(always)]
 pub(crate) fn put_pair(pair: u32, line: &mut [u8], at: usize) -> usize
     requires two { pair < 100 }
@@ -41,7 +41,7 @@ pub(crate) fn put_pair(pair: u32, line: &mut [u8], at: usize) -> usize
     put_bytes(&digits, line, at)
 }
 
-/// Four digits.
+/// Writes the four digits of a number below 10,000.
 #[tactic(auto, using(crate::proofs::Groups::digits_long))]
 #[inline(always)]
 pub(crate) fn put_four(number: u32, line: &mut [u8], at: usize) -> usize
@@ -53,7 +53,7 @@ pub(crate) fn put_four(number: u32, line: &mut [u8], at: usize) -> usize
     put_pair(number % 100, line, at)
 }
 
-/// Eight digits.
+/// Writes the eight digits of a number below 100,000,000.
 #[tactic(auto, using(crate::proofs::Groups::digits_long))]
 #[inline(always)]
 fn put_eight(number: u32, line: &mut [u8], at: usize) -> usize
@@ -65,7 +65,7 @@ fn put_eight(number: u32, line: &mut [u8], at: usize) -> usize
     put_four(number % 10_000, line, at)
 }
 
-/// Three digits. They are put as a word of four bytes, the last of which is to be written over.
+/// Writes the three digits of a number below 1,000 as a word of four bytes, the last of which is to be written over.
 #[tactic(auto, using(crate::proofs::Groups::digits_long))]
 #[inline(always)]
 fn put_three(number: u32, line: &mut [u8], at: usize) -> usize
@@ -78,7 +78,7 @@ fn put_three(number: u32, line: &mut [u8], at: usize) -> usize
     at + 3
 }
 
-/// Nine digits, which take room for ten.
+/// Writes the nine digits of a number below 1,000,000,000, for which there is room for ten bytes.
 #[tactic(auto, using(crate::proofs::Groups::digits_long))]
 #[inline(always)]
 pub(crate) fn put_nine(number: u32, line: &mut [u8], at: usize) -> usize
@@ -92,7 +92,7 @@ pub(crate) fn put_nine(number: u32, line: &mut [u8], at: usize) -> usize
     put_three(rest % 1000, line, at)
 }
 
-/// A dot and nine digits, which take room for eleven bytes.
+/// Writes a dot and the nine digits of a number below 1,000,000,000, for which there is room for eleven bytes.
 #[tactic(auto, using(crate::proofs::Groups::digits_long))]
 #[inline(always)]
 pub(crate) fn put_fraction(number: u32, line: &mut [u8], at: usize) -> usize
@@ -104,7 +104,7 @@ pub(crate) fn put_fraction(number: u32, line: &mut [u8], at: usize) -> usize
     put_nine(number, line, at)
 }
 
-/// Twenty digits.
+/// Writes the twenty digits of a number.
 #[tactic(auto, using(crate::proofs::Groups::digits_long))]
 pub(crate) fn put_twenty(number: u64, line: &mut [u8], at: usize) -> usize
     requires { at + 20 ≤ length line.old }
@@ -116,7 +116,7 @@ pub(crate) fn put_twenty(number: u64, line: &mut [u8], at: usize) -> usize
     put_eight((number % 100_000_000) as u32, line, at)
 }
 
-/// Bytes as they are.
+/// Writes bytes as they are.
 #[inline(always)]
 pub(crate) fn put_bytes(bytes: &[u8], line: &mut [u8], at: usize) -> usize
     requires { at + length bytes.now ≤ length line.old }
@@ -127,7 +127,7 @@ pub(crate) fn put_bytes(bytes: &[u8], line: &mut [u8], at: usize) -> usize
     end
 }
 
-/// A number in decimal, at most 20 bytes. Mostly it has one digit.
+/// Writes a number in decimal, at most 20 bytes. Mostly it has one digit.
 #[inline(always)]
 fn put_decimal(number: u64, line: &mut [u8], at: usize) -> usize
     requires { at + 20 ≤ length line.old }
@@ -151,7 +151,7 @@ fn put_long(number: u64, line: &mut [u8], at: usize) -> usize
     put_bytes(digits.format(number).as_bytes(), line, at)
 }
 
-/// Nanoseconds in seconds, with nine digits after the dot: at most 30 bytes, which take room for 31.
+/// Writes nanoseconds as seconds with nine digits after the dot: at most 30 bytes, for which there is room for 31.
 #[tactic(auto, using(crate::proofs::Groups::digits_long))]
 #[inline(always)]
 pub(crate) fn put_seconds(nanos: u64, line: &mut [u8], at: usize) -> usize

@@ -66,7 +66,7 @@ impl Model for Stamper {
 }
 
 impl Stamper {
-    /// One that writes in this style.
+    /// A stamper that writes in this style.
     pub fn new(style: Style) -> Stamper
         ensures { result ≡ style }
     {
@@ -95,7 +95,7 @@ impl Stamper {
         self.put_civil(moment.time, line, at)
     }
 
-    /// The stamp of a time in a civil style.
+    /// Writes the stamp of a time in a civil style.
     #[inline(always)]
     fn put_civil(&mut self, time: i64, line: &mut [u8], at: usize) -> usize
         requires { at + MOST_STAMP ≤ length line.old }
@@ -181,7 +181,7 @@ impl Stamper {
         self.put_end(last, moment.time, line, at)
     }
 
-    /// What follows a stamp.
+    /// Writes what follows a stamp.
     #[inline(always)]
     #[tactic(auto, using(crate::proofs::Groups::digits_long))]
     fn put_end(&self, last: Option<i64>, time: i64, line: &mut [u8], at: usize) -> usize
@@ -222,7 +222,7 @@ fn short_since(last: Option<i64>, time: i64) -> Option<u32>
     Some(nanos as u32)
 }
 
-/// What follows a stamp in a style with any time since the one before.
+/// Writes what follows a stamp in a style with any time since the one before.
 #[cold]
 #[inline(never)]
 fn put_any_delta(last: Option<i64>, time: i64, line: &mut [u8], at: usize) -> usize
@@ -236,7 +236,7 @@ fn put_any_delta(last: Option<i64>, time: i64, line: &mut [u8], at: usize) -> us
     put_two(b')', b' ', line, at)
 }
 
-/// What is kept of a second, and its nanoseconds.
+/// Writes what is kept of a second, and then its nanoseconds.
 #[inline(always)]
 #[tactic(auto, using(crate::proofs::Groups::digits_long))]
 fn put_second(head: &[u8], nanos: u32, line: &mut [u8], at: usize) -> usize
@@ -292,7 +292,7 @@ fn start_to_keep(nanos: u32, time: i64) -> Option<i64>
     time.checked_sub(i64::from(nanos))
 }
 
-/// The seconds since the epoch.
+/// Writes the seconds since the epoch.
 fn put_signed(time: i64, line: &mut [u8], at: usize) -> usize
     requires { at + 32 ≤ length line.old }
     ensures put { IsPut line.old line.new at result (signed_seconds time) }
@@ -305,7 +305,7 @@ fn put_signed(time: i64, line: &mut [u8], at: usize) -> usize
     put_seconds(time.unsigned_abs(), line, at)
 }
 
-/// The time since the one before.
+/// Writes the time since the one before.
 fn put_delta(last: Option<i64>, time: i64, line: &mut [u8], at: usize) -> usize
     requires { at + 32 ≤ length line.old }
     ensures put { IsPut line.old line.new at result (delta_text last time) }

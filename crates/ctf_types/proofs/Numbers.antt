@@ -46,7 +46,7 @@ rest_end ds i h = drop-map declaration_of i ds ∙ ap (map declaration_of) (drop
 pub stands : (ds : List TreeDeclaration) (i : ℕ) (d : TreeDeclaration) → i < length ds → d ≡ get_or ds i d → slice_get (map declaration_of ds) i ≡ Some (declaration_of d)
 stands ds i d l e = slice_get-map declaration_of ds i ∙ ap (option_map declaration_of) (slice_get_read ds (length ds) i d refl l e)
 
--- what a declaration gives stands after what those before gave
+-- what a declaration gives is after what those before it gave
 pub given_one : {A B : Type 0} (f : A → Option B) (xs : List B) (a : A) (b : B) (more : List A) → f a ≡ Some b → (xs ++ b ∷ []) ++ filter_map f more ≡ xs ++ filter_map f (a ∷ more)
 given_one f xs a b more e = append_assoc xs (b ∷ []) (filter_map f more) ∙ ap (λ o. xs ++ cons_option o (filter_map f more)) (sym e)
 

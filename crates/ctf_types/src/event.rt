@@ -92,7 +92,7 @@ impl<'a> KnownText<'a> {
     }
 }
 
-/// A host once more.
+/// A copy of a host.
 pub fn copy_host(alloc: Global, host: Option<&[u8]>) -> Result<Option<List<u8>>, AllocError>
     ensures { IfOk result (λ copy. copy ≡ option_copied host.entry) }
 {

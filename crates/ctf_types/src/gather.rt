@@ -21,7 +21,7 @@ pub struct TraceParts {
 }
 
 impl TraceParts {
-    /// Nothing yet, of so many streams.
+    /// What no declaration gives, for a text of `count` streams.
     pub fn new(alloc: Global, count: usize) -> Result<TraceParts, NoMemory>
         ensures parted { IfOk result (λ parts. IsParted [] parts) }
         ensures lists { IfOk result (λ parts. length parts.events ≡ count) }
@@ -49,7 +49,7 @@ impl TraceParts {
     }
 }
 
-/// So many empty lists.
+/// `count` empty lists.
 fn empty_lists(alloc: Global, count: usize) -> Result<List<List<EventClass>>, NoMemory>
     ensures { IfOk result (λ lists. lists ≡ replicate count []) }
 {

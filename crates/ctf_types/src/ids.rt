@@ -16,7 +16,7 @@ pub struct Ids {
 }
 
 impl Ids {
-    /// No events.
+    /// The ids of no events.
     pub fn new(alloc: Global) -> Ids
         ensures { (stream id : ℕ) → has result stream id ≡ false }
     {

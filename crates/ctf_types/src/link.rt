@@ -136,7 +136,7 @@ impl<'a> KnownText<'a> {
     }
 }
 
-/// A clock once more.
+/// A copy of a clock.
 fn copy_clock(clock: Option<&Clock>) -> Result<Option<Clock>, AllocError>
     ensures { IfOk result (λ copy. copy ≡ option_copied clock.entry) }
 {

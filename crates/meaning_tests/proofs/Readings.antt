@@ -104,7 +104,7 @@ pub uuid_short_faults : told (Block kind.Trace (Assigned (counts (codes "major")
 unfolding by_index
 uuid_short_faults = refl
 
--- The own faults of a declaration do not see those after it: of a fault in each of two events the first is told.
+-- The own faults of a declaration do not see those after it: of a fault in each of two events the first is reported.
 -- event { fields := struct { integer { size = 0; } a; }; }; event { name = "n"; fields := unknown; };
 pub earlier_own_fault_faults : told (le_trace ∷ event_with (field (sized 0) (codes "a") ∷ []) ∷ Block kind.Event (Assigned (quotes (codes "name") (codes "m")) ∷ Classed (codes "fields" ∷ []) (named (codes "unknown")) ∷ []) ∷ []) ≡ SizeOrAlignment ∷ []
 earlier_own_fault_faults = refl

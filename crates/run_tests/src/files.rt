@@ -31,8 +31,8 @@ pub fn add_bytes(
     }
 }
 
-/// The bytes of a file: repeated after `*`, without the last ones after `-`, with others after them after `+`, and
-/// with others at a place after `@`.
+/// The bytes of a file: `*N` has them N times, `-N` leaves out the last N, `+BYTES` adds others at the end, and
+/// `@PLACE@BYTES` puts others at a place.
 pub fn file_of(rt: &HostRuntime, word: &str) -> Vec<u8> {
     let end = word.find(['*', '-', '+', '@']).unwrap_or(word.len());
     let (path, change) = word.split_at(end);
@@ -62,7 +62,7 @@ fn repeat(alloc: Global, bytes: &mut Vec<u8>, count: usize) {
     }
 }
 
-/// Puts bytes in the place of those that stand there.
+/// Puts bytes in the place of those that are there.
 fn set(bytes: &mut [u8], place: usize, other: &[u8]) {
     for (here, byte) in bytes.iter_mut().skip(place).zip(other) {
         *here = *byte;

@@ -6,9 +6,9 @@
 //! - `HELD OUT ERR WORD ..` is a command line over the made-up files: how many bytes of the log are held back, after how
 //!   many bytes the log and the messages fail once (`-`: never), and the words, of which `''` is the empty one.
 //! - `disk WORD ..` is a command line over the folders of `data/` itself.
-//! - `read BEFORE PATH` reads a file there that is opened after so many others, three bytes at a time.
+//! - `read BEFORE PATH` reads a file there, three bytes at a time, which is opened after BEFORE other files.
 //!
-//! After a row stand the lines of the log, those of the messages and the status, or the text of the file.
+//! After a row come the lines of the log, those of the messages and the status, or the text of the file.
 
 mod made_up;
 
@@ -74,7 +74,7 @@ fn put_made_up(rt: &HostRuntime, row: &mut Row<'_>, held: &str) {
     }
 }
 
-/// One failure after so many bytes; none where a word is no number.
+/// A manner that fails once after the number of bytes that a word gives, or never where it is no number.
 fn once(word: &str) -> Manner {
     match word.parse::<usize>() {
         Ok(count) => Manner::Once(count),
@@ -111,7 +111,7 @@ fn words_of(alloc: Global, line: &str) -> Vec<String> {
     words
 }
 
-/// Puts the text of a file, which is opened after so many others.
+/// Puts the text of a file, which is opened after as many other files as a word says.
 fn put_file(rt: &HostRuntime, row: &mut Row<'_>) {
     let disk = Disk::new(rt);
     let before = row.word().parse::<usize>().unwrap_or(0);

@@ -35,7 +35,7 @@ impl<'a> Row<'a> {
         let _ = self.text.extend_from_slice(bytes);
     }
 
-    /// Puts a number after a text.
+    /// Puts a text, and a number after it.
     pub fn put_number(&mut self, lead: &[u8], number: i128) {
         self.put(lead);
         let _ = write!(self.text, "{number}");

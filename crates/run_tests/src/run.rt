@@ -11,13 +11,13 @@
 //!   failure, `once:N`, N bytes, then one failure, and then all, or `refuse:N`, no memory at the Nth call. Of a stream only
 //!   the first two count.
 //!
-//! After a file, `*N` has it N times, `-N` leaves out its last N bytes, `+BYTES` has bytes after it, and `@PLACE@BYTES`
-//! has other bytes at a place.
+//! After the name of a file, `*N` has it N times, `-N` leaves out its last N bytes, `+BYTES` adds bytes at its end, and
+//! `@PLACE@BYTES` puts other bytes at a place.
 //!
-//! After a row stand the lines of its output, its messages after `! ` and its status after `= `. A row whose
-//! last word ends in `FIRST..LAST` is run for each of these numbers. Then a line stands for each: how many bytes
-//! the output and the messages have, `other` where they are no beginning of those of the row without the last word, and the
-//! last message, `done` where the run did not fail.
+//! After a row come the lines of its output, its messages after `! ` and its status after `= `. A row whose last word
+//! ends in `FIRST..LAST` is run for each of these numbers. Then a line comes for each: how many bytes the output and
+//! the messages have, `other` where they are no beginning of those of the row without the last word, and the last
+//! message, `done` where the run did not fail.
 
 mod made;
 
@@ -85,7 +85,7 @@ fn put_beginning(row: &mut Row<'_>, text: &[u8], whole: &[u8]) {
     row.put_number(b"", text.len() as i128);
 }
 
-/// The last message of a run and of the program after it.
+/// The line that the program prints after a run, or else the last message of the run.
 fn last_message(run: &Run) -> &[u8] {
     if run.status == 0 {
         return b"done";

@@ -8,9 +8,9 @@
 //! - `out=fail:N` and `err=fail:N`, where what takes the output or the messages of a step takes N bytes and then fails,
 //! - `crossing` in the place of streams, for the thousands of streams of `crossing.rt`.
 //!
-//! After a row stand `new`, and for each step the lines that it wrote, its messages after `! ` and its answer; with
-//! each of them stand the bytes that each stream has given and holds, `GIVEN/HELD`. After its end a session is asked
-//! for one step more.
+//! After a row come `new`, and for each step the lines that it wrote, its messages after `! ` and its answer; with each
+//! of them come the bytes that each stream has given and holds, `GIVEN/HELD`. After its end a session is asked for one
+//! step more.
 
 mod crossing;
 mod step;

@@ -96,7 +96,7 @@ reaches line from to on h =
     let e = h.1 in
     (h.1, not_less to.time from.time (omega (arith, ints)))
 
--- the clock after a scope is not before the one before it
+-- the clock after a scope is no earlier than before it
 pub after_reaches : (line : Option Line) (clock next : Option Moment) (ms : List (ℕ × ℕ)) → OnLine line clock → clock_after line clock ms ≡ Ok next → Reaches line clock next
 after_reaches None clock next ms on h =
     let e : next ≡ None = cc in

@@ -19,7 +19,7 @@ use Rattle.stream_laws.proofs.Splitting.{IsOf, Within, After, empty, packet_spli
 use Rattle.stream_laws.proofs.Again.{Sized, Resting, opened_how, sized_length, sized_ends, opens_again, rest_at_first}
 
 module _ {C : Type 0} (trace : TraceForm C) where
-  -- what comes from a cut point with bytes on
+  -- what comes from a packet boundary with bytes on
   goes_on : (ending : Ending) (reached : Option Reached) (at : ℕ) (xs : List ℕ) → 1 ≤ length xs
       → from_bytes trace ending reached at xs ≡ (if nat_lt longest_stream at then stops (Some faults.StreamTooLong) at else opened at xs (cutting.after trace ending xs) (open_at trace ending reached at xs))
   goes_on ending reached at [] h = absurd (omega arith)
@@ -33,7 +33,8 @@ module _ {C : Type 0} (trace : TraceForm C) where
       ∙ (ap (λ b. if b then stops (Some faults.StreamTooLong) at else opened at xs (cutting.after trace ending xs) (open_at trace ending reached at xs)) short
       ∙ ap (opened at xs (cutting.after trace ending xs)) e)
 
-  -- the items from a cut point on, up to one: `left` was cut after its packet, and more bytes follow there
+  -- the items from a packet boundary on, up to one: `left` was cut after that item's packet, and more bytes follow
+  -- there
   abbrev pub cut_after : ℕ → List ℕ → List ℕ → Item C → List ℕ
   cut_after at left more_bytes x = take (packet_end x - at) left ++ more_bytes
 

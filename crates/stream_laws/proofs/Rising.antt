@@ -57,7 +57,7 @@ module _ {C : Type 0} where
       let o = open_reaches trace ending reached at left p h e in
       rises_under (time_at (clock_in reached)) (time_at p.clock) _ o.2.1 (packet_rises p (take (p.end - p.start) left) (follows p) (g p o) o.2.0)
 
-  -- the items from a cut point on rise from the time that was reached
+  -- the items from a packet boundary on rise from the time that was reached
   pub cut_rises : (n : ℕ) (trace : TraceForm C) (ending : Ending) (reached : Option Reached) (at : ℕ) (left : List ℕ) → IsReached trace reached → Rises (time_at (clock_in reached)) (from_cut n trace ending reached at left).items
   cut_rises zero trace ending reached at left h = tt
   cut_rises (suc n) trace ending reached at [] h = tt

@@ -67,7 +67,7 @@ pub open_is : {o : Token} (d : ℕ) (ts : List Token) → Is s.OpenBrace o → o
 unfolding open_at
 open_is {o} d ts i = let e : (suc d == 0) ≡ false = grind (arith, nat_tests) in rw (expect_is s.OpenBrace o ts i) (rw e refl)
 
--- an opening brace, and what stands after it
+-- an opening brace, and what is after it
 pub comes_open : {B : Type 0} (d : ℕ) {o : Token} {ts : List Token} (f : List Token → Result B Refusal) {y : B} → Is s.OpenBrace o → Comes (f ts) y → Comes (open_at d (o ∷ ts) >>= f) y
 comes_open zero f i h = deep_then f (open_deep _ i)
 comes_open (suc d) f i h = comes_then f (comes_is (open_is d _ i)) h
@@ -100,7 +100,7 @@ after_first ts us c n le = omega (arith, length-append ts (c ∷ us))
 enough : (us post : List Token) → suc (length us) ≤ suc (length (us ++ post))
 enough us post = omega (arith, length-append us post)
 
--- items with commas between them, where what stands after an item has a property
+-- items with commas between them, where what is after an item has a property
 module _ {A : Type 0} {P : A → List Token → Type 0} (go : List Token → Bool) (item next : Parse A) (After : List Token → Type 0)
     (turns : (x : A) (ts : List Token) → P x ts → (c : Token) (post : List Token) → Is s.Comma c → go (c ∷ (ts ++ post)) ≡ true)
     (commas : (c : Token) (post : List Token) → Is s.Comma c → After (c ∷ post))

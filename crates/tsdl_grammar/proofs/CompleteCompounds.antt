@@ -27,7 +27,7 @@ use Rattle.tsdl_grammar.proofs.ComesTokens.{typeword_of, identifier_other, begin
 use Rattle.tsdl_grammar.proofs.CompleteLabels.{labels_come}
 use Rattle.tsdl_grammar.proofs.CompleteParts.{name_is, name_comes, align_comes, tag_comes, container_comes, tag_begins, container_begins, container_opens}
 
--- What may stand after a class or a compound.
+-- What may follow a class or a compound.
 pub record Ends (post : List Token) : Type 0 where
   pub no_brace : begins s.OpenBrace post ≡ false
   pub no_align : begins s.Align post ≡ false

@@ -15,7 +15,7 @@ use Rattle.tsdl_grammar.proofs.Room.{is_other}
 use Rattle.tsdl_grammar.proofs.ComesTokens.{past_is, past_none, word_other, string_no_word, string_other}
 use Rattle.tsdl_grammar.proofs.CompleteTerms.{number_comes}
 
--- what may stand after a label
+-- what may follow a label
 record EndsLabel (post : List Token) : Type 0 where
   no_equals : begins s.Equals post ≡ false
   no_ellipsis : begins s.Ellipsis post ≡ false

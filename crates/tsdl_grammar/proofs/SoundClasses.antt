@@ -47,7 +47,7 @@ string_reads d ts = reads_token s.String _ refl (λ t rest i. reads_if (begins s
     (λ e. reads_last (λ xs. classes.String xs) (attributes_read d rest) (λ xs us p. IsPlain.string_with i p))
     (λ e. reads_done (IsPlain.string i)))
 
--- ---- what stands after a class
+-- ---- what is after a class
 
 -- that class, with declarators up to their semicolon
 data IsDeclared (c : Specifier) : Specifier × List Declarator → List Token → Type 0 where

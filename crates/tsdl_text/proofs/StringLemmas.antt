@@ -13,7 +13,7 @@ use Rattle.tsdl_text.specs.Strings.{digit_count, numeric_at, escape_at, characte
 
 -- ---- how far a character goes
 
--- the place after it is after its first byte and no further than the end
+-- the place where it ends is between two bounds
 pub record Within (s : List ℕ) (low high : ℕ) (x : ℕ × ℕ) : Type 0 where
   pub low_is : low ≤ x.1
   pub high_is : x.1 ≤ high

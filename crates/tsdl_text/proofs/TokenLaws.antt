@@ -270,7 +270,7 @@ token_front (b ∷ text) x e =
 
 -- ---- the token is read
 
--- after a word that is a token no word goes on
+-- no byte of a word follows a word that is a token
 word_stops : (kind : Kind) (word after : List ℕ) → IsWord word → IsToken kind word after → begins is_word_byte after ≡ false
 word_stops kind word [] is token = refl
 word_stops kind word (c ∷ after) is token = false_from_ne_true _ (λ e.

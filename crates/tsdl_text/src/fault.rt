@@ -55,7 +55,7 @@ impl MetaFault {
     }
 }
 
-/// Each growth of this crate under which a `MetaFault` can come answers an `AllocError`.
+/// Where this crate answers a `MetaFault`, a failed allocation comes as an `AllocError`.
 impl From<AllocError> for MetaFault {
     ghost use Rattle.std.specs.Prelude.{◌≡◌};
     ghost use Rattle.tsdl_text.specs.declared.fault.MetaFault.TheVariants as faults;

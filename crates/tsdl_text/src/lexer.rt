@@ -125,7 +125,7 @@ fn keywords_with(first: u8) -> &'static [Symbol]
     }
 }
 
-/// The keyword that is spelled so.
+/// The keyword that these bytes spell.
 #[tactic(auto, unfolding(crate::specs::Scanning::keyword_of))]
 fn keyword(word: &[u8]) -> Option<Symbol>
     ensures { result ≡ keyword_of word.now }
@@ -139,7 +139,7 @@ fn keyword(word: &[u8]) -> Option<Symbol>
         .find(|symbol| symbol.spelling() == word)
 }
 
-/// What kind of word this is.
+/// Whether a word is a keyword, and which, or an identifier.
 #[tactic(auto, unfolding(crate::specs::Scanning::word_kind))]
 fn word_kind(word: &[u8]) -> Kind
     ensures { result ≡ word_kind word.now }
@@ -283,7 +283,7 @@ fn token(text: &[u8]) -> Option<(Kind, usize)>
     }
 }
 
-/// The next piece.
+/// The piece that a text begins with: blanks, a comment or a token.
 #[tactic(auto, unfolding(crate::specs::Scanning::piece_at))]
 fn piece(text: &[u8]) -> Option<Extent>
     ensures value { result ≡ piece_at text.now }

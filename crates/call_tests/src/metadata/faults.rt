@@ -1,13 +1,13 @@
-//! Tables of metadata texts and what is told of them.
+//! Tables of metadata texts and what is reported of them.
 //!
-//! A line `= FRONT ~ BACK` says what stands around the texts of the rows below it. A row is `WANTED TEXT`, where `WANTED` is
-//! one of the words that are told of the text, or several of which any may be told (`R3|R4`); where it is `class`, what the
-//! text declares is put. A backquote in the text stands for the end of a line.
+//! A line `= FRONT ~ BACK` says what is around the texts of the rows below it. A row is `WANTED TEXT`, where `WANTED`
+//! is one of the words that are reported of the text, or several of which any may be (`R3|R4`); where it is `class`,
+//! what the text declares is put. A backquote in the text stands for the end of a line.
 //!
 //! `WANTED*COUNT TEXT` has the text so many times, and of a text `OPEN ~ INNER ~ CLOSE` or `OPEN ~ CLOSE` its
 //! ends, `OPEN` and `CLOSE`; `%` in them stands for the number of the repetition, from 0 on.
 //!
-//! After a table stands how many rows it has.
+//! After a table comes how many rows it has.
 
 use crate::metadata::outcome::put_outcome;
 use crate::metadata::reading::put_declared;
@@ -15,7 +15,7 @@ use crate::row::Row;
 use std::alloc::Global;
 use std::str;
 
-/// What stands around the texts of rows.
+/// What is around the texts of rows.
 #[derive(Clone, Copy)]
 struct Around<'a> {
     front: &'a str,
@@ -41,7 +41,7 @@ pub fn put_table(told: &mut Row<'_>, table: &str) {
     told.put(b" rows\n");
 }
 
-/// Puts what a row declares, or that something else was told of it than it wants.
+/// Puts what a row declares, or that something else was reported of it than it wants.
 fn put_line(told: &mut Row<'_>, around: Around<'_>, line: &str) {
     let (wanted, text) = line.split_once(' ').unwrap_or((line, ""));
     let (wanted, count) = wanted.split_once('*').unwrap_or((wanted, "1"));
@@ -61,7 +61,7 @@ fn put_line(told: &mut Row<'_>, around: Around<'_>, line: &str) {
     }
 }
 
-/// Puts that something else was told of a text than is wanted.
+/// Puts that something else was reported of a text than is wanted.
 fn put_compared(told: &mut Row<'_>, wanted: &str, text: &[u8], line: &str) {
     let mut outcome = Row::new(told.alloc, "");
     put_outcome(&mut outcome, text);
@@ -73,7 +73,7 @@ fn put_compared(told: &mut Row<'_>, wanted: &str, text: &[u8], line: &str) {
     }
 }
 
-/// Whether one of the words between bars is among the words that are told.
+/// Whether one of the wanted words, which have bars between them, is among the reported ones.
 fn is_told(told: &str, wanted: &str) -> bool {
     for word in told.split(' ') {
         for one in wanted.split('|') {
@@ -85,7 +85,7 @@ fn is_told(told: &str, wanted: &str) -> bool {
     false
 }
 
-/// The text of a row, with what stands around it.
+/// The text of a row, with what is around it.
 fn text_of(alloc: Global, around: Around<'_>, text: &str, count: usize) -> Vec<u8> {
     let (open, rest) = halves(text);
     let (inner, close) = ends(rest);
@@ -98,18 +98,18 @@ fn text_of(alloc: Global, around: Around<'_>, text: &str, count: usize) -> Vec<u
     whole.into_text()
 }
 
-/// What stands before and after the `~` of a pattern.
+/// What is before and after the `~` of a pattern.
 fn around_of(pattern: &str) -> Around<'_> {
     let (front, back) = halves(pattern);
     Around { front, back }
 }
 
-/// What stands before and after the first `~`.
+/// What is before and after the first `~`; without one, all is before it.
 fn halves(text: &str) -> (&str, &str) {
     text.split_once('~').unwrap_or((text, ""))
 }
 
-/// What stands before and after the first `~`; without one, all is after it.
+/// What is before and after the first `~`; without one, all is after it.
 fn ends(text: &str) -> (&str, &str) {
     text.split_once('~').unwrap_or(("", text))
 }

@@ -1,4 +1,4 @@
-//! What is told of a metadata text.
+//! What is reported of a metadata text.
 
 use crate::metadata::count::classes_in;
 use crate::row::Row;

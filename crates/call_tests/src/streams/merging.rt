@@ -12,7 +12,7 @@ use ctf_stream::{Item, OwnedItem};
 use ctf_timestamp::{ClockStyle, Style, Zone};
 use std::alloc::Global;
 
-/// Puts what comes first in the merge of some streams, at the beginning and after each call.
+/// Puts what is current in the merge of some streams, at the beginning and after each call.
 pub fn put_merge(row: &mut Row<'_>, trace: &TraceClass, asked: &Asked, streams: &[Vec<u8>]) {
     if let Ok(merge) = merge_of(row.alloc, trace, asked, streams) {
         let mut merge = merge;
@@ -40,7 +40,7 @@ fn merge_of<'a>(
     Merge::new(alloc, readers.into_vec())
 }
 
-/// Puts what comes first at the beginning and after each call.
+/// Puts what is current at the beginning and after each call.
 fn put_calls(row: &mut Row<'_>, merge: &mut Merge<'_, RowSource>, asked: &Asked) {
     put_first(row, merge);
     for number in 0..usize::MAX {
@@ -86,7 +86,7 @@ fn put_given(row: &mut Row<'_>, given: &Result<Option<OwnedItem<'_>>, MergeFault
     }
 }
 
-/// Puts the line of an item, with seconds since the epoch, after an event record at the epoch.
+/// Puts the line of an item, with seconds since the epoch, as it follows the line of an event record at the epoch.
 fn put_item(row: &mut Row<'_>, item: Option<Item<'_>>) {
     let style = Style {
         clock: ClockStyle::Seconds,

@@ -1,4 +1,4 @@
-//! Readers, whose streams come whole and in pieces. A reader stands in a list, whose drop is a call.
+//! Readers, whose streams come whole and in pieces. A reader is in a list, whose drop is a call.
 
 use crate::row::Row;
 use crate::source::{Manner, RowSource};
@@ -23,7 +23,7 @@ pub struct Stream<'a> {
     pub bytes: &'a [u8],
 }
 
-/// Puts what the reader of each stream tells.
+/// Puts what the reader of each stream gives.
 pub fn put_readers(row: &mut Row<'_>, trace: &TraceClass, asked: &Asked, streams: &[Vec<u8>]) {
     for (number, bytes) in streams.iter().enumerate() {
         put_stream(
@@ -38,7 +38,7 @@ pub fn put_readers(row: &mut Row<'_>, trace: &TraceClass, asked: &Asked, streams
     }
 }
 
-/// Puts what the reader of a stream tells, and in which pieces the bytes come to the same.
+/// Puts what the reader of a stream gives, and in which pieces the bytes come to the same.
 fn put_stream(row: &mut Row<'_>, stream: Stream<'_>) {
     let whole = reader_row(row.alloc, stream, stream.asked.input);
     row.put(&whole);
@@ -53,7 +53,7 @@ fn put_stream(row: &mut Row<'_>, stream: Stream<'_>) {
     }
 }
 
-/// What the reader of a stream tells where its bytes come in this manner.
+/// What the reader of a stream gives where its bytes come in this manner.
 fn reader_row(alloc: Global, stream: Stream<'_>, manner: Manner) -> Vec<u8> {
     let mut row = Row::new(alloc, "");
     let mut readers = List::new(alloc);
@@ -84,7 +84,7 @@ pub fn add_reader<'a>(
     Ok(readers.push(reader)?)
 }
 
-/// Puts the name of a reader's stream, and what each of its calls tells.
+/// Puts the name of a reader's stream, and what each of its calls gives.
 fn put_reader(row: &mut Row<'_>, reader: &mut StreamReader<'_, RowSource>, asked: &Asked) {
     put_counts(row, reader);
     row.put(reader.name().as_bytes());
@@ -97,7 +97,7 @@ fn put_reader(row: &mut Row<'_>, reader: &mut StreamReader<'_, RowSource>, asked
     put_step(row, reader, asked.step(2), asked.shown);
 }
 
-/// Puts what a call tells, and answers whether nothing comes after it. A reader has no `leave`.
+/// Puts what a call gives, and answers whether no item comes after it. A reader has no `leave`.
 fn put_step(
     row: &mut Row<'_>,
     reader: &mut StreamReader<'_, RowSource>,
@@ -118,7 +118,7 @@ fn put_step(
     }
 }
 
-/// Puts what stands in front, and answers whether that is an end or a fault. A reader tells an item as it shows it.
+/// Puts the current item, the end or the fault, and answers whether it is no item. `told` and `head` give one item.
 fn put_front(row: &mut Row<'_>, reader: &StreamReader<'_, RowSource>, shown: Shown) -> bool {
     match (reader.told(), reader.head()) {
         (Some(CurrentItem::Item(_)), Some(item)) => put_item(row, &item, shown),

@@ -10,7 +10,7 @@ pub enum Step {
     On,
     /// `next`.
     Next,
-    /// `leave`, where an item stands in front, else `go_on`.
+    /// `leave`, where there is a current item, else `go_on`.
     Leave,
 }
 
@@ -33,7 +33,7 @@ pub struct Asked {
     /// Whether event records are read as texts where they can be.
     pub writes: bool,
     pub shown: Shown,
-    /// The steps of the row, and after them the last one again.
+    /// The steps of the row, and then the last one again.
     steps: [Step; 3],
     count: usize,
 }

@@ -1,4 +1,4 @@
-//! What is decoded at places of packets. The values decoded before stand in a box: its drop is a call.
+//! What is decoded at places of packets. The values decoded before are in a box: its drop is a call.
 
 use crate::row::Row;
 use crate::value::place::Place;

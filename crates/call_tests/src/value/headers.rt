@@ -15,8 +15,8 @@ struct Making {
     value: Value,
 }
 
-/// Puts a line for each header, which stands at the start of a packet of its own. Each is decoded into the value of the
-/// one before it.
+/// Puts a line for each header, which is at the start of a packet of its own. Each is decoded into the value of the one
+/// before it.
 pub fn put_row(row: &mut Row<'_>, class: &Class) {
     let making = Making {
         scopes: Scopes::new(),

@@ -69,7 +69,7 @@ fn put_shown(row: &mut Row<'_>, kind: &str, classes: Classes<'_>, scopes: &Recor
     row.put_made(made);
 }
 
-/// The text of an event record after what stands in a line, over what stood there.
+/// A line to whose end the text of an event record is written, over old bytes of its buffer.
 fn line_of(
     alloc: Global,
     classes: Classes<'_>,

@@ -1,4 +1,4 @@
-//! Texts that are written out of the bits, after what stands in a line and over what stood there.
+//! Texts that are written from bits to the end of a line, over old bytes of the line's buffer.
 
 ghost use Rattle.std.specs.Prelude.{◌≡◌, List};
 ghost use Rattle.ctf_class.specs.Records.{IsPlanOf};
@@ -12,7 +12,7 @@ use ctf_class::{Class, RecordPlan, Scope, StreamClass};
 use ctf_decode::Scopes;
 use ctf_format::{Content, Members, ScopeInput, Standing, put_planned_record, put_standing};
 
-/// What stands in a line, and after its fifth byte what stood there.
+/// A line of five bytes, and after it old bytes of its buffer.
 pub const LINE: &[u8] = b"[12] and what was there";
 
 /// Puts the text of the structure at a place, where the words after it are the value of the packet context.

@@ -48,7 +48,7 @@ pub fn values_of(alloc: Global, words: &str) -> Vec<Value> {
     values
 }
 
-/// Adds the value that a word names after those before it, or around the last of them.
+/// Adds the value that a word names: after the values before it, or around the last of them.
 fn add_value(alloc: Global, values: &mut Vec<Value>, word: &str) -> Option<()> {
     let (kind, rest) = word.split_once(':')?;
     let value = match kind {
@@ -63,7 +63,7 @@ fn add_value(alloc: Global, values: &mut Vec<Value>, word: &str) -> Option<()> {
     values.push(value).ok()
 }
 
-/// A text.
+/// The value that is a text of these bytes.
 pub fn text_of(alloc: Global, bytes: &[u8]) -> Option<Value> {
     Some(Value::Text(List::from_slice(alloc, bytes).ok()?))
 }

@@ -13,7 +13,7 @@ pub struct MadeUp<'a> {
     pub table: &'a str,
 }
 
-/// What stands at a path.
+/// What is at a path.
 #[derive(Clone, Copy)]
 enum Entry<'a> {
     Text(&'a str),
@@ -26,7 +26,7 @@ enum Entry<'a> {
 }
 
 impl<'a> MadeUp<'a> {
-    /// What stands at a path.
+    /// What is at a path.
     fn at(&self, path: &str) -> Option<Entry<'a>> {
         for line in self.table.lines() {
             let (name, entry) = line.split_once(' ').unwrap_or((line, ""));
