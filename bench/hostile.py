@@ -210,8 +210,8 @@ CASES = scope_cases() + [
     Case("metadata: `a,` in an enumeration", "bytes", repeated(SHORT + "enum s : u { ", "a,", " };\n"), TEXT_SIZES),
     Case("metadata: `a=1;` in `env`", "bytes", repeated(SHORT + "env { ", "a=1;", " };\n"), TEXT_SIZES),
     Case("metadata: `;`", "bytes", repeated(SHORT, ";", "\n"), TEXT_SIZES),
-    Case("metadata: `ABCD,` behind `string`, as fields", "bytes", strings_as_fields, TEXT_SIZES),
-    Case("metadata: `a,` behind `string`, 53 fields an event", "bytes", short_strings_of_events, TEXT_SIZES),
+    Case("metadata: `ABCD,` after `string`, as fields", "bytes", strings_as_fields, TEXT_SIZES),
+    Case("metadata: `a,` after `string`, 53 fields an event", "bytes", short_strings_of_events, TEXT_SIZES),
     Case("metadata: events of a long context", "members and events", events_of_a_long_context, (1000, 2000, 4000)),
     Case("metadata: events as LTTng's", "bytes", events_of_metadata, TEXT_SIZES),
 ]
