@@ -1,8 +1,8 @@
 //! Classes that are built from words.
 //!
-//! `integer:ALIGN:SIZE` is an unsigned integer, `string:ALIGN` a string, `struct:ALIGN:N` takes the last N classes as its
-//! members, and `array:ALIGN:LENGTH` and `counted:ALIGN:PLACE` take the last class as their element: as many as LENGTH
-//! says, or as the member of this place does. So many bytes have the texts `text:ALIGN:LENGTH` and
+//! `integer:ALIGN:SIZE` is an unsigned integer, `string:ALIGN` a string, `struct:ALIGN:N` takes the last N classes as
+//! its members, and `array:ALIGN:LENGTH` and `counted:ALIGN:PLACE` take the last class as their element: as many as
+//! LENGTH says, or as the member of this place does. So many bytes have the texts `text:ALIGN:LENGTH` and
 //! `spelled:ALIGN:PLACE`. `enum:ALIGN:SIZE` is an enumeration without labels. A member is named by its word.
 
 use crate::row::Row;

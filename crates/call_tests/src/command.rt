@@ -1,7 +1,8 @@
 //! The words of command lines, and the names of streams.
 //!
 //! - `options WORD; WORD; ..` is what words ask for: the first and the last time that is printed, the clock of stamps,
-//!   whether lines have the time since the line before, the shift in seconds and in nanoseconds, and the folders; or why not.
+//!   whether lines have the time since the line before, the shift in seconds and in nanoseconds, and the folders; or
+//!   why not.
 //! - `folders N` is how many folders come of so many.
 //! - `usage FAULT` is the line that is printed for a fault, `help`, `bad` or `memory`.
 //! - `files NAME NAME ..` are the names of the streams, out of those of a folder.

@@ -1,7 +1,7 @@
 //! Items found by their numbers.
 //!
-//! `items NUMBERS NUMBER` is the place of the first item of a number, how many items there are, and the number of the only
-//! one.
+//! `items NUMBERS NUMBER` is the place of the first item of a number, how many items there are, and the number of the
+//! only one.
 
 ghost use Rattle.std.specs.Prelude.{◌≡◌};
 

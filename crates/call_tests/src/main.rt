@@ -1,19 +1,19 @@
 //! Makes one call after another and prints what it answers.
 //!
-//! `data/tables` names the tables, each in a line. In a table a line that begins with `#` is a comment, and each other line a
-//! row of words with one space between them. A text may hold bytes in hexadecimal between two backquotes. `-` stands for
-//! nothing. `readers` and `merges` are rows of streams (`streams.rt`), `places` and `texts` rows of values (`value.rt`), `faults`
-//! and `worked` metadata texts (`metadata/faults.rt`), and `declared` names files of metadata whose trace classes are printed,
-//! and `owners` (`metadata/owners.rt`). In the other tables, each of the calls of one module, the first word says what is
-//! called, and the module says what its rows are.
+//! `data/tables` names the tables, each in a line. In a table a line that begins with `#` is a comment, and each other
+//! line a row of words with one space between them. A text may hold bytes in hexadecimal between two backquotes. `-`
+//! stands for nothing. `readers` and `merges` are rows of streams (`streams.rt`), `places` and `texts` rows of values
+//! (`value.rt`), `faults` and `worked` metadata texts (`metadata/faults.rt`), and `declared` names files of metadata
+//! whose trace classes are printed, and `owners` (`metadata/owners.rt`). In the other tables, each of the calls of one
+//! module, the first word says what is called, and the module says what its rows are.
 //!
 //! After each row is what came of it. All of this is written down in `stdout`, from the contracts of the calls and the
 //! rules of the format and of the layout. A call may answer that it is out of memory, and no contract says that it does
 //! not: so each such call is made here with ample memory. What else a contract leaves open is here too; what it does
 //! not is computed in `number_tests`.
 //!
-//! What costs is where a value is dropped. So what puts something owns little and answers nothing. What is refused memory,
-//! and a row that is none, puts another text than the one that is wanted.
+//! What costs is where a value is dropped. So what puts something owns little and answers nothing. What is refused
+//! memory, and a row that is none, puts another text than the one that is wanted.
 #![tactic(auto)]
 
 mod bounds;

@@ -1,8 +1,8 @@
 //! What classes say of their fields beforehand. How classes are named is said in `classes`.
 //!
-//! - `plan CLASS` is the plan of event records whose fields have this class, and whose stream event context and event context
-//!   have those before it, where there are any: the count of values, and of each run its bits and whether a field
-//!   follows it.
+//! - `plan CLASS` is the plan of event records whose fields have this class, and whose stream event context and event
+//!   context have those before it, where there are any: the count of values, and of each run its bits and whether a
+//!   field follows it.
 
 use crate::classes::members_of;
 use crate::row::Row;

@@ -1,8 +1,8 @@
 //! Sinks that get a text, and at each call what they left of it.
 //!
-//! `sink KIND TEXT` is how many bytes a sink takes at each call, `failed` where it fails, and what it has then. `memory` is a
-//! sink in memory, `drip:N` takes at most so many bytes at a call, `failing:N` so many bytes in all, `write` is a writer in
-//! memory, `silent` a writer that takes nothing, and `broken` one that fails.
+//! `sink KIND TEXT` is how many bytes a sink takes at each call, `failed` where it fails, and what it has then.
+//! `memory` is a sink in memory, `drip:N` takes at most so many bytes at a call, `failing:N` so many bytes in all,
+//! `write` is a writer in memory, `silent` a writer that takes nothing, and `broken` one that fails.
 
 use crate::device::Device;
 use crate::row::Row;

@@ -1,8 +1,9 @@
 //! Sources, asked until they have reported their end twice.
 //!
-//! `source KIND PIECE TEXT` is what a source of a text gives into a buffer of so many bytes, piece by piece, and how many bytes
-//! it says that it has given. `slice` is the text, `pieces:N` at most so many bytes at a call, `failing:N` so many bytes and
-//! then a failure, `read` a reader of the text, `silent` a reader that gives nothing, and `broken` one that fails.
+//! `source KIND PIECE TEXT` is what a source of a text gives into a buffer of so many bytes, piece by piece, and how
+//! many bytes it says that it has given. `slice` is the text, `pieces:N` at most so many bytes at a call, `failing:N`
+//! so many bytes and then a failure, `read` a reader of the text, `silent` a reader that gives nothing, and `broken`
+//! one that fails.
 
 ghost use Rattle.std.specs.Prelude.{◌≡◌, ◌<◌, ◌≤◌, length};
 

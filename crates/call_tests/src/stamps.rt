@@ -1,10 +1,11 @@
 //! Stamps of moments, and beginnings of lines.
 //!
-//! A style is a word for the clock, `time`, `date`, `seconds` or `cycles`, and a zone. Times are in nanoseconds since the epoch.
+//! A style is a word for the clock, `time`, `date`, `seconds` or `cycles`, and a zone. Times are in nanoseconds since
+//! the epoch.
 //!
 //! - `stamp CLOCK ZONE TIME` is the stamp of a moment whose clock is at 134217727.
-//! - `lines CLOCK ZONE DELTA TIMES` is how lines of these times begin one after the other, from one stamper, at the largest
-//!   value of the clock. DELTA is `delta` where they have the time since the line before.
+//! - `lines CLOCK ZONE DELTA TIMES` is how lines of these times begin one after the other, from one stamper, at the
+//!   largest value of the clock. DELTA is `delta` where they have the time since the line before.
 //! - `appended CLOCK ZONE DELTA TIME LAST` is how a line begins that follows a line of another time.
 
 use crate::row::Row;

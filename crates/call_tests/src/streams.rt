@@ -4,13 +4,15 @@
 //!
 //! - hexadecimal digits, the bytes of a stream, `-` for none, or `@FILE`, those of a file: `-N` leaves out its last N
 //!   bytes, `+BYTES` adds bytes at its end, and `@PLACE@BYTES` puts others at a place,
-//! - `on`, `next` and `leave`, at most three calls that are made, `go_on`, `next` and of a merge `leave`, which is `go_on`
-//!   where no item comes first; the last one, or `on`, is made again up to the end or the fault, and then once more,
-//! - `in=drip:N`, where a source gives at most N bytes at a call, or `in=fail:N`, where it gives N bytes and then fails,
+//! - `on`, `next` and `leave`, at most three calls that are made, `go_on`, `next` and of a merge `leave`, which is
+//!   `go_on` where no item comes first; the last one, or `on`, is made again up to the end or the fault, and then once
+//!   more,
+//! - `in=drip:N`, where a source gives at most N bytes at a call, or `in=fail:N`, where it gives N bytes and then
+//!   fails,
 //! - `shift=N`, nanoseconds that are added to each time,
 //! - `writing`, where event records are read as texts,
-//! - `values` and `part`, where those of an event record are shown: the values of its scopes, as `value/words.rt` has them, or
-//!   the text that the lines of its packet share.
+//! - `values` and `part`, where those of an event record are shown: the values of its scopes, as `value/words.rt` has
+//!   them, or the text that the lines of its packet share.
 //!
 //! **Readers.** Each stream has a reader. After a row come for each the name of the stream and then what each call
 //! gives, with `gives` before what is given by value, each after `GIVEN/HELD`: how many bytes the source has given and

@@ -1,12 +1,12 @@
 //! The parts of event, stream and trace classes. A scope is an integer of so many bits, and 0 stands for none.
 //!
-//! - `event NUMBER NAME CONTEXT FIELDS` is an event class: its number, its name, its context and its fields, whose class is
-//!   named as `classes` says.
-//! - `stream NUMBER PACKET HEADER CONTEXT EVENTS EVENT` is a stream class with event classes of these numbers: its number, its
-//!   packet context, its event header and its event context, then the event class of the number and the only one, each with
-//!   its plan, as `plans` has it.
-//! - `trace HOST HEADER NUMBERS STREAM` is a trace class with stream classes of these numbers: its host, its packet header,
-//!   the stream class of the number and the only one.
+//! - `event NUMBER NAME CONTEXT FIELDS` is an event class: its number, its name, its context and its fields, whose
+//!   class is named as `classes` says.
+//! - `stream NUMBER PACKET HEADER CONTEXT EVENTS EVENT` is a stream class with event classes of these numbers: its
+//!   number, its packet context, its event header and its event context, then the event class of the number and the
+//!   only one, each with its plan, as `plans` has it.
+//! - `trace HOST HEADER NUMBERS STREAM` is a trace class with stream classes of these numbers: its host, its packet
+//!   header, the stream class of the number and the only one.
 //!
 //! A class is in a list, whose drop is a call.
 

@@ -5,23 +5,23 @@
 //! the event class of this id, as `S.N`, those of an event class of another stream class, or as `header.N`, the event
 //! header of the stream class of this id.
 //!
-//! - `decode CLASS START..CONTENT BYTES SPENT` is a place of a packet, the end of its content, both in bits, and how many
-//!   values were begun before, where it is not 0. `into CLASS START..CONTENT BYTES` decodes into another value.
+//! - `decode CLASS START..CONTENT BYTES SPENT` is a place of a packet, the end of its content, both in bits, and how
+//!   many values were begun before, where it is not 0. `into CLASS START..CONTENT BYTES` decodes into another value.
 //! - `front CLASS START..CONTENT BYTES` is a place of a beginning of a packet.
 //! - `standing CLASS START..CONTENT BYTES CONTEXT` is the text of the structure at a place, written from its bits to
 //!   the end of a line, over old bytes of the line's buffer, where the packet context has this value, if one is given,
 //!   and `planned STREAM EVENT START..CONTENT BYTES` that of the scopes of an event record by its plan. After it come
 //!   the place where it ends and how many values were begun up to there.
-//! - `headers CLASS START..CONTENT BYTES, ..` is one header after the other, each decoded in the place of the one before,
-//!   as headers and in the general way.
+//! - `headers CLASS START..CONTENT BYTES, ..` is one header after the other, each decoded in the place of the one
+//!   before, as headers and in the general way.
 //! - `moving CLASS VALUE` is what the value of a header says.
 //! - `value CLASS VALUE` is the text of a value.
-//! - `record STREAM EVENT PACKET VALUES` is that of an event record of the classes of these ids. `PACKET` is the text that
-//!   the records of the packet share, where `_` stands for a space, or `-`. The values are those of the stream event
-//!   context, of the event context and of the fields, or of the fields alone. `after` has the same row, and the text is
-//!   written to the end of a line, over old bytes of the line's buffer.
-//! - `packet STREAM VALUE` is the text of a packet context of the stream class of this id; `-` stands for no class and for no
-//!   value.
+//! - `record STREAM EVENT PACKET VALUES` is that of an event record of the classes of these ids. `PACKET` is the text
+//!   that the records of the packet share, where `_` stands for a space, or `-`. The values are those of the stream
+//!   event context, of the event context and of the fields, or of the fields alone. `after` has the same row, and the
+//!   text is written to the end of a line, over old bytes of the line's buffer.
+//! - `packet STREAM VALUE` is the text of a packet context of the stream class of this id; `-` stands for no class and
+//!   for no value.
 //! - `digits CLASS DIGITS` is each number whose digits begin these.
 //! - `lengths CLASS TEXT` is each beginning of the text, with each of three bytes at its begin, inside and at its end.
 //!

@@ -1,5 +1,5 @@
--- Where each route of a class leads to an integer or an enumeration of the classes before it, what is looked for is found
--- in values that stand for these classes.
+-- Where each route of a class leads to an integer or an enumeration of the classes before it, what is looked for is
+-- found in values that stand for these classes.
 use Rattle.std.proofs.Common.{◌≡◌, ℕ, zero, suc, ℤ, false, cond, List, [], ◌∷◌, ◌++◌, Option, Some, None, refl, sym, ap, ◌∙◌, subst}
 use Rattle.std.specs.Prelude.{slice_get, option_and_then}
 use Rattle.std.proofs.lemmas.Option.{none-some, same_Some}
@@ -19,7 +19,8 @@ use Rattle.ctf_decode.specs.Routes.{inside, found_from, found}
 use Rattle.ctf_packet.proofs.Conforming.{Conforms, ConformAll, stands_conform}
 use Rattle.class_laws.specs.Finding.{HasLength, FindsAll, FindsInMembers, FindsInOptions}
 
--- the classes before a class, as `Env` has the values: the earlier members of the structures around it, the innermost first
+-- the classes before a class, as `Env` has the values: the earlier members of the structures around it, the innermost
+-- first
 abbrev pub Around : Type 0
 Around = List (List Form)
 

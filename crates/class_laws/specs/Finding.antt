@@ -19,8 +19,8 @@ abbrev pub HasTag : Route → Input → Env → Type 0
 HasTag route c env = (z : ℤ) × (found route c.earlier env ≡ Some (label z))
 
 abbrev mutual
-  -- Each length and each tag that is looked for where a value of a class is decoded is found: at whatever place; in each
-  -- member, whatever is before it; in each option; in each element.
+  -- Each length and each tag that is looked for where a value of a class is decoded is found: at whatever place; in
+  -- each member, whatever is before it; in each option; in each element.
   pub FindsAll : Form → Input → Env → Type 0
   FindsAll (structure a ps) c env = FindsInMembers ps c env []
   FindsAll (variant a tag choices ps) c env = HasTag tag c env × FindsInOptions ps c env

@@ -7,8 +7,8 @@ use Rattle.ctf_packet.specs.Classes.{trace_form}
 use Rattle.class_laws.specs.Reading.{FindsInTrace}
 use Rattle.class_laws.specs.Sizes.{TraceSized}
 
--- With the scopes of a reader no length and no tag is missing: in a trace class that a text denotes each length is that of
--- an unsigned integer before it and each tag an enumeration's number before it, whatever a stream holds.
+-- With the scopes of a reader no length and no tag is missing: in a trace class that a text denotes each length is that
+-- of an unsigned integer before it and each tag an enumeration's number before it, whatever a stream holds.
 abbrev pub LengthsAndTagsAreFound : Type 0
 LengthsAndTagsAreFound = (tree : Tree) (class : TraceClass) (shift : Shift) → Denotes tree class → FindsInTrace (trace_form shift class)
 

@@ -47,14 +47,15 @@ pub record IsStampPlace (header tag size option stamp place : ℕ) : Type 0 wher
   pub stamp_divides : header % stamp ≡ 0
   pub is : place ≡ next_multiple_of (next_multiple_of size option) stamp
 
--- a tag and a stamp lie within the header, one after the other, and its end is near, however far its begin is rounded up
--- (own)
+-- a tag and a stamp lie within the header, one after the other, and its end is near, however far its begin is rounded
+-- up (own)
 pub record EndsNear (plan : HeaderPlan) : Type 0 where
   pub tag : bits_of plan.tag ≤ plan.stamp_place
   pub stamp : plan.stamp_place + bits_of plan.stamp ≡ plan.end
   pub near : plan.align + plan.end ≤ 2 ^ 40
 
--- a header begins at a byte, and its tag and its stamp are unsigned integers, little endian, that are read so after it (own)
+-- a header begins at a byte, and its tag and its stamp are unsigned integers, little endian, that are read so after it
+-- (own)
 pub record AreWindows (plan : HeaderPlan) : Type 0 where
   pub whole : plan.align % 8 ≡ 0
   pub tag : plan.tag_window ≡ record { place = 0; size = bits_of plan.tag; is_signed = false }
@@ -62,7 +63,8 @@ pub record AreWindows (plan : HeaderPlan) : Type 0 where
   pub stamp : plan.stamp_window ≡ record { place = plan.stamp_place; size = bits_of plan.stamp; is_signed = false }
   pub stamp_order : plan.stamp.order ≡ Le
 
--- a header's class is a tag and a variant on it, and this is read of them as long as the tag makes the first choice (own)
+-- a header's class is a tag and a variant on it, and this is read of them as long as the tag makes the first choice
+-- (own)
 pub record IsHeaderPlan (plan : HeaderPlan) (class : Class) : Type 0 where
   pub tag : Member
   pub variant : Member

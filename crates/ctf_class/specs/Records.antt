@@ -1,5 +1,5 @@
--- Event records whose integers are at fixed distances (all own). Bytes are written as numbers: 32 is a space, 44 a comma,
--- 123 and 125 are `{` and `}`.
+-- Event records whose integers are at fixed distances (all own). Bytes are written as numbers: 32 is a space, 44 a
+-- comma, 123 and 125 are `{` and `}`.
 use Rattle.std.specs.Prelude.{◌≡◌, ℕ, suc, ◌+◌, ◌%◌, ◌<◌, ◌≤◌, ◌^◌, List, [], ◌∷◌, ◌++◌, length, max, Option, Some, None, ⊤}
 use Rattle.std.specs.Int.{next_multiple_of}
 use Rattle.ctf_bits.specs.declared.number.Order.TheVariants.{Le}
@@ -21,8 +21,8 @@ use Rattle.ctf_class.specs.declared.route.Origin.TheVariants.{Enclosing}
 use Rattle.ctf_class.specs.declared.route.Route.{Route}
 use Rattle.ctf_class.specs.declared.plain_number.PlainNumber.{PlainNumber}
 
--- a field: what is printed between the value before it and its name, the alignment of the structure that it begins, or 1,
--- how many members of its structure are before it, and the member that it is of
+-- a field: what is printed between the value before it and its name, the alignment of the structure that it begins, or
+-- 1, how many members of its structure are before it, and the member that it is of
 pub record Slot : Type 0 where
   pub lead : List ℕ
   pub align : ℕ

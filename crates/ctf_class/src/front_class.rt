@@ -12,8 +12,8 @@ use ctf_list::{List, NoMemory};
 use std::alloc::Global;
 use std::marker::Model;
 
-/// The class of a packet's header or context (CTF 1.8.3, section 5). Contracts see the class; with it is kept which of its
-/// members say something of the packet, so that no name is compared for a packet.
+/// The class of a packet's header or context (CTF 1.8.3, section 5). Contracts see the class; with it is kept which of
+/// its members say something of the packet, so that no name is compared for a packet.
 #[derive(Drop)]
 pub struct FrontClass {
     class: Class,
@@ -98,8 +98,8 @@ impl FrontClass {
         }
     }
 
-    /// Whether the member at an index has a name that no line shows of a packet context, since it says something of the packet
-    /// and not of its events. Past the last member the answer is unspecified.
+    /// Whether the member at an index has a name that no line shows of a packet context, since it says something of the
+    /// packet and not of its events. Past the last member the answer is unspecified.
     #[inline(always)]
     pub fn hides(&self, index: usize) -> bool
         ensures { IfSome (slice_get (members_of self.now) index)

@@ -14,12 +14,12 @@ use crate::route::{Origin, Route};
 use crate::span::Choice;
 use ctf_bits::{Order, Window};
 
-/// What is read of the usual header of tracers such as LTTng (CTF 1.8.3, section 6.1): of an enumeration named `id` and a
-/// variant on it whose first choice is a structure of one integer that sets the clock. Such a header is then decoded
+/// What is read of the usual header of tracers such as LTTng (CTF 1.8.3, section 6.1): of an enumeration named `id` and
+/// a variant on it whose first choice is a structure of one integer that sets the clock. Such a header is then decoded
 /// without a look at its class.
 ///
-/// The alignments of its parts divide its own, and it begins at a byte. So these are at fixed places after its begin, and
-/// the tag right there. Both integers are little endian and lie in eight bytes.
+/// The alignments of its parts divide its own, and it begins at a byte. So these are at fixed places after its begin,
+/// and the tag right there. Both integers are little endian and lie in eight bytes.
 #[derive(Drop)]
 pub struct HeaderPlan {
     /// The alignment of the header.

@@ -79,21 +79,22 @@ pub struct Field {
     pub shown: Shown,
 }
 
-/// Integers in decimal, little endian, that are one after the other at fixed distances from a byte's first bit (CTF 1.8.3,
-/// section 4.1.5), and the field after them, if there is one.
+/// Integers in decimal, little endian, that are one after the other at fixed distances from a byte's first bit (CTF
+/// 1.8.3, section 4.1.5), and the field after them, if there is one.
 #[derive(Drop)]
 pub struct Run {
     pub numbers: List<PlainNumber>,
     /// How many bits the numbers take.
     pub span: u64,
-    /// How many bytes of a line it takes at the most, a string and a text but for what is printed before them, and 24 more.
+    /// How many bytes of a line it takes at the most, a string and a text but for what is printed before them, and 24
+    /// more.
     pub room: usize,
     pub field: Option<Field>,
 }
 
-/// The fields of an event record's scopes after its header (CTF 1.8.3, section 6), one after the other, if all of them are
-/// structures that begin at a byte, of integers, enumerations, strings, and texts and arrays of integers whose length is
-/// fixed or the field before; else nothing.
+/// The fields of an event record's scopes after its header (CTF 1.8.3, section 6), one after the other, if all of them
+/// are structures that begin at a byte, of integers, enumerations, strings, and texts and arrays of integers whose
+/// length is fixed or the field before; else nothing.
 #[derive(Drop)]
 pub struct RecordPlan {
     pub runs: List<Run>,
@@ -127,7 +128,8 @@ struct Making {
 }
 
 impl RecordPlan {
-    /// The plan of records whose scopes have these classes: the stream event context, the event context, and the fields.
+    /// The plan of records whose scopes have these classes: the stream event context, the event context, and the
+    /// fields.
     pub fn new(
         alloc: Global,
         stream_context: Option<&Class>,
@@ -323,7 +325,8 @@ impl Making {
         Ok(true)
     }
 
-    /// A field of a class as the next number of the open run, if it can be one. It begins a structure of this alignment, or 1.
+    /// A field of a class as the next number of the open run, if it can be one. It begins a structure of this
+    /// alignment, or 1.
     fn as_number(&self, class: &Class, begin: Align) -> Option<(Integer, Window)>
         requires { self.now.span ≤ 2 ^ 33 }
         ensures is { IfSome result (λ found. class.now.kind ≡ kinds.Integer found.0) }
@@ -395,9 +398,9 @@ impl Making {
     }
 }
 
-/// How a field of a class after so many others of its structure is shown after a run: an integer, an enumeration, a string,
-/// or a text or an array of integers whose length is fixed or the field before. It fails where no more owners of labels can
-/// be counted.
+/// How a field of a class after so many others of its structure is shown after a run: an integer, an enumeration, a
+/// string, or a text or an array of integers whose length is fixed or the field before. It fails where no more owners
+/// of labels can be counted.
 fn shown_of(class: &Class, index: usize) -> Result<Option<Shown>, NoMemory>
     ensures { IfOk result (λ shown. (m : Member) → m.class ≡ class.now →
         IfSome shown (IsShown index m)) }

@@ -55,8 +55,8 @@ pub struct StreamParts {
     pub events: Indexed<EventClass>,
 }
 
-/// A stream class (CTF 1.8.3, sections 3 and 7.4). Contracts see its parts; with them it keeps the plans of its event records
-/// and of their headers.
+/// A stream class (CTF 1.8.3, sections 3 and 7.4). Contracts see its parts; with them it keeps the plans of its event
+/// records and of their headers.
 #[derive(Drop)]
 pub struct StreamClass {
     parts: StreamParts,

@@ -87,8 +87,8 @@ pub record Says (text : List ℕ) (old new : Side) : Type 0 where
 
 -- ---- the end of the log
 
--- What the log holds back is passed on, which changes how the program ends only where the log fails or runs out of memory.
--- After a failed write nothing more is passed on.
+-- What the log holds back is passed on, which changes how the program ends only where the log fails or runs out of
+-- memory. After a failed write nothing more is passed on.
 pub data Settles (old new : Side) : Outcome → Outcome → Type 0 where
   settled : (outcome : Outcome) → (outcome ≡ WriteFailed → ⊥) → IsTrue new.settled → new.accepted ≡ old.accepted → Counted Done old new → Settles old new outcome outcome
   failed : (outcome : Outcome) → (outcome ≡ WriteFailed → ⊥) → new.accepted ≡ old.accepted → Counted WriteFailed old new → Settles old new outcome WriteFailed
@@ -97,8 +97,8 @@ pub data Settles (old new : Side) : Outcome → Outcome → Type 0 where
 
 -- ---- the program
 
--- A run over the traces, in which nothing of the log is held back after the line of a fault, nor where the messages failed or
--- ran out of memory; then the log is settled; then the line of how that ended is written.
+-- A run over the traces, in which nothing of the log is held back after the line of a fault, nor where the messages
+-- failed or ran out of memory; then the log is settled; then the line of how that ended is written.
 pub record Prints (traces : List Trace) (options : Options) (old new : Sides) (status : ℕ) : Type 0 where
   pub between : Sides
   pub outcome : Outcome
@@ -134,8 +134,8 @@ pub data EndsFor (options : Options) (files : Files) (old new : Sides) (status :
   blocked : (path : List ℕ) → AreBlocked files options.dirs path → Refuses (path_line path) old new status → EndsFor options files old new status
   starved : Refuses (outcome_text NoMemory) old new status → EndsFor options files old new status
 
--- How the program ends for words: as for the options that they give; or with the usage line, where they ask for help; or
--- with the line of bad words, or of out of memory.
+-- How the program ends for words: as for the options that they give; or with the usage line, where they ask for help;
+-- or with the line of bad words, or of out of memory.
 pub data Ends (words : List (List ℕ)) (files : Files) (old new : Sides) (status : ℕ) : Type 0 where
   asked : (options : Options) → GivesOptions words options → EndsFor options files old new status → Ends words files old new status
   helped : IsRefusal words usages.Help → Helps old new status → Ends words files old new status

@@ -5,7 +5,8 @@ use Rattle.ctf_session.specs.Inputs.{Given}
 use Rattle.ctf_cli.specs.declared.folders.FolderFault.{FolderFault}
 use Rattle.ctf_cli.specs.declared.folders.FolderFault.TheVariants.{Unreadable, NoMemory}
 
--- what is at a path, for one who looks for a stream: no file that is not empty, or one that can't be opened, or a stream
+-- what is at a path, for one who looks for a stream: no file that is not empty, or one that can't be opened, or a
+-- stream
 pub data Found : Type 0 where
   nothing : Found
   closed : Found

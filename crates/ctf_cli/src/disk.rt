@@ -158,8 +158,8 @@ fn names_in<R: Files + AllocGlobal + Clone + Drop>(
     Ok(names)
 }
 
-/// Opens a file that is not empty; none where the path leads to something else. A link to nothing, or to itself, leads to
-/// none; a path at which nothing is there, since it was listed, to a file that is gone.
+/// Opens a file that is not empty; none where the path leads to something else. A link to nothing, or to itself, leads
+/// to none; a path at which nothing is there, since it was listed, to a file that is gone.
 fn open_stream<R: Files>(rt: &R, path: &str) -> io::Result<Option<R::File>> {
     match open_file(rt, path, 1) {
         Err(error) if leads_nowhere(error.kind()) && is_link(rt, path) => Ok(None),

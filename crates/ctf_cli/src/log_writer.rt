@@ -89,8 +89,8 @@ impl<O: Write + Drop> LogWriter<O> {
         }
     }
 
-    /// Takes the first bytes of a piece for which there is no room, or just enough. A buffer is filled before it is passed
-    /// on, so that a file is written by whole pages.
+    /// Takes the first bytes of a piece for which there is no room, or just enough. A buffer is filled before it is
+    /// passed on, so that a file is written by whole pages.
     #[cold]
     #[inline(never)]
     fn put_apart(&mut self, bytes: &[u8]) -> Result<usize, SinkFault>

@@ -15,8 +15,8 @@ use std::alloc::Global;
 /// Does what the words of a command line ask for, and gives the exit status: 0 on success, else 1. The first word is
 /// the program's name.
 ///
-/// Refused words are reported first, then the first path that cannot be read, then what the run reports. The log is passed
-/// on at the end, and before each message.
+/// Refused words are reported first, then the first path that cannot be read, then what the run reports. The log is
+/// passed on at the end, and before each message.
 pub fn program<F: Folders, W: Log, E: Sink>(
     alloc: Global,
     words: &[String],
@@ -24,8 +24,8 @@ pub fn program<F: Folders, W: Log, E: Sink>(
     out: &mut W,
     err: &mut E,
 ) -> u8
-    // What was written, and the status, are those of the traces in the folders, of the first path that cannot be read, or
-    // of the words.
+    // What was written, and the status, are those of the traces in the folders, of the first path that cannot be read,
+    // or of the words.
     ensures ends { let log = ends.side_of W.accepted W.settled W.failures W.refusals in
         let messages = ends.plain_side_of E.accepted E.failures E.refusals in
         IsTrue (F.tells folders.now) → IsTrue (W.tells out.old) → IsTrue (E.tells err.old) →

@@ -27,9 +27,9 @@ pub struct Decoded {
     pub spent: u64,
 }
 
-/// Makes the value of a class that is at the bit `start` of a packet the value, whatever it was before; its memory is used
-/// again. The value of each scope that the class may name is in the packet's scopes, and so is how many values were begun
-/// before.
+/// Makes the value of a class that is at the bit `start` of a packet the value, whatever it was before; its memory is
+/// used again. The value of each scope that the class may name is in the packet's scopes, and so is how many values
+/// were begun before.
 ///
 /// At an error the value is unspecified: F6 with the place that the content does not reach, F8, F11, or
 /// `NoMemory`.

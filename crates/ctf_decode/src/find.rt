@@ -135,8 +135,8 @@ pub(crate) fn tag_of(value: &Value) -> Option<i128>
     None
 }
 
-/// The option that a number chooses, where it is that of the only member before the variant and the variant's tag is that
-/// member.
+/// The option that a number chooses, where it is that of the only member before the variant and the variant's tag is
+/// that member.
 #[inline(always)]
 pub fn chosen_by_first(tag: &Route, choices: &Choices, number: i128) -> Option<usize>
     ensures { IfSome result (routes.FirstChooses tag.now choices.now number) }

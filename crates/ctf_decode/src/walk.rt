@@ -214,9 +214,9 @@ fn each_member_into(
     Ok(())
 }
 
-/// Makes the next member of a structure the value at an index, those before it being there. Mostly it is an
-/// integer, or else a string: two comparisons tell these apart, where many classes would be told apart by a table of jumps,
-/// which a processor foresees worse.
+/// Makes the next member of a structure the value at an index, those before it being there. Mostly it is an integer, or
+/// else a string: two comparisons tell these apart, where many classes would be told apart by a table of jumps, which a
+/// processor foresees worse.
 #[cycle(walk)]
 #[inline(always)]
 fn member_into(

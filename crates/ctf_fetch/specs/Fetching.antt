@@ -16,7 +16,8 @@ use Rattle.ctf_packet.specs.declared.fault.StreamFault.TheVariants as faults
 abbrev pub longest_bytes : ℕ
 longest_bytes = 2 ^ 28
 
--- how many bytes may be taken of a stream, at the most: a packet that begins at the longest stream's end, and one byte (own)
+-- how many bytes may be taken of a stream, at the most: a packet that begins at the longest stream's end, and one byte
+-- (own)
 abbrev pub most_taken : ℕ
 most_taken = 2 ^ 60 + 2 ^ 28 + 1
 

@@ -172,8 +172,8 @@ fn take_after<S: Source>(
     source.take(&mut bytes[filled..end])
 }
 
-/// Makes room for some bytes after the first ones, and for the padding: up to `target` where that is near, else for as many
-/// as came, `FIRST` at least.
+/// Makes room for some bytes after the first ones, and for the padding: up to `target` where that is near, else for as
+/// many as came, `FIRST` at least.
 fn grow(bytes: &mut Vec<u8>, filled: usize, target: usize) -> Result<(), StreamFault>
     requires few { filled < target }
     requires there { filled ≤ length bytes.old.items }

@@ -1,6 +1,6 @@
-//! Values of a packet's header and context, decoded while their bytes come: the bytes of a value are taken at once where
-//! it is known how many they are, others once they are needed, and decoding goes on where it stopped for them, so that the
-//! time is linear in the bytes.
+//! Values of a packet's header and context, decoded while their bytes come: the bytes of a value are taken at once
+//! where it is known how many they are, others once they are needed, and decoding goes on where it stopped for them, so
+//! that the time is linear in the bytes.
 
 ghost use Rattle.std.specs.Prelude.{◌≡◌, ◌+◌, ◌*◌, ◌≤◌, ◌++◌, min, max, length, take, IsTrue, IfOk, IfErr};
 ghost use Rattle.ctf_packet.specs.Scopes.{longest};

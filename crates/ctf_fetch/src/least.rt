@@ -11,12 +11,12 @@ use ctf_class::{Align, Class, Kind, Length, Member, TraceClass, Width};
 use ctf_decode::length_at;
 use ctf_packet::LONGEST_PACKET;
 
-/// How deep the parts of a class may lie in one another. Where its size is not known, its parts are asked about by themselves:
-/// so each is looked at a few times, however deep it lies.
+/// How deep the parts of a class may lie in one another. Where its size is not known, its parts are asked about by
+/// themselves: so each is looked at a few times, however deep it lies.
 const DEEPEST: u32 = 4;
 
-/// How many bytes the header and the context of each packet of a trace take at least. What the context takes is known where
-/// the trace has one stream class, of which each packet is then.
+/// How many bytes the header and the context of each packet of a trace take at least. What the context takes is known
+/// where the trace has one stream class, of which each packet is then.
 pub(crate) fn least_front(trace: &TraceClass) -> usize
     ensures takes { FrontTakes trace.now result }
     ensures bounded { result ≤ longest_bytes }
@@ -213,8 +213,8 @@ fn bits_of_elements(element: &Class, count: u64) -> Option<u64>
     in_packet(u128::from(bits) * u128::from(count))
 }
 
-/// Whether each byte begins at a multiple of an alignment. It is asked of each member, so it takes no division: alignments are
-/// powers of two.
+/// Whether each byte begins at a multiple of an alignment. It is asked of each member, so it takes no division:
+/// alignments are powers of two.
 fn is_of_bytes(align: Align) -> bool {
     align.bits() <= 8
 }

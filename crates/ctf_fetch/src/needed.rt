@@ -183,7 +183,8 @@ fn take_text<S: Source>(place: &Place<'_>, intake: &mut Intake<'_, S>) -> Result
     Ok(())
 }
 
-/// The byte at an index of the packet, up to which no byte of a string at a place is zero. It is taken where it is not there.
+/// The byte at an index of the packet, up to which no byte of a string at a place is zero. It is taken where it is not
+/// there.
 fn text_byte<S: Source>(
     place: &Place<'_>,
     next: usize,

@@ -127,14 +127,15 @@ impl<'a> PacketStart<'a> {
         self.at = at;
     }
 
-    /// The packet that begins here, out of a source (CTF 1.8.3, section 5); its bytes are in `buffer` then, and the values
-    /// of its header and context in `scopes`. `None` where the stream ends here.
+    /// The packet that begins here, out of a source (CTF 1.8.3, section 5); its bytes are in `buffer` then, and the
+    /// values of its header and context in `scopes`. `None` where the stream ends here.
     ///
-    /// It takes the bytes that each header and context ask for, one at least, then those that this header and this context
-    /// ask for, then the rest of the packet: 2^28 bytes at the most, and one more of a stream whose rest is longer.
+    /// It takes the bytes that each header and context ask for, one at least, then those that this header and this
+    /// context ask for, then the rest of the packet: 2^28 bytes at the most, and one more of a stream whose rest is
+    /// longer.
     ///
-    /// An error is the first fault of the packet before its event records: F1 to F5, F8, F9, F11, F13 or F14; or `NoMemory`.
-    /// The bytes that were taken are in `buffer` then too.
+    /// An error is the first fault of the packet before its event records: F1 to F5, F8, F9, F11, F13 or F14; or
+    /// `NoMemory`. The bytes that were taken are in `buffer` then too.
     pub fn fetch<S: Source>(
         &self,
         alloc: Global,

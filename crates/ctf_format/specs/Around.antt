@@ -98,8 +98,8 @@ CountsIn seen many n = (earlier : Scope → Option Val) (env : Env) → Sees see
 abbrev pub ChoosesIn : Seen → Route → List Choice → ℕ → Type 0
 ChoosesIn seen tag choices i = (earlier : Scope → Option Val) (env : Env) → Sees seen earlier env → option_at tag choices earlier env ≡ Some i
 
--- The value of a scope is there from a place to another, whatever was decoded before with so much known of it, and its text
--- follows a text. Its members have the numbers that are kept. So many values were begun before it, and after it.
+-- The value of a scope is there from a place to another, whatever was decoded before with so much known of it, and its
+-- text follows a text. Its members have the numbers that are kept. So many values were begun before it, and after it.
 abbrev pub PutsWith : KnownScopes → Members → Form → Shown → List ℕ → ℕ → ℕ → ℕ → ℕ → ℕ → List ℕ → List ℕ → Type 0
 PutsWith known members k shown packet content place spent end total before after =
     (earlier : Scope → Option Val) (env : Env) → ScopesAre known earlier
@@ -109,8 +109,8 @@ PutsWith known members k shown packet content place spent end total before after
 abbrev pub packet_of : Seen → (Scope → Option Val) → Input
 packet_of seen earlier = among seen.packet.now.bytes.now seen.packet.now.end earlier
 
--- A value is there among what is seen around it, with so many values in it, of which so much is known, and its text follows
--- a text.
+-- A value is there among what is seen around it, with so many values in it, of which so much is known, and its text
+-- follows a text.
 abbrev pub PutsIn : Seen → Form → Shown → ℕ → List ℕ → Next → List ℕ → Type 0
 PutsIn seen k shown place line next after =
     (spent : ℕ) → spent + next.more < MOST_VALUES → (earlier : Scope → Option Val) (env : Env) → Sees seen earlier env
@@ -120,8 +120,8 @@ PutsIn seen k shown place line next after =
 abbrev pub WritesIn : Option Next → Seen → Form → Shown → ℕ → List ℕ → List ℕ → Type 0
 WritesIn result seen k shown place line items = IfSome result (λ next. PutsIn seen k shown place line next (take next.text items))
 
--- Members are there one after the other in a structure where this was decoded before, with so many values in them, which
--- are so, and their texts follow a text together.
+-- Members are there one after the other in a structure where this was decoded before, with so many values in them,
+-- which are so, and their texts follow a text together.
 abbrev pub PutsMembers : (List (List ℕ) → List ℕ) → ((Scope → Option Val) → Env → Type 0) → (List Val → Type 0) → List Member → List ℕ → ℕ → ℕ → List ℕ → MembersEnd → List ℕ → Type 0
 PutsMembers together Where Are ms packet content place before end after =
     (spent : ℕ) → spent + length ms + end.more ≤ MOST_VALUES → (earlier : Scope → Option Val) (env : Env) → Where earlier env
@@ -132,7 +132,8 @@ abbrev pub WritesMembers : (List (List ℕ) → List ℕ) → Option MembersEnd 
 WritesMembers together result outside members ms place line items =
     IfSome result (λ end. PutsMembers together (Agrees (sight outside.around.now)) (MembersAre members) ms outside.packet.now.bytes.now outside.packet.now.end place line end (take end.text items))
 
--- so many elements of an array are there one after the other among what is seen around it, with so many values in all of them
+-- so many elements of an array are there one after the other among what is seen around it, with so many values in all
+-- of them
 abbrev pub PutsItems : (List (List ℕ) → List ℕ) → Seen → Form → Shown → ℕ → ℕ → List ℕ → MembersEnd → List ℕ → Type 0
 PutsItems together seen k shown count place line end after =
     (spent : ℕ) → spent + count + end.more ≤ MOST_VALUES → (earlier : Scope → Option Val) (env : Env) → Sees seen earlier env

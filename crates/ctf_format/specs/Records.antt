@@ -13,8 +13,8 @@ use Rattle.ctf_decode.specs.Forms.{Form}
 use Rattle.ctf_format.specs.Texts.{Shown, value_text, part_text, member_part}
 use Rattle.ctf_format.specs.declared.planned_record.Reach.{Reach}
 
--- How far fields came: where the next one could begin, how many values were begun in arrays, the number that comes last,
--- if it is known, and what was written.
+-- How far fields came: where the next one could begin, how many values were begun in arrays, the number that comes
+-- last, if it is known, and what was written.
 pub record Reached : Type 0 where
   pub place : ℕ
   pub more : ℕ
@@ -29,13 +29,14 @@ reached r line = record { place = r.place; more = r.more; last = None; line = li
 abbrev pub after_number : Reach → Option ℕ → List ℕ → Reached
 after_number r last line = record { place = r.place; more = r.more; last = last; line = line }
 
--- a member after so many others, of which the last is a number, if it is known; the first of a structure has none before it
+-- a member after so many others, of which the last is a number, if it is known; the first of a structure has none
+-- before it
 abbrev pub after_members : ℕ → Option ℕ → Before
 after_members zero last = record { index = zero; last = known None }
 after_members (suc i) last = record { index = suc i; last = known last }
 
--- A field's value comes after other fields, whatever was decoded before them, and what is printed of it follows what was
--- written. If its number is known then, it is that.
+-- A field's value comes after other fields, whatever was decoded before them, and what is printed of it follows what
+-- was written. If its number is known then, it is that.
 abbrev pub PutsField : Slot → List ℕ → ℕ → Reached → Reached → Type 0
 PutsField s packet content from to =
     let begun = next_multiple_of from.place s.align in

@@ -22,8 +22,8 @@ use Rattle.ctf_format.specs.declared.standing.Next.{Next}
 abbrev pub among : List ℕ → ℕ → (Scope → Option Val) → Input
 among packet content earlier = record { packet = packet; content = content; earlier = earlier; limit = MOST_VALUES }
 
--- A value is there from a place to another, whatever was decoded before, and its text follows a text. So many values were
--- begun before it, and after it (own).
+-- A value is there from a place to another, whatever was decoded before, and its text follows a text. So many values
+-- were begun before it, and after it (own).
 abbrev pub Puts : Form → Shown → List ℕ → ℕ → ℕ → ℕ → ℕ → ℕ → List ℕ → List ℕ → Type 0
 Puts k shown packet content place spent end total before after =
     (earlier : Scope → Option Val) (env : Env) → (v : Val) × (walk k (among packet content earlier) env place spent ≡ Ok (v, end, total)) × (after ≡ before ++ shown v)

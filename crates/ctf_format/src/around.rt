@@ -1,4 +1,5 @@
-//! What is around a value: the members before it in each structure, and the scopes before. Lengths and tags are found there.
+//! What is around a value: the members before it in each structure, and the scopes before. Lengths and tags are found
+//! there.
 
 ghost use Rattle.std.specs.Prelude.{◌≡◌, ◌<◌, ◌^◌, ◌⊎◌, ◌++◌, ℕ, List, [], ◌∷◌, Option, IfSome, IsTrue, length, option_and_then, slice_get};
 ghost use Rattle.ctf_class.specs.declared.route.Origin.TheVariants.{Enclosing, Earlier};
@@ -19,16 +20,16 @@ use ctf_decode::{Frame, Scopes, length_at, option_at};
 /// How many of the members before a value are kept.
 const KEPT: usize = 8;
 
-/// Members of a structure, one after the other: how many there are, and the numbers of the last eight, each at its index
-/// modulo eight.
+/// Members of a structure, one after the other: how many there are, and the numbers of the last eight, each at its
+/// index modulo eight.
 #[derive(Clone, Copy)]
 pub struct Members {
     count: usize,
     numbers: [Last; KEPT],
 }
 
-/// What a scope of an event record is read from (CTF 1.8.3, section 7.3.2): a packet, and what lengths and tags find in the
-/// scopes before it.
+/// What a scope of an event record is read from (CTF 1.8.3, section 7.3.2): a packet, and what lengths and tags find in
+/// the scopes before it.
 #[derive(Clone, Copy)]
 pub struct ScopeInput<'a> {
     pub content: &'a Content<'a>,

@@ -24,14 +24,14 @@ use crate::standing::{AlignedInteger, Last, MembersEnd, Next, Position, Standing
 use ctf_class::{Align, Class, Kind, Member};
 use ctf_decode::MOST_VALUES;
 
-/// Writes the text of the scope of this class, a structure, that begins at a place of a packet (CTF 1.8.3, section 4) at an
-/// index of a buffer, without making its value: `from` has the place, in bits from the packet's first one, how many values were
-/// begun before, and the index, in bytes. `last` has the last members of the scope then. What is before the index is kept, and
-/// the buffer grows where it has no room.
+/// Writes the text of the scope of this class, a structure, that begins at a place of a packet (CTF 1.8.3, section 4)
+/// at an index of a buffer, without making its value: `from` has the place, in bits from the packet's first one, how
+/// many values were begun before, and the index, in bytes. `last` has the last members of the scope then. What is
+/// before the index is kept, and the buffer grows where it has no room.
 ///
-/// `None` where the class is another one, where no value is there, where an allocation fails, and where a length or a tag is
-/// neither in the packet's header or context nor one of the last eight members before in a structure around it or in a context
-/// of the event record, or is such a tag above 2^63 - 1. The buffer is then an unspecified buffer.
+/// `None` where the class is another one, where no value is there, where an allocation fails, and where a length or a
+/// tag is neither in the packet's header or context nor one of the last eight members before in a structure around it
+/// or in a context of the event record, or is such a tag above 2^63 - 1. The buffer is then an unspecified buffer.
 #[inline(always)]
 pub fn put_standing(
     class: &Class,

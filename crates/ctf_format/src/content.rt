@@ -12,8 +12,8 @@ pub struct Content<'a> {
 }
 
 impl Content<'_> {
-    /// Whether the content goes to a bit at least, and eight bytes are there from this bit's byte on: so a number that ends
-    /// there is read at once, also where it is the last one.
+    /// Whether the content goes to a bit at least, and eight bytes are there from this bit's byte on: so a number that
+    /// ends there is read at once, also where it is the last one.
     #[inline(always)]
     pub fn has_window_at(&self, end: u64) -> bool
         ensures within { IsTrue result → end ≤ self.now.end }

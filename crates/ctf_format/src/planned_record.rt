@@ -34,12 +34,12 @@ pub(crate) struct Reach {
     more: u64,
 }
 
-/// Writes the scopes of the event record after its header (CTF 1.8.3, section 6) at an index of a buffer, by the plan of
-/// such records: `from` has the place after the header, in bits from the packet's first one, how many values were begun
-/// before, and the index, in bytes. What is before the index is kept, and the buffer grows where it has no room.
+/// Writes the scopes of the event record after its header (CTF 1.8.3, section 6) at an index of a buffer, by the plan
+/// of such records: `from` has the place after the header, in bits from the packet's first one, how many values were
+/// begun before, and the index, in bytes. What is before the index is kept, and the buffer grows where it has no room.
 ///
-/// `None` where there is no plan, where the record has a fault, where fewer than eight bytes are after a run of it, and where
-/// an allocation fails; the buffer is then unspecified.
+/// `None` where there is no plan, where the record has a fault, where fewer than eight bytes are after a run of it, and
+/// where an allocation fails; the buffer is then unspecified.
 #[inline(always)]
 pub fn put_planned_record(
     plan: &RecordPlan,
@@ -161,8 +161,8 @@ fn put_run(
     }
 }
 
-/// Writes the numbers of a run that begins after so many bytes at an index of a buffer that has room, and gives the index
-/// after them.
+/// Writes the numbers of a run that begins after so many bytes at an index of a buffer that has room, and gives the
+/// index after them.
 #[inline(always)]
 fn put_run_numbers(
     numbers: &[PlainNumber],
@@ -192,8 +192,8 @@ fn put_before(ready: &PreparedText, buffer: &mut Vec<u8>, at: usize) -> usize
     ready.put(buffer.as_mut_slice(), at)
 }
 
-/// Writes a field after the numbers of a run, and gives the index after it; `reach` says how far these came, and how far
-/// the field came then.
+/// Writes a field after the numbers of a run, and gives the index after it; `reach` says how far these came, and how
+/// far the field came then.
 #[inline(always)]
 fn put_field(
     field: &Field,
@@ -299,7 +299,8 @@ fn put_other(
     put_array(are, placed, reach, buffer, at)
 }
 
-/// Writes integers that are after the numbers of a run and none of these, mostly an array, and gives the index after them.
+/// Writes integers that are after the numbers of a run and none of these, mostly an array, and gives the index after
+/// them.
 #[inline(never)]
 fn put_array(
     are: &Integers,

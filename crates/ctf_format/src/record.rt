@@ -13,8 +13,8 @@ use ctf_class::{Class, EventClass, Heading, StreamClass};
 use ctf_decode::Value;
 use ctf_list::NoMemory;
 
-/// What an event record's line shows of its scopes (CTF 1.8.3, section 6): the packet context as a text, and the values of
-/// the others.
+/// What an event record's line shows of its scopes (CTF 1.8.3, section 6): the packet context as a text, and the values
+/// of the others.
 #[derive(Clone, Copy)]
 pub struct RecordScopes<'a> {
     /// The part that the packet's event records share, as `put_packet_part` writes it.
@@ -25,8 +25,8 @@ pub struct RecordScopes<'a> {
 }
 
 /// Writes the host, the name and the scopes of an event record of these classes (CTF 1.8.3, section 6) at an index of a
-/// buffer, in bytes, and gives the index after them. What is before the index is kept, and the buffer grows where it has no
-/// room.
+/// buffer, in bytes, and gives the index after them. What is before the index is kept, and the buffer grows where it
+/// has no room.
 ///
 /// It fails where an allocation fails, and the buffer is then an unspecified buffer.
 #[inline(always)]
@@ -147,7 +147,8 @@ fn put_followed(
 }
 
 /// Writes a comma and a space at an index of a buffer, and gives the index after them. What is before the index is
-/// kept, and the buffer grows where it has no room. It fails where an allocation fails, and the buffer is then unspecified.
+/// kept, and the buffer grows where it has no room. It fails where an allocation fails, and the buffer is then
+/// unspecified.
 #[inline(always)]
 pub fn put_comma(buffer: &mut Vec<u8>, at: usize) -> Result<usize, NoMemory>
     requires { at ≤ vec_len buffer.old }

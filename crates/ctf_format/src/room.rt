@@ -65,8 +65,8 @@ fn grow(need: usize, buffer: &mut Vec<u8>, at: usize) -> Result<(), NoMemory>
     Ok(())
 }
 
-/// How long, in bytes, a buffer of this length gets at the least. A short one doubles, so that it rarely moves; one from
-/// 1 MiB on gets a sixteenth longer, so that little of its memory is unused.
+/// How long, in bytes, a buffer of this length gets at the least. A short one doubles, so that it rarely moves; one
+/// from 1 MiB on gets a sixteenth longer, so that little of its memory is unused.
 fn longer(length: usize) -> usize
     ensures short { length < LONG → result ≤ 2 * length }
     ensures long { LONG ≤ length → result ≤ length + length / 16 }

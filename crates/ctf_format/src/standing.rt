@@ -44,8 +44,8 @@ pub(crate) enum Last {
     Label(i64),
 }
 
-/// Where a value ends, in bits from the packet's first one, the index after its text, how many values were begun in it, and
-/// what is known of it.
+/// Where a value ends, in bits from the packet's first one, the index after its text, how many values were begun in it,
+/// and what is known of it.
 #[derive(Clone, Copy)]
 pub(crate) struct Next {
     pub(crate) place: u64,
@@ -54,8 +54,8 @@ pub(crate) struct Next {
     pub(crate) last: Last,
 }
 
-/// Where members or elements end, in bits from the packet's first one, the index after their texts, and how many values were
-/// begun in them.
+/// Where members or elements end, in bits from the packet's first one, the index after their texts, and how many values
+/// were begun in them.
 #[derive(Clone, Copy)]
 pub(crate) struct MembersEnd {
     pub(crate) place: u64,
@@ -63,7 +63,8 @@ pub(crate) struct MembersEnd {
     pub(crate) more: u64,
 }
 
-/// A place in bits from the packet's first one, and an index in a buffer, in bytes: where a value and its text begin, or end.
+/// A place in bits from the packet's first one, and an index in a buffer, in bytes: where a value and its text begin,
+/// or end.
 #[derive(Clone, Copy)]
 pub(crate) struct Position {
     pub(crate) place: u64,
@@ -228,7 +229,8 @@ fn put_longer_string(bytes: &[u8], begin: u64, buffer: &mut Vec<u8>, at: usize) 
     put_long_string(bytes, begin, buffer, at)
 }
 
-/// Writes the string of any length that these bytes, which begin at this place, begin with. Mostly nothing of it is escaped.
+/// Writes the string of any length that these bytes, which begin at this place, begin with. Mostly nothing of it is
+/// escaped.
 #[inline(never)]
 fn put_long_string(bytes: &[u8], begin: u64, buffer: &mut Vec<u8>, at: usize) -> Option<Position>
     requires bounded { begin + 8 * length bytes.now ≤ 2 ^ 62 }

@@ -38,8 +38,8 @@ pub fn count_short(bytes: &[u8], room: usize) -> Option<usize>
     Some(count)
 }
 
-/// How many bytes are before the first zero byte, if they are sixteen to thirty-one, each is shown as it is, two windows
-/// hold them, and so much room holds two windows in quotes.
+/// How many bytes are before the first zero byte, if they are sixteen to thirty-one, each is shown as it is, two
+/// windows hold them, and so much room holds two windows in quotes.
 #[inline(always)]
 pub fn count_longer(bytes: &[u8], room: usize) -> Option<usize>
     ensures first { IfSome result (λ n. position (λ x. nat_eq x 0) bytes.now ≡ Some n) }
@@ -193,8 +193,8 @@ pub fn put_short(bytes: &[u8], count: usize, buffer: &mut Vec<u8>, at: usize) ->
     put_window(bytes, count, line, at + 1)
 }
 
-/// Writes the first sixteen to thirty-two of some bytes, which are shown as they are, in quotes at an index of a buffer that
-/// has room, and gives the index after them. The second of two windows is written over the quote after the first.
+/// Writes the first sixteen to thirty-two of some bytes, which are shown as they are, in quotes at an index of a buffer
+/// that has room, and gives the index after them. The second of two windows is written over the quote after the first.
 #[inline(always)]
 pub fn put_longer(bytes: &[u8], count: usize, buffer: &mut Vec<u8>, at: usize) -> usize
     requires plain { All (λ byte. shown_byte byte ≡ byte ∷ []) (take count bytes.now) }
@@ -213,8 +213,9 @@ pub fn put_longer(bytes: &[u8], count: usize, buffer: &mut Vec<u8>, at: usize) -
     put_window(rest, count - WINDOW, line, at + 1 + WINDOW)
 }
 
-/// Writes the first of some bytes, which are shown as they are, in quotes at an index of a buffer, and gives the index after
-/// them. What is before the index is kept, and the buffer grows where it has no room. At an error it is unspecified.
+/// Writes the first of some bytes, which are shown as they are, in quotes at an index of a buffer, and gives the index
+/// after them. What is before the index is kept, and the buffer grows where it has no room. At an error it is
+/// unspecified.
 #[inline(always)]
 pub fn put_long(
     bytes: &[u8],
@@ -233,8 +234,8 @@ pub fn put_long(
     Ok(put_between_quotes(&bytes[..count], buffer, at))
 }
 
-/// Writes bytes, which are shown as they are, in quotes at an index of a buffer that has room, and gives the index after
-/// them. What is before the index is kept.
+/// Writes bytes, which are shown as they are, in quotes at an index of a buffer that has room, and gives the index
+/// after them. What is before the index is kept.
 #[inline(always)]
 fn put_between_quotes(bytes: &[u8], buffer: &mut Vec<u8>, at: usize) -> usize
     requires plain { All (λ byte. shown_byte byte ≡ byte ∷ []) bytes.now }
@@ -249,8 +250,8 @@ fn put_between_quotes(bytes: &[u8], buffer: &mut Vec<u8>, at: usize) -> usize
     end + 1
 }
 
-/// Writes the first of sixteen bytes and a closing quote in a line that has room. All sixteen are written, and the quote
-/// over the first one that is not wanted.
+/// Writes the first of sixteen bytes and a closing quote in a line that has room. All sixteen are written, and the
+/// quote over the first one that is not wanted.
 #[inline(always)]
 fn put_window(bytes: &[u8], count: usize, line: &mut [u8], at: usize) -> usize
     requires few { count ≤ WINDOW }

@@ -74,8 +74,8 @@ impl Printer {
         }
     }
 
-    /// Makes the line of an event record, with its newline, out of the text of the event record. At an error there is no
-    /// text.
+    /// Makes the line of an event record, with its newline, out of the text of the event record. At an error there is
+    /// no text.
     pub fn print_text(&mut self, event: &EventText<'_>, last: Option<i64>) -> Result<(), NoMemory>
         ensures line { (e : items.Event Classes) → event.now.moment ≡ e.clock →
             event.now.text.now ≡ event_text e →

@@ -149,8 +149,8 @@ clock_of _ = None
 abbrev pub clocks_of : List Declaration → List Clock
 clocks_of = filter_map clock_of
 
--- Two `trace` blocks, two streams of one id, two clocks of one name: R8, in the later one. A faulty id or name equals none
--- (own).
+-- Two `trace` blocks, two streams of one id, two clocks of one name: R8, in the later one. A faulty id or name equals
+-- none (own).
 abbrev pub twice_faults : List Declaration → Declaration → List ResolveFault
 twice_faults before (Block Trace entries) = when (list_any is_trace before) Twice
 twice_faults before (Block Stream entries) =

@@ -1,5 +1,5 @@
--- What the syntax tree of a metadata text means: the trace class that it denotes, or the faults by which it denotes none.
--- (CTF 1.8.3, sections 4 to 8.)
+-- What the syntax tree of a metadata text means: the trace class that it denotes, or the faults by which it denotes
+-- none. (CTF 1.8.3, sections 4 to 8.)
 use Rattle.std.specs.Prelude.{◌≡◌, ℕ, List, [], map, reverse, Option, Some, None, option_and_then, codes, find, if◌then◌else◌, filter_map, flat_map, Contains}
 use Rattle.tsdl_tree.specs.declared.tree.Tree.{Tree}
 use Rattle.tsdl_tree.specs.declared.tree.BlockKind.TheVariants.{Trace, Event}

@@ -73,7 +73,7 @@ module _ (text : List Declaration) where
       when (is_none (trace_of text)) Attribute
       ++ flat_map (λ s. when (has_other (clocks_moved s.block)) SeveralClocks) (streams text)
 
-  -- The faults of which one is reported: of the first declaration with an own fault; else of the first with a link fault; else
-  -- of the whole.
+  -- The faults of which one is reported: of the first declaration with an own fault; else of the first with a link
+  -- fault; else of the whole.
   abbrev pub faults : List ResolveFault
   faults = first_faults (map own_faults (numbered text) ++ map link_faults (numbered text) ++ whole_faults ∷ [])

@@ -76,8 +76,8 @@ module _ (entries : List Entry) where
   class_faults at form =
       unknown_faults at form ++ member_faults form ++ attribute_faults form ++ no_integer_faults at form ++ label_faults form ++ align_faults form
 
-  -- A class deeper than 64, with the arrays of each name that it is given: R9. A member's own arrays lie in the compound
-  -- around it, which is deeper and is in the same declaration.
+  -- A class deeper than 64, with the arrays of each name that it is given: R9. A member's own arrays lie in the
+  -- compound around it, which is deeper and is in the same declaration.
   abbrev pub is_deep : Shape → List Length → Bool
   is_deep shape lengths = nat_lt most_deep (depth_of (arrays lengths shape))
 

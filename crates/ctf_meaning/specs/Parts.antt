@@ -24,8 +24,8 @@ class_of (of_block (Classed words form)) = Some form
 class_of (of_block (Declared item)) = Some (form_in item)
 class_of (of_body item) = Some (form_in item)
 
--- The place of a part is the numbers of the parts that lead to it, the innermost first: its number among the parts of its
--- block, then the place of the part whose braces are the block. The text itself is the block [].
+-- The place of a part is the numbers of the parts that lead to it, the innermost first: its number among the parts of
+-- its block, then the place of the part whose braces are the block. The text itself is the block [].
 abbrev pub Place : Type 0
 Place = List ℕ
 

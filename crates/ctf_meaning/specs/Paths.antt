@@ -33,8 +33,8 @@ words_of StreamEventContext = codes "stream" ∷ codes "event" ∷ codes "contex
 words_of EventContext = codes "event" ∷ codes "context" ∷ []
 words_of EventFields = codes "event" ∷ codes "fields" ∷ []
 
--- A structure in which a path may begin: its scope; its name from that scope down, where structures alone lead to it; and
--- those of its members that are before the path.
+-- A structure in which a path may begin: its scope; its name from that scope down, where structures alone lead to it;
+-- and those of its members that are before the path.
 pub record Frame : Type 0 where
   pub scope : Scope
   pub name : Option Words
@@ -109,8 +109,8 @@ after_words (a ∷ more) (b ∷ words) = if same_word a b then after_words more 
 abbrev pub scope_named : Words → Option (Scope × Words)
 scope_named path = first (filter_map (λ scope. option_map (λ words. (scope, words)) (after_words (words_of scope) path)) scopes)
 
--- A path that begins with a scope's name names a field of an earlier scope, or an earlier one of its own. It may lead into
--- a structure in which it is itself, to a member before it.
+-- A path that begins with a scope's name names a field of an earlier scope, or an earlier one of its own. It may lead
+-- into a structure in which it is itself, to a member before it.
 abbrev pub found_below : Scope → Words → Origin × Frame → Option (Route × Shape)
 found_below scope words (origin, frame) = if nat_eq (rank frame.scope) (rank scope)
     then (do
@@ -120,8 +120,8 @@ found_below scope words (origin, frame) = if nat_eq (rank frame.scope) (rank sco
       Some (route_from origin found))
     else None
 
--- Of any other path the first word is looked up among the earlier members of the structures around, inner to outer, then
--- in the scopes before, nearest first (own). The first hit counts, whether or not it fits.
+-- Of any other path the first word is looked up among the earlier members of the structures around, inner to outer,
+-- then in the scopes before, nearest first (own). The first hit counts, whether or not it fits.
 abbrev pub has_member : Words → Frame → Bool
 has_member [] frame = false
 has_member (word ∷ words) frame = is_some (member_named word frame.fields)

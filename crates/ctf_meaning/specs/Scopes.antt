@@ -1,4 +1,5 @@
--- The classes that the blocks of a text declare for the scopes of packets and events. (CTF 1.8.3, sections 5, 6 and 7.4.)
+-- The classes that the blocks of a text declare for the scopes of packets and events. (CTF 1.8.3, sections 5, 6 and
+-- 7.4.)
 use Rattle.std.specs.Prelude.{ℕ, suc, nat_lt, Bool, true, false, ◌&&◌, not, if◌then◌else◌, List, [], ◌∷◌, ◌++◌, map, take, sum, slice_get, Option, Some, None, option_and_then, filter_map, flat_map, reverse}
 use Rattle.std.specs.List.{range_with_len}
 use Rattle.std.specs.Option.{option_map_or}

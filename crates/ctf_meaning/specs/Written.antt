@@ -1,5 +1,5 @@
--- A metadata text as plain data: its declarations, the entries of their blocks, the items of bodies, and classes as they
--- are written. (CTF 1.8.3, section 7 and appendix C.2.)
+-- A metadata text as plain data: its declarations, the entries of their blocks, the items of bodies, and classes as
+-- they are written. (CTF 1.8.3, section 7 and appendix C.2.)
 use Rattle.std.specs.Prelude.{ℕ, List, [], ◌∷◌, Option}
 use Rattle.tsdl_tree.specs.declared.tree.BlockKind.{BlockKind}
 use Rattle.tsdl_tree.specs.declared.tree.TableKind.{TableKind}

@@ -1,4 +1,5 @@
--- The names that a part gives to its class: each is new, and no class is too deep; else one of the part's faults is told.
+-- The names that a part gives to its class: each is new, and no class is too deep; else one of the part's faults is
+-- told.
 use Rattle.std.proofs.Common.{◌≡◌, ℕ, ◌+◌, nat_lt, Bool, true, false, ◌&&◌, ◌||◌, if◌then◌else◌, List, [], ◌∷◌, ◌++◌, map, Option, Some, None, is_some, refl, ap, ap₂, sym, ◌∙◌, subst, append-nil, append_assoc, option_map, arith}
 use Rattle.std.specs.List.{list_any}
 use Rattle.std.specs.Option.{option_or}

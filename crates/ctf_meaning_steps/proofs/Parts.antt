@@ -1,4 +1,5 @@
--- A part that has a class: what is told of the class, and of the names that it is given, is what is wrong with the part.
+-- A part that has a class: what is told of the class, and of the names that it is given, is what is wrong with the
+-- part.
 use Rattle.std.proofs.Common.{◌≡◌, ℕ, ◌+◌, nat_lt, Bool, true, false, ◌||◌, inl, inr, List, [], ◌∷◌, ◌++◌, map, Option, Some, None, Ok, is_some, refl, ap, ap₂, sym, ◌∙◌, subst, append_assoc, option_map, option_and_then, Contains, arith}
 use Rattle.std.specs.List.{list_any}
 use Rattle.std.specs.Option.{option_map_or}

@@ -1,4 +1,5 @@
--- The declarations of a text from its beginning on: the names and the scopes' classes known so far, until a fault is reported.
+-- The declarations of a text from its beginning on: the names and the scopes' classes known so far, until a fault is
+-- reported.
 use Rattle.std.specs.Prelude.{ℕ, ◌+◌, nat_lt, List, [], ◌∷◌, ◌++◌, map, sum, flat_map, filter_map, find, Option, Ok, option_map}
 use Rattle.std.specs.Option.{option_or}
 use Rattle.tsdl_tree.specs.declared.tree.BlockKind.{BlockKind}
@@ -53,8 +54,8 @@ placed_in classes scope = option_map (λ shape. (scope, shape)) (option_or (clas
 abbrev pub placed : BlockKind → List NamedClass → List Placed
 placed which classes = filter_map (placed_in classes) (own_scopes which)
 
--- What is known after some declarations: the names of the text, how many classes the scopes have, and the scopes of each
--- declaration.
+-- What is known after some declarations: the names of the text, how many classes the scopes have, and the scopes of
+-- each declaration.
 pub record Walked : Type 0 where
   pub own : Seen
   pub nodes : ℕ

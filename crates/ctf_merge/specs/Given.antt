@@ -10,8 +10,8 @@ use Rattle.ctf_merge.specs.Merges.{Merge, first_now, MergedOrRefused, IsRefusal,
 use Rattle.ctf_merge.specs.declared.fault.MergeFault.{MergeFault}
 use Rattle.ctf_merge.specs.declared.fault.MergeFault.TheVariants.{Stream}
 
--- The first item that was to come is given, and the rest is to come; or nothing was to come; or the fault was, or an allocation
--- failed for the item, and then nothing comes.
+-- The first item that was to come is given, and the rest is to come; or nothing was to come; or the fault was, or an
+-- allocation failed for the item, and then nothing comes.
 abbrev pub Gives : Merged → Merged → Result (Option OwnedItem) MergeFault → Type 0
 Gives old new (Ok (Some x)) = (number : ℕ) × (end : ℕ) × (length : ℕ) × (rest : Merged) × (old ≡ then (record { number = number; item = item_of x end length }) rest) × MergedOrRefused rest new
 Gives old new (Ok None) = (old ≡ ends None) × (new ≡ ends None)

@@ -1,4 +1,5 @@
--- Turns as single numbers: the time in the bits from 64 up, whether there is one in the bit below, and the stream's number in the 63 below that (own).
+-- Turns as single numbers: the time in the bits from 64 up, whether there is one in the bit below, and the stream's
+-- number in the 63 below that (own).
 use Rattle.std.specs.Prelude.{◌≡◌, ℕ, zero, suc, ◌+◌, ◌<◌, ◌⊎◌, ◌/◌, ◌%◌, ◌^◌, ℤ, pos, ◌-ℤ◌, Option, Some, None}
 use Rattle.ctf_merge.specs.Turns.{Turn}
 

@@ -9,8 +9,8 @@ use Rattle.stream_laws.specs.Times.{NotBefore, Rises}
 use Rattle.ctf_merge.specs.Merged.{item, broken, nothing, first_of, head_of, advance, ends, then, merged, Placed, PlacedRise, IsMerged, IsCut}
 use Rattle.ctf_merge.specs.declared.fault.MergeFault.TheVariants.{Stream}
 
--- The merged list begins with the first item and goes on with the merged list of what is left; or it ends with the fault
--- that comes first; or there is nothing.
+-- The merged list begins with the first item and goes on with the merged list of what is left; or it ends with the
+-- fault that comes first; or there is nothing.
 pub record MergeGoesOn : Type 0 where
   pub goes_on : (runs : List (Run Classes)) (number : ℕ) (x : Item Classes) → first_of (map head_of runs) ≡ item number x
       → merged runs ≡ then (record { number = number; item = x }) (merged (advance number runs))
@@ -25,7 +25,8 @@ MergeRises = (low : Option ℤ) (runs : List (Run Classes)) → AllByRecursion (
 abbrev pub NoneIsBefore : Type 0
 NoneIsBefore = (low : Option ℤ) (items : List Placed) → PlacedRise low items → AllByRecursion (λ x. NotBefore low (time_of x.item)) items
 
--- The merged list is the one of all items of all streams in their order, up to the cut, where the times of no stream fall.
+-- The merged list is the one of all items of all streams in their order, up to the cut, where the times of no stream
+-- fall.
 abbrev pub MergeIsCut : Type 0
 MergeIsCut = (low : Option ℤ) (runs : List (Run Classes)) → AllByRecursion (λ r. Rises low r.items) runs
     → (all : List Placed) × IsMerged runs all × IsCut runs all (merged runs)

@@ -47,8 +47,9 @@ pub record IsMerged (runs : List (Run Classes)) (all : List Placed) : Type 0 whe
   pub each : (i : ℕ) → of_stream i all ≡ (run_at i runs).items
   pub in_order : InOrder all
 
--- The list up to the cut: the whole one where no stream has a fault; nothing where a faulty stream has no item, the least
--- of them being reported; else up to the last item of a faulty stream, after which each other faulty stream has an item still.
+-- The list up to the cut: the whole one where no stream has a fault; nothing where a faulty stream has no item, the
+-- least of them being reported; else up to the last item of a faulty stream, after which each other faulty stream has
+-- an item still.
 pub data IsCut (runs : List (Run Classes)) (all : List Placed) : Merged → Type 0 where
   whole : ((i : ℕ) → (run_at i runs).fault ≡ None) → IsCut runs all (record { items = all; fault = None })
   at_once : (i : ℕ) (f : StreamFault) → (run_at i runs).fault ≡ Some f → (run_at i runs).items ≡ []
@@ -82,7 +83,8 @@ later (item i x) = item (suc i) x
 later (broken i f) = broken (suc i) f
 later nothing = nothing
 
--- An item or what the later streams have: a fault before it, and of two items the earlier; of two at one time the first.
+-- An item or what the later streams have: a fault before it, and of two items the earlier; of two at one time the
+-- first.
 abbrev pub least : Item Classes → First → First
 least x (item i y) = cond (is_before (time_of y) (time_of x)) (item i y) (item 0 x)
 least x (broken i f) = broken i f
@@ -94,7 +96,8 @@ with_first (reader.item x) rest = least x rest
 with_first reader.ended rest = rest
 with_first (reader.fault f) rest = broken 0 f
 
--- A fault without items before it is the first of all, at the least number; else the least item by time and then by number.
+-- A fault without items before it is the first of all, at the least number; else the least item by time and then by
+-- number.
 abbrev pub first_of : List reader.Peeked → First
 first_of [] = nothing
 first_of (h ∷ hs) = with_first h (later (first_of hs))

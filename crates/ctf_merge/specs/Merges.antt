@@ -139,8 +139,8 @@ AheadNotBefore low (reader.fault f) = Unit {0}
 abbrev pub EachNotBefore : Option ℤ → List Reader → Type 0
 EachNotBefore low readers = AllByRecursion (λ r. AheadNotBefore low r.ahead) readers
 
--- The item that comes next is the current one of the reader of this number: of any sources it is that of the least turn,
--- and where they tell their bytes the first one to come.
+-- The item that comes next is the current one of the reader of this number: of any sources it is that of the least
+-- turn, and where they tell their bytes the first one to come.
 pub record IsNext (m : Merge) (number : ℕ) : Type 0 where
   pub front : Reader
   pub next : Item Classes

@@ -234,8 +234,8 @@ impl<'a, S: Source + Drop> Merge<'a, S> {
         }
     }
 
-    /// The item that comes next, by reference: with its values, or an event record as its text where its reader was asked for
-    /// texts and read it as that. `None` where a fault comes next, and at the end. No memory is taken.
+    /// The item that comes next, by reference: with its values, or an event record as its text where its reader was
+    /// asked for texts and read it as that. `None` where a fault comes next, and at the end. No memory is taken.
     pub fn head(&self) -> Option<CurrentItem<'_>>
         ensures shows { ShowsHead self.now result }
         ensures made { IfSome result IsMadeTold }
@@ -327,9 +327,9 @@ impl<'a, S: Source + Drop> Merge<'a, S> {
         }
     }
 
-    /// The next item, by value, while the next one of its stream is fetched; `None` at the end. The fault is reported once, and
-    /// then nothing comes: one that was met while an item was fetched is reported by the next call. Where an allocation
-    /// fails for the item, that is reported in its place.
+    /// The next item, by value, while the next one of its stream is fetched; `None` at the end. The fault is reported
+    /// once, and then nothing comes: one that was met while an item was fetched is reported by the next call. Where an
+    /// allocation fails for the item, that is reported in its place.
     ///
     /// An error is the fault of a stream after the items before, F1 to F11, F13, F14 or `NoMemory`, with its number.
     pub fn next(&mut self) -> Result<Option<OwnedItem<'a>>, MergeFault>

@@ -11,8 +11,8 @@ const NUMBER_BITS: u32 = 63;
 /// The turn of a stream with a current item: the lesser turn comes first, by time, none first, and
 /// then by number. Contracts see the time and the number.
 ///
-/// Both are kept in one number, so that one comparison says which of two turns comes first. The time fills the upper one of
-/// its words, and below it a bit says whether there is one.
+/// Both are kept in one number, so that one comparison says which of two turns comes first. The time fills the upper
+/// one of its words, and below it a bit says whether there is one.
 #[derive(Drop)]
 pub(crate) struct Turn {
     key: u128,

@@ -17,9 +17,9 @@ const NOBODY: usize = (1 << 63) - 1;
 
 /// The turn of each stream, by its number, where it has one. Contracts see these.
 ///
-/// They are the leaves of a tournament tree, and each node above is the lesser of the two below it, so that the first one is
-/// the least turn. Which of two that is, is chosen without a jump: streams alternate as they please, and a processor can't
-/// foresee it.
+/// They are the leaves of a tournament tree, and each node above is the lesser of the two below it, so that the first
+/// one is the least turn. Which of two that is, is chosen without a jump: streams alternate as they please, and a
+/// processor can't foresee it.
 #[derive(Drop)]
 pub(crate) struct TournamentTree {
     /// The two nodes below one are at twice its place and at one more; the first node is at 1, and nothing at 0.
@@ -142,8 +142,8 @@ struct Risen {
     key: u128,
 }
 
-/// Renews the node above, unless this one is at the last place or before. What was written isn't read again. It is no loop,
-/// since compilers make jumps where a loop keeps the lesser key.
+/// Renews the node above, unless this one is at the last place or before. What was written isn't read again. It is no
+/// loop, since compilers make jumps where a loop keeps the lesser key.
 #[inline(always)]
 fn climb(nodes: &mut [u128], leaves: usize, from: Risen, last: usize) -> Risen
     requires first { 1 ≤ last }

@@ -3,7 +3,8 @@ use Rattle.std.specs.Prelude.{ℤ, Option, option_map}
 use Rattle.ctf_clock.specs.declared.moment.Moment.{Moment}
 use Rattle.ctf_packet.specs.Items.{Item, event, discarded, lost}
 
--- the clock of an item: after the header of an event record, or after the context of the packet that follows a gap (own)
+-- the clock of an item: after the header of an event record, or after the context of the packet that follows a gap
+-- (own)
 abbrev pub clock_of : {C : Type 0} → Item C → Option Moment
 clock_of (event e) = e.clock
 clock_of (discarded gap) = gap.clock

@@ -23,8 +23,8 @@ use Rattle.ctf_packet.specs.declared.fault.StreamFault.TheVariants as faults
 abbrev pub WalkFindsWhatStands : Type 0
 WalkFindsWhatStands = (k : Form) (c : Input) (env : Env) (p s : ℕ) → Is k c env p s (walk k c env p s)
 
--- The clock goes by the steps that ctf_decode's `moving` gives: of each integer whose value its width holds, and so of each
--- value that is there.
+-- The clock goes by the steps that ctf_decode's `moving` gives: of each integer whose value its width holds, and so of
+-- each value that is there.
 pub record ClockGoesByMoving : Type 0 where
   pub of_integers : (i : Integer) (v : Val) → IsWidth i.size → IsHeld i.size v → moved_in i v ≡ fields.moved_in i v
   pub of_values : (k : Form) (c : Input) (env : Env) (p : ℕ) (v : Val) (q : ℕ) → HasWidths k → Stands k c env p v q → moved k v ≡ fields.moved k v
@@ -36,8 +36,8 @@ pub record RecordsGoOn : Type 0 where
       → from_place packet bytes clock place follows ≡ recorded packet (λ next end. from_place packet bytes next end follows) (record_at packet bytes clock place)
   pub ends : (packet : Opened Classes) (bytes : List ℕ) (follows : Option Moment → Run Classes) (clock : Option Moment) (place : ℕ) → packet.content ≤ place → from_place packet bytes clock place follows ≡ follows clock
 
--- What comes from a packet boundary on is the packet there, and what comes from its end on, where the stream has come so
--- far; or its fault. Where no byte is left it is the end.
+-- What comes from a packet boundary on is the packet there, and what comes from its end on, where the stream has come
+-- so far; or its fault. Where no byte is left it is the end.
 pub record PacketsGoOn : Type 0 where
   pub goes_on : (trace : TraceForm Classes) (ending : Ending) (reached : Option Reached) (at byte : ℕ) (bytes : List ℕ)
       → let left = byte ∷ bytes in

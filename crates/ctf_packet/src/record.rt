@@ -193,8 +193,8 @@ fn leave_record(scratch: &mut Scratch, scopes: &mut Scopes)
     scopes.leave_record();
 }
 
-/// The header of the event record at a place. The values of the packet's header and context are in `scopes`, and so is that
-/// of the header then, but of no other scope of an event record. The memory of `scratch` is used.
+/// The header of the event record at a place. The values of the packet's header and context are in `scopes`, and so is
+/// that of the header then, but of no other scope of an event record. The memory of `scratch` is used.
 ///
 /// An error is the first fault of the header: F6 to F9, F11, or `NoMemory`.
 #[inline(always)]

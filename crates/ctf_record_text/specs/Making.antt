@@ -23,8 +23,8 @@ use Rattle.ctf_format.specs.Lines.{scope_texts}
 use Rattle.ctf_format.specs.declared.around.Members.{Members}
 use Rattle.ctf_format.specs.declared.standing.Standing.{Standing}
 
--- Whatever is in the scopes of the event record, with so much known of those before: this scope's value is there from a place
--- on, has members of the numbers that are kept, and its text and a comma follow a text.
+-- Whatever is in the scopes of the event record, with so much known of those before: this scope's value is there from a
+-- place on, has members of the numbers that are kept, and its text and a comma follow a text.
 abbrev pub PutsScope : KnownScopes → Members → Option Class → List ℕ → ℕ → Standing → List ℕ → Standing → List ℕ → Type 0
 PutsScope known members class bytes content from before to after =
     (values : Values) → ScopesAre known (value_in values) → (s : Stood) × (scope_at fault_in_record (option_map form class) (input_of bytes content values) from.place from.spent ≡ Ok s)
@@ -52,8 +52,8 @@ abbrev pub Makes : StreamClass → Result (Recorded Classes) StreamFault → Lis
 Makes stream stands part known line (Ok r) = Made stream stands part known line r.record r.text
 Makes stream stands part known line (Err f) = (stands ≡ Err f) ⊎ (f ≡ faults.NoMemory)
 
--- The values of the scopes after a header are there, and the record ends further on than at its place; or the first fault
--- of these scopes; or the record has no bits; or memory ran out.
+-- The values of the scopes after a header are there, and the record ends further on than at its place; or the first
+-- fault of these scopes; or the record has no bits; or memory ran out.
 abbrev pub MakesValues : StreamClass → Head → Result Body StreamFault → ℕ → Known → Result EventRecord StreamFault → Type 0
 MakesValues stream head body place known (Ok r) = (body ≡ Ok (record { values = values_of known; end = r.end })) × (r ≡ record { event = head.event; clock = head.clock; end = r.end }) × (place < r.end)
 MakesValues stream head body place known (Err f) = (body ≡ Err f) ⊎ (((b : Body) × (body ≡ Ok b) × (b.end ≡ place) × (f ≡ faults.EmptyEvent)) ⊎ (f ≡ faults.NoMemory))

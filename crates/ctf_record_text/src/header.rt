@@ -57,8 +57,8 @@ pub(crate) struct PlannedHead<'a> {
     pub(crate) plan: &'a RecordPlan,
 }
 
-/// The header of the event record at a place (CTF 1.8.3, section 6.1), by its plan, or `by_class`. `None` where it can't be decoded
-/// so, and where it has a fault.
+/// The header of the event record at a place (CTF 1.8.3, section 6.1), by its plan, or `by_class`. `None` where it
+/// can't be decoded so, and where it has a fault.
 #[inline(always)]
 pub(crate) fn told_head<'a>(at: &RecordPlace<'_, 'a>, by_class: bool) -> Option<PlannedHead<'a>>
     ensures tells { IfSome result (λ p. TellsAt at.now p.told) }
@@ -73,8 +73,8 @@ pub(crate) fn told_head<'a>(at: &RecordPlace<'_, 'a>, by_class: bool) -> Option<
     }
 }
 
-/// The header of the event record at a place (CTF 1.8.3, section 6.1), by its plan. `None` where there is none, where it does
-/// not hold, and where the header has a fault.
+/// The header of the event record at a place (CTF 1.8.3, section 6.1), by its plan. `None` where there is none, where
+/// it does not hold, and where the header has a fault.
 #[inline(always)]
 fn told_by_plan<'a>(at: &RecordPlace<'_, 'a>) -> Option<PlannedHead<'a>>
     ensures tells { IfSome result (λ p. TellsAt at.now p.told) }
@@ -105,9 +105,9 @@ fn told_by_plan<'a>(at: &RecordPlace<'_, 'a>) -> Option<PlannedHead<'a>>
     })
 }
 
-/// The header of the event record at a place (CTF 1.8.3, section 6.1). Only structures of integers are decoded, and those of an
-/// enumeration and a variant on it whose option is such a structure; and records without a header. `None` where the class is
-/// another one, and where the header has a fault.
+/// The header of the event record at a place (CTF 1.8.3, section 6.1). Only structures of integers are decoded, and
+/// those of an enumeration and a variant on it whose option is such a structure; and records without a header. `None`
+/// where the class is another one, and where the header has a fault.
 #[inline(always)]
 pub(crate) fn told_by_class<'a>(at: &RecordPlace<'_, 'a>) -> Option<PlannedHead<'a>>
     ensures tells { IfSome result (λ p. TellsAt at.now p.told) }

@@ -24,8 +24,8 @@ pub(crate) struct PlannedTelling {
     pub(crate) place: u64,
 }
 
-/// Decodes a header by its plan, at a place in bits from the packet's first one, where the clock came so far. `None` where its
-/// tag is outside the plan's numbers, where it has a fault, and where fewer than eight bytes are after it.
+/// Decodes a header by its plan, at a place in bits from the packet's first one, where the clock came so far. `None`
+/// where its tag is outside the plan's numbers, where it has a fault, and where fewer than eight bytes are after it.
 #[inline(always)]
 pub(crate) fn tell_planned(
     timeline: &Timeline,

@@ -21,12 +21,12 @@ use ctf_format::{
 use ctf_packet::{EventRecord, Head, RecordPlace, Scratch, StreamFault, next_head, put_body};
 use std::alloc::Global;
 
-/// The longest buffer, in bytes, that is kept for the next text. So no trace makes a reader hold a long one for each of many
-/// streams.
+/// The longest buffer, in bytes, that is kept for the next text. So no trace makes a reader hold a long one for each of
+/// many streams.
 const LONGEST_KEPT: usize = 65_536;
 
-/// The buffer of event records' texts, with what those of a packet share, and memory for what their scopes give to lengths
-/// and tags after them.
+/// The buffer of event records' texts, with what those of a packet share, and memory for what their scopes give to
+/// lengths and tags after them.
 #[derive(Drop)]
 pub struct LineBuffer {
     /// It begins with the text of the last event record that was written. The bytes after it are unspecified.
@@ -59,12 +59,13 @@ pub struct LineRecord<'a> {
     pub text: Option<usize>,
 }
 
-/// The event record at a place (CTF 1.8.3, section 6), if it can be shown without its values. The values of the packet's
-/// header and context are in `scopes`. The header is decoded by its plan, or `by_class`. The text of the record is at the
-/// beginning of `line` then: the host, the name, the part that the lines of the packet share, and the scopes.
+/// The event record at a place (CTF 1.8.3, section 6), if it can be shown without its values. The values of the
+/// packet's header and context are in `scopes`. The header is decoded by its plan, or `by_class`. The text of the
+/// record is at the beginning of `line` then: the host, the name, the part that the lines of the packet share, and the
+/// scopes.
 ///
-/// `None` where the header can't be decoded so, where `put_standing` gives no text, where the record has a fault, and where
-/// an allocation fails. The line is unspecified then.
+/// `None` where the header can't be decoded so, where `put_standing` gives no text, where the record has a fault, and
+/// where an allocation fails. The line is unspecified then.
 #[inline(always)]
 pub fn written_line<'a>(
     alloc: Global,
@@ -88,10 +89,10 @@ pub fn written_line<'a>(
     Some(with_text(head, standing))
 }
 
-/// The event record at a place (CTF 1.8.3, section 6), of which `written_line` made no text by its class. The values of the
-/// packet's header and context are in `scopes`. Where the class of the header alone was in the way, the text of the record is at
-/// the start of `line` then, as `written_line` makes it. Elsewhere the record's values are in `scopes`. The memory of `scratch`
-/// is used.
+/// The event record at a place (CTF 1.8.3, section 6), of which `written_line` made no text by its class. The values of
+/// the packet's header and context are in `scopes`. Where the class of the header alone was in the way, the text of the
+/// record is at the start of `line` then, as `written_line` makes it. Elsewhere the record's values are in `scopes`.
+/// The memory of `scratch` is used.
 ///
 /// An error is the first fault of the record: F6 to F11, or `NoMemory`.
 #[inline(never)]
@@ -190,8 +191,8 @@ fn read_values<'a>(
     })
 }
 
-/// Writes the text of the event record at a place at the start of a line by the plan of such records, or, where that can't be
-/// done, scope by scope.
+/// Writes the text of the event record at a place at the start of a line by the plan of such records, or, where that
+/// can't be done, scope by scope.
 #[inline(always)]
 fn put_planned_body<'a>(
     at: &RecordPlace<'_, 'a>,
@@ -256,8 +257,8 @@ fn put_by_plan<'a>(
     Some(all)
 }
 
-/// Writes the text of the event record at a place at the beginning of a line, where the scopes after its header are in a form
-/// that can be shown without their values.
+/// Writes the text of the event record at a place at the beginning of a line, where the scopes after its header are in
+/// a form that can be shown without their values.
 #[inline(always)]
 fn put_record(
     at: &RecordPlace<'_, '_>,

@@ -15,8 +15,8 @@ use Rattle.ctf_run.specs.Traces.{Trace, printed, IsAnswer}
 abbrev pub HasAnswer : Type 0
 HasAnswer = (traces : List Trace) (options : Options) → (answer : Answer) × IsAnswer traces options answer
 
--- What one trace gives: the lines of its streams, each by its own name; or the line of the fault of its metadata, which names
--- no trace.
+-- What one trace gives: the lines of its streams, each by its own name; or the line of the fault of its metadata, which
+-- names no trace.
 pub data IsAnswerOfOne (t : Trace) (options : Options) : Answer → Type 0 where
   whole : (class : TraceClass) → Describes t.metadata class
       → IsAnswerOfOne t options (printed options (map (λ s. record { trace = 0; class = class; name = s.name; given = s.given }) t.streams))

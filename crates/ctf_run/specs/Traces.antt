@@ -84,8 +84,8 @@ refused several number name fault = record {
   outcome = outcomes.Fault (faults.Metadata number fault);
 }
 
--- What a run over traces is to write and to answer: where each has a class, what their streams give; else the fault of the
--- first one that has none. Out of memory is no fault.
+-- What a run over traces is to write and to answer: where each has a class, what their streams give; else the fault of
+-- the first one that has none. Out of memory is no fault.
 pub data IsAnswer (traces : List Trace) (options : Options) : Answer → Type 0 where
   whole : (classes : List TraceClass) → HaveClasses traces classes → IsAnswer traces options (printed options (inputs_from (are_several traces) 0 traces classes))
   broken : (number : ℕ) (t : Trace) (classes : List TraceClass) (fault : LoadFault) → slice_get traces number ≡ Some t → HaveClasses (take number traces) classes
@@ -108,8 +108,8 @@ pub record IsSilent (w : Written) : Type 0 where
   pub output : w.new_output ≡ w.old_output
   pub messages : w.new_messages ≡ w.old_messages
 
--- A run gave an answer that is meant, and wrote it; where a write failed or an allocation failed, its first pieces, a first
--- part of the next one, and nothing after that. An allocation may fail before the classes are known.
+-- A run gave an answer that is meant, and wrote it; where a write failed or an allocation failed, its first pieces, a
+-- first part of the next one, and nothing after that. An allocation may fail before the classes are known.
 pub data Runs (traces : List Trace) (options : Options) (outcome : Outcome) (w : Written) : Type 0 where
   answered : IsAnswered traces options outcome w → Runs traces options outcome w
   silent : outcome ≡ outcomes.NoMemory → IsSilent w → Runs traces options outcome w

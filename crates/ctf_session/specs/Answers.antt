@@ -1,4 +1,5 @@
--- What is written and answered for a list of items (own, after babeltrace2's filter.utils.trimmer and sink.text.pretty).
+-- What is written and answered for a list of items (own, after babeltrace2's filter.utils.trimmer and
+-- sink.text.pretty).
 use Rattle.std.specs.Prelude.{ℕ, ℤ, Bool, true, false, cond, List, [], ◌∷◌, Option, Some, None, get_or}
 use Rattle.ctf_packet.specs.Classes.{Classes}
 use Rattle.ctf_packet.specs.Items.{Item, event, discarded, lost}
@@ -125,7 +126,7 @@ texts a = joined a.pieces
 abbrev pub answer_by : Setting → Option ℤ → Merged → Answer
 answer_by setting last m = record { pieces = pieces_of setting last m.items m.fault; outcome = outcome_of setting m.fault }
 
--- What is written and answered for items up to the cut, and the fault at it, where an event record at a time was printed
--- before, or none.
+-- What is written and answered for items up to the cut, and the fault at it, where an event record at a time was
+-- printed before, or none.
 unfoldable pub answer : Setting → Option ℤ → Merged → Answer
 answer setting last m = answer_by setting last (trimmed setting m)

@@ -8,8 +8,8 @@ use Rattle.ctf_session.specs.Answers.{Setting, answer}
 use Rattle.ctf_session.specs.Passing.{Pass, without, HasGiven}
 use Rattle.ctf_session.specs.Writing.{Texts, joined, Written, WritesParts, Stopped}
 
--- Whatever items were gone past, while no allocation failed: each stream has given the bytes to the end of the packet of
--- its next item, at its end all, and before a fault at most a packet and a byte more than the packets before it.
+-- Whatever items were gone past, while no allocation failed: each stream has given the bytes to the end of the packet
+-- of its next item, at its end all, and before a fault at most a packet and a byte more than the packets before it.
 abbrev pub BytesGiven : Type 0
 BytesGiven = (items : List Placed) (first readers : List Reader) → EachFetched first → Pass items first readers → EachOnLine readers → EachAllTaken readers
     → (i : ℕ) (r : Reader) → slice_get readers i ≡ Some r → HasGiven (run_at i (without items (map coming first))) (r.taken + length r.left) r

@@ -15,8 +15,8 @@ abbrev pub EachMeans : List (Run Classes) → List Reader → Type 0
 EachMeans runs readers = AllZip (λ run r. OrRefused run (coming r)) runs readers
 
 -- Where this is to come of a stream of so many bytes: with a next item it has given exactly the bytes to the end of the
--- packet that holds the item, which is held; at its end all, and nothing is held; before a fault those of the packets before
--- the faulty one and at most a packet and a byte more, and nothing is held.
+-- packet that holds the item, which is held; at its end all, and nothing is held; before a fault those of the packets
+-- before the faulty one and at most a packet and a byte more, and nothing is held.
 abbrev pub GivenBy : List (Item Classes) → Option StreamFault → ℕ → ℕ → ℕ → ℕ → Type 0
 GivenBy (x ∷ xs) fault at all taken held = (taken ≡ packet_end x) × (held ≡ packet_length x)
 GivenBy [] None at all taken held = (taken ≡ all) × (held ≡ 0)

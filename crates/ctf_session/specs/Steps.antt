@@ -62,8 +62,8 @@ next_texts_by setting last (x ∷ xs) fault = shown_text (verdict setting x) set
 abbrev pub next_texts : Session → Texts
 next_texts s = next_texts_by s.setting s.last s.coming.items s.coming.fault
 
--- One item was taken, none after the end; its line or its message was written, nothing where it is before the beginning.
--- What is to come then is the rest, unless an allocation failed.
+-- One item was taken, none after the end; its line or its message was written, nothing where it is before the
+-- beginning. What is to come then is the rest, unless an allocation failed.
 pub record Goes (old new : Session) (w : Written) : Type 0 where
   pub item : Placed
   pub rest : Merged

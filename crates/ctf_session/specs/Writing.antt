@@ -68,8 +68,8 @@ abbrev pub first_of : List Texts → Texts
 first_of [] = no_texts
 first_of (t ∷ ts) = t
 
--- The first pieces were written, each of them whole and in their order, then a first part of the next one, and nothing after
--- that. Where it is a part of a message, nothing of the log is held back.
+-- The first pieces were written, each of them whole and in their order, then a first part of the next one, and nothing
+-- after that. Where it is a part of a message, nothing of the log is held back.
 pub record Stopped (pieces : List Texts) (w : Written) : Type 0 where
   pub before : List Texts
   pub after : List Texts

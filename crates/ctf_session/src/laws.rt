@@ -2,8 +2,8 @@
 
 ghost use Rattle.ctf_session.specs.Laws.{BytesGiven, FirstParts, OneSinkEach, WholeInOne};
 
-/// What each stream has given of its bytes after any items that were gone past, and what of them is held: the packet of its
-/// next item is the last one that was taken.
+/// What each stream has given of its bytes after any items that were gone past, and what of them is held: the packet of
+/// its next item is the last one that was taken.
 pub fn bytes_given()
     ensures { BytesGiven }
 {}

@@ -44,8 +44,8 @@ pub(crate) fn front_time<'a, S: Source + Drop>(at: &NextItem<'_, 'a, S>) -> Opti
     }
 }
 
-/// Writes the line or the message of the next item. It gives the time of the last printed event record then, in nanoseconds
-/// since the epoch, or what stopped it.
+/// Writes the line or the message of the next item. It gives the time of the last printed event record then, in
+/// nanoseconds since the epoch, or what stopped it.
 pub(crate) fn print_front<'a, S: Source + Drop, W: Log, E: Sink>(
     at: &NextItem<'_, 'a, S>,
     printer: &mut Printer,

@@ -146,7 +146,8 @@ impl<'a, S: Source + Drop> Session<'a, S> {
         ensures quiet { Tells self.old → self.old.ended ≡ None → IsQuiet self.old
             → (out.new ≡ out.old) × (err.new ≡ err.old) }
 
-        // Of any sources: a step that went took room and went past the first item; one that ended took nothing from a source.
+        // Of any sources: a step that went took room and went past the first item; one that ended took nothing from a
+        // source.
         ensures room { RoomAfter result self.old.room self.new.room }
         ensures readers { ReadersAfter result self.old.coming self.old.readers self.new.readers }
 
@@ -298,8 +299,8 @@ pub fn print_all<'a, S: Source + Drop, W: Log, E: Sink>(
         CountsAfter result (counts out.old err.old) (counts out.new err.new) }
     ensures named { IsNamed result }
 
-    // Of any sources and sinks: nothing of the log is held back after the line of a fault, nor where the messages failed or
-    // ran out of memory.
+    // Of any sources and sinks: nothing of the log is held back after the line of a fault, nor where the messages
+    // failed or ran out of memory.
     ensures after { SettledBy result (W.settled out.new) }
     ensures settled { let counts = counts_by W.failures W.refusals E.failures E.refusals in
         SameForMessages (counts out.old err.old) (counts out.new err.new)
@@ -307,8 +308,8 @@ pub fn print_all<'a, S: Source + Drop, W: Log, E: Sink>(
     ensures ends { session.new.ended ≡ Some result }
     ensures setting { session.new.setting ≡ session.old.setting }
 
-    // No stream is read on from an item after the end; the bytes taken are those that the sources gave, and no more than the
-    // current items need.
+    // No stream is read on from an item after the end; the bytes taken are those that the sources gave, and no more
+    // than the current items need.
     ensures passes { Tells session.old → IsTrue (W.tells out.old) → IsTrue (E.tells err.old)
         → PassesWithin session.old.setting session.old.readers session.new.readers }
     ensures tells { Tells session.old → Tells session.new }

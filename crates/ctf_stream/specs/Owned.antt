@@ -46,8 +46,8 @@ with_scope known StreamEventContext value = record known { stream_event_context 
 with_scope known EventContext value = record known { event_context = value }
 with_scope known EventFields value = record known { event_fields = value }
 
--- The first item that was to come is given, out of a packet that ends where the bytes taken do and is held, and the rest is
--- to come; or nothing was to come; or a fault was, which comes again, or an allocation failed.
+-- The first item that was to come is given, out of a packet that ends where the bytes taken do and is held, and the
+-- rest is to come; or nothing was to come; or a fault was, which comes again, or an allocation failed.
 abbrev pub Gives : Run Classes → Reader → Result (Option OwnedItem) StreamFault → Type 0
 Gives old new (Ok (Some x)) = old ≡ before (item_of x new.taken new.held ∷ []) (coming new)
 Gives old new (Ok None) = (old ≡ stops None new.cut) × (coming new ≡ old)

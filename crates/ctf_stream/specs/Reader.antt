@@ -107,10 +107,10 @@ packet_length (event e) = e.packet_length
 packet_length (discarded gap) = gap.packet_length
 packet_length (lost gap) = gap.packet_length
 
--- How many bytes were taken and how many are held, of any source: where nothing is current, those to the end of the packet
--- that begins at the packet boundary, and that packet, or all before the boundary, and none; those to the end of the
--- packet that holds the current item, and that packet; at the end all before the boundary, and none; before a fault at
--- most a packet and a byte after the boundary, and none (own).
+-- How many bytes were taken and how many are held, of any source: where nothing is current, those to the end of the
+-- packet that begins at the packet boundary, and that packet, or all before the boundary, and none; those to the end of
+-- the packet that holds the current item, and that packet; at the end all before the boundary, and none; before a fault
+-- at most a packet and a byte after the boundary, and none (own).
 abbrev pub OnLine : Peeked → ℕ → ℕ → ℕ → Type 0
 OnLine start taken cut held = (taken ≡ cut + held) × (held ≤ longest_bytes)
 OnLine (item x) taken cut held = (taken ≡ packet_end x) × (held ≡ packet_length x) × (held ≤ longest_bytes)

@@ -67,9 +67,9 @@ pub(crate) struct WrittenRecord<'a> {
 }
 
 impl<'a> Packet<'a> {
-    /// The next item, if texts are asked for, and it is an event record that can be shown without its values: then its text is
-    /// at the start of `line`. `scopes` has the values of the packet. Mostly that is the next item, so it is apart from `next`.
-    /// Its header is decoded by its plan, or `by_class`.
+    /// The next item, if texts are asked for, and it is an event record that can be shown without its values: then its
+    /// text is at the start of `line`. `scopes` has the values of the packet. Mostly that is the next item, so it is
+    /// apart from `next`. Its header is decoded by its plan, or `by_class`.
     ///
     /// `None` elsewhere: the packet is as it was then, and the line's text is unspecified.
     #[inline(always)]
@@ -120,8 +120,8 @@ impl<'a> Packet<'a> {
         Some(front_of(made, before, begin))
     }
 
-    /// The next item; `None` after the last one. `scopes` has the values of the packet, and of an event record then, unless its
-    /// text is asked for and could be written at the start of `line`. The memory of `scratch` is used.
+    /// The next item; `None` after the last one. `scopes` has the values of the packet, and of an event record then,
+    /// unless its text is asked for and could be written at the start of `line`. The memory of `scratch` is used.
     ///
     /// An error is the fault of the next event record: F6 to F11, or `NoMemory`.
     pub(crate) fn next(

@@ -80,8 +80,9 @@ impl<'a> ReadState<'a> {
         self.line = LineBuffer::new(alloc);
     }
 
-    /// The next item, if it is an event record of the packet at hand that can be shown without its values, where texts are
-    /// asked for: its header is decoded by its plan, or `by_class`. `None` elsewhere: then only the line is another one.
+    /// The next item, if it is an event record of the packet at hand that can be shown without its values, where texts
+    /// are asked for: its header is decoded by its plan, or `by_class`. `None` elsewhere: then only the line is another
+    /// one.
     #[inline(always)]
     pub(crate) fn next_written(&mut self, alloc: Global, by_class: bool) -> Option<Front<'a>>
         requires stands { Stands self.old }

@@ -149,8 +149,8 @@ impl<'a, S: Source + Drop> StreamReader<'a, S> {
         self.advance();
     }
 
-    /// Fetches the next item, where nothing is current. Mostly the next item is one that `go_on` fetches itself, so this
-    /// is kept out of its way.
+    /// Fetches the next item, where nothing is current. Mostly the next item is one that `go_on` fetches itself, so
+    /// this is kept out of its way.
     #[inline(never)]
     fn advance(&mut self)
         requires { self.old.ahead ≡ start }
@@ -187,8 +187,8 @@ impl<'a, S: Source + Drop> StreamReader<'a, S> {
     ///
     /// An error is the fault of the stream after the items before, F1 to F11, F13 or F14, or `NoMemory`.
     pub fn next(&mut self) -> Result<Option<OwnedItem<'a>>, StreamFault>
-        // The first item that was to come is given, out of a packet that ends where the bytes taken do and is held, and the
-        // rest is to come.
+        // The first item that was to come is given, out of a packet that ends where the bytes taken do and is held, and
+        // the rest is to come.
         ensures gives { IsTrue self.old.tells → Gives (coming self.old) self.new result }
         ensures of { GivesOf self.old.trace self.old.name result }
 

@@ -144,7 +144,8 @@ impl Stamper {
         self.put_end(last, moment.time, line, at)
     }
 
-    /// The stamp of a moment, if the style shows `hh:mm:ss` alone before the dot and its second is the one that is kept.
+    /// The stamp of a moment, if the style shows `hh:mm:ss` alone before the dot and its second is the one that is
+    /// kept.
     #[inline(always)]
     fn stamp_if_kept(&self, moment: Moment) -> Option<Kept>
         ensures stamp { IfSome result

@@ -11,7 +11,8 @@ use Rattle.ctf_meaning.specs.Written.{Declaration, Block, Table, Names, Assigned
 use Rattle.ctf_meaning.specs.Denotes.{class_of_text}
 use Rattle.meaning_tests.proofs.Writing.{le_trace, clock_named, event_with, denotes_fields, set, counts, says, quotes, minus, sized, structure, named, field, declarator, number, unsigned, made, member, clock, stream, trace, told}
 
--- trace { major = 1; minor = 8; byte_order = le; }; event { name = "n"; fields := struct { integer { size = 8; base = "16"; } a; integer { size = 8; base = 0x8; } b; integer { size = 8; base = b; } c; integer { ..
+-- trace { major = 1; minor = 8; byte_order = le; }; event { name = "n"; fields := struct { integer { size = 8; base =
+-- "16"; } a; integer { size = 8; base = 0x8; } b; integer { size = 8; base = b; } c; integer { ..
 abbrev pub base_quoted : List Declaration
 base_quoted =
     le_trace
@@ -24,7 +25,8 @@ base_quoted_faults = refl
 pub base_quoted_class : class_of_text base_quoted ≡ denotes_fields (made 8 2 5 (class.Structure (member (codes "a") (made 8 1 1 (class.Integer (number 8 false base.Hexadecimal Le false))) ∷ member (codes "b") (made 8 1 1 (class.Integer (number 8 false base.Octal Le false))) ∷ member (codes "c") (made 8 1 1 (class.Integer (number 8 false base.Binary Le false))) ∷ member (codes "d") (made 8 1 1 (class.Integer (number 8 false base.Hexadecimal Le false))) ∷ [])))
 base_quoted_class = refl
 
--- trace { major = 1; minor = 8; byte_order = le; }; event { name = "n"; fields := struct { integer { size = 8; base = 7; } a; }; };
+-- trace { major = 1; minor = 8; byte_order = le; }; event { name = "n"; fields := struct { integer { size = 8; base =
+-- 7; } a; }; };
 abbrev pub base_bad : List Declaration
 base_bad =
     le_trace
@@ -34,7 +36,8 @@ base_bad =
 pub base_bad_faults : told base_bad ≡ Attribute ∷ []
 base_bad_faults = refl
 
--- trace { major = 1; minor = 8; byte_order = le; }; event { name = "n"; fields := struct { integer { size = 8; signed = "1"; } a; integer { size = 8; signed = +1; } b; integer { size = 8; signed = TRUE; } c; ..
+-- trace { major = 1; minor = 8; byte_order = le; }; event { name = "n"; fields := struct { integer { size = 8; signed =
+-- "1"; } a; integer { size = 8; signed = +1; } b; integer { size = 8; signed = TRUE; } c; ..
 abbrev pub sign_forms : List Declaration
 sign_forms =
     le_trace
@@ -47,7 +50,8 @@ sign_forms_faults = refl
 pub sign_forms_class : class_of_text sign_forms ≡ denotes_fields (made 8 2 6 (class.Structure (member (codes "a") (made 8 1 1 (class.Integer (number 8 true base.Decimal Le false))) ∷ member (codes "b") (made 8 1 1 (class.Integer (number 8 true base.Decimal Le false))) ∷ member (codes "c") (made 8 1 1 (class.Integer (number 8 true base.Decimal Le false))) ∷ member (codes "d") (unsigned 8 8) ∷ member (codes "e") (unsigned 8 8) ∷ [])))
 sign_forms_class = refl
 
--- trace { major = 1; minor = 8; byte_order = le; }; event { name = "n"; fields := struct { integer { size = 8; signed = yes; } a; }; };
+-- trace { major = 1; minor = 8; byte_order = le; }; event { name = "n"; fields := struct { integer { size = 8; signed =
+-- yes; } a; }; };
 abbrev pub sign_bad : List Declaration
 sign_bad =
     le_trace
@@ -57,7 +61,8 @@ sign_bad =
 pub sign_bad_faults : told sign_bad ≡ Attribute ∷ []
 sign_bad_faults = refl
 
--- trace { major = 1; minor = 8; byte_order = le; }; event { name = "n"; fields := struct { integer { size = 8; byte_order = network; } a; integer { size = 8; byte_order = "le"; } b; integer { size = 8; byte_order = ..
+-- trace { major = 1; minor = 8; byte_order = le; }; event { name = "n"; fields := struct { integer { size = 8;
+-- byte_order = network; } a; integer { size = 8; byte_order = "le"; } b; integer { size = 8; byte_order = ..
 abbrev pub order_forms : List Declaration
 order_forms =
     le_trace
@@ -70,7 +75,8 @@ order_forms_faults = refl
 pub order_forms_class : class_of_text order_forms ≡ denotes_fields (made 8 2 5 (class.Structure (member (codes "a") (made 8 1 1 (class.Integer (number 8 false base.Decimal Be false))) ∷ member (codes "b") (unsigned 8 8) ∷ member (codes "c") (unsigned 8 8) ∷ member (codes "d") (made 8 1 1 (class.Integer (number 8 false base.Decimal Be false))) ∷ [])))
 order_forms_class = refl
 
--- trace { major = 1; minor = 8; byte_order = le; }; event { name = "n"; fields := struct { integer { size = 8; byte_order = middle; } a; }; };
+-- trace { major = 1; minor = 8; byte_order = le; }; event { name = "n"; fields := struct { integer { size = 8;
+-- byte_order = middle; } a; }; };
 abbrev pub order_bad : List Declaration
 order_bad =
     le_trace
@@ -80,7 +86,8 @@ order_bad =
 pub order_bad_faults : told order_bad ≡ Attribute ∷ []
 order_bad_faults = refl
 
--- trace { major = 1; minor = 8; byte_order = le; }; event { name = "n"; fields := struct { integer { size = 8; encoding = utf16; } a; }; };
+-- trace { major = 1; minor = 8; byte_order = le; }; event { name = "n"; fields := struct { integer { size = 8; encoding
+-- = utf16; } a; }; };
 abbrev pub encoding_bad : List Declaration
 encoding_bad =
     le_trace
@@ -90,7 +97,8 @@ encoding_bad =
 pub encoding_bad_faults : told encoding_bad ≡ Attribute ∷ []
 encoding_bad_faults = refl
 
--- trace { major = 1; minor = 8; byte_order = le; }; event { name = "n"; fields := struct { string { encoding = 8; } a; }; };
+-- trace { major = 1; minor = 8; byte_order = le; }; event { name = "n"; fields := struct { string { encoding = 8; } a;
+-- }; };
 abbrev pub string_encoding_bad : List Declaration
 string_encoding_bad =
     le_trace
@@ -100,7 +108,8 @@ string_encoding_bad =
 pub string_encoding_bad_faults : told string_encoding_bad ≡ Attribute ∷ []
 string_encoding_bad_faults = refl
 
--- trace { major = 1; minor = 8; byte_order = le; }; event { name = "n"; fields := struct { string { encoding = UTF8; encoding = UTF8; } a; }; };
+-- trace { major = 1; minor = 8; byte_order = le; }; event { name = "n"; fields := struct { string { encoding = UTF8;
+-- encoding = UTF8; } a; }; };
 abbrev pub string_encoding_twice : List Declaration
 string_encoding_twice =
     le_trace
@@ -110,7 +119,8 @@ string_encoding_twice =
 pub string_encoding_twice_faults : told string_encoding_twice ≡ Attribute ∷ []
 string_encoding_twice_faults = refl
 
--- trace { major = 1; minor = 8; byte_order = le; }; event { name = "n"; fields := struct { string { size = 8; size = 9; } a; }; };
+-- trace { major = 1; minor = 8; byte_order = le; }; event { name = "n"; fields := struct { string { size = 8; size = 9;
+-- } a; }; };
 abbrev pub string_size_twice : List Declaration
 string_size_twice =
     le_trace
@@ -123,7 +133,8 @@ string_size_twice_faults = refl
 pub string_size_twice_class : class_of_text string_size_twice ≡ denotes_fields (made 8 2 2 (class.Structure (member (codes "a") (made 8 1 1 class.String) ∷ [])))
 string_size_twice_class = refl
 
--- trace { major = 1; minor = 8; byte_order = le; }; event { name = "n"; fields := struct { integer { size = big; } a; }; };
+-- trace { major = 1; minor = 8; byte_order = le; }; event { name = "n"; fields := struct { integer { size = big; } a;
+-- }; };
 abbrev pub size_word : List Declaration
 size_word =
     le_trace
@@ -133,7 +144,8 @@ size_word =
 pub size_word_faults : told size_word ≡ Attribute ∷ []
 size_word_faults = refl
 
--- trace { major = 1; minor = 8; byte_order = le; }; event { name = "n"; fields := struct { integer { size = "8"; } a; }; };
+-- trace { major = 1; minor = 8; byte_order = le; }; event { name = "n"; fields := struct { integer { size = "8"; } a;
+-- }; };
 abbrev pub size_quoted : List Declaration
 size_quoted =
     le_trace
@@ -143,7 +155,8 @@ size_quoted =
 pub size_quoted_faults : told size_quoted ≡ Attribute ∷ []
 size_quoted_faults = refl
 
--- trace { major = 1; minor = 8; byte_order = le; }; event { name = "n"; fields := struct { integer { size = -8; } a; }; };
+-- trace { major = 1; minor = 8; byte_order = le; }; event { name = "n"; fields := struct { integer { size = -8; } a; };
+-- };
 abbrev pub size_minus : List Declaration
 size_minus =
     le_trace
@@ -153,7 +166,8 @@ size_minus =
 pub size_minus_faults : told size_minus ≡ SizeOrAlignment ∷ []
 size_minus_faults = refl
 
--- trace { major = 1; minor = 8; byte_order = le; }; event { name = "n"; fields := struct { integer { size = -9223372036854775809; } a; }; };
+-- trace { major = 1; minor = 8; byte_order = le; }; event { name = "n"; fields := struct { integer { size =
+-- -9223372036854775809; } a; }; };
 abbrev pub size_minus_far : List Declaration
 size_minus_far =
     le_trace
@@ -163,7 +177,8 @@ size_minus_far =
 pub size_minus_far_faults : told size_minus_far ≡ Attribute ∷ []
 size_minus_far_faults = refl
 
--- trace { major = 1; minor = 8; byte_order = le; }; event { name = "n"; fields := struct { integer { size = 8; size = 8; } a; }; };
+-- trace { major = 1; minor = 8; byte_order = le; }; event { name = "n"; fields := struct { integer { size = 8; size =
+-- 8; } a; }; };
 abbrev pub size_twice : List Declaration
 size_twice =
     le_trace
@@ -173,7 +188,8 @@ size_twice =
 pub size_twice_faults : told size_twice ≡ Attribute ∷ []
 size_twice_faults = refl
 
--- trace { major = 1; minor = 8; byte_order = le; }; event { name = "n"; fields := struct { integer { size = 4294967304; } a; }; };
+-- trace { major = 1; minor = 8; byte_order = le; }; event { name = "n"; fields := struct { integer { size = 4294967304;
+-- } a; }; };
 abbrev pub size_beyond_32_bits : List Declaration
 size_beyond_32_bits =
     le_trace
@@ -183,7 +199,8 @@ size_beyond_32_bits =
 pub size_beyond_32_bits_faults : told size_beyond_32_bits ≡ SizeOrAlignment ∷ []
 size_beyond_32_bits_faults = refl
 
--- trace { major = 1; minor = 8; byte_order = le; }; event { name = "n"; fields := struct { integer { size = 65; size = 65; } a; }; };
+-- trace { major = 1; minor = 8; byte_order = le; }; event { name = "n"; fields := struct { integer { size = 65; size =
+-- 65; } a; }; };
 abbrev pub size_far_twice : List Declaration
 size_far_twice =
     le_trace
@@ -193,7 +210,8 @@ size_far_twice =
 pub size_far_twice_faults : told size_far_twice ≡ Attribute ∷ SizeOrAlignment ∷ []
 size_far_twice_faults = refl
 
--- trace { major = 1; minor = 8; byte_order = le; }; event { name = "n"; fields := struct { integer { size = 65; map = x; map = x; } a; }; };
+-- trace { major = 1; minor = 8; byte_order = le; }; event { name = "n"; fields := struct { integer { size = 65; map =
+-- x; map = x; } a; }; };
 abbrev pub map_twice : List Declaration
 map_twice =
     le_trace
@@ -203,7 +221,8 @@ map_twice =
 pub map_twice_faults : told map_twice ≡ Attribute ∷ SizeOrAlignment ∷ []
 map_twice_faults = refl
 
--- trace { major = 1; minor = 8; byte_order = le; }; event { name = "n"; fields := struct { integer { size = 65; signed = yes; } a; }; };
+-- trace { major = 1; minor = 8; byte_order = le; }; event { name = "n"; fields := struct { integer { size = 65; signed
+-- = yes; } a; }; };
 abbrev pub size_far_and_sign : List Declaration
 size_far_and_sign =
     le_trace
@@ -213,7 +232,8 @@ size_far_and_sign =
 pub size_far_and_sign_faults : told size_far_and_sign ≡ Attribute ∷ SizeOrAlignment ∷ []
 size_far_and_sign_faults = refl
 
--- trace { major = 1; minor = 8; byte_order = le; }; event { name = "n"; fields := struct { integer { size = 8; align = 2147483648; } a; integer { size = 8; align = 1; } b; }; };
+-- trace { major = 1; minor = 8; byte_order = le; }; event { name = "n"; fields := struct { integer { size = 8; align =
+-- 2147483648; } a; integer { size = 8; align = 1; } b; }; };
 abbrev pub align_far : List Declaration
 align_far =
     le_trace
@@ -226,7 +246,8 @@ align_far_faults = refl
 pub align_far_class : class_of_text align_far ≡ denotes_fields (made 2147483648 2 3 (class.Structure (member (codes "a") (unsigned 8 2147483648) ∷ member (codes "b") (unsigned 8 1) ∷ [])))
 align_far_class = refl
 
--- trace { major = 1; minor = 8; byte_order = le; }; event { name = "n"; fields := struct { integer { size = 8; align = 4294967296; } a; }; };
+-- trace { major = 1; minor = 8; byte_order = le; }; event { name = "n"; fields := struct { integer { size = 8; align =
+-- 4294967296; } a; }; };
 abbrev pub align_too_far : List Declaration
 align_too_far =
     le_trace
@@ -236,7 +257,8 @@ align_too_far =
 pub align_too_far_faults : told align_too_far ≡ SizeOrAlignment ∷ []
 align_too_far_faults = refl
 
--- trace { major = 1; minor = 8; byte_order = le; }; event { name = "n"; fields := struct { integer { size = 8; align = 0; } a; }; };
+-- trace { major = 1; minor = 8; byte_order = le; }; event { name = "n"; fields := struct { integer { size = 8; align =
+-- 0; } a; }; };
 abbrev pub align_0 : List Declaration
 align_0 =
     le_trace
@@ -246,7 +268,8 @@ align_0 =
 pub align_0_faults : told align_0 ≡ SizeOrAlignment ∷ []
 align_0_faults = refl
 
--- trace { major = 1; minor = 8; byte_order = le; }; event { name = "n"; fields := struct { integer { size = 8; align = "8"; } a; }; };
+-- trace { major = 1; minor = 8; byte_order = le; }; event { name = "n"; fields := struct { integer { size = 8; align =
+-- "8"; } a; }; };
 abbrev pub align_word : List Declaration
 align_word =
     le_trace
@@ -256,7 +279,8 @@ align_word =
 pub align_word_faults : told align_word ≡ Attribute ∷ []
 align_word_faults = refl
 
--- trace { major = 1; minor = 8; byte_order = le; }; event { name = "n"; fields := struct { integer { size = 24; } a; integer { size = 7; } b; integer { size = 64; } c; }; };
+-- trace { major = 1; minor = 8; byte_order = le; }; event { name = "n"; fields := struct { integer { size = 24; } a;
+-- integer { size = 7; } b; integer { size = 64; } c; }; };
 abbrev pub align_default : List Declaration
 align_default =
     le_trace
@@ -269,7 +293,8 @@ align_default_faults = refl
 pub align_default_class : class_of_text align_default ≡ denotes_fields (made 8 2 4 (class.Structure (member (codes "a") (unsigned 24 8) ∷ member (codes "b") (unsigned 7 1) ∷ member (codes "c") (unsigned 64 8) ∷ [])))
 align_default_class = refl
 
--- trace { major = 1; minor = 8; byte_order = le; }; event { name = "n"; fields := struct { struct { integer { size = 3; } a; } align(64) x; struct { integer { size = 8; align = 32; } a; } align(16) y; }; };
+-- trace { major = 1; minor = 8; byte_order = le; }; event { name = "n"; fields := struct { struct { integer { size = 3;
+-- } a; } align(64) x; struct { integer { size = 8; align = 32; } a; } align(16) y; }; };
 abbrev pub struct_align : List Declaration
 struct_align =
     le_trace
@@ -302,7 +327,8 @@ struct_align_0 =
 pub struct_align_0_faults : told struct_align_0 ≡ SizeOrAlignment ∷ []
 struct_align_0_faults = refl
 
--- clock { name = "m"; }; trace { major = 1; minor = 8; byte_order = le; }; stream { event.header := struct { integer { size = 8; map = "clock.m.value"; } x; }; };
+-- clock { name = "m"; }; trace { major = 1; minor = 8; byte_order = le; }; stream { event.header := struct { integer {
+-- size = 8; map = "clock.m.value"; } x; }; };
 abbrev pub map_quoted : List Declaration
 map_quoted =
     clock_named (codes "m")
@@ -316,7 +342,8 @@ map_quoted_faults = refl
 pub map_quoted_class : class_of_text map_quoted ≡ Some (trace None None None (stream 0 None (Some (made 8 2 2 (class.Structure (member (codes "x") (made 8 1 1 (class.Integer (number 8 false base.Decimal Le true))) ∷ [])))) None (Some (clock (codes "m") 1000000000 (pos 0) (pos 0))) [] ∷ []))
 map_quoted_class = refl
 
--- clock { name = a.b; }; trace { major = 1; minor = 8; byte_order = le; }; stream { event.header := struct { integer { size = 8; map = clock.a.b.value; } x; }; };
+-- clock { name = a.b; }; trace { major = 1; minor = 8; byte_order = le; }; stream { event.header := struct { integer {
+-- size = 8; map = clock.a.b.value; } x; }; };
 abbrev pub map_dotted : List Declaration
 map_dotted =
     Table table.Clock (set (codes "name" ∷ []) (value.Name (codes "a" ∷ codes "b" ∷ [])) ∷ [])
@@ -330,7 +357,8 @@ map_dotted_faults = refl
 pub map_dotted_class : class_of_text map_dotted ≡ Some (trace None None None (stream 0 None (Some (made 8 2 2 (class.Structure (member (codes "x") (made 8 1 1 (class.Integer (number 8 false base.Decimal Le true))) ∷ [])))) None (Some (clock (codes "a.b") 1000000000 (pos 0) (pos 0))) [] ∷ []))
 map_dotted_class = refl
 
--- clock { name = "m"; }; trace { major = 1; minor = 8; byte_order = le; }; stream { event.header := struct { integer { size = 8; map = clock.m; } x; }; };
+-- clock { name = "m"; }; trace { major = 1; minor = 8; byte_order = le; }; stream { event.header := struct { integer {
+-- size = 8; map = clock.m; } x; }; };
 abbrev pub map_short : List Declaration
 map_short =
     clock_named (codes "m")
@@ -341,7 +369,8 @@ map_short =
 pub map_short_faults : told map_short ≡ Attribute ∷ []
 map_short_faults = refl
 
--- clock { name = ""; }; trace { major = 1; minor = 8; byte_order = le; }; stream { event.header := struct { integer { size = 8; map = "clock.value"; } x; }; };
+-- clock { name = ""; }; trace { major = 1; minor = 8; byte_order = le; }; stream { event.header := struct { integer {
+-- size = 8; map = "clock.value"; } x; }; };
 abbrev pub map_no_name : List Declaration
 map_no_name =
     clock_named (codes "")
@@ -352,7 +381,8 @@ map_no_name =
 pub map_no_name_faults : told map_no_name ≡ Attribute ∷ []
 map_no_name_faults = refl
 
--- clock { name = ""; }; trace { major = 1; minor = 8; byte_order = le; }; stream { event.header := struct { integer { size = 8; map = "clock..value"; } x; }; };
+-- clock { name = ""; }; trace { major = 1; minor = 8; byte_order = le; }; stream { event.header := struct { integer {
+-- size = 8; map = "clock..value"; } x; }; };
 abbrev pub map_empty_name : List Declaration
 map_empty_name =
     clock_named (codes "")
@@ -366,7 +396,8 @@ map_empty_name_faults = refl
 pub map_empty_name_class : class_of_text map_empty_name ≡ Some (trace None None None (stream 0 None (Some (made 8 2 2 (class.Structure (member (codes "x") (made 8 1 1 (class.Integer (number 8 false base.Decimal Le true))) ∷ [])))) None (Some (clock (codes "") 1000000000 (pos 0) (pos 0))) [] ∷ []))
 map_empty_name_class = refl
 
--- trace { major = 1; minor = 8; byte_order = le; }; event { name = "n"; fields := struct { integer { size = 8; colour = red; colour = "blue"; } a; }; };
+-- trace { major = 1; minor = 8; byte_order = le; }; event { name = "n"; fields := struct { integer { size = 8; colour =
+-- red; colour = "blue"; } a; }; };
 abbrev pub unknown_attribute : List Declaration
 unknown_attribute =
     le_trace
@@ -379,7 +410,8 @@ unknown_attribute_faults = refl
 pub unknown_attribute_class : class_of_text unknown_attribute ≡ denotes_fields (made 8 2 2 (class.Structure (member (codes "a") (unsigned 8 8) ∷ [])))
 unknown_attribute_class = refl
 
--- trace { major = 1; minor = 8; byte_order = le; }; event { name = "n"; fields := struct { integer { size = 8; colour = -9223372036854775809; } a; }; };
+-- trace { major = 1; minor = 8; byte_order = le; }; event { name = "n"; fields := struct { integer { size = 8; colour =
+-- -9223372036854775809; } a; }; };
 abbrev pub minus_ignored : List Declaration
 minus_ignored =
     le_trace
@@ -452,7 +484,8 @@ minus_edge_faults = refl
 pub minus_edge_class : class_of_text minus_edge ≡ Some (trace None None None (stream 0 None None None None [] ∷ []))
 minus_edge_class = refl
 
--- trace { major = 1; minor = 8; byte_order = le; }; event { name = "n"; fields := struct { integer { size = 0; } a; t b; string b; integer { align = 8; } c; }; };
+-- trace { major = 1; minor = 8; byte_order = le; }; event { name = "n"; fields := struct { integer { size = 0; } a; t
+-- b; string b; integer { align = 8; } c; }; };
 abbrev pub two_faults : List Declaration
 two_faults =
     le_trace
@@ -462,7 +495,8 @@ two_faults =
 pub two_faults_faults : told two_faults ≡ UnknownType ∷ DeclaredTwice ∷ Attribute ∷ SizeOrAlignment ∷ []
 two_faults_faults = refl
 
--- trace { major = 1; minor = 8; byte_order = le; }; event { name = "n"; fields := struct { t a; floating_point { } b; }; };
+-- trace { major = 1; minor = 8; byte_order = le; }; event { name = "n"; fields := struct { t a; floating_point { } b;
+-- }; };
 abbrev pub fault_and_float : List Declaration
 fault_and_float =
     le_trace
@@ -482,7 +516,8 @@ fault_and_no_structure =
 pub fault_and_no_structure_faults : told fault_and_no_structure ≡ SizeOrAlignment ∷ []
 fault_and_no_structure_faults = refl
 
--- trace { major = 1; minor = 8; byte_order = le; }; event { name = "n"; fields := struct { t a; }; }; event { fields := struct { string a, a; }; };
+-- trace { major = 1; minor = 8; byte_order = le; }; event { name = "n"; fields := struct { t a; }; }; event { fields :=
+-- struct { string a, a; }; };
 abbrev pub first_declaration : List Declaration
 first_declaration =
     le_trace

@@ -111,7 +111,8 @@ value_as_class =
 pub value_as_class_faults : told value_as_class ≡ Attribute ∷ []
 value_as_class_faults = refl
 
--- trace { major = 1; minor = 8; byte_order = le; }; event { name = "n"; fields := struct { }; fields := struct { floating_point { } f; }; };
+-- trace { major = 1; minor = 8; byte_order = le; }; event { name = "n"; fields := struct { }; fields := struct {
+-- floating_point { } f; }; };
 abbrev pub fields_twice : List Declaration
 fields_twice =
     le_trace
@@ -159,7 +160,8 @@ header_twice =
 pub header_twice_faults : told header_twice ≡ Attribute ∷ []
 header_twice_faults = refl
 
--- trace { major = 1; minor = 8; byte_order = le; }; event { name = "n"; fields := struct { enum : integer { size = 8; } { A } t; variant <t> { struct { floating_point { } g[2]; } A; } v; }; };
+-- trace { major = 1; minor = 8; byte_order = le; }; event { name = "n"; fields := struct { enum : integer { size = 8; }
+-- { A } t; variant <t> { struct { floating_point { } g[2]; } A; } v; }; };
 abbrev pub float_deep : List Declaration
 float_deep =
     le_trace
@@ -169,7 +171,8 @@ float_deep =
 pub float_deep_faults : told float_deep ≡ FloatingPoint ∷ []
 float_deep_faults = refl
 
--- typedef floating_point { } f[2]; trace { major = 1; minor = 8; byte_order = le; }; event { name = "n"; fields := struct { f a; }; };
+-- typedef floating_point { } f[2]; trace { major = 1; minor = 8; byte_order = le; }; event { name = "n"; fields :=
+-- struct { f a; }; };
 abbrev pub float_named : List Declaration
 float_named =
     Names (Definition (Float []) (declarator (codes "f") (lengths.Constant 2 ∷ []) ∷ []))
@@ -180,7 +183,8 @@ float_named =
 pub float_named_faults : told float_named ≡ FloatingPoint ∷ []
 float_named_faults = refl
 
--- trace { major = 1; minor = 8; byte_order = le; }; stream { id = 18446744073709551615; }; event { name = "n"; id = 18446744073709551615; stream_id = 18446744073709551615; };
+-- trace { major = 1; minor = 8; byte_order = le; }; stream { id = 18446744073709551615; }; event { name = "n"; id =
+-- 18446744073709551615; stream_id = 18446744073709551615; };
 abbrev pub id_largest : List Declaration
 id_largest =
     le_trace
@@ -194,7 +198,8 @@ id_largest_faults = refl
 pub id_largest_class : class_of_text id_largest ≡ Some (trace None None None (stream 18446744073709551615 None None None None (event None 18446744073709551615 (codes "n") None (made 1 1 1 (class.Structure [])) ∷ []) ∷ []))
 id_largest_class = refl
 
--- trace { major = 1; minor = 8; byte_order = le; }; stream { id = +0x10; event.context := struct { string a; }; }; event { name = "n"; stream_id = 020; context := struct { string b; }; };
+-- trace { major = 1; minor = 8; byte_order = le; }; stream { id = +0x10; event.context := struct { string a; }; };
+-- event { name = "n"; stream_id = 020; context := struct { string b; }; };
 abbrev pub event_context_class : List Declaration
 event_context_class =
     le_trace
@@ -208,7 +213,8 @@ event_context_class_faults = refl
 pub event_context_class_class : class_of_text event_context_class ≡ Some (trace None None None (stream 16 None None (Some (made 8 2 2 (class.Structure (member (codes "a") (made 8 1 1 class.String) ∷ [])))) None (event None 0 (codes "n") (Some (made 8 2 2 (class.Structure (member (codes "b") (made 8 1 1 class.String) ∷ [])))) (made 1 1 1 (class.Structure [])) ∷ []) ∷ []))
 event_context_class_class = refl
 
--- trace { major = 1; minor = 8; byte_order = le; struct x { integer { size = 8; } a; }; packet.header := struct { struct x b; }; }; stream { struct x { string c; }; event.context := struct { struct x b; }; };
+-- trace { major = 1; minor = 8; byte_order = le; struct x { integer { size = 8; } a; }; packet.header := struct {
+-- struct x b; }; }; stream { struct x { string c; }; event.context := struct { struct x b; }; };
 abbrev pub names_in_trace : List Declaration
 names_in_trace =
     Block kind.Trace (Assigned (counts (codes "major") 1) ∷ Assigned (counts (codes "minor") 8) ∷ Assigned (says (codes "byte_order") (codes "le")) ∷ Declared (Compound (Struct (Some (codes "x")) (items_from (field (sized 8) (codes "a") ∷ [])) None)) ∷ Classed (codes "packet" ∷ codes "header" ∷ []) (structure (field (Named (name.Struct (codes "x")) None) (codes "b") ∷ [])) ∷ [])
@@ -231,7 +237,8 @@ fields_float =
 pub fields_float_faults : told fields_float ≡ Attribute ∷ FloatingPoint ∷ []
 fields_float_faults = refl
 
--- trace { major = 1; minor = 8; byte_order = le; }; typealias floating_point { } := f; event { name = "n"; fields := enum : f { A }; };
+-- trace { major = 1; minor = 8; byte_order = le; }; typealias floating_point { } := f; event { name = "n"; fields :=
+-- enum : f { A }; };
 abbrev pub fields_enum_float : List Declaration
 fields_enum_float =
     le_trace
@@ -409,7 +416,8 @@ events_one_id =
 pub events_one_id_faults : told events_one_id ≡ Twice ∷ []
 events_one_id_faults = refl
 
--- trace { major = 1; minor = 8; byte_order = le; }; stream { id = 1; }; stream { id = 2; }; event { name = "n"; stream_id = 1; }; event { name = "m"; stream_id = 2; };
+-- trace { major = 1; minor = 8; byte_order = le; }; stream { id = 1; }; stream { id = 2; }; event { name = "n";
+-- stream_id = 1; }; event { name = "m"; stream_id = 2; };
 abbrev pub events_one_id_two_streams : List Declaration
 events_one_id_two_streams =
     le_trace
@@ -425,7 +433,8 @@ events_one_id_two_streams_faults = refl
 pub events_one_id_two_streams_class : class_of_text events_one_id_two_streams ≡ Some (trace None None None (stream 1 None None None None (event None 0 (codes "n") None (made 1 1 1 (class.Structure [])) ∷ []) ∷ stream 2 None None None None (event None 0 (codes "m") None (made 1 1 1 (class.Structure [])) ∷ []) ∷ []))
 events_one_id_two_streams_class = refl
 
--- event { name = "n"; stream_id = 3; fields := struct { string s[k]; }; }; stream { id = 3; packet.context := struct { integer { size = 8; } k; }; }; trace { major = 1; minor = 8; byte_order = le; };
+-- event { name = "n"; stream_id = 3; fields := struct { string s[k]; }; }; stream { id = 3; packet.context := struct {
+-- integer { size = 8; } k; }; }; trace { major = 1; minor = 8; byte_order = le; };
 abbrev pub event_before_stream : List Declaration
 event_before_stream =
     Block kind.Event (Assigned (quotes (codes "name") (codes "n")) ∷ Assigned (counts (codes "stream_id") 3) ∷ Classed (codes "fields" ∷ []) (structure (Fields (String []) (declarator (codes "s") (lengths.Path (codes "k" ∷ []) ∷ []) ∷ []) ∷ [])) ∷ [])
@@ -439,7 +448,8 @@ event_before_stream_faults = refl
 pub event_before_stream_class : class_of_text event_before_stream ≡ Some (trace None None None (stream 3 (Some (made 8 2 2 (class.Structure (member (codes "k") (unsigned 8 8) ∷ [])))) None None None (event None 0 (codes "n") None (made 8 3 3 (class.Structure (member (codes "s") (made 8 2 2 (class.Array (counted (before PacketContext (0 ∷ []))) (made 8 1 1 class.String))) ∷ []))) ∷ []) ∷ []))
 event_before_stream_class = refl
 
--- trace { major = 1; minor = 8; byte_order = le; }; event { name = "n"; stream_id = 5; fields := struct { string s[k]; integer { size = 8; map = clock.q.value; } x; }; };
+-- trace { major = 1; minor = 8; byte_order = le; }; event { name = "n"; stream_id = 5; fields := struct { string s[k];
+-- integer { size = 8; map = clock.q.value; } x; }; };
 abbrev pub unknown_stream_and_path : List Declaration
 unknown_stream_and_path =
     le_trace
@@ -449,7 +459,8 @@ unknown_stream_and_path =
 pub unknown_stream_and_path_faults : told unknown_stream_and_path ≡ Attribute ∷ LengthOrTag ∷ Clock ∷ []
 unknown_stream_and_path_faults = refl
 
--- trace { major = 1; minor = 8; byte_order = le; packet.header := struct { integer { size = 8; } k; }; }; event { name = "n"; stream_id = 5; fields := struct { string s[k]; }; };
+-- trace { major = 1; minor = 8; byte_order = le; packet.header := struct { integer { size = 8; } k; }; }; event { name
+-- = "n"; stream_id = 5; fields := struct { string s[k]; }; };
 abbrev pub unknown_stream_header : List Declaration
 unknown_stream_header =
     Block kind.Trace (Assigned (counts (codes "major") 1) ∷ Assigned (counts (codes "minor") 8) ∷ Assigned (says (codes "byte_order") (codes "le")) ∷ Classed (codes "packet" ∷ codes "header" ∷ []) (structure (field (sized 8) (codes "k") ∷ [])) ∷ [])
@@ -470,7 +481,8 @@ own_before_link =
 pub own_before_link_faults : told own_before_link ≡ UnknownType ∷ []
 own_before_link_faults = refl
 
--- trace { major = 1; minor = 8; byte_order = le; }; event { name = "n"; fields := struct { string s[k]; }; }; event { name = "m"; };
+-- trace { major = 1; minor = 8; byte_order = le; }; event { name = "n"; fields := struct { string s[k]; }; }; event {
+-- name = "m"; };
 abbrev pub first_link : List Declaration
 first_link =
     le_trace
@@ -499,7 +511,8 @@ no_trace =
 pub no_trace_faults : told no_trace ≡ Attribute ∷ []
 no_trace_faults = refl
 
--- clock { name = "a"; }; clock { name = "b"; }; stream { event.header := struct { integer { size = 8; map = clock.a.value; } x; integer { size = 8; map = clock.b.value; } y; }; };
+-- clock { name = "a"; }; clock { name = "b"; }; stream { event.header := struct { integer { size = 8; map =
+-- clock.a.value; } x; integer { size = 8; map = clock.b.value; } y; }; };
 abbrev pub no_trace_two_clocks : List Declaration
 no_trace_two_clocks =
     clock_named (codes "a")
@@ -552,7 +565,8 @@ clock_freq_0 =
 pub clock_freq_0_faults : told clock_freq_0 ≡ Attribute ∷ []
 clock_freq_0_faults = refl
 
--- clock { name = "a"; freq = 18446744073709551615; offset_s = -9223372036854775808; offset = 9223372036854775807; uuid = 5; uuid = 6; };trace { major = 1; minor = 8; byte_order = le; }; stream { event.header := ..
+-- clock { name = "a"; freq = 18446744073709551615; offset_s = -9223372036854775808; offset = 9223372036854775807; uuid
+-- = 5; uuid = 6; };trace { major = 1; minor = 8; byte_order = le; }; stream { event.header := ..
 abbrev pub clock_freq_max : List Declaration
 clock_freq_max =
     Table table.Clock (quotes (codes "name") (codes "a") ∷ counts (codes "freq") 18446744073709551615 ∷ set (codes "offset_s" ∷ []) (value.Number (minus 9223372036854775808)) ∷ counts (codes "offset") 9223372036854775807 ∷ counts (codes "uuid") 5 ∷ counts (codes "uuid") 6 ∷ [])

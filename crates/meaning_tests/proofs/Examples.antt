@@ -12,7 +12,8 @@ use Rattle.ctf_meaning.specs.Written.{Declaration, Block, Names, Assigned, Class
 use Rattle.ctf_meaning.specs.Denotes.{class_of_text}
 use Rattle.meaning_tests.proofs.Writing.{le_trace, clock_named, event_with, denotes_fields, set, counts, says, quotes, plus, sized, structure, named, field, declarator, bare, single, number, unsigned, covers, made, member, clock, event, stream, trace, told}
 
--- typealias integer { size = 8; } := t; trace { major = 1; minor = 8; byte_order = le; }; event { name = "n"; fields := struct { struct { typealias integer { size = 16; } := t; t a; } x; t b; }; };
+-- typealias integer { size = 8; } := t; trace { major = 1; minor = 8; byte_order = le; }; event { name = "n"; fields :=
+-- struct { struct { typealias integer { size = 16; } := t; t a; } x; t b; }; };
 abbrev pub inner_name_hides : List Declaration
 inner_name_hides =
     Names (Alias (sized 8) (codes "t" ∷ []))
@@ -26,7 +27,8 @@ inner_name_hides_faults = refl
 pub inner_name_hides_class : class_of_text inner_name_hides ≡ denotes_fields (made 8 3 4 (class.Structure (member (codes "x") (made 8 2 2 (class.Structure (member (codes "a") (unsigned 16 8) ∷ []))) ∷ member (codes "b") (unsigned 8 8) ∷ [])))
 inner_name_hides_class = refl
 
--- trace { major = 1; minor = 8; byte_order = le; }; event { name = "n"; fields := struct { t a; }; }; typealias integer { size = 8; } := t;
+-- trace { major = 1; minor = 8; byte_order = le; }; event { name = "n"; fields := struct { t a; }; }; typealias integer
+-- { size = 8; } := t;
 abbrev pub name_after_use : List Declaration
 name_after_use =
     le_trace
@@ -51,7 +53,8 @@ four_kinds_faults = refl
 pub four_kinds_class : class_of_text four_kinds ≡ Some (trace None None None (stream 0 None None None None [] ∷ []))
 four_kinds_class = refl
 
--- struct x { }; typealias integer { size = 8; } := x; typealias integer { size = 8; } := x; trace { major = 1; minor = 8; byte_order = le; };
+-- struct x { }; typealias integer { size = 8; } := x; typealias integer { size = 8; } := x; trace { major = 1; minor =
+-- 8; byte_order = le; };
 abbrev pub name_twice : List Declaration
 name_twice =
     Names (Compound (Struct (Some (codes "x")) (items_from []) None))
@@ -73,7 +76,8 @@ no_int =
 pub no_int_faults : told no_int ≡ UnknownType ∷ []
 no_int_faults = refl
 
--- trace { major = 1; minor = 8; byte_order = le; }; event { name = "n"; fields := struct { integer { size = 0; } a; }; };
+-- trace { major = 1; minor = 8; byte_order = le; }; event { name = "n"; fields := struct { integer { size = 0; } a; };
+-- };
 abbrev pub size_0 : List Declaration
 size_0 =
     le_trace
@@ -83,7 +87,8 @@ size_0 =
 pub size_0_faults : told size_0 ≡ SizeOrAlignment ∷ []
 size_0_faults = refl
 
--- trace { major = 1; minor = 8; byte_order = le; }; event { name = "n"; fields := struct { integer { size = 65; } a; }; };
+-- trace { major = 1; minor = 8; byte_order = le; }; event { name = "n"; fields := struct { integer { size = 65; } a; };
+-- };
 abbrev pub size_65 : List Declaration
 size_65 =
     le_trace
@@ -93,7 +98,8 @@ size_65 =
 pub size_65_faults : told size_65 ≡ SizeOrAlignment ∷ []
 size_65_faults = refl
 
--- trace { major = 1; minor = 8; byte_order = le; }; event { name = "n"; fields := struct { integer { size = 8; align = 3; } a; }; };
+-- trace { major = 1; minor = 8; byte_order = le; }; event { name = "n"; fields := struct { integer { size = 8; align =
+-- 3; } a; }; };
 abbrev pub align_3 : List Declaration
 align_3 =
     le_trace
@@ -103,7 +109,8 @@ align_3 =
 pub align_3_faults : told align_3 ≡ SizeOrAlignment ∷ []
 align_3_faults = refl
 
--- trace { major = 1; minor = 8; byte_order = le; }; event { name = "n"; fields := struct { integer { align = 8; } a; }; };
+-- trace { major = 1; minor = 8; byte_order = le; }; event { name = "n"; fields := struct { integer { align = 8; } a; };
+-- };
 abbrev pub no_size : List Declaration
 no_size =
     le_trace
@@ -113,7 +120,8 @@ no_size =
 pub no_size_faults : told no_size ≡ Attribute ∷ []
 no_size_faults = refl
 
--- trace { major = 1; minor = 8; byte_order = le; }; event { name = "n"; fields := struct { integer { size = 8; signed = true; } n; integer { size = 8; } s[n]; }; };
+-- trace { major = 1; minor = 8; byte_order = le; }; event { name = "n"; fields := struct { integer { size = 8; signed =
+-- true; } n; integer { size = 8; } s[n]; }; };
 abbrev pub signed_length : List Declaration
 signed_length =
     le_trace
@@ -123,7 +131,8 @@ signed_length =
 pub signed_length_faults : told signed_length ≡ LengthOrTag ∷ []
 signed_length_faults = refl
 
--- clock { name = "a"; }; clock { name = "b"; }; trace { major = 1; minor = 8; byte_order = le; }; stream { event.header := struct { integer { size = 8; map = clock.a.value; } x; integer { size = 8; map = ..
+-- clock { name = "a"; }; clock { name = "b"; }; trace { major = 1; minor = 8; byte_order = le; }; stream { event.header
+-- := struct { integer { size = 8; map = clock.a.value; } x; integer { size = 8; map = ..
 abbrev pub two_clocks_moved : List Declaration
 two_clocks_moved =
     clock_named (codes "a")
@@ -135,7 +144,8 @@ two_clocks_moved =
 pub two_clocks_moved_faults : told two_clocks_moved ≡ Clock ∷ []
 two_clocks_moved_faults = refl
 
--- clock { name = "a"; }; clock { name = "b"; }; trace { major = 1; minor = 8; byte_order = le; }; stream { event.header := struct { integer { size = 8; map = clock.a.value; } x; integer { size = 8; map = ..
+-- clock { name = "a"; }; clock { name = "b"; }; trace { major = 1; minor = 8; byte_order = le; }; stream { event.header
+-- := struct { integer { size = 8; map = clock.a.value; } x; integer { size = 8; map = ..
 abbrev pub two_clocks_and_unknown : List Declaration
 two_clocks_and_unknown =
     clock_named (codes "a")
@@ -148,7 +158,8 @@ two_clocks_and_unknown =
 pub two_clocks_and_unknown_faults : told two_clocks_and_unknown ≡ UnknownType ∷ []
 two_clocks_and_unknown_faults = refl
 
--- clock { name = "a"; }; clock { name = "b"; }; trace { major = 1; minor = 8; byte_order = le; }; stream { id = 0; event.header := struct { integer { size = 8; map = clock.a.value; } x; }; }; stream { id = 1; ..
+-- clock { name = "a"; }; clock { name = "b"; }; trace { major = 1; minor = 8; byte_order = le; }; stream { id = 0;
+-- event.header := struct { integer { size = 8; map = clock.a.value; } x; }; }; stream { id = 1; ..
 abbrev pub a_clock_each : List Declaration
 a_clock_each =
     clock_named (codes "a")
@@ -164,7 +175,8 @@ a_clock_each_faults = refl
 pub a_clock_each_class : class_of_text a_clock_each ≡ Some (trace None None None (stream 0 None (Some (made 8 2 2 (class.Structure (member (codes "x") (made 8 1 1 (class.Integer (number 8 false base.Decimal Le true))) ∷ [])))) None (Some (clock (codes "a") 1000000000 (pos 0) (pos 0))) [] ∷ stream 1 None (Some (made 8 2 2 (class.Structure (member (codes "x") (made 8 1 1 (class.Integer (number 8 false base.Decimal Le true))) ∷ [])))) None (Some (clock (codes "b") 1000000000 (pos 0) (pos 0))) [] ∷ []))
 a_clock_each_class = refl
 
--- typealias floating_point { exp_dig = 8; mant_dig = 24; } := float; trace { major = 1; minor = 8; byte_order = le; }; event { name = "tick"; fields := struct { integer { size = 8; } a; integer { size = 16; } b; }; };
+-- typealias floating_point { exp_dig = 8; mant_dig = 24; } := float; trace { major = 1; minor = 8; byte_order = le; };
+-- event { name = "tick"; fields := struct { integer { size = 8; } a; integer { size = 16; } b; }; };
 abbrev pub float_unused : List Declaration
 float_unused =
     Names (Alias (Float (counts (codes "exp_dig") 8 ∷ counts (codes "mant_dig") 24 ∷ [])) (codes "float" ∷ []))
@@ -178,7 +190,8 @@ float_unused_faults = refl
 pub float_unused_class : class_of_text float_unused ≡ Some (trace None None None (stream 0 None None None None (event None 0 (codes "tick") None (made 8 2 3 (class.Structure (member (codes "a") (unsigned 8 8) ∷ member (codes "b") (unsigned 16 8) ∷ []))) ∷ []) ∷ []))
 float_unused_class = refl
 
--- typealias floating_point { exp_dig = 8; mant_dig = 24; } := float; trace { major = 1; minor = 8; byte_order = le; }; event { name = "tick"; fields := struct { integer { size = 8; } a; integer { size = 16; } b; ..
+-- typealias floating_point { exp_dig = 8; mant_dig = 24; } := float; trace { major = 1; minor = 8; byte_order = le; };
+-- event { name = "tick"; fields := struct { integer { size = 8; } a; integer { size = 16; } b; ..
 abbrev pub float_used : List Declaration
 float_used =
     Names (Alias (Float (counts (codes "exp_dig") 8 ∷ counts (codes "mant_dig") 24 ∷ [])) (codes "float" ∷ []))
@@ -195,7 +208,8 @@ nothing = []
 pub nothing_faults : told nothing ≡ Attribute ∷ []
 nothing_faults = refl
 
--- trace { major = 1; minor = 8; byte_order = le; }; event { name = "x"; fields := struct { enum : integer { size = 8; } { A = 255, B } e; }; };
+-- trace { major = 1; minor = 8; byte_order = le; }; event { name = "x"; fields := struct { enum : integer { size = 8; }
+-- { A = 255, B } e; }; };
 abbrev pub label_past_container : List Declaration
 label_past_container =
     le_trace

@@ -10,7 +10,8 @@ use Rattle.ctf_meaning.specs.Denotes.{class_of_text}
 use Rattle.ctf_meaning.specs.Scopes.{nodes_before, node_faults}
 use Rattle.meaning_tests.proofs.Writing.{le_trace, event_with, denotes_fields, counts, quotes, sized, structure, field, declarator, unsigned, fixed, made, member, event, stream, trace, told}
 
--- struct s0 { integer { size = 8; } a; }; struct s1 { struct s0 a; }; struct s2 { struct s1 a; }; struct s3 { struct s2 a; }; struct s4 { struct s3 a; }; struct s5 { struct s4 a; }; struct s6 { struct s5 a; }; ..
+-- struct s0 { integer { size = 8; } a; }; struct s1 { struct s0 a; }; struct s2 { struct s1 a; }; struct s3 { struct s2
+-- a; }; struct s4 { struct s3 a; }; struct s5 { struct s4 a; }; struct s6 { struct s5 a; }; ..
 abbrev pub chain_62 : List Declaration
 chain_62 =
     Names (Compound (Struct (Some (codes "s0")) (items_from (field (sized 8) (codes "a") ∷ [])) None))
@@ -85,7 +86,8 @@ chain_62_faults = refl
 pub chain_62_class : class_of_text chain_62 ≡ Some (trace None None None (stream 0 None None None None [] ∷ []))
 chain_62_class = refl
 
--- struct s0 { integer { size = 8; } a; }; struct s1 { struct s0 a; }; struct s2 { struct s1 a; }; struct s3 { struct s2 a; }; struct s4 { struct s3 a; }; struct s5 { struct s4 a; }; struct s6 { struct s5 a; }; ..
+-- struct s0 { integer { size = 8; } a; }; struct s1 { struct s0 a; }; struct s2 { struct s1 a; }; struct s3 { struct s2
+-- a; }; struct s4 { struct s3 a; }; struct s5 { struct s4 a; }; struct s6 { struct s5 a; }; ..
 abbrev pub chain_63 : List Declaration
 chain_63 =
     Names (Compound (Struct (Some (codes "s0")) (items_from (field (sized 8) (codes "a") ∷ [])) None))
@@ -158,7 +160,8 @@ chain_63 =
 pub chain_63_faults : told chain_63 ≡ TooDeep ∷ []
 chain_63_faults = refl
 
--- struct s0 { integer { size = 8; } a; }; struct s1 { struct s0 a, b; }; struct s2 { struct s1 a, b; }; struct s3 { struct s2 a, b; }; struct s4 { struct s3 a, b; }; trace { major = 1; minor = 8; byte_order = le; ..
+-- struct s0 { integer { size = 8; } a; }; struct s1 { struct s0 a, b; }; struct s2 { struct s1 a, b; }; struct s3 {
+-- struct s2 a, b; }; struct s4 { struct s3 a, b; }; trace { major = 1; minor = 8; byte_order = le; ..
 abbrev pub doubled : List Declaration
 doubled =
     Names (Compound (Struct (Some (codes "s0")) (items_from (field (sized 8) (codes "a") ∷ [])) None))
@@ -176,7 +179,8 @@ doubled_faults = refl
 pub doubled_class : class_of_text doubled ≡ denotes_fields (made 8 7 48 (class.Structure (member (codes "a") (made 8 6 47 (class.Structure (member (codes "a") (made 8 5 23 (class.Structure (member (codes "a") (made 8 4 11 (class.Structure (member (codes "a") (made 8 3 5 (class.Structure (member (codes "a") (made 8 2 2 (class.Structure (member (codes "a") (unsigned 8 8) ∷ []))) ∷ member (codes "b") (made 8 2 2 (class.Structure (member (codes "a") (unsigned 8 8) ∷ []))) ∷ []))) ∷ member (codes "b") (made 8 3 5 (class.Structure (member (codes "a") (made 8 2 2 (class.Structure (member (codes "a") (unsigned 8 8) ∷ []))) ∷ member (codes "b") (made 8 2 2 (class.Structure (member (codes "a") (unsigned 8 8) ∷ []))) ∷ []))) ∷ []))) ∷ member (codes "b") (made 8 4 11 (class.Structure (member (codes "a") (made 8 3 5 (class.Structure (member (codes "a") (made 8 2 2 (class.Structure (member (codes "a") (unsigned 8 8) ∷ []))) ∷ member (codes "b") (made 8 2 2 (class.Structure (member (codes "a") (unsigned 8 8) ∷ []))) ∷ []))) ∷ member (codes "b") (made 8 3 5 (class.Structure (member (codes "a") (made 8 2 2 (class.Structure (member (codes "a") (unsigned 8 8) ∷ []))) ∷ member (codes "b") (made 8 2 2 (class.Structure (member (codes "a") (unsigned 8 8) ∷ []))) ∷ []))) ∷ []))) ∷ []))) ∷ member (codes "b") (made 8 5 23 (class.Structure (member (codes "a") (made 8 4 11 (class.Structure (member (codes "a") (made 8 3 5 (class.Structure (member (codes "a") (made 8 2 2 (class.Structure (member (codes "a") (unsigned 8 8) ∷ []))) ∷ member (codes "b") (made 8 2 2 (class.Structure (member (codes "a") (unsigned 8 8) ∷ []))) ∷ []))) ∷ member (codes "b") (made 8 3 5 (class.Structure (member (codes "a") (made 8 2 2 (class.Structure (member (codes "a") (unsigned 8 8) ∷ []))) ∷ member (codes "b") (made 8 2 2 (class.Structure (member (codes "a") (unsigned 8 8) ∷ []))) ∷ []))) ∷ []))) ∷ member (codes "b") (made 8 4 11 (class.Structure (member (codes "a") (made 8 3 5 (class.Structure (member (codes "a") (made 8 2 2 (class.Structure (member (codes "a") (unsigned 8 8) ∷ []))) ∷ member (codes "b") (made 8 2 2 (class.Structure (member (codes "a") (unsigned 8 8) ∷ []))) ∷ []))) ∷ member (codes "b") (made 8 3 5 (class.Structure (member (codes "a") (made 8 2 2 (class.Structure (member (codes "a") (unsigned 8 8) ∷ []))) ∷ member (codes "b") (made 8 2 2 (class.Structure (member (codes "a") (unsigned 8 8) ∷ []))) ∷ []))) ∷ []))) ∷ []))) ∷ []))) ∷ [])))
 doubled_class = refl
 
--- struct s0 { integer { size = 8; } a; }; struct s1 { struct s0 a, b; }; struct s2 { struct s1 a, b; }; trace { major = 1; minor = 8; byte_order = le; }; stream { packet.context := struct { struct s1 a; }; }; event ..
+-- struct s0 { integer { size = 8; } a; }; struct s1 { struct s0 a, b; }; struct s2 { struct s1 a, b; }; trace { major =
+-- 1; minor = 8; byte_order = le; }; stream { packet.context := struct { struct s1 a; }; }; event ..
 abbrev pub nodes : List Declaration
 nodes =
     Names (Compound (Struct (Some (codes "s0")) (items_from (field (sized 8) (codes "a") ∷ [])) None))
@@ -194,7 +198,8 @@ nodes_faults = refl
 pub nodes_class : class_of_text nodes ≡ Some (trace None None None (stream 0 (Some (made 8 4 6 (class.Structure (member (codes "a") (made 8 3 5 (class.Structure (member (codes "a") (made 8 2 2 (class.Structure (member (codes "a") (unsigned 8 8) ∷ []))) ∷ member (codes "b") (made 8 2 2 (class.Structure (member (codes "a") (unsigned 8 8) ∷ []))) ∷ []))) ∷ [])))) None None None (event None 0 (codes "a") None (made 1 1 1 (class.Structure [])) ∷ event None 1 (codes "b") None (made 8 5 12 (class.Structure (member (codes "a") (made 8 4 11 (class.Structure (member (codes "a") (made 8 3 5 (class.Structure (member (codes "a") (made 8 2 2 (class.Structure (member (codes "a") (unsigned 8 8) ∷ []))) ∷ member (codes "b") (made 8 2 2 (class.Structure (member (codes "a") (unsigned 8 8) ∷ []))) ∷ []))) ∷ member (codes "b") (made 8 3 5 (class.Structure (member (codes "a") (made 8 2 2 (class.Structure (member (codes "a") (unsigned 8 8) ∷ []))) ∷ member (codes "b") (made 8 2 2 (class.Structure (member (codes "a") (unsigned 8 8) ∷ []))) ∷ []))) ∷ []))) ∷ []))) ∷ []) ∷ []))
 nodes_class = refl
 
--- trace { major = 1; minor = 8; byte_order = le; }; typealias struct { struct { struct { struct { struct { struct { struct { struct { struct { struct { struct { struct { struct { struct { struct { struct { struct { ..
+-- trace { major = 1; minor = 8; byte_order = le; }; typealias struct { struct { struct { struct { struct { struct {
+-- struct { struct { struct { struct { struct { struct { struct { struct { struct { struct { struct { ..
 abbrev pub depth_64 : List Declaration
 depth_64 =
     le_trace

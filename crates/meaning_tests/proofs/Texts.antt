@@ -14,7 +14,8 @@ use Rattle.ctf_meaning.specs.Written.{Declaration, Block, Table, Names, Assigned
 use Rattle.ctf_meaning.specs.Denotes.{class_of_text}
 use Rattle.meaning_tests.proofs.Writing.{le_trace, be_trace, clock_named, set, counts, says, quotes, plus, sized, structure, named, field, declarator, container_named, bare, single, ranged, number, unsigned, fixed, counted, inside, covers, choice, made, member, clock, event, stream, trace, told}
 
--- trace { major = 1; minor = 8; byte_order = le; }; event { name = "tick"; fields := struct { integer { size = 8; } a; integer { size = 16; } b; }; };
+-- trace { major = 1; minor = 8; byte_order = le; }; event { name = "tick"; fields := struct { integer { size = 8; } a;
+-- integer { size = 16; } b; }; };
 abbrev pub MA : List Declaration
 MA =
     le_trace
@@ -27,7 +28,8 @@ MA_faults = refl
 pub MA_class : class_of_text MA ≡ Some (trace None None None (stream 0 None None None None (event None 0 (codes "tick") None (made 8 2 3 (class.Structure (member (codes "a") (unsigned 8 8) ∷ member (codes "b") (unsigned 16 8) ∷ []))) ∷ []) ∷ []))
 MA_class = refl
 
--- trace { major = 1; minor = 8; byte_order = le; }; clock { name = "m"; }; typealias integer { size = 5; align = 1; } := u5; typealias integer { size = 27; align = 1; map = clock.m.value; } := u27; typealias ..
+-- trace { major = 1; minor = 8; byte_order = le; }; clock { name = "m"; }; typealias integer { size = 5; align = 1; }
+-- := u5; typealias integer { size = 27; align = 1; map = clock.m.value; } := u27; typealias ..
 abbrev pub MC : List Declaration
 MC =
     le_trace
@@ -48,7 +50,8 @@ MC_faults = refl
 pub MC_class : class_of_text MC ≡ Some (trace None None None (stream 0 None (Some (made 8 4 8 (class.Structure (member (codes "id") (made 1 1 1 (class.Enumeration (number 5 false base.Decimal Le false) (covers (codes "compact") (pos 0) (pos 30) ∷ covers (codes "extended") (pos 31) (pos 31) ∷ []))) ∷ member (codes "v") (made 1 3 6 (class.Variant (inside 0 (0 ∷ [])) (choice (pos 0) (pos 30) 0 ∷ choice (pos 31) (pos 31) 1 ∷ []) (member (codes "compact") (made 1 2 2 (class.Structure (member (codes "timestamp") (made 1 1 1 (class.Integer (number 27 false base.Decimal Le true))) ∷ []))) ∷ member (codes "extended") (made 8 2 3 (class.Structure (member (codes "id") (unsigned 32 8) ∷ member (codes "timestamp") (made 8 1 1 (class.Integer (number 64 false base.Decimal Le true))) ∷ []))) ∷ []))) ∷ [])))) None (Some (clock (codes "m") 1000000000 (pos 0) (pos 0))) (event None 0 (codes "e0") None (made 1 1 1 (class.Structure [])) ∷ event None 5 (codes "e5") None (made 1 1 1 (class.Structure [])) ∷ event None 40 (codes "e40") None (made 1 1 1 (class.Structure [])) ∷ []) ∷ []))
 MC_class = refl
 
--- trace { major = 1; minor = 8; byte_order = be; }; clock { name = "c"; }; stream { packet.context := struct { integer { size = 8; } packet_size; integer { size = 8; } content_size; integer { size = 8; } ..
+-- trace { major = 1; minor = 8; byte_order = be; }; clock { name = "c"; }; stream { packet.context := struct { integer
+-- { size = 8; } packet_size; integer { size = 8; } content_size; integer { size = 8; } ..
 abbrev pub MP : List Declaration
 MP =
     be_trace
@@ -63,7 +66,8 @@ MP_faults = refl
 pub MP_class : class_of_text MP ≡ Some (trace None None None (stream 0 (Some (made 8 2 4 (class.Structure (member (codes "packet_size") (made 8 1 1 (class.Integer (number 8 false base.Decimal Be false))) ∷ member (codes "content_size") (made 8 1 1 (class.Integer (number 8 false base.Decimal Be false))) ∷ member (codes "events_discarded") (made 8 1 1 (class.Integer (number 8 false base.Decimal Be false))) ∷ [])))) (Some (made 8 2 2 (class.Structure (member (codes "timestamp") (made 8 1 1 (class.Integer (number 8 false base.Decimal Be true))) ∷ [])))) None (Some (clock (codes "c") 1000000000 (pos 0) (pos 0))) (event None 0 (codes "p") None (made 1 1 1 (class.Structure [])) ∷ []) ∷ []))
 MP_class = refl
 
--- trace { major = 1; minor = 8; byte_order = le; }; event { name = "q"; fields := struct { integer { size = 8; } n; integer { size = 32; align = 32; } s[n]; integer { size = 8; } z; }; };
+-- trace { major = 1; minor = 8; byte_order = le; }; event { name = "q"; fields := struct { integer { size = 8; } n;
+-- integer { size = 32; align = 32; } s[n]; integer { size = 8; } z; }; };
 abbrev pub MQ : List Declaration
 MQ =
     le_trace
@@ -76,7 +80,8 @@ MQ_faults = refl
 pub MQ_class : class_of_text MQ ≡ Some (trace None None None (stream 0 None None None None (event None 0 (codes "q") None (made 32 3 5 (class.Structure (member (codes "n") (unsigned 8 8) ∷ member (codes "s") (made 32 2 2 (class.Array (counted (inside 0 (0 ∷ []))) (unsigned 32 32))) ∷ member (codes "z") (unsigned 8 8) ∷ []))) ∷ []) ∷ []))
 MQ_class = refl
 
--- trace { major = 1; minor = 8; byte_order = le; }; event { name = "w"; fields := struct { integer { size = 3; signed = true; } a; integer { size = 3; signed = true; base = 16; } b; integer { size = 2; } c; }; };
+-- trace { major = 1; minor = 8; byte_order = le; }; event { name = "w"; fields := struct { integer { size = 3; signed =
+-- true; } a; integer { size = 3; signed = true; base = 16; } b; integer { size = 2; } c; }; };
 abbrev pub MW : List Declaration
 MW =
     le_trace
@@ -89,7 +94,8 @@ MW_faults = refl
 pub MW_class : class_of_text MW ≡ Some (trace None None None (stream 0 None None None None (event None 0 (codes "w") None (made 1 2 4 (class.Structure (member (codes "a") (made 1 1 1 (class.Integer (number 3 true base.Decimal Le false))) ∷ member (codes "b") (made 1 1 1 (class.Integer (number 3 true base.Hexadecimal Le false))) ∷ member (codes "c") (unsigned 2 1) ∷ []))) ∷ []) ∷ []))
 MW_class = refl
 
--- trace { major = 1; minor = 8; byte_order = be; }; event { name = "v"; fields := struct { enum : integer { size = 8; } { A = 1, B, LOW = 0 ... 2 } t; variant <t> { string A; integer { size = 8; base = 2; } B; } u; ..
+-- trace { major = 1; minor = 8; byte_order = be; }; event { name = "v"; fields := struct { enum : integer { size = 8; }
+-- { A = 1, B, LOW = 0 ... 2 } t; variant <t> { string A; integer { size = 8; base = 2; } B; } u; ..
 abbrev pub MV : List Declaration
 MV =
     be_trace
@@ -115,7 +121,8 @@ MZ_faults = refl
 pub MZ_class : class_of_text MZ ≡ Some (trace None None None (stream 0 None None None None (event None 0 (codes "z") None (made 1 1 1 (class.Structure [])) ∷ []) ∷ []))
 MZ_class = refl
 
--- /* CTF 1.8 */ typealias integer { size = 8; align = 8; signed = false; } := uint8_t; typealias integer { size = 16; align = 8; signed = false; } := uint16_t; typealias integer { size = 32; align = 8; signed = ..
+-- /* CTF 1.8 */ typealias integer { size = 8; align = 8; signed = false; } := uint8_t; typealias integer { size = 16;
+-- align = 8; signed = false; } := uint16_t; typealias integer { size = 32; align = 8; signed = ..
 abbrev pub ML : List Declaration
 ML =
     Names (Alias (Integer (counts (codes "size") 8 ∷ counts (codes "align") 8 ∷ says (codes "signed") (codes "false") ∷ [])) (codes "uint8_t" ∷ []))

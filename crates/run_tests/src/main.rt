@@ -1,15 +1,15 @@
 //! Prints what small rows come to: the program over made-up files and over those of `data/`, runs over traces, and
 //! sessions.
 //!
-//! The tables in `data/` are `rows` (`program.rt`), `runs` (`run.rt`) and `sessions` (`session.rt`); `files` has the made-up
-//! files, and the others are metadata and streams. A line that begins with `#` is a comment, each other line is a row. What
-//! comes of each is written down in `stdout`, from the rules of the format, of runs and of the layout.
+//! The tables in `data/` are `rows` (`program.rt`), `runs` (`run.rt`) and `sessions` (`session.rt`); `files` has the
+//! made-up files, and the others are metadata and streams. A line that begins with `#` is a comment, each other line is
+//! a row. What comes of each is written down in `stdout`, from the rules of the format, of runs and of the layout.
 //!
-//! After the rows the program starts as itself, over the words of this one's command line: a folder that is not there. It
-//! prints nothing, and its status, 1, is that of this one; where a table can't be read or printed that is 2.
+//! After the rows the program starts as itself, over the words of this one's command line: a folder that is not there.
+//! It prints nothing, and its status, 1, is that of this one; where a table can't be read or printed that is 2.
 //!
-//! What costs is where a value is dropped. So what puts something owns little and answers nothing. What is refused memory,
-//! and a row that is none, puts another text than the one that is wanted.
+//! What costs is where a value is dropped. So what puts something owns little and answers nothing. What is refused
+//! memory, and a row that is none, puts another text than the one that is wanted.
 #![tactic(auto)]
 
 mod files;

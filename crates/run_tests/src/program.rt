@@ -1,10 +1,10 @@
 //! The program over made-up files and over those of `data/`, and its files read piece by piece.
 //!
-//! The table `files` has a made-up file in each line, `PATH KIND CONTENT`: `text` and its text, `bytes` and its bytes in
-//! hexadecimal (`-` for none), `closed` where it can't be read or listed, `other` where it is no file.
+//! The table `files` has a made-up file in each line, `PATH KIND CONTENT`: `text` and its text, `bytes` and its bytes
+//! in hexadecimal (`-` for none), `closed` where it can't be read or listed, `other` where it is no file.
 //!
-//! - `HELD OUT ERR WORD ..` is a command line over the made-up files: how many bytes of the log are held back, after how
-//!   many bytes the log and the messages fail once (`-`: never), and the words, of which `''` is the empty one.
+//! - `HELD OUT ERR WORD ..` is a command line over the made-up files: how many bytes of the log are held back, after
+//!   how many bytes the log and the messages fail once (`-`: never), and the words, of which `''` is the empty one.
 //! - `disk WORD ..` is a command line over the folders of `data/` itself.
 //! - `read BEFORE PATH` reads a file there, three bytes at a time, which is opened after BEFORE other files.
 //!

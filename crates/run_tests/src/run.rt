@@ -7,9 +7,9 @@
 //! - Hexadecimal digits are the bytes of the next stream of the trace, `-` stands for none, and `@FILE` for those of a
 //!   file. Streams are called `s0`, `s1` and so on.
 //! - `in=MANNER` says how streams give their bytes, `out=MANNER` and `err=MANNER` how the output and the messages are
-//!   taken, and `both=MANNER` the two alike. A manner is `drip:N`, at most N bytes at a call, `fail:N`, N bytes and then a
-//!   failure, `once:N`, N bytes, then one failure, and then all, or `refuse:N`, no memory at the Nth call. Of a stream only
-//!   the first two count.
+//!   taken, and `both=MANNER` the two alike. A manner is `drip:N`, at most N bytes at a call, `fail:N`, N bytes and
+//!   then a failure, `once:N`, N bytes, then one failure, and then all, or `refuse:N`, no memory at the Nth call. Of a
+//!   stream only the first two count.
 //!
 //! After the name of a file, `*N` has it N times, `-N` leaves out its last N bytes, `+BYTES` adds bytes at its end, and
 //! `@PLACE@BYTES` puts other bytes at a place.

@@ -3,7 +3,8 @@
 //! A row has words with one space between them: a file of metadata, and then
 //!
 //! - `--OPTION`, a word of the command line,
-//! - hexadecimal digits, the bytes of the next stream, or `@FILE`, those of a file; streams are called `s0`, `s1` and so on,
+//! - hexadecimal digits, the bytes of the next stream, or `@FILE`, those of a file; streams are called `s0`, `s1` and
+//!   so on,
 //! - `in=drip:N`, where streams give at most N bytes at a call, or `in=fail:N`, where they give N bytes and then fail,
 //! - `out=fail:N` and `err=fail:N`, where what takes the output or the messages of a step takes N bytes and then fails,
 //! - `crossing` in the place of streams, for the thousands of streams of `crossing.rt`.

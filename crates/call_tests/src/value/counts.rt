@@ -31,8 +31,8 @@ fn is_shown(alloc: Global, class: &Class, value: &Value, want: &[u8]) -> bool {
     }
 }
 
-/// Puts how many texts are shown as they must be, of the beginnings of this one, each with each of three bytes at its begin,
-/// inside and at its end.
+/// Puts how many texts are shown as they must be, of the beginnings of this one, each with each of three bytes at its
+/// begin, inside and at its end.
 pub fn put_lengths(row: &mut Row<'_>, class: &Class) {
     let plain = row.words.as_bytes();
     let mut count = 0u32;

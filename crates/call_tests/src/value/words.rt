@@ -1,8 +1,8 @@
 //! Values as words, parts before what they are parts of.
 //!
-//! `u:5` and `i:-5` are numbers, `label:5` is one of an enumeration, `text:TEXT` and `bytes:HEXADECIMAL` are texts, `group:N`
-//! and `list:N` take the last N values as members or elements, and `option:N` takes the last value as that of the option of
-//! this place.
+//! `u:5` and `i:-5` are numbers, `label:5` is one of an enumeration, `text:TEXT` and `bytes:HEXADECIMAL` are texts,
+//! `group:N` and `list:N` take the last N values as members or elements, and `option:N` takes the last value as that of
+//! the option of this place.
 
 use crate::row::{Row, bytes_of_digits};
 use ctf_decode::Value;

@@ -1,8 +1,8 @@
 //! Thousands of streams whose event records cross.
 //!
-//! Each of 4,096 streams has two event records: the first one of stream 4095 is at 0, that of stream 4094 at 1 and so on,
-//! and the second one of each is at 8191. So the first ones come from the last stream to the first, and the second ones
-//! from the first stream to the last.
+//! Each of 4,096 streams has two event records: the first one of stream 4095 is at 0, that of stream 4094 at 1 and so
+//! on, and the second one of each is at 8191. So the first ones come from the last stream to the first, and the second
+//! ones from the first stream to the last.
 
 use crate::files::add_bytes;
 use crate::manner::{Manner, Manners};
@@ -58,8 +58,8 @@ fn turn_at(step: u32) -> Turn {
     }
 }
 
-/// Puts the steps that take event records of the last stream, which has the first and the last one of all, how many steps
-/// take the one whose turn it is, and the answers of two steps more.
+/// Puts the steps that take event records of the last stream, which has the first and the last one of all, how many
+/// steps take the one whose turn it is, and the answers of two steps more.
 pub fn put_crossing(row: &mut Row<'_>, session: &mut Session<'_, RowSource>, manners: Manners) {
     let mut count = 0u32;
     for number in 0..STEPS {
