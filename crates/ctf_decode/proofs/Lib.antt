@@ -11,3 +11,4 @@ pub mod Beyond
 pub mod Numbered
 pub mod Moved
 pub mod Pairs
+pub mod ByteRows

@@ -1,5 +1,5 @@
 -- One more element or option, as the code takes them.
-use Rattle.std.proofs.Common.{◌≡◌, Bool, true, false, ℕ, zero, suc, ◌+◌, ◌-◌, ◌<◌, ◌≤◌, List, [], ◌∷◌, ◌++◌, map, length, get_or, Result, Ok, Err, refl, sym, ap, subst, ◌∙◌, arith}
+use Rattle.std.proofs.Common.{◌≡◌, ℕ, zero, suc, ◌+◌, ◌-◌, ◌<◌, ◌≤◌, List, [], ◌∷◌, ◌++◌, map, length, get_or, Result, Ok, Err, refl, sym, ap, subst, ◌∙◌, arith}
 use Rattle.ctf_class.specs.declared.class.Member.{Member}
 use Rattle.ctf_decode.specs.Values.{Val, choice}
 use Rattle.ctf_decode.specs.Forms.{parts_of}
@@ -7,7 +7,7 @@ use Rattle.ctf_decode.specs.Input.{Input, Env}
 use Rattle.ctf_decode.specs.Breaks.{no_option}
 use Rattle.ctf_decode.specs.Walk.{Step, and_then, repeat, as_choice, walk, walk_option}
 use Rattle.ctf_decode.specs.Views.{form, member_part}
-use Rattle.ctf_decode.specs.Gives.{Fails, Gives}
+use Rattle.ctf_decode.specs.Gives.{Fails, Gives, GivesNext}
 use Rattle.ctf_decode.specs.declared.fault.DecodeFault.{DecodeFault}
 use Rattle.ctf_decode.specs.declared.place.Cursor.{Cursor}
 use Rattle.ctf_decode.specs.declared.place.Stopped.{Stopped}
@@ -62,3 +62,8 @@ module _ (c : Input) (e : Env) (ms : List Member) (i : ℕ) (m : Member) (within
   -- what was found of the option itself, as the variant's
   pub choice_as : and_then (walk (form m.class) c e p s) (as_choice i) ≡ option_as
   choice_as = ap (λ r. and_then r (as_choice i)) (sym (option_is c e ms i m p s within here))
+
+-- what was decoded is the next value, after others
+pub gives_next : (r : Result (Unit {0}) Stopped) (at : Cursor) (done all : List Val) (v : Val) (step : Step Val) → all ≡ done ++ v ∷ [] → Gives r at v step → GivesNext r at done all step
+gives_next (Ok _) at done all v step here g = (v, here, g)
+gives_next (Err _) at done all v step here g = g

@@ -12,3 +12,4 @@ pub mod Gives
 pub mod Decoding
 pub mod Fronts
 pub mod Fields
+pub mod Octets

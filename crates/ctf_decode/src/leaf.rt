@@ -94,7 +94,7 @@ pub fn enumeration_into(
 }
 
 /// Makes an unsigned number the value. A value of this kind is changed in place.
-fn put_unsigned(value: &mut Value, number: u64)
+pub fn put_unsigned(value: &mut Value, number: u64)
     ensures { val value.new ≡ unsigned number }
 {
     if let Value::Unsigned(old) = value {

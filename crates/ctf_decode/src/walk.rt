@@ -10,13 +10,14 @@ ghost use Rattle.ctf_decode.specs.Gives.{Gives, GivesNext};
 use crate::fault::DecodeFault;
 use crate::find::{length_at, option_at};
 use crate::leaf::{enumeration_into, integer_into};
+use crate::octets::{are_octets, is_octet, octets_into};
 use crate::place::{Around, Cursor, Frame, Stopped, begin_at};
+use crate::room::with_room;
 use crate::scopes::MOST_VALUES;
 use crate::text::{characters_into, string_into};
 use crate::value::Value;
 use ctf_class::{Align, Class, Kind, Member};
 use ctf_list::{Boxed, List};
-use std::alloc::AllocError;
 use std::mem;
 
 /// Makes the value of a class at a place the value.
@@ -145,30 +146,6 @@ fn new_group_into(
     Ok(())
 }
 
-/// Keeps so many values, or puts as many there. Mostly there are as many.
-fn with_room(values: &mut List<Value>, count: usize) -> Result<(), AllocError>
-    ensures { IfOk result (λ _. length values.new ≡ count) }
-{
-    if values.len() == count {
-        return Ok(());
-    }
-    resize(values, count)
-}
-
-/// Keeps so many values, or puts as many there.
-#[cold]
-#[inline(never)]
-fn resize(values: &mut List<Value>, count: usize) -> Result<(), AllocError>
-    ensures { IfOk result (λ _. length values.new ≡ count) }
-{
-    values.truncate(count);
-    let missing = count - values.len();
-    for _more in 0..missing {
-        values.push(Value::Unsigned(0))?;
-    }
-    Ok(())
-}
-
 /// Makes the members of a structure the values, each seeing those before it.
 #[cycle(walk)]
 fn members_into(
@@ -244,7 +221,8 @@ fn member_into(
     other_member_into(class, around, at, values, i)
 }
 
-/// Decodes a member that is neither an integer nor a string in place of another value.
+/// Decodes a member that is neither an integer nor a string in place of another value. Of those before it an array of
+/// bytes asks for its length alone, so its value is not taken out.
 #[cycle(walk)]
 #[inline(never)]
 fn other_member_into(
@@ -270,6 +248,13 @@ fn other_member_into(
     }
     if let Kind::Enumeration { container, labels } = &class.kind {
         return enumeration_into(container, class.align, &around.packet, at, &mut values[i]);
+    }
+    if let Kind::Array { length, element } = &class.kind {
+        if is_octet(element.get()) {
+            let inner = Frame::Within(&values[..i], &*around.frame);
+            let count = length_at(length, around.packet.scopes, &inner);
+            return array_into(element.get(), count, around, at, &mut values[i]);
+        }
     }
     inner_member_into(class, around, at, values, i)
 }
@@ -333,6 +318,9 @@ fn array_into(
     }
     at.end = begin;
     at.spent += 1;
+    if are_octets(element, count, &around.packet, at) {
+        return octets_into(around.alloc, count, &around.packet, at, value);
+    }
     let mut values = Vec::new(around.alloc);
     if let Value::List(old) = value {
         values = mem::replace(old, List::new(around.alloc)).into_vec();

@@ -1,11 +1,15 @@
-use Rattle.std.proofs.Common.{◌+◌, map, take, arith, ap, subst, ◌∙◌}
+use Rattle.std.proofs.Common.{◌+◌, [], ◌∷◌, map, take, arith, refl, ap, subst, ◌∙◌}
+use Rattle.std.proofs.lemmas.List.{take_more_set, map-append}
 use Rattle.std.proofs.lemmas.Result.{err_from_is_err_and}
-use Rattle.ctf_decode.specs.Views.{form, val, env, input}
+use Rattle.ctf_decode.specs.Views.{form, val, env, earlier, input}
 use Rattle.ctf_decode.specs.Walk.{walk, and_then, as_choice}
+use Rattle.ctf_decode.specs.Routes.{length_of}
+use Rattle.ctf_decode.specs.Octets.{IsOctet}
 use Rattle.ctf_decode.specs.Gives.{Gives, Fails}
-use Rattle.ctf_decode.proofs.Views.{val-Choice}
-use Rattle.ctf_decode.proofs.Steps.{row_fail, row_ok, option_past, choice_gives, choice_as}
+use Rattle.ctf_decode.proofs.Views.{val-Choice, env-Within}
+use Rattle.ctf_decode.proofs.Steps.{row_fail, row_ok, option_past, choice_gives, choice_as, gives_next}
 use Rattle.ctf_decode.proofs.Arrays.{walk-array}
+use Rattle.ctf_decode.proofs.ByteRows.{array_opened, walk-octets}
 use Rattle.ctf_decode.proofs.walk.+walk.Goals as goal
 
 pub elements_into-returns-in_err-element_into-clause-gives : goal.elements_into-returns-in_err-element_into-clause-gives
@@ -44,3 +48,27 @@ pub value_into-returns-in-Array-clause-gives : goal.value_into-returns-in-Array-
 value_into-returns-in-Array-clause-gives t c =
     let g = rw (c.get.ensures, c.length_at-count.ensures) at c.array_into.ensures.gives in
     subst (Gives c.array_into.result c.array_into.new.at (val c.array_into.new.value)) (walk-array (input c.args.around.now.packet) (env c.args.around.now.frame.now) c.args.at.now.end c.args.at.now.spent c.args.class.now c.in-Array.element c.in-Array.length c.in-Array.is) g
+
+pub array_into-returns-then-are_octets-clause-gives : goal.array_into-returns-then-are_octets-clause-gives
+array_into-returns-then-are_octets-clause-gives t c =
+    let k = form c.args.element.now in
+    let e = env c.args.around.now.frame.now in
+    let opened = array_opened (input c.args.around.now.packet) k e c.args.count _ c.begin_at-begin.result c.args.at.now.spent c.begin_at-begin.ensures.value (omega (arith, c.if-at-ge-MOST_VALUES.false)) (omega (arith, c.if-begin-around.false)) in
+    subst (Gives c.octets_into.result c.octets_into.new.at (val c.octets_into.new.value)) opened (c.octets_into.ensures.gives k e (c.if-are_octets.ensures refl))
+
+pub other_member_into-returns-then-is_octet : goal.other_member_into-returns-then-is_octet
+other_member_into-returns-then-is_octet t c =
+    let values = c.args.values.now in
+    let before = map val (take c.args.i values) in
+    let around = before ∷ env c.args.around.now.frame.now in
+    let element = c.get-then-is_octet.ensures in
+    let octet = subst (λ e. IsOctet (form e)) c.get.ensures (c.if-is_octet.ensures refl) in
+    let count = c.length_at-count-then-is_octet.ensures ∙ ap (length_of c.in-Array.length (earlier c.args.around.now.packet.scopes.now)) (env-Within _ _) in
+    let g = rw (element) at c.array_into.ensures.gives in
+    let whole = walk-octets (input c.args.around.now.packet) around (env c.args.around.now.frame.now) _ c.args.at.now.end c.args.at.now.spent c.args.class.now c.in-Array.element c.in-Array.length c.in-Array.is count octet in
+    let v = c.array_into.new.value in
+    let here = ap (map val) (take_more_set values c.args.i v c.requires.room) ∙ map-append val (take c.args.i values) (v ∷ []) in
+    record {
+      gives = gives_next c.array_into.result c.array_into.new.at before _ (val v) _ here (subst (Gives c.array_into.result c.array_into.new.at (val v)) whole g);
+      within = c.array_into.ensures.within;
+    }
