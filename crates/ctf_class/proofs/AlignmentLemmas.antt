@@ -1,14 +1,15 @@
 -- Lemmas on alignments.
-use Rattle.std.proofs.Common.{◌≡◌, ℕ, ◌+◌, ◌-◌, ◌*◌, ◌/◌, ◌%◌, ◌^◌, ◌<◌, ◌≤◌, bit_and, sym, ap, ◌∙◌, ⊎_elim, subst, lit<, arith}
-use Rattle.std.proofs.Math.Nat.{pow-le-pow_right, mod-mod_of_dvd, zero-mod, mod-add-div', mul-add-mod_self_right}
-use Rattle.std.proofs.lemmas.Bool.{cases_eq}
-use Rattle.std.proofs.lemmas.Nat.{pow_pos, pow_below, div-add-mod'}
+use Rattle.std.proofs.Common.{◌≡◌, ℕ, ◌+◌, ◌-◌, ◌*◌, ◌/◌, ◌%◌, ◌^◌, ◌<◌, ◌≤◌, bit_and, sym, ap, ◌∙◌, ⊎_elim, inl, inr, refl, subst, lit<, arith}
+use Rattle.std.proofs.Math.Nat.{pow-le-pow_right, mod-mod_of_dvd, zero-mod, mod-add-div', mul-add-mod_self_right, mul-mod_left, mod_self}
+use Rattle.std.proofs.Math.Pow.{pow-lt}
+use Rattle.std.proofs.lemmas.Bool.{cases_eq, cases_lt}
+use Rattle.std.proofs.lemmas.Nat.{pow_pos, pow_below, pow-add, div-add-mod'}
 use Rattle.std.proofs.lemmas.Nat.Gcd.{dvd_of_mod-eq-zero}
 use Rattle.std.proofs.lemmas.Nat.Bits.{bit_at-trailing_zeros, bit_at-pow_other, and_high_mask}
 use Rattle.std.specs.Int.{w64, trailing_zeros, next_multiple_of}
 use Rattle.ctf_bits.specs.Align.{IsLeastMultiple}
 use Rattle.ctf_bits.proofs.Aligns.{IsLeastMultiple-next, rounded}
-use Rattle.ctf_class.specs.Alignment.{IsAlignment}
+use Rattle.ctf_class.specs.Alignment.{IsAlignment, IsLarger}
 
 -- the zeros at the low end of a power of two are its exponent
 trailing_zeros-pow : (k : ℕ) → k ≤ 31 → trailing_zeros w64 (2 ^ k) ≡ k
@@ -70,3 +71,35 @@ next_after b x a divides =
     let left = ap (λ r. b + x + (a - r) % a) (mod-after b x a divides) in
     let sum : b + x + (a - x % a) % a ≡ b + (x + (a - x % a) % a) = omega arith in
     left ∙ sum
+
+-- an alignment is a multiple of one that is not larger
+pow_multiple : (i j : ℕ) → i ≤ j → 2 ^ j % 2 ^ i ≡ 0
+pow_multiple i j below =
+    let sum : j ≡ j - i + i = omega (arith, below) in
+    ap (λ k. 2 ^ k % 2 ^ i) sum ∙ ap (λ n. n % 2 ^ i) (pow-add 2 (j - i) i) ∙ mul-mod_left (2 ^ (j - i)) (2 ^ i)
+
+multiple_of : (a b : ℕ) → IsAlignment a → IsAlignment b → a ≤ b → b % a ≡ 0
+multiple_of a b small large below =
+    let Q : ℕ → ℕ → Type 0 = λ x y. y % x ≡ 0 in
+    elim (cases_lt large.exponent small.exponent) [
+      | inl less ↦ (let powers : 2 ^ large.exponent < 2 ^ small.exponent = pow-lt less in let s = small.value in let l = large.value in absurd (omega (arith, powers, s, l, below)))
+      | inr above ↦ subst (λ x. Q x b) (sym small.value) (subst (λ y. Q (2 ^ small.exponent) y) (sym large.value) (pow_multiple small.exponent large.exponent above))
+    ]
+
+pub other_is_larger : (one other : ℕ) → IsAlignment one → IsAlignment other → one < other → IsLarger other one other
+other_is_larger one other small large below = record {
+  one_some = positive one small;
+  other_some = positive other large;
+  of_one = multiple_of one other small large (omega (arith, below));
+  of_other = mod_self other;
+  is = inr refl;
+}
+
+pub one_is_larger : (one other : ℕ) → IsAlignment one → IsAlignment other → other ≤ one → IsLarger one one other
+one_is_larger one other large small below = record {
+  one_some = positive one large;
+  other_some = positive other small;
+  of_one = mod_self one;
+  of_other = multiple_of other one small large below;
+  is = inl refl;
+}

@@ -1,6 +1,7 @@
 -- Plans of event records that are made one field after the other.
-use Rattle.std.proofs.Common.{◌≡◌, ℕ, zero, suc, ◌+◌, ◌^◌, ◌<◌, ◌≤◌, List, [], ◌∷◌, ◌++◌, length, take, get_or, Option, Some, None, refl, sym, ap, subst, ◌∙◌, arith, append_assoc, append-nil}
+use Rattle.std.proofs.Common.{◌≡◌, ℕ, zero, suc, ◌+◌, ◌^◌, ◌<◌, ◌≤◌, max, List, [], ◌∷◌, ◌++◌, length, take, get_or, Option, Some, None, refl, sym, ap, subst, ◌∙◌, arith, append_assoc, append-nil}
 use Rattle.std.proofs.lemmas.List.{take_more, length-take-le}
+use Rattle.ctf_class.specs.Alignment.{IsLarger}
 use Rattle.ctf_class.specs.declared.class.Class.{Class}
 use Rattle.ctf_class.specs.declared.class.Kind as kind
 use Rattle.ctf_class.specs.declared.class.Member.{Member}
@@ -9,14 +10,31 @@ use Rattle.ctf_class.specs.declared.record_plan.Making.{Making}
 use Rattle.ctf_class.specs.declared.record_plan.Run.{Run}
 use Rattle.ctf_class.specs.declared.plain_number.PlainNumber.{PlainNumber}
 use Rattle.ctf_class.specs.Making.{IsOpen, IsMade, IsMadeOf, before_scope, with_number, with_field}
-use Rattle.ctf_class.specs.Records.{Slot, Scoped, later, laters, slots, between, all_slots, values_in, AreScoped, and_scope, scopes_of, IsNumber, AreInRun, IsField, AreRuns, IsPlanOf, room_of}
+use Rattle.ctf_class.specs.Records.{Slot, Scoped, later, laters, slots, between, all_slots, values_in, AreScoped, and_scope, scopes_of, IsNumber, AreInRun, BeginsRun, TakesNumbers, IsField, AreRuns, IsPlanOf, room_of}
 
 -- one number more after the others
-numbers_more : (from span : ℕ) (ss : List Slot) (ns : List PlainNumber) (s : Slot) (rest : List Slot) (n : PlainNumber) → AreInRun from ss ns span (s ∷ rest) → IsNumber span s n → AreInRun from ss (ns ++ n ∷ []) (n.window.place + n.window.size) rest
-numbers_more from span ss [] s rest n are is =
-    subst (λ xs. AreInRun from xs (n ∷ []) (n.window.place + n.window.size) rest) are.1 (subst (λ f. IsNumber f s n) are.0 is, (refl, refl))
-numbers_more from span [] (y ∷ ns) s rest n are is = absurd are
-numbers_more from span (x ∷ ss) (y ∷ ns) s rest n are is = (are.0, numbers_more (y.window.place + y.window.size) span ss ns s rest n are.1 is)
+numbers_more : (base from span : ℕ) (ss : List Slot) (ns : List PlainNumber) (s : Slot) (rest : List Slot) (n : PlainNumber) → AreInRun base from ss ns span (s ∷ rest) → IsNumber base span s n → AreInRun base from ss (ns ++ n ∷ []) (n.window.place + n.window.size) rest
+numbers_more base from span ss [] s rest n are is =
+    subst (λ xs. AreInRun base from xs (n ∷ []) (n.window.place + n.window.size) rest) are.1 (subst (λ f. IsNumber base f s n) are.0 is, (refl, refl))
+numbers_more base from span [] (y ∷ ns) s rest n are is = absurd are
+numbers_more base from span (x ∷ ss) (y ∷ ns) s rest n are is = (are.0, numbers_more base (y.window.place + y.window.size) span ss ns s rest n are.1 is)
+
+-- a run of one number, and of one more
+abbrev pub GoesOn : ℕ → ℕ → Slot → List PlainNumber → Type 0
+GoesOn align run s [] = IsLarger run s.align s.member.class.align
+GoesOn align run s (n ∷ ns) = run ≡ align
+
+takes_more : (align run : ℕ) (ss : List Slot) (ns : List PlainNumber) (span : ℕ) (s : Slot) (rest : List Slot) (n : PlainNumber) → GoesOn align run s ns → TakesNumbers align ss ns span (s ∷ rest) → IsNumber (max 8 run) span s n
+    → TakesNumbers run ss (ns ++ n ∷ []) (n.window.place + n.window.size) rest
+takes_more align run ss [] span s rest n on takes is =
+    subst (λ xs. TakesNumbers run xs (n ∷ []) (n.window.place + n.window.size) rest) takes.1.1 (on, (subst (λ f. IsNumber (max 8 run) f s n) takes.1.0 is, (refl, refl)))
+takes_more align run [] (y ∷ ns) span s rest n on takes is = absurd takes.0
+takes_more align run (x ∷ ss) (y ∷ ns) span s rest n on takes is =
+    subst (λ r. TakesNumbers r (x ∷ ss) ((y ∷ ns) ++ n ∷ []) (n.window.place + n.window.size) rest) (sym on) (takes.0, numbers_more (max 8 align) 0 span (x ∷ ss) (y ∷ ns) s rest n takes.1 (subst (λ r. IsNumber (max 8 r) span s n) on is))
+
+pub goes_on : (align run : ℕ) (s : Slot) (ns : List PlainNumber) → (ns ≡ [] → IsLarger run s.align s.member.class.align) → (0 < length ns → run ≡ align) → GoesOn align run s ns
+goes_on align run s [] first later = first refl
+goes_on align run s (n ∷ ns) first later = later (omega arith)
 
 -- the room of one number more, and of a field after the numbers
 room_number : (ns : List PlainNumber) (n : PlainNumber) → room_of (ns ++ n ∷ []) None ≡ room_of ns None + (length n.ready + 24)
@@ -28,17 +46,17 @@ room_field [] f = omega arith
 room_field (x ∷ ns) f = let more = room_field ns f in omega (arith, more)
 
 -- a field more in the open run
-open_number : (now : List Slot) (ns : List PlainNumber) (span : ℕ) (s : Slot) (n : PlainNumber) → IsOpen now ns span → IsNumber span s n → IsOpen (now ++ s ∷ []) (ns ++ n ∷ []) (n.window.place + n.window.size)
-open_number now ns span s n last is rest =
-    subst (λ xs. AreInRun 0 xs (ns ++ n ∷ []) (n.window.place + n.window.size) rest) (sym (append_assoc now (s ∷ []) rest)) (numbers_more 0 span (now ++ s ∷ rest) ns s rest n (last (s ∷ rest)) is)
+open_number : (align run : ℕ) (now : List Slot) (ns : List PlainNumber) (span : ℕ) (s : Slot) (n : PlainNumber) → GoesOn align run s ns → IsOpen align now ns span → IsNumber (max 8 run) span s n → IsOpen run (now ++ s ∷ []) (ns ++ n ∷ []) (n.window.place + n.window.size)
+open_number align run now ns span s n on last is rest =
+    subst (λ xs. TakesNumbers run xs (ns ++ n ∷ []) (n.window.place + n.window.size) rest) (sym (append_assoc now (s ∷ []) rest)) (takes_more align run (now ++ s ∷ rest) ns span s rest n on (last (s ∷ rest)) is)
 
-pub made_number : (done : List Slot) (s : Slot) (m : Making) (n : PlainNumber) → IsNumber m.span s n → n.window.place + n.window.size ≤ 2 ^ 33 → IsMade done m → IsMade (done ++ s ∷ []) (with_number m n)
-made_number done s m n is near made = record {
+pub made_number : (done : List Slot) (s : Slot) (m : Making) (run : ℕ) (n : PlainNumber) → GoesOn m.align run s m.numbers → IsNumber (max 8 run) m.span s n → n.window.place + n.window.size ≤ 2 ^ 33 → IsMade done m → IsMade (done ++ s ∷ []) (with_number m run n)
+made_number done s m run n on is near made = record {
   full = made.full;
   now = made.now ++ s ∷ [];
   are = ap (λ d. d ++ s ∷ []) made.are ∙ append_assoc made.full made.now (s ∷ []);
   whole = made.whole;
-  last = open_number made.now m.numbers m.span s n made.last is;
+  last = open_number m.align run made.now m.numbers m.span s n on made.last is;
   room = ap (λ r. r + (length n.ready + 24)) made.room ∙ sym (room_number m.numbers n);
   bounded = near;
 }
@@ -50,19 +68,19 @@ made_field done s m f is made = record {
   now = [];
   are = sym (append-nil (done ++ s ∷ []));
   whole = λ rest rs others.
-      let run : Run = record { numbers = m.numbers; span = m.span; room = m.room + (length f.ready + 66); field = Some f } in
+      let run : Run = record { align = m.align; numbers = m.numbers; span = m.span; room = m.room + (length f.ready + 66); field = Some f } in
       let room : run.room ≡ room_of m.numbers (Some f) = ap (λ r. r + (length f.ready + 66)) made.room ∙ sym (room_field m.numbers f) in
       let whole : AreRuns (made.full ++ (made.now ++ s ∷ rest)) (m.runs ++ run ∷ rs) = made.whole (made.now ++ s ∷ rest) (run ∷ rs) (s ∷ rest, made.last (s ∷ rest), room, made.bounded, (is, others)) in
       let slots_are : made.full ++ (made.now ++ s ∷ rest) ≡ (done ++ s ∷ []) ++ rest = sym (append_assoc made.full made.now (s ∷ rest)) ∙ ap (λ d. d ++ s ∷ rest) (sym made.are) ∙ sym (append_assoc done (s ∷ []) rest) in
       subst (λ xs. AreRuns xs ((m.runs ++ run ∷ []) ++ rs)) slots_are (subst (AreRuns (made.full ++ (made.now ++ s ∷ rest))) (sym (append_assoc m.runs (run ∷ []) rs)) whole);
-  last = λ rest. (refl, refl);
+  last = λ rest. (refl, (refl, refl));
   room = refl;
   bounded = omega arith;
 }
 
 -- nothing yet
-pub made_none : (m : Making) → m.runs ≡ [] → m.numbers ≡ [] → m.span ≡ 0 → m.room ≡ 24 → m.count ≡ 0 → IsMadeOf [] m
-made_none m runs numbers span room count = record {
+pub made_none : (m : Making) → m.runs ≡ [] → m.align ≡ 1 → m.numbers ≡ [] → m.span ≡ 0 → m.room ≡ 24 → m.count ≡ 0 → IsMadeOf [] m
+made_none m runs align numbers span room count = record {
   scopes = [];
   are = tt;
   count = count;
@@ -71,20 +89,30 @@ made_none m runs numbers span room count = record {
     now = [];
     are = refl;
     whole = λ rest rs others. subst (λ ns. AreRuns rest (ns ++ rs)) (sym runs) others;
-    last = λ rest. subst (λ ns. AreInRun 0 rest ns m.span rest) (sym numbers) (span, refl);
+    last = λ rest. subst (λ ns. TakesNumbers m.align rest ns m.span rest) (sym numbers) (align, (span, refl));
     room = room ∙ ap (λ ns. room_of ns None) (sym numbers);
     bounded = omega (arith, span);
   };
 }
 
 -- the plan of what was made
-pub plan_of : (ks : List Class) (m : Making) (runs : List Run) → runs ≡ m.runs ++ record { numbers = m.numbers; span = m.span; room = m.room; field = None } ∷ [] → IsMadeOf ks m → IsPlanOf ks (record { runs = runs; count = m.count })
+pub plan_of : (ks : List Class) (m : Making) (runs : List Run) → runs ≡ m.runs ++ record { align = m.align; numbers = m.numbers; span = m.span; room = m.room; field = None } ∷ [] → IsMadeOf ks m → IsPlanOf ks (record { runs = runs; count = m.count })
 plan_of ks m runs are of some =
     let made = of.made in
-    let run : Run = record { numbers = m.numbers; span = m.span; room = m.room; field = None } in
-    let numbers : AreInRun 0 made.now m.numbers m.span [] = subst (λ xs. AreInRun 0 xs m.numbers m.span []) (append-nil made.now) (made.last []) in
+    let run : Run = record { align = m.align; numbers = m.numbers; span = m.span; room = m.room; field = None } in
+    let numbers : TakesNumbers m.align made.now m.numbers m.span [] = subst (λ xs. TakesNumbers m.align xs m.numbers m.span []) (append-nil made.now) (made.last []) in
     let whole : AreRuns (made.full ++ made.now) (m.runs ++ run ∷ []) = made.whole made.now (run ∷ []) ([], numbers, made.room, made.bounded, refl) in
     (of.scopes, of.are, of.count, subst (AreRuns (all_slots [] of.scopes)) (sym are) (subst (λ xs. AreRuns xs (m.runs ++ run ∷ [])) (sym made.are) whole))
+
+-- the plan of what was made where the open run has no number
+pub plan_of_whole : (ks : List Class) (m : Making) → m.numbers ≡ [] → IsMadeOf ks m → IsPlanOf ks (record { runs = m.runs; count = m.count })
+plan_of_whole ks m none of some =
+    let made = of.made in
+    let left : TakesNumbers m.align (made.now ++ []) [] m.span [] = subst (λ ns. TakesNumbers m.align (made.now ++ []) ns m.span []) none (made.last []) in
+    let nothing : made.now ≡ [] = sym (append-nil made.now) ∙ sym left.1.1 in
+    let all : made.full ++ made.now ≡ all_slots [] of.scopes = sym made.are in
+    let whole : AreRuns (made.full ++ made.now) (m.runs ++ []) = made.whole made.now [] nothing in
+    (of.scopes, of.are, of.count, subst (AreRuns (all_slots [] of.scopes)) (append-nil m.runs) (subst (λ xs. AreRuns xs (m.runs ++ [])) all whole))
 
 -- a scope more
 abbrev lead_of : List ℕ → List Scoped → List ℕ
@@ -116,10 +144,10 @@ scoped_more : (ks : List Class) (ss : List Scoped) (k : Class) (s : Scoped) → 
 scoped_more [] [] k s are one = one
 scoped_more [] (x ∷ ss) k s are one = absurd are
 scoped_more (j ∷ ks) [] k s are one = absurd are
-scoped_more (j ∷ ks) (x ∷ ss) k s are one = (are.0, are.1, are.2, are.3, scoped_more ks ss k s are.4 one)
+scoped_more (j ∷ ks) (x ∷ ss) k s are one = (are.0, are.1, are.2, scoped_more ks ss k s are.3 one)
 
 -- the count has no part in the runs
-made_counted : (done : List Slot) (m n : Making) → n ≡ record { runs = m.runs; numbers = m.numbers; span = m.span; room = m.room; count = n.count } → IsMade done m → IsMade done n
+made_counted : (done : List Slot) (m n : Making) → n ≡ record { runs = m.runs; align = m.align; numbers = m.numbers; span = m.span; room = m.room; count = n.count } → IsMade done m → IsMade done n
 made_counted done m n is made = subst (IsMade done) (sym is) (record { full = made.full; now = made.now; are = made.are; whole = made.whole; last = made.last; room = made.room; bounded = made.bounded })
 
 -- one member more
@@ -135,11 +163,11 @@ laters_on ms i m within is =
     ap (laters 1) (take_more ms i m within ∙ ap (λ x. take i ms ++ x ∷ []) (sym is)) ∙ laters_more 1 (take i ms) m ∙ ap (λ k. laters 1 (take i ms) ++ later k m ∷ []) count
 
 -- the first field of a scope, and then the later ones
-pub made_scope : (ks : List Class) (k : Class) (x : Member) (xs : List Member) (lead : List ℕ) (old first others new : Making) → k.kind ≡ kind.Structure (x ∷ xs) → k.align ≡ 8 → lead ≡ before_scope old.count ++ (123 ∷ 32 ∷ [])
+pub made_scope : (ks : List Class) (k : Class) (x : Member) (xs : List Member) (lead : List ℕ) (old first others new : Making) → k.kind ≡ kind.Structure (x ∷ xs) → lead ≡ before_scope old.count ++ (123 ∷ 32 ∷ [])
     → ((done : List Slot) → IsMade done old → IsMade (done ++ record { lead = lead; align = k.align; index = 0; member = x } ∷ []) first)
     → ((done : List Slot) → IsMade done first → IsMade (done ++ laters 1 xs) others)
-    → new ≡ record { runs = others.runs; numbers = others.numbers; span = others.span; room = others.room; count = new.count } → new.count ≡ old.count + (length xs + 2) → IsMadeOf ks old → IsMadeOf (ks ++ k ∷ []) new
-made_scope ks k x xs lead old first others new is align leads begin more same count of =
+    → new ≡ record { runs = others.runs; align = others.align; numbers = others.numbers; span = others.span; room = others.room; count = new.count } → new.count ≡ old.count + (length xs + 2) → IsMadeOf ks old → IsMadeOf (ks ++ k ∷ []) new
+made_scope ks k x xs lead old first others new is leads begin more same count of =
     let s : Scoped = record { align = k.align; members = x ∷ xs } in
     let done = all_slots [] of.scopes in
     let before : before_scope old.count ≡ lead_of [] of.scopes = ap before_scope of.count ∙ sym (lead_before of.scopes) in
@@ -149,7 +177,7 @@ made_scope ks k x xs lead old first others new is align leads begin more same co
     let values = values_more of.scopes s in
     record {
       scopes = of.scopes ++ s ∷ [];
-      are = scoped_more ks of.scopes k s of.are (is, refl, align, omega arith, tt);
+      are = scoped_more ks of.scopes k s of.are (is, refl, omega arith, tt);
       count = omega (arith, count, of.count, values);
       made = subst (λ d. IsMade d new) slots_are (made_counted _ others new same (more _ (begin done of.made)));
     }

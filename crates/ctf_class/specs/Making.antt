@@ -5,15 +5,15 @@ use Rattle.ctf_class.specs.declared.record_plan.Field.{Field}
 use Rattle.ctf_class.specs.declared.record_plan.Making.{Making}
 use Rattle.ctf_class.specs.declared.record_plan.Run.{Run}
 use Rattle.ctf_class.specs.declared.plain_number.PlainNumber.{PlainNumber}
-use Rattle.ctf_class.specs.Records.{Slot, Scoped, between, all_slots, values_in, AreScoped, AreInRun, AreRuns, room_of}
+use Rattle.ctf_class.specs.Records.{Slot, Scoped, between, all_slots, values_in, AreScoped, TakesNumbers, AreRuns, room_of}
 
 -- fields are these runs, whatever runs are after them
 abbrev pub RunsTo : List Slot → List Run → Type 0
 RunsTo full runs = (rest : List Slot) (rs : List Run) → AreRuns rest rs → AreRuns (full ++ rest) (runs ++ rs)
 
--- fields are these numbers, whatever fields are after them
-abbrev pub IsOpen : List Slot → List PlainNumber → ℕ → Type 0
-IsOpen now numbers span = (rest : List Slot) → AreInRun 0 (now ++ rest) numbers span rest
+-- fields are the numbers of a run of this alignment, whatever fields are after them
+abbrev pub IsOpen : ℕ → List Slot → List PlainNumber → ℕ → Type 0
+IsOpen align now numbers span = (rest : List Slot) → TakesNumbers align (now ++ rest) numbers span rest
 
 -- fields are the whole runs and the open one
 pub record IsMade (done : List Slot) (m : Making) : Type 0 where
@@ -21,7 +21,7 @@ pub record IsMade (done : List Slot) (m : Making) : Type 0 where
   pub now : List Slot
   pub are : done ≡ full ++ now
   pub whole : RunsTo full m.runs
-  pub last : IsOpen now m.numbers m.span
+  pub last : IsOpen m.align now m.numbers m.span
   pub room : m.room ≡ room_of m.numbers None
   pub bounded : m.span ≤ 2 ^ 33
 
@@ -37,10 +37,11 @@ abbrev pub before_scope : ℕ → List ℕ
 before_scope zero = []
 before_scope (suc n) = between
 
--- with one number more in the open run
-abbrev pub with_number : Making → PlainNumber → Making
-with_number m n = record {
+-- with one number more in the open run, which is of this alignment then
+abbrev pub with_number : Making → ℕ → PlainNumber → Making
+with_number m align n = record {
   runs = m.runs;
+  align = align;
   numbers = m.numbers ++ n ∷ [];
   span = n.window.place + n.window.size;
   room = m.room + (length n.ready + 24);
@@ -50,7 +51,8 @@ with_number m n = record {
 -- with a field after the open run, which is whole then
 abbrev pub with_field : Making → Field → Making
 with_field m f = record {
-  runs = m.runs ++ record { numbers = m.numbers; span = m.span; room = m.room + (length f.ready + 66); field = Some f } ∷ [];
+  runs = m.runs ++ record { align = m.align; numbers = m.numbers; span = m.span; room = m.room + (length f.ready + 66); field = Some f } ∷ [];
+  align = 1;
   numbers = [];
   span = 0;
   room = 24;

@@ -3,6 +3,7 @@
 use Rattle.std.specs.Prelude.{◌≡◌, ℕ, suc, ◌+◌, ◌%◌, ◌<◌, ◌≤◌, ◌^◌, List, [], ◌∷◌, ◌++◌, length, max, Option, Some, None, ⊤}
 use Rattle.std.specs.Int.{next_multiple_of}
 use Rattle.ctf_bits.specs.declared.number.Order.TheVariants.{Le}
+use Rattle.ctf_class.specs.Alignment.{IsLarger}
 use Rattle.ctf_class.specs.Names.{field_text}
 use Rattle.ctf_class.specs.declared.class.Class.{Class}
 use Rattle.ctf_class.specs.declared.class.Kind as kind
@@ -65,12 +66,12 @@ abbrev pub values_in : List Scoped → ℕ
 values_in [] = 0
 values_in (s ∷ ss) = 1 + length s.members + values_in ss
 
--- classes are these structures, which begin at a byte and have members
+-- classes are these structures, which have members
 abbrev pub AreScoped : List Class → List Scoped → Type 0
 AreScoped [] [] = ⊤
 AreScoped [] (s ∷ ss) = ⊥
 AreScoped (k ∷ ks) [] = ⊥
-AreScoped (k ∷ ks) (s ∷ ss) = (k.kind ≡ kind.Structure s.members) × (k.align ≡ s.align) × (s.align ≡ 8) × (0 < length s.members) × AreScoped ks ss
+AreScoped (k ∷ ks) (s ∷ ss) = (k.kind ≡ kind.Structure s.members) × (k.align ≡ s.align) × (0 < length s.members) × AreScoped ks ss
 
 -- the scopes of an event record after its header that have a class
 abbrev pub and_scope : Option Class → List Class → List Class
@@ -80,22 +81,33 @@ and_scope (Some k) ks = k ∷ ks
 abbrev pub scopes_of : Option Class → Option Class → Class → List Class
 scopes_of shared own fields = and_scope shared (and_scope own (fields ∷ []))
 
--- a field is an integer in decimal, little endian, after this distance from a byte's first bit, where it is wherever
--- that byte is; and so it is read and begun
-pub record IsNumber (from : ℕ) (s : Slot) (n : PlainNumber) : Type 0 where
+-- a field is an integer in decimal, little endian, after this distance from a place that is a multiple of `base`, where
+-- it is wherever that place is; and so it is read and begun
+pub record IsNumber (base from : ℕ) (s : Slot) (n : PlainNumber) : Type 0 where
   pub is : s.member.class.kind ≡ kind.Integer n.integer
   pub decimal : n.integer.base ≡ Decimal
   pub little : n.integer.order ≡ Le
-  pub begins : 8 % s.align ≡ 0
-  pub divides : 8 % s.member.class.align ≡ 0
+  pub begins : base % s.align ≡ 0
+  pub divides : base % s.member.class.align ≡ 0
   pub window : n.window ≡ record { place = next_multiple_of (next_multiple_of from s.align) s.member.class.align; size = max 1 n.integer.size; is_signed = n.integer.is_signed }
   pub ready : n.ready ≡ s.lead ++ field_text s.member.name
 
 -- so are the first of these fields, one after the other, as far as a distance, and these are left
-abbrev pub AreInRun : ℕ → List Slot → List PlainNumber → ℕ → List Slot → Type 0
-AreInRun from ss [] span rest = (span ≡ from) × (rest ≡ ss)
-AreInRun from [] (n ∷ ns) span rest = ⊥
-AreInRun from (s ∷ ss) (n ∷ ns) span rest = IsNumber from s n × AreInRun (n.window.place + n.window.size) ss ns span rest
+abbrev pub AreInRun : ℕ → ℕ → List Slot → List PlainNumber → ℕ → List Slot → Type 0
+AreInRun base from ss [] span rest = (span ≡ from) × (rest ≡ ss)
+AreInRun base from [] (n ∷ ns) span rest = ⊥
+AreInRun base from (s ∷ ss) (n ∷ ns) span rest = IsNumber base from s n × AreInRun base (n.window.place + n.window.size) ss ns span rest
+
+-- a run of these numbers begins where the first of these fields does; without a number, where the fields before it end
+abbrev pub BeginsRun : ℕ → List Slot → List PlainNumber → Type 0
+BeginsRun align ss [] = align ≡ 1
+BeginsRun align [] (n ∷ ns) = ⊥
+BeginsRun align (s ∷ ss) (n ∷ ns) = IsLarger align s.align s.member.class.align
+
+-- The numbers of a run that begins at this alignment, and at a byte, are the first of these fields, one after the other,
+-- as far as a distance, and these are left.
+abbrev pub TakesNumbers : ℕ → List Slot → List PlainNumber → ℕ → List Slot → Type 0
+TakesNumbers align ss ns span rest = BeginsRun align ss ns × AreInRun (max 8 align) 0 ss ns span rest
 
 -- a route leads to the member before the one of an index in the innermost structure
 abbrev pub LeadsBefore : Route → ℕ → Type 0
@@ -145,7 +157,7 @@ room_of (n ∷ ns) f = length n.ready + 24 + room_of ns f
 -- fields are these runs, one after the other
 abbrev pub AreRuns : List Slot → List Run → Type 0
 AreRuns ss [] = ss ≡ []
-AreRuns ss (r ∷ rs) = (rest : List Slot) × AreInRun 0 ss r.numbers r.span rest × (r.room ≡ room_of r.numbers r.field) × (r.span ≤ 2 ^ 33) × After rest r.field (λ others. AreRuns others rs)
+AreRuns ss (r ∷ rs) = (rest : List Slot) × TakesNumbers r.align ss r.numbers r.span rest × (r.room ≡ room_of r.numbers r.field) × (r.span ≤ 2 ^ 33) × After rest r.field (λ others. AreRuns others rs)
 
 -- a plan is one of these classes, if it has runs
 abbrev pub IsPlanOf : List Class → RecordPlan → Type 0

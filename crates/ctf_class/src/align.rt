@@ -3,7 +3,7 @@
 ghost use Rattle.std.specs.Prelude.{◌≡◌, ◌+◌, ◌*◌, ◌/◌, ◌^◌, ◌<◌, ◌≤◌, SomeIff};
 ghost use Rattle.std.specs.Int.{next_multiple_of};
 ghost use Rattle.ctf_bits.specs.Align.{IsLeastMultiple};
-ghost use Rattle.ctf_class.specs.Alignment.{IsAlignment};
+ghost use Rattle.ctf_class.specs.Alignment.{IsAlignment, IsLarger};
 
 use std::marker::Model;
 
@@ -50,6 +50,13 @@ impl Align {
         self.bits
     }
 
+    /// The larger one of two alignments, which is a multiple of both.
+    pub fn larger(self, other: Align) -> Align
+        ensures { IsLarger result self other }
+    {
+        if self.bits < other.bits { other } else { self }
+    }
+
     /// Where a field begins that could begin at a place, both in bits: the least multiple of the
     /// alignment that is not below the place (CTF 1.8.3, section 4.1.2).
     #[tactic(auto, using(crate::proofs::AlignmentLemmas::rounded_up, crate::proofs::AlignmentLemmas::near_up))]
@@ -62,6 +69,13 @@ impl Align {
         let unit = u64::from(self.bits);
         cut(place + (unit - 1), unit)
     }
+}
+
+/// An alignment of one bit, at which a field begins anywhere.
+pub(crate) fn one_bit() -> Align
+    ensures { result ≡ 1 }
+{
+    Align::new(1).unwrap()
 }
 
 /// The last multiple of a power of two that is not above a place.

@@ -1,14 +1,15 @@
 //! What is known of event records before they are read.
 
-ghost use Rattle.std.specs.Prelude.{◌≡◌, ◌+◌, ◌%◌, ◌∷◌, ◌++◌, [], ◌^◌, ◌≤◌, length, max, IsTrue, IfOk, IfSome, OnOk, option_copied};
+ghost use Rattle.std.specs.Prelude.{◌≡◌, ◌+◌, ◌%◌, ◌∷◌, ◌++◌, [], ◌^◌, ◌<◌, ◌≤◌, length, max, IsTrue, IfOk, IfSome, OnOk, option_copied};
 ghost use Rattle.std.specs.Int.{next_multiple_of};
 ghost use Rattle.ctf_bits.specs.declared.number.Order.TheVariants.{Le};
+ghost use Rattle.ctf_class.specs.Alignment.{IsLarger};
 ghost use Rattle.ctf_class.specs.Making.{IsMade, IsMadeOf, before_scope, with_number, with_field};
 ghost use Rattle.ctf_class.specs.Records.{Slot, IsNumber, IsShown, IsPlanOf, laters, and_scope, scopes_of};
 ghost use Rattle.ctf_class.specs.declared.class.Kind as kinds;
 ghost use Rattle.ctf_class.specs.declared.integer.Base.TheVariants.{Decimal};
 
-use crate::align::Align;
+use crate::align::{Align, one_bit};
 use crate::class::{Class, Kind, Member};
 use crate::integer::{Base, Integer};
 use crate::labels::Labels;
@@ -40,6 +41,22 @@ pub enum Shown {
     CountedText,
     Integers(Integers),
     Labelled(Labelled),
+}
+
+impl Shown {
+    /// Whether each field that is shown so ends where a byte does, wherever it begins.
+    fn ends_at_byte(&self) -> bool {
+        match self {
+            Shown::String | Shown::Text(_) | Shown::CountedText => true,
+            Shown::Integers(are) => are_bytes(&are.integer, are.align),
+            Shown::Labelled(labelled) => are_bytes(&labelled.container, labelled.align),
+        }
+    }
+}
+
+/// Whether integers of this alignment are whole bytes.
+fn are_bytes(integer: &Integer, align: Align) -> bool {
+    align.bits() >= 8 && integer.size.bits() % 8 == 0
 }
 
 /// An enumeration (CTF 1.8.3, section 4.1.8).
@@ -79,10 +96,12 @@ pub struct Field {
     pub shown: Shown,
 }
 
-/// Integers in decimal, little endian, that are one after the other at fixed distances from a byte's first bit (CTF
-/// 1.8.3, section 4.1.5), and the field after them, if there is one.
+/// Integers in decimal, little endian, that are one after the other at fixed distances from the first bit of an aligned
+/// byte (CTF 1.8.3, section 4.1.5), and the field after them, if there is one.
 #[derive(Drop)]
 pub struct Run {
+    /// The alignment at which the numbers begin, or 1 where there are none.
+    pub align: Align,
     pub numbers: List<PlainNumber>,
     /// How many bits the numbers take.
     pub span: u64,
@@ -93,8 +112,8 @@ pub struct Run {
 }
 
 /// The fields of an event record's scopes after its header (CTF 1.8.3, section 6), one after the other, if all of them
-/// are structures that begin at a byte, of integers, enumerations, strings, and texts and arrays of integers whose
-/// length is fixed or the field before; else nothing.
+/// are structures of integers, enumerations, strings, and texts and arrays of integers whose length is fixed or the
+/// field before; else nothing.
 #[derive(Drop)]
 pub struct RecordPlan {
     pub runs: List<Run>,
@@ -119,7 +138,8 @@ struct ScopeMember<'a> {
 struct Making {
     /// The runs that are whole.
     runs: List<Run>,
-    /// The numbers of the open run.
+    /// The alignment of the open run, and its numbers.
+    align: Align,
     numbers: List<PlainNumber>,
     span: u64,
     room: usize,
@@ -170,6 +190,7 @@ impl Making {
     {
         Making {
             runs: List::new(alloc),
+            align: one_bit(),
             numbers: List::new(alloc),
             span: 0,
             room: 24,
@@ -183,12 +204,17 @@ impl Making {
     {
         let Making {
             mut runs,
+            align,
             numbers,
             span,
             room,
             count,
         } = self;
+        if numbers.is_empty() && !runs.is_empty() {
+            return Ok(RecordPlan { runs, count });
+        }
         runs.push(Run {
+            align,
             numbers,
             span,
             room,
@@ -230,9 +256,6 @@ impl Making {
         let Some(count) = self.count.checked_add(others.len() as u64 + 2) else {
             return Ok(false);
         };
-        if class.align.bits() != 8 {
-            return Ok(false);
-        }
         let first = ScopeMember {
             lead: self.opening_text(),
             align: class.align,
@@ -263,13 +286,10 @@ impl Making {
         ensures made { IfOk result (λ took. IsTrue took → (done : List Slot) →
             IsMade done self.old → IsMade (done ++ laters 1 members.now) self.new) }
     {
-        let Some(anywhere) = Align::new(1) else {
-            return Ok(false);
-        };
         for (i, member) in members.iter().enumerate() {
             let later = ScopeMember {
                 lead: b", ",
-                align: anywhere,
+                align: one_bit(),
                 index: i + 1,
                 member,
             };
@@ -302,12 +322,14 @@ impl Making {
         if ready.len() > LONGEST_TEXT {
             return Ok(false);
         }
-        if let Some((integer, window)) = self.as_number(&member.class, align) {
-            self.add_number(PlainNumber {
+        let run_align = self.align_with(align, member.class.align);
+        if let Some((integer, window)) = self.as_number(&member.class, align, run_align) {
+            let number = PlainNumber {
                 integer,
                 window,
                 ready,
-            })?;
+            };
+            self.add_number(number, run_align)?;
             return Ok(true);
         }
         let known = shown_of(&member.class, next.index)?;
@@ -325,15 +347,28 @@ impl Making {
         Ok(true)
     }
 
-    /// A field of a class as the next number of the open run, if it can be one. It begins a structure of this
-    /// alignment, or 1.
-    fn as_number(&self, class: &Class, begin: Align) -> Option<(Integer, Window)>
+    /// The alignment of the open run with one number more, of the alignment `own`, that begins a structure of the
+    /// alignment `begin`, or 1.
+    fn align_with(&self, begin: Align, own: Align) -> Align
+        ensures first { self.now.numbers ≡ [] → IsLarger result begin own }
+        ensures later { 0 < length self.now.numbers → result ≡ self.now.align }
+    {
+        if self.numbers.is_empty() {
+            begin.larger(own)
+        } else {
+            self.align
+        }
+    }
+
+    /// A field of a class as the next number of the open run, which is of the alignment `run` then, if it can be one.
+    /// It begins a structure of the alignment `begin`, or 1.
+    fn as_number(&self, class: &Class, begin: Align, run: Align) -> Option<(Integer, Window)>
         requires { self.now.span ≤ 2 ^ 33 }
         ensures is { IfSome result (λ found. class.now.kind ≡ kinds.Integer found.0) }
         ensures decimal { IfSome result (λ found. found.0.base ≡ Decimal) }
         ensures little { IfSome result (λ found. found.0.order ≡ Le) }
-        ensures begins { IfSome result (λ _. 8 % begin ≡ 0) }
-        ensures divides { IfSome result (λ _. 8 % class.now.align ≡ 0) }
+        ensures begins { IfSome result (λ _. max 8 run % begin ≡ 0) }
+        ensures divides { IfSome result (λ _. max 8 run % class.now.align ≡ 0) }
         ensures window { IfSome result
             (λ found. found.1 ≡
             record {
@@ -351,7 +386,11 @@ impl Making {
         if integer.base != Base::Decimal || integer.order != Order::Le || self.room > MOST_ROOM {
             return None;
         }
-        if 8 % begin.bits() != 0 || 8 % class.align.bits() != 0 {
+        if run.bits() < 8 && !self.begins_at_byte() {
+            return None;
+        }
+        let unit = run.bits().max(8);
+        if unit % begin.bits() != 0 || unit % class.align.bits() != 0 {
             return None;
         }
         let from = begin.up(self.span);
@@ -363,16 +402,31 @@ impl Making {
         Some((*integer, window))
     }
 
-    /// Adds a number to the open run.
-    fn add_number(&mut self, number: PlainNumber) -> Result<(), NoMemory>
+    /// Whether the open run begins at a byte, wherever it is, as far as the field before it tells.
+    fn begins_at_byte(&self) -> bool {
+        let runs = self.runs.as_slice();
+        match runs.last() {
+            Some(
+                Run {
+                    field: Some(field),
+                    ..
+                },
+            ) => field.shown.ends_at_byte(),
+            _ => true,
+        }
+    }
+
+    /// One more number of the open run, which is of this alignment then.
+    fn add_number(&mut self, number: PlainNumber, align: Align) -> Result<(), NoMemory>
         requires near { number.window.place + number.window.size ≤ 2 ^ 33 }
         requires short { length number.ready ≤ LONGEST_TEXT }
         requires few { self.old.room ≤ 2 ^ 18 }
-        ensures { OnOk result (self.new ≡ with_number self.old number) }
+        ensures { OnOk result (self.new ≡ with_number self.old align number) }
     {
         let span = number.window.end();
         let room = number.ready.len() + 24;
         self.numbers.push(number)?;
+        self.align = align;
         self.span = span;
         self.room += room;
         Ok(())
@@ -387,11 +441,13 @@ impl Making {
         let room = self.room + (field.ready.len() + 66);
         let numbers = mem::replace(&mut self.numbers, List::new(alloc));
         self.runs.push(Run {
+            align: self.align,
             numbers,
             span: self.span,
             room,
             field: Some(field),
         })?;
+        self.align = one_bit();
         self.span = 0;
         self.room = 24;
         Ok(())

@@ -9,6 +9,7 @@ pub mod DigitsLemmas
 pub mod HexadecimalLemmas
 pub mod PatternLemmas
 pub mod StandingLemmas
+pub mod StartsLemmas
 pub mod PlainLemmas
 pub mod RecordsLemmas
 pub mod AroundLemmas

@@ -1,5 +1,5 @@
 -- Event records that are written by their plan are shown as their classes say.
-use Rattle.std.proofs.Common.{◌≡◌, ℕ, zero, suc, ◌+◌, ◌-◌, ◌*◌, ◌%◌, ◌<◌, ◌≤◌, false, ℤ, pos, negsuc, List, [], ◌∷◌, ◌++◌, drop, length, get_or, Option, Some, None, IfSome, codes, refl, sym, ap, subst, ◌∙◌, arith, append_assoc, append-nil}
+use Rattle.std.proofs.Common.{◌≡◌, ℕ, zero, suc, ◌+◌, ◌-◌, ◌*◌, ◌%◌, ◌<◌, ◌≤◌, max, false, ℤ, pos, negsuc, List, [], ◌∷◌, ◌++◌, drop, length, get_or, Option, Some, None, IfSome, codes, refl, sym, ap, subst, ◌∙◌, arith, append_assoc, append-nil}
 use Rattle.std.specs.Prelude.{⊤, if◌then◌else◌}
 use Rattle.std.specs.Int.{next_multiple_of}
 use Rattle.ctf_bits.specs.Number.{number, signed_number}
@@ -8,30 +8,35 @@ use Rattle.std.specs.List.{All, flat_map}
 use Rattle.std.proofs.lemmas.List.Elements.{All-cons, All-nil}
 use Rattle.ctf_bits.specs.Placed.{Placed, number_after}
 use Rattle.std.specs.Fmt.{signed_decimal}
+use Rattle.ctf_bits.specs.Align.{IsLeastMultiple}
 use Rattle.ctf_class.proofs.AlignmentLemmas.{divides_too, next_after}
 use Rattle.ctf_class.specs.Integers.{bits_of}
 use Rattle.ctf_class.specs.Names.{field_text}
-use Rattle.ctf_class.specs.Records.{Slot, Scoped, laters, slots_of, slots, between, all_slots, values_in, AreScoped, IsNumber, AreInRun, IsField, After, LeadsBefore, numbers_room, room_of, AreRuns}
+use Rattle.ctf_class.specs.Records.{Slot, Scoped, laters, slots_of, slots, between, all_slots, values_in, AreScoped, IsNumber, AreInRun, TakesNumbers, IsField, After, LeadsBefore, numbers_room, room_of, AreRuns}
 use Rattle.ctf_class.specs.declared.class.Class.{Class}
 use Rattle.ctf_class.specs.declared.class.Kind as kind
 use Rattle.ctf_class.specs.declared.class.Member.{Member}
 use Rattle.ctf_class.specs.declared.record_plan.Field.{Field}
+use Rattle.ctf_class.specs.declared.integer.Integer.{Integer}
 use Rattle.ctf_class.specs.declared.record_plan.Run.{Run}
 use Rattle.ctf_class.specs.declared.plain_number.PlainNumber.{PlainNumber}
 use Rattle.ctf_class.specs.declared.route.Length.TheVariants as lengths
 use Rattle.ctf_class.specs.declared.route.Route.{Route}
 use Rattle.ctf_decode.specs.Forms.{Form, integer}
+use Rattle.ctf_decode.specs.Input.{Input, Env, integer_at}
+use Rattle.ctf_decode.specs.Walk.{begin, leaf, walk}
 use Rattle.ctf_decode.specs.Views.{form}
 use Rattle.ctf_decode.specs.declared.scopes.TheConstants.{MOST_VALUES}
 use Rattle.ctf_format.specs.Plain.{plain_text}
 use Rattle.ctf_format.specs.Records.{Reached, IsLastNumber, PutsField, PutsFields, PutsScopes, TakesRun, IsNear, after_members}
-use Rattle.ctf_format.specs.Standing.{Before, Counts, LastIs, Puts, PutsOne, PutsNext, StandsAsNumber, known}
+use Rattle.ctf_format.specs.Standing.{Before, Counts, LastIs, Puts, PutsOne, PutsNext, StandsAsNumber, among, known}
 use Rattle.ctf_format.specs.Texts.{Shown, Part, integer_text, value_text, part_text, member_part}
 use Rattle.ctf_format.specs.declared.standing.Last.{Last}
 use Rattle.ctf_format.specs.declared.standing.MembersEnd.{MembersEnd}
 use Rattle.ctf_format.specs.declared.standing.Next.{Next}
 use Rattle.ctf_format.proofs.StandingLemmas.{Going, PutsAfter, anywhere, last_is, going_begins, going_on, puts_next, known_next, going_ends, closed, puts_structure, as_one, form_integer, text_integer, member-is, stands_number}
 use Rattle.ctf_format.proofs.PlainLemmas.{plain_integer}
+use Rattle.ctf_format.proofs.StartsLemmas.{Leads, at_one, base_divides, leads_itself, run_leads}
 use Rattle.ctf_format.proofs.ArrayLemmas.{next_named, counts_last}
 
 -- a name and a value after it are the field
@@ -57,21 +62,21 @@ fields_split packet content (x ∷ xs) ys from to puts =
     (s.0, (puts.0, puts.1, s.1), s.2)
 
 -- numbers of a run end within it
-run_reach : (from span : ℕ) (ss rest : List Slot) (ns : List PlainNumber) → AreInRun from ss ns span rest → from ≤ span
-run_reach from span ss rest [] are = omega (arith, are.0)
-run_reach from span [] rest (n ∷ ns) are = absurd are
-run_reach from span (s ∷ ss) rest (n ∷ ns) are =
-    let further = run_reach (n.window.place + n.window.size) span ss rest ns are.1 in
+run_reach : (base from span : ℕ) (ss rest : List Slot) (ns : List PlainNumber) → AreInRun base from ss ns span rest → from ≤ span
+run_reach base from span ss rest [] are = omega (arith, are.0)
+run_reach base from span [] rest (n ∷ ns) are = absurd are
+run_reach base from span (s ∷ ss) rest (n ∷ ns) are =
+    let further = run_reach base (n.window.place + n.window.size) span ss rest ns are.1 in
     let after : from ≤ n.window.place = omega (arith, ap (λ (w : Placed). w.place) are.0.window) in
     omega (arith, further, after)
 
-run_after : (from span : ℕ) (ss rest : List Slot) (ns : List PlainNumber) → AreInRun from ss ns span rest → All (λ (n : PlainNumber). n.window.place ≤ span) ns
-run_after from span ss rest [] are = All-nil (λ (n : PlainNumber). n.window.place ≤ span)
-run_after from span [] rest (n ∷ ns) are = absurd are
-run_after from span (s ∷ ss) rest (n ∷ ns) are =
+run_after : (base from span : ℕ) (ss rest : List Slot) (ns : List PlainNumber) → AreInRun base from ss ns span rest → All (λ (n : PlainNumber). n.window.place ≤ span) ns
+run_after base from span ss rest [] are = All-nil (λ (n : PlainNumber). n.window.place ≤ span)
+run_after base from span [] rest (n ∷ ns) are = absurd are
+run_after base from span (s ∷ ss) rest (n ∷ ns) are =
     let next = n.window.place + n.window.size in
-    let inside : n.window.place ≤ span = omega (arith, run_reach next span ss rest ns are.1) in
-    All-cons (λ (k : PlainNumber). k.window.place ≤ span) n ns inside (run_after next span ss rest ns are.1)
+    let inside : n.window.place ≤ span = omega (arith, run_reach base next span ss rest ns are.1) in
+    All-cons (λ (k : PlainNumber). k.window.place ≤ span) n ns inside (run_after base next span ss rest ns are.1)
 
 -- what is left after the field of a run
 pub left_after : (ss : List Slot) (f : Option Field) (Holds : List Slot → Type 0) → After ss f Holds → (others : List Slot) × After ss f (λ xs. xs ≡ others) × Holds others
@@ -90,7 +95,7 @@ pub runs_near : (ss : List Slot) (rs : List Run) → AreRuns ss rs → All IsNea
 runs_near ss [] are = All-nil IsNear
 runs_near ss (r ∷ rs) are =
     let first = takes_first ss r rs are in
-    All-cons IsNear r rs (record { room = are.2; bounded = are.3; within_span = run_after 0 r.span ss are.0 r.numbers are.1 }) (runs_near first.0 rs first.2)
+    All-cons IsNear r rs (record { room = are.2; bounded = are.3; within_span = run_after (max 8 r.align) 0 r.span ss are.0 r.numbers are.1.1 }) (runs_near first.0 rs first.2)
 
 -- the room of numbers alone, and of the text after them
 pub room_alone : (ns : List PlainNumber) (f : Option Field) → numbers_room ns ≤ room_of ns f
@@ -108,9 +113,9 @@ nat_of (pos n) = n
 nat_of (negsuc n) = 0
 
 -- a number of a run is its field
-number_alone : (s : Slot) (n : PlainNumber) (from first place content : ℕ) (packet line : List ℕ) → IsNumber from s n → 8 * first ≡ place → place + (n.window.place + n.window.size) ≤ content
+number_alone : (s : Slot) (n : PlainNumber) (base from first place content : ℕ) (packet line : List ℕ) → IsNumber base from s n → place % base ≡ 0 → 8 * first ≡ place → place + (n.window.place + n.window.size) ≤ content
     → (next_multiple_of (place + from) s.align ≤ content) × PutsOne (form s.member.class) (λ v. s.lead ++ part_text (member_part s.member) v) packet content (next_multiple_of (place + from) s.align) (place + (n.window.place + n.window.size)) line (line ++ plain_text packet first n)
-number_alone s n from first place content packet line is starts within =
+number_alone s n base from first place content packet line is whole starts within =
     let m = s.member in
     let i = n.integer in
     let a = m.class.align in
@@ -119,11 +124,10 @@ number_alone s n from first place content packet line is starts within =
     let digits = signed_decimal (number_after n.window packet first) in
     let named = line ++ n.ready in
     let after = line ++ plain_text packet first n in
-    let whole : place % 8 ≡ 0 = omega (arith, starts) in
-    let begins : next_multiple_of (place + from) s.align ≡ place + begun = next_after place from s.align (divides_too place 8 s.align whole is.begins) in
+    let begins : next_multiple_of (place + from) s.align ≡ place + begun = next_after place from s.align (divides_too place base s.align whole is.begins) in
     let ends : end ≡ place + (next_multiple_of begun a + bits_of i) = ap (λ (w : Placed). place + (w.place + w.size)) is.window in
     let wrote : after ≡ named ++ signed_decimal (number_after (record { place = next_multiple_of begun a; size = bits_of i; is_signed = i.is_signed }) packet first) = sym (append_assoc line n.ready digits) ∙ ap (λ (w : Placed). named ++ signed_decimal (number_after w packet first)) is.window in
-    let puts : PutsOne (integer a i) (integer_text i) packet content (place + begun) end named after = plain_integer i a packet content first place begun end named after is.decimal is.little starts (divides_too place 8 a whole is.divides) ends within wrote in
+    let puts : PutsOne (integer a i) (integer_text i) packet content (place + begun) end named after = plain_integer i a packet content first place begun end named after is.decimal is.little starts (divides_too place base a whole is.divides) ends within wrote in
     let there : PutsOne (form m.class) (λ v. s.lead ++ part_text (member_part m) v) packet content (place + begun) end line after =
     puts_named m s.lead packet content (place + begun) end line named after (field_text m.name) (ap (λ t. line ++ t) is.ready) refl
     (as_one (integer a i) (form m.class) (integer_text i) (value_text m.class) packet content (place + begun) end named after after (form_integer m.class i is.is) (text_integer m.class i is.is) refl puts)
@@ -132,17 +136,16 @@ number_alone s n from first place content packet line is starts within =
     (omega (arith, begins, near, within), subst (λ p. PutsOne (form m.class) (λ v. s.lead ++ part_text (member_part m) v) packet content p end line after) (sym begins) there)
 
 -- and an unsigned one stands there as its number
-number_stands : (s : Slot) (n : PlainNumber) (from first place content v : ℕ) (packet : List ℕ) → IsNumber from s n → 8 * first ≡ place → place + (n.window.place + n.window.size) ≤ content → n.integer.is_signed ≡ false → number_after n.window packet first ≡ pos v
+number_stands : (s : Slot) (n : PlainNumber) (base from first place content v : ℕ) (packet : List ℕ) → IsNumber base from s n → place % base ≡ 0 → 8 * first ≡ place → place + (n.window.place + n.window.size) ≤ content → n.integer.is_signed ≡ false → number_after n.window packet first ≡ pos v
     → StandsAsNumber (form s.member.class) packet content (next_multiple_of (place + from) s.align) v
 unfolding number nat_of
-number_stands s n from first place content v packet is starts within plain read =
+number_stands s n base from first place content v packet is whole starts within plain read =
     let i = n.integer in
     let a = s.member.class.align in
     let begun = next_multiple_of from s.align in
     let at = next_multiple_of (place + from) s.align in
-    let whole : place % 8 ≡ 0 = omega (arith, starts) in
-    let begins : at ≡ place + begun = next_after place from s.align (divides_too place 8 s.align whole is.begins) in
-    let stands : next_multiple_of at a ≡ 8 * first + n.window.place = ap (λ p. next_multiple_of p a) begins ∙ next_after place begun a (divides_too place 8 a whole is.divides) ∙ (λ j. sym starts j + sym (ap (λ (w : Placed). w.place) is.window) j) in
+    let begins : at ≡ place + begun = next_after place from s.align (divides_too place base s.align whole is.begins) in
+    let stands : next_multiple_of at a ≡ 8 * first + n.window.place = ap (λ p. next_multiple_of p a) begins ∙ next_after place begun a (divides_too place base a whole is.divides) ∙ (λ j. sym starts j + sym (ap (λ (w : Placed). w.place) is.window) j) in
     let wide : n.window.size ≡ bits_of i = ap (λ (w : Placed). w.size) is.window in
     let signs : n.window.is_signed ≡ false = ap (λ (w : Placed). w.is_signed) is.window ∙ plain in
     let told : number_after n.window packet first ≡ pos (number Le packet (8 * first + n.window.place) n.window.size) = ap (λ b. if b then signed_number Le packet (8 * first + n.window.place) n.window.size else pos (number Le packet (8 * first + n.window.place) n.window.size)) signs in
@@ -161,44 +164,68 @@ alone_field s packet content from to within puts same stands =
 abbrev pub numbers_to : ℕ → ℕ → Option ℕ → List ℕ → Reached
 numbers_to place more last line = record { place = place; more = more; last = last; line = line }
 
-number_field : (s : Slot) (n : PlainNumber) (from first place content more : ℕ) (known last : Option ℕ) (packet line : List ℕ) → IsNumber from s n → 8 * first ≡ place → place + (n.window.place + n.window.size) ≤ content → IfSome last (λ v. (n.integer.is_signed ≡ false) × (number_after n.window packet first ≡ pos v))
+number_field : (s : Slot) (n : PlainNumber) (base from first place content more : ℕ) (known last : Option ℕ) (packet line : List ℕ) → IsNumber base from s n → place % base ≡ 0 → 8 * first ≡ place → place + (n.window.place + n.window.size) ≤ content → IfSome last (λ v. (n.integer.is_signed ≡ false) × (number_after n.window packet first ≡ pos v))
     → PutsField s packet content (numbers_to (place + from) more known line) (numbers_to (place + (n.window.place + n.window.size)) more last (line ++ plain_text packet first n))
-number_field s n from first place content more known last packet line is starts within number_is =
-    let alone = number_alone s n from first place content packet line is starts within in
+number_field s n base from first place content more known last packet line is whole starts within number_is =
+    let alone = number_alone s n base from first place content packet line is whole starts within in
     alone_field s packet content (numbers_to (place + from) more known line) (numbers_to (place + (n.window.place + n.window.size)) more last (line ++ plain_text packet first n)) alone.0 alone.1 refl (stands last number_is)
   where
     stands : (o : Option ℕ) → IfSome o (λ v. (n.integer.is_signed ≡ false) × (number_after n.window packet first ≡ pos v)) → IfSome o (StandsAsNumber (form s.member.class) packet content (next_multiple_of (place + from) s.align))
     stands None told = tt
-    stands (Some v) told = number_stands s n from first place content v packet is starts within told.0 told.1
+    stands (Some v) told = number_stands s n base from first place content v packet is whole starts within told.0 told.1
+
+-- an integer is the same field where it is looked for from another place that leads to it
+module _ (s : Slot) (i : Integer) (is : s.member.class.kind ≡ kind.Integer i) (packet : List ℕ) (content at from more : ℕ) (known : Option ℕ) (line : List ℕ) (to : Reached)
+    (below : next_multiple_of at s.align ≤ next_multiple_of from s.align) (same : next_multiple_of (next_multiple_of at s.align) s.member.class.align ≡ next_multiple_of (next_multiple_of from s.align) s.member.class.align) where
+  walks : (c : Input) (env : Env) (spent : ℕ) → walk (form s.member.class) c env (next_multiple_of at s.align) spent ≡ walk (form s.member.class) c env (next_multiple_of from s.align) spent
+  walks c env spent =
+      let there = λ (b : ℕ). begin c spent (leaf c (b + bits_of i) spent (integer_at c i b)) in
+      subst (λ f. walk f c env (next_multiple_of at s.align) spent ≡ walk f c env (next_multiple_of from s.align) spent) (form_integer s.member.class i is) (ap there same)
+
+  stands_led : (o : Option ℕ) → IfSome o (StandsAsNumber (form s.member.class) packet content (next_multiple_of from s.align)) → IfSome o (StandsAsNumber (form s.member.class) packet content (next_multiple_of at s.align))
+  stands_led None found = tt
+  stands_led (Some v) found = λ spent few earlier env. (let n = found spent few earlier env in (n.0, walks (among packet content earlier) env spent ∙ n.1))
+
+  pub field_led : PutsField s packet content (numbers_to from more known line) to → PutsField s packet content (numbers_to at more known line) to
+  field_led puts = (
+    omega (arith, below, puts.0),
+    puts.1,
+    puts.2,
+    λ spent room earlier env vs counted last. (let v = puts.3 spent room earlier env vs counted last in (v.0, walks (among packet content earlier) (vs ∷ env) spent ∙ v.1, v.2, v.3)),
+    stands_led to.last puts.4,
+  )
 
 -- the numbers of a run are its first fields
-pub numbers_fields : (ss rest : List Slot) (ns : List PlainNumber) (from span first place content more : ℕ) (last : Option ℕ) (packet line : List ℕ) → AreInRun from ss ns span rest → IsLastNumber last ns packet first → 8 * first ≡ place → place + span ≤ content
-    → (used : List Slot) × (ss ≡ used ++ rest) × PutsFields used packet content (numbers_to (place + from) more None line) (numbers_to (place + span) more last (line ++ flat_map (plain_text packet first) ns))
-numbers_fields ss rest [] from span first place content more last packet line are known starts within =
-    ([], sym are.1, λ j. numbers_to (place + are.0 j) more (known j) (append-nil line j))
-numbers_fields [] rest (n ∷ ns) from span first place content more last packet line are known starts within = absurd are
-numbers_fields (s ∷ ss) rest (n ∷ []) from span first place content more last packet line are known starts within =
-    let next = n.window.place + n.window.size in
-    let ends : span ≡ next = are.1.0 in
-    let one = number_field s n from first place content more None last packet line are.0 starts (omega (arith, ends, within)) known in
-    (s ∷ [], ap (λ xs. s ∷ xs) (sym are.1.1), (numbers_to (place + next) more last (line ++ plain_text packet first n), one, λ j. numbers_to (place + ends j) more last (line ++ append-nil (plain_text packet first n) j)))
-numbers_fields (s ∷ ss) rest (n ∷ (m ∷ ns)) from span first place content more last packet line are known starts within =
+pub numbers_fields : (ss rest : List Slot) (ns : List PlainNumber) (base at from span first place content more : ℕ) (last : Option ℕ) (packet line : List ℕ) → AreInRun base from ss ns span rest → Leads at (place + from) ss ns → IsLastNumber last ns packet first → (0 < length ns → (place % base ≡ 0) × (8 * first ≡ place)) → place + span ≤ content
+    → (used : List Slot) × (ss ≡ used ++ rest) × PutsFields used packet content (numbers_to at more None line) (numbers_to (place + span) more last (line ++ flat_map (plain_text packet first) ns))
+numbers_fields ss rest [] base at from span first place content more last packet line are leads known starts within =
+    ([], sym are.1, λ j. numbers_to ((ap (λ k. place + k) are.0 ∙ sym leads) j) more (known j) (append-nil line j))
+numbers_fields [] rest (n ∷ ns) base at from span first place content more last packet line are leads known starts within = absurd are
+numbers_fields (s ∷ ss) rest (n ∷ []) base at from span first place content more last packet line are leads known starts within =
     let next = n.window.place + n.window.size in
     let longer = line ++ plain_text packet first n in
-    let inside : place + next ≤ content = omega (arith, within, run_reach next span ss rest (m ∷ ns) are.1) in
-    let after = numbers_fields ss rest (m ∷ ns) next span first place content more last packet longer are.1 known starts within in
+    let ends : span ≡ next = are.1.0 in
+    let begins = starts (omega arith) in
+    let one = number_field s n base from first place content more None last packet line are.0 begins.0 begins.1 (omega (arith, ends, within)) known in
+    let led = field_led s n.integer are.0.is packet content at (place + from) more None line (numbers_to (place + next) more last longer) leads.0 leads.1 one in
+    (s ∷ [], ap (λ xs. s ∷ xs) (sym are.1.1), (numbers_to (place + next) more last longer, led, λ j. numbers_to (place + ends j) more last (line ++ append-nil (plain_text packet first n) j)))
+numbers_fields (s ∷ ss) rest (n ∷ (m ∷ ns)) base at from span first place content more last packet line are leads known starts within =
+    let next = n.window.place + n.window.size in
+    let longer = line ++ plain_text packet first n in
+    let inside : place + next ≤ content = omega (arith, within, run_reach base next span ss rest (m ∷ ns) are.1) in
+    let begins = starts (omega arith) in
+    let after = numbers_fields ss rest (m ∷ ns) base (place + next) next span first place content more last packet longer are.1 (leads_itself (place + next) ss (m ∷ ns)) known (λ some. begins) within in
+    let one = number_field s n base from first place content more None None packet line are.0 begins.0 begins.1 inside tt in
+    let led = field_led s n.integer are.0.is packet content at (place + from) more None line (numbers_to (place + next) more None longer) leads.0 leads.1 one in
     let all = flat_map (plain_text packet first) (m ∷ ns) in (
       s ∷ after.0,
       ap (λ xs. s ∷ xs) after.1,
       (
         numbers_to (place + next) more None longer,
-        number_field s n from first place content more None None packet line are.0 starts inside tt,
+        led,
         subst (λ xs. PutsFields after.0 packet content (numbers_to (place + next) more None longer) (numbers_to (place + span) more last xs)) (append_assoc line (plain_text packet first n) all) after.2,
       ),
     )
-
-at_one : (p : ℕ) → next_multiple_of p 1 ≡ p
-at_one p = omega arith
 
 -- what is left after one more
 drop_one : {A : Type 0} (xs : List A) (i : ℕ) (x : A) (rest : List A) → drop i xs ≡ x ∷ rest → (i < length xs) × (x ≡ get_or xs i x) × (drop (i + 1) xs ≡ rest)
@@ -276,18 +303,18 @@ pub scopes_puts : (ks : List Class) (ss : List Scoped) (opens packet : List ℕ)
 scopes_puts [] ss opens packet content spent from to some are puts = absurd (omega (arith, some))
 scopes_puts (k ∷ ks) [] opens packet content spent from to some are puts = absurd are
 scopes_puts (k ∷ []) (s ∷ []) opens packet content spent from to some are puts =
-    let one = scope_puts k s opens packet content spent from to are.0 are.1 are.3 (subst (λ xs. PutsFields xs packet content from to) (append-nil (slots opens s)) puts) in
+    let one = scope_puts k s opens packet content spent from to are.0 are.1 are.2 (subst (λ xs. PutsFields xs packet content from to) (append-nil (slots opens s)) puts) in
     let total : spent + 1 + length s.members + one.0 ≡ spent + values_in (s ∷ []) + one.0 = omega arith in
     (one.0, one.1, λ few. subst (λ n. Puts (form k) (value_text k) packet content from.place spent to.place n (from.line ++ opens) (to.line ++ (32 ∷ 125 ∷ []))) total (one.2 (omega (arith, few))))
-scopes_puts (k ∷ []) (s ∷ (t ∷ ss)) opens packet content spent from to some are puts = absurd are.4
-scopes_puts (k ∷ (l ∷ ks)) (s ∷ []) opens packet content spent from to some are puts = absurd are.4
+scopes_puts (k ∷ []) (s ∷ (t ∷ ss)) opens packet content spent from to some are puts = absurd are.3
+scopes_puts (k ∷ (l ∷ ks)) (s ∷ []) opens packet content spent from to some are puts = absurd are.3
 scopes_puts (k ∷ (l ∷ ks)) (s ∷ (t ∷ ss)) opens packet content spent from to some are puts =
     let rest = t ∷ ss in
     let apart = fields_split packet content (slots opens s) (all_slots between rest) from to puts in
     let mid = apart.0 in
-    let first = scope_puts k s opens packet content spent from mid are.0 are.1 are.3 apart.1 in
+    let first = scope_puts k s opens packet content spent from mid are.0 are.1 are.2 apart.1 in
     let many = spent + 1 + length s.members + first.0 in
-    let others = scopes_puts (l ∷ ks) rest between packet content many mid to (omega arith) are.4 apart.2 in
+    let others = scopes_puts (l ∷ ks) rest between packet content many mid to (omega arith) are.3 apart.2 in
     let more = first.0 + others.0 in
     let total : many + values_in rest + others.0 ≡ spent + values_in (s ∷ rest) + more = omega arith in
     let text : mid.line ++ between ≡ (mid.line ++ (32 ∷ 125 ∷ [])) ++ codes ", " = sym (append_assoc mid.line (32 ∷ 125 ∷ []) (44 ∷ 32 ∷ [])) in
@@ -305,13 +332,15 @@ scopes_puts (k ∷ (l ∷ ks)) (s ∷ (t ∷ ss)) opens packet content spent fro
     )
 
 -- the numbers of a run, in a buffer
-pub run_numbers : (ss rest : List Slot) (ns ms : List PlainNumber) (span first place content more : ℕ) (last : Option ℕ) (packet before line after : List ℕ) → AreInRun 0 ss ns span rest → ms ≡ ns → IsLastNumber last ns packet first → 8 * first ≡ place → place + span ≤ content → line ≡ before → after ≡ line ++ flat_map (plain_text packet first) ms
-    → (used : List Slot) × (ss ≡ used ++ rest) × PutsFields used packet content (numbers_to place more None before) (numbers_to (place + span) more last after)
-run_numbers ss rest ns ms span first place content more last packet before line after are same known starts within kept wrote =
-    let all = numbers_fields ss rest ns 0 span first place content more last packet before are known starts within in
+pub run_numbers : (align : ℕ) (ss rest : List Slot) (ns ms : List PlainNumber) (at span first place content more : ℕ) (last : Option ℕ) (packet before line after : List ℕ) → TakesNumbers align ss ns span rest → ms ≡ ns → IsLastNumber last ns packet first → IsLeastMultiple at align place → place ≡ next_multiple_of at align → (0 < length ns → 8 * first ≡ place) → place + span ≤ content → line ≡ before → after ≡ line ++ flat_map (plain_text packet first) ms
+    → (used : List Slot) × (ss ≡ used ++ rest) × PutsFields used packet content (numbers_to at more None before) (numbers_to (place + span) more last after)
+run_numbers align ss rest ns ms at span first place content more last packet before line after takes same known least begins starts within kept wrote =
     let none : place + 0 ≡ place = omega arith in
+    let leads : Leads at (place + 0) ss ns = subst (λ p. Leads at p ss ns) (sym none) (run_leads align at place ss ns takes.0 least begins) in
+    let whole : 0 < length ns → (place % max 8 align ≡ 0) × (8 * first ≡ place) = λ some. (let eight : place % 8 ≡ 0 = omega (arith, starts some) in (base_divides place align eight least.multiple, starts some)) in
+    let all = numbers_fields ss rest ns (max 8 align) at 0 span first place content more last packet before takes.1 leads known whole within in
     let text : before ++ flat_map (plain_text packet first) ns ≡ after = sym (wrote ∙ ap (λ xs. xs ++ flat_map (plain_text packet first) ms) kept ∙ ap (λ xs. before ++ flat_map (plain_text packet first) xs) same) in
-    (all.0, all.1, subst (λ p. PutsFields all.0 packet content (numbers_to p more None before) (numbers_to (place + span) more last after)) none (subst (λ xs. PutsFields all.0 packet content (numbers_to (place + 0) more None before) (numbers_to (place + span) more last xs)) text all.2))
+    (all.0, all.1, subst (λ xs. PutsFields all.0 packet content (numbers_to at more None before) (numbers_to (place + span) more last xs)) text all.2)
 
 -- no number is asked for
 pub no_number : (ns : List PlainNumber) (packet : List ℕ) (first : ℕ) → IsLastNumber None ns packet first
@@ -383,22 +412,3 @@ field_alone s f packet content begin place more end last before line after is be
     let none : more + 0 ≡ more = omega arith in
     subst (λ n. PutsField s packet content (numbers_to place more last before) (numbers_to end n None after)) none
     (field_next s f packet content begin place more 0 end last before line after is begins within wrote (puts_next (after_members s.index last) (form s.member.class) (value_text s.member.class) packet content begin end 0 line after puts))
-
-up_again : (p a : ℕ) → a ≡ 8 → next_multiple_of (next_multiple_of p 8) a ≡ next_multiple_of p a
-up_again p a is = subst (λ b. next_multiple_of (next_multiple_of p 8) b ≡ next_multiple_of p b) (sym is) (let same : next_multiple_of (next_multiple_of p 8) 8 ≡ next_multiple_of p 8 = omega arith in same)
-
--- structures begin at a byte, from wherever that is asked for
-pub fields_from : (ks : List Class) (ss : List Scoped) (opens packet : List ℕ) (content place more : ℕ) (last : Option ℕ) (line : List ℕ) (to : Reached) → 0 < length ks → AreScoped ks ss → PutsFields (all_slots opens ss) packet content (numbers_to (next_multiple_of place 8) more last line) to
-    → PutsFields (all_slots opens ss) packet content (numbers_to place more last line) to
-fields_from [] ss opens packet content place more last line to some are puts = absurd (omega (arith, some))
-fields_from (k ∷ ks) [] opens packet content place more last line to some are puts = absurd are
-fields_from (k ∷ ks) (s ∷ ss) opens packet content place more last line to some are puts = by_members s.members are.3 puts
-  where
-    by_members : (ms : List Member) → 0 < length ms → PutsFields (slots_of opens s.align ms ++ all_slots between ss) packet content (numbers_to (next_multiple_of place 8) more last line) to
-        → PutsFields (slots_of opens s.align ms ++ all_slots between ss) packet content (numbers_to place more last line) to
-    by_members [] some puts = absurd (omega (arith, some))
-    by_members (m ∷ ms) some puts =
-        let shown : Shown = λ v. (opens ++ (123 ∷ 32 ∷ [])) ++ part_text (member_part m) v in
-        let mid = puts.0 in
-        let Begins : ℕ → Type 0 = λ q. (q ≤ content) × (n : ℕ) × (mid.more ≡ more + n) × PutsNext (record { index = 0; last = known None }) (form m.class) shown packet content q line (record { place = mid.place; text = 0; more = n; last = known None }) mid.line × IfSome mid.last (StandsAsNumber (form m.class) packet content q) in
-        (mid, subst Begins (up_again place s.align are.2) puts.1, puts.2)

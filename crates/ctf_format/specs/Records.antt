@@ -3,7 +3,7 @@ use Rattle.std.specs.Prelude.{◌≡◌, ℕ, zero, suc, pos, ◌+◌, ◌^◌, 
 use Rattle.std.specs.Int.{next_multiple_of}
 use Rattle.std.specs.List.{All}
 use Rattle.ctf_bits.specs.Placed.{number_after}
-use Rattle.ctf_class.specs.Records.{Slot, AreInRun, After, room_of}
+use Rattle.ctf_class.specs.Records.{Slot, TakesNumbers, After, room_of}
 use Rattle.ctf_class.specs.declared.class.Class.{Class}
 use Rattle.ctf_class.specs.declared.record_plan.Run.{Run}
 use Rattle.ctf_class.specs.declared.plain_number.PlainNumber.{PlainNumber}
@@ -62,7 +62,7 @@ IsLastNumber last (n ∷ (m ∷ ns)) packet first = IsLastNumber last (m ∷ ns)
 
 -- a run takes the first of these fields, and these are left
 abbrev pub TakesRun : List Slot → Run → List Slot → Type 0
-TakesRun ss r others = (rest : List Slot) × AreInRun 0 ss r.numbers r.span rest × After rest r.field (λ xs. xs ≡ others)
+TakesRun ss r others = (rest : List Slot) × TakesNumbers r.align ss r.numbers r.span rest × After rest r.field (λ xs. xs ≡ others)
 
 -- what is known of each run: its room, and that its numbers are near
 pub record IsNear (r : Run) : Type 0 where

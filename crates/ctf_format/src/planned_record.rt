@@ -21,7 +21,6 @@ use crate::room::with_room;
 use crate::standing::{
     AlignedInteger, Position, Standing, put_fixed_text, put_integer, put_string,
 };
-use ctf_bits::up;
 use ctf_class::{Field, Integers, Many, PlainNumber, PreparedText, RecordPlan, Run, Shown};
 use ctf_decode::MOST_VALUES;
 
@@ -59,12 +58,11 @@ pub fn put_planned_record(
     ensures held { IfSome result (λ s. s.end ≤ vec_len buffer.new) }
 {
     let runs = plan.runs.as_slice();
-    let begin = up(from.place, 8);
-    if runs.is_empty() || begin > packet.end {
+    if runs.is_empty() {
         return None;
     }
     let mut reach = Reach {
-        place: begin,
+        place: from.place,
         more: 0,
     };
     let text = put_runs(runs, packet, &mut reach, buffer, from.end)?;
@@ -137,8 +135,8 @@ fn put_run(
     ensures few { IfSome result (λ _. reach.new.more ≤ MOST_VALUES) }
     ensures held { IfSome result (λ text. text ≤ vec_len buffer.new) }
 {
-    let begin = reach.place;
-    if begin % 8 != 0 {
+    let begin = run.align.up(reach.place);
+    if begin > packet.end || (begin % 8 != 0 && !run.numbers.is_empty()) {
         return None;
     }
     // Mostly so many bits of the content are after it that the packet's bytes need no look.

@@ -1,10 +1,9 @@
 use Rattle.std.proofs.Common.{◌≡◌, ◌+◌, ◌<◌, ◌≤◌, ◌++◌, ◌∷◌, [], None, take, length, sym, subst, append-nil, rules, arith}
-use Rattle.std.specs.Int.{next_multiple_of}
 use Rattle.std.specs.List.{All}
 use Rattle.ctf_class.specs.Records.{AreRuns, all_slots, values_in}
 use Rattle.ctf_decode.specs.declared.scopes.TheConstants.{MOST_VALUES}
-use Rattle.ctf_format.specs.Records.{IsNear, PutsFields, PutsScopes, reached}
-use Rattle.ctf_format.proofs.RecordsLemmas.{numbers_to, runs_near, fields_from, scopes_puts}
+use Rattle.ctf_format.specs.Records.{IsNear, PutsScopes, reached}
+use Rattle.ctf_format.proofs.RecordsLemmas.{numbers_to, runs_near, scopes_puts}
 use Rattle.ctf_format.proofs.planned_record.put_planned_record.Goals as goal
 
 pub put_runs-requires-clause-near : goal.put_runs-requires-clause-near
@@ -29,8 +28,7 @@ returns-clause-puts c = λ classes several planned.
     let slots = all_slots [] is.0 in
     let puts = c.in_ok-text.ensures.puts slots (subst (AreRuns slots) (sym c.as_slice-runs.ensures) is.3) in
     let line = puts.0 in
-    let begun : PutsFields slots bytes content (numbers_to (next_multiple_of place 8) 0 None before) (reached to line) = subst (λ p. PutsFields slots bytes content (numbers_to p 0 None before) (reached to line)) c.up-begin.ensures.value puts.1 in
-    let whole = scopes_puts classes is.0 [] bytes content spent (numbers_to place 0 None before) (reached to line) several is.1 (fields_from classes is.0 [] bytes content place 0 None before (reached to line) several is.1 begun) in
+    let whole = scopes_puts classes is.0 [] bytes content spent (numbers_to place 0 None before) (reached to line) several is.1 puts.1 in
     let count = c.in_ok-count.count in
     let sum : count ≡ plan.count + to.more = search rules in
     let total : spent + values_in is.0 + whole.0 ≡ spent + count = omega (arith, is.2, whole.1, sum) in

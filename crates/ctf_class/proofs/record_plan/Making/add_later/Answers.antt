@@ -12,8 +12,8 @@ loop-i-preserved c =
     let before = laters 1 (take i ms) in
     let new = c.add_member.new.self in
     let took : IsTrue c.in_ok-add_member.field-0 = search rules in
-    let one : c.in-Some.anywhere ≡ 1 = search rules in
-    let slot : Slot = record { lead = 44 ∷ 32 ∷ []; align = c.in-Some.anywhere; index = i + 1; member = m } in
+    let one : c.one_bit.result ≡ 1 = search rules in
+    let slot : Slot = record { lead = 44 ∷ 32 ∷ []; align = c.one_bit.result; index = i + 1; member = m } in
     let slot_is : slot ≡ later (i + 1) m = ap (λ a. record { lead = 44 ∷ 32 ∷ []; align = a; index = i + 1; member = m }) one in
     record {
       few = c.in_ok-add_member.ensures.few took;

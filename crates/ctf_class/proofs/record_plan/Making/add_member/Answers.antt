@@ -1,16 +1,18 @@
-use Rattle.std.proofs.Common.{◌++◌, ◌∷◌, [], IfSome, refl, sym, subst, rules}
+use Rattle.std.proofs.Common.{◌++◌, ◌∷◌, [], IfSome, max, refl, sym, subst, rules}
 use Rattle.ctf_class.specs.Making.{IsMade}
 use Rattle.ctf_class.specs.Records.{Slot, IsNumber, IsShown, IsField}
 use Rattle.ctf_class.specs.declared.record_plan.Field.{Field}
 use Rattle.ctf_class.specs.declared.plain_number.PlainNumber.{PlainNumber}
-use Rattle.ctf_class.proofs.RecordsLemmas.{made_number, made_field}
+use Rattle.ctf_class.proofs.RecordsLemmas.{goes_on, made_number, made_field}
 use Rattle.ctf_class.proofs.record_plan.Making.add_member.Goals as goal
 
 pub returns-in-Some-clause-made : goal.returns-in-Some-clause-made
 returns-in-Some-clause-made c = λ _ done made.
     let s : Slot = record { lead = c.args.next.now.lead.now; align = c.args.next.now.align; index = c.args.next.now.index; member = c.args.next.now.member.now } in
     let n : PlainNumber = record { integer = c.in-Some.integer; window = c.in-Some.window; ready = c.in_ok-ready.ready } in
-    let is : IsNumber c.args.self.now.span s n = record {
+    let run = c.align_with-run_align.result in
+    let on = goes_on c.args.self.now.align run s c.args.self.now.numbers c.align_with-run_align.ensures.first c.align_with-run_align.ensures.later in
+    let is : IsNumber (max 8 run) c.args.self.now.span s n = record {
       is = search rules;
       decimal = search rules;
       little = search rules;
@@ -19,7 +21,7 @@ returns-in-Some-clause-made c = λ _ done made.
       window = search rules;
       ready = c.in_ok-ready.ensures;
     } in
-    subst (IsMade (done ++ s ∷ [])) (sym c.in_ok-add_number.ensures) (made_number done s c.args.self.now n is (search rules) made)
+    subst (IsMade (done ++ s ∷ [])) (sym c.in_ok-add_number.ensures) (made_number done s c.args.self.now run n on is (search rules) made)
 
 pub returns-clause-made : goal.returns-clause-made
 returns-clause-made c = λ _ done made.

@@ -10,9 +10,9 @@ returns-clause-made c = λ _ ks of.
     let xs = c.in-Some.others.now in
     let old = c.args.self.now in
     let others = c.add_later.new.self in
-    let new : Making = record { runs = others.runs; numbers = others.numbers; span = others.span; room = others.room; count = c.in-Some-checked_add.count } in
+    let new : Making = record { runs = others.runs; align = others.align; numbers = others.numbers; span = others.span; room = others.room; count = c.in-Some-checked_add.count } in
     let is : c.args.class.now.kind ≡ kinds.Structure (x ∷ xs) = search rules in
     let begun : IsTrue c.in_ok-add_member.field-0 = search rules in
     let ended : IsTrue c.in_ok-add_later.field-0 = search rules in
     let count : new.count ≡ old.count + (length xs + 2) = search rules in
-    made_scope ks c.args.class.now x xs c.opening_text.result.now old c.add_member.new.self others new is (search rules) c.opening_text.ensures (c.in_ok-add_member.ensures.made begun) (c.in_ok-add_later.ensures.made ended) refl count of
+    made_scope ks c.args.class.now x xs c.opening_text.result.now old c.add_member.new.self others new is c.opening_text.ensures (c.in_ok-add_member.ensures.made begun) (c.in_ok-add_later.ensures.made ended) refl count of
