@@ -44,7 +44,13 @@ fn put_scope(row: &mut Row<'_>, scope: Option<&Class>) {
 fn put_event_row(row: &mut Row<'_>) {
     let mut events = List::new(row.alloc);
     let (id, name, context) = (row.long(), row.word(), row.number());
-    let added = add_event(row.alloc, &mut events, id, name, context, row.words);
+    let named = NamedEvent {
+        id,
+        name,
+        context,
+        fields: row.words,
+    };
+    let added = add_event(row.alloc, &mut events, named);
     if let (Ok(()), Some(event)) = (added, events.as_slice().first()) {
         put_event(row, event);
     }
@@ -58,21 +64,28 @@ fn put_event(row: &mut Row<'_>, event: &EventClass) {
     put_class(row, event.fields());
 }
 
-/// Adds an event class whose fields have the class that words name.
+/// An event class as a row names it: which scope its context has, and the words of the class of its fields.
+#[derive(Clone, Copy)]
+struct NamedEvent<'a> {
+    id: u64,
+    name: &'a str,
+    context: u32,
+    fields: &'a str,
+}
+
+/// Adds an event class that a row names.
 fn add_event(
     alloc: Global,
     events: &mut List<EventClass>,
-    id: u64,
-    name: &str,
-    context: u32,
-    words: &str,
+    named: NamedEvent<'_>,
 ) -> Result<(), NoMemory> {
-    let heading = Heading::new(alloc, None, List::from_slice(alloc, name.as_bytes())?)?;
-    if let Some(fields) = members_of(alloc, words).pop() {
+    let name = List::from_slice(alloc, named.name.as_bytes())?;
+    let heading = Heading::new(alloc, None, name)?;
+    if let Some(fields) = members_of(alloc, named.fields).pop() {
         events.push(EventClass {
-            id,
+            id: named.id,
             heading,
-            context: scope(context),
+            context: scope(named.context),
             fields: fields.class,
         })?;
     }
@@ -103,7 +116,13 @@ fn add_stream(
     let mut events = List::new(alloc);
     for number in numbers.split(',') {
         if let Ok(id) = number.parse::<u64>() {
-            add_event(alloc, &mut events, id, "tick", 0, FIELDS)?;
+            let tick = NamedEvent {
+                id,
+                name: "tick",
+                context: 0,
+                fields: FIELDS,
+            };
+            add_event(alloc, &mut events, tick)?;
         }
     }
     let parts = StreamParts {

@@ -35,7 +35,7 @@ by_if : (b a : Offset) (t : Bool) (o p : AmbiguousOffset) → (t ≡ true → Go
 by_if b a true o p h g = h refl
 by_if b a false o p h g = g
 
-after : (b a std dst : Offset) (w : ℤ × ℤ) (n : ℤ) → dst.seconds <ℤ std.seconds → GoesBack b a (Rule.ambiguous_after std dst w n)
+after : (b a std dst : Offset) (w : ℤ × ℤ) (n : ℤ) → dst.seconds <ℤ std.seconds → GoesBack b a (Rule.ambiguous_behind std dst w n)
 after b a std dst w n h =
     by_if b a _ _ _ (λ _. one b a dst) (by_if b a _ _ _ (λ _. fold b a std dst h) (by_if b a _ _ _ (λ _. gap b a dst std) (one b a std)))
 
