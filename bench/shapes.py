@@ -8,6 +8,7 @@ import random
 import string
 import struct
 import sys
+import uuid
 from typing import Callable, Iterator, NamedTuple, Optional
 
 import packets
@@ -39,6 +40,7 @@ typealias integer { size = 64; map = clock.m.value; } := stamp64;
 """
 
 MAGIC = 0xC1FC1FC1
+UUID = uuid.UUID("2a6422d0-6cee-11e0-8c08-cb07d7b3a564")
 LITTLE, BIG = "<", ">"
 # So many different records there are of each shape.
 RECORDS = 4096
@@ -73,6 +75,7 @@ class Shape(NamedTuple):
     frequency: int = 1_000_000_000
     stream_context: Optional[Members] = None
     event_context: Optional[Members] = None
+    has_uuid: bool = False
     in_packet: int = 4000
     fewer: int = 1
 
@@ -281,6 +284,8 @@ HEADERS = [
     Shape("packets of 1 event", THREE, COMPACT, in_packet=1, fewer=4),
     Shape("packets of 8 events", THREE, COMPACT, in_packet=8),
     Shape("packets of 64 events", THREE, COMPACT, in_packet=64),
+    Shape("packets of 1 event, with a UUID", THREE, COMPACT, has_uuid=True, in_packet=1, fewer=4),
+    Shape("packets of 8 events, with a UUID", THREE, COMPACT, has_uuid=True, in_packet=8),
 ]
 
 SHAPES = INTEGERS + TEXTS + ENUMERATIONS + COMPOUNDS + HEADERS
@@ -293,7 +298,9 @@ WRITTEN_OTHERWISE = {"labels that overlap", "a variant of four options"}
 
 def metadata_of(shape: Shape) -> str:
     order, has_clock = "le" if shape.order == LITTLE else "be", shape.header.has_clock
-    head = f"trace {{ major = 1; minor = 8; byte_order = {order}; packet.header := struct {{ u32 magic; u32 stream_id; }}; }};\n"
+    of_trace, in_packets = (f'uuid = "{UUID}"; ', "u8 uuid[16]; ") if shape.has_uuid else ("", "")
+    header = f"struct {{ u32 magic; {in_packets}u32 stream_id; }}"
+    head = f"trace {{ major = 1; minor = 8; {of_trace}byte_order = {order}; packet.header := {header}; }};\n"
     stamps = "stamp64 timestamp_begin; stamp64 timestamp_end; " if has_clock else ""
     stream = f" packet.context := struct {{ {stamps}u64 content_size; u64 packet_size; u32 cpu_id; }};\n"
     if shape.header.text:
@@ -308,12 +315,13 @@ def metadata_of(shape: Shape) -> str:
 
 def packet(shape: Shape, begin: int, end: int, records: bytes) -> bytes:
     """A packet of records, the first of which is aligned as their headers are."""
-    sizes_at = 24 if shape.header.has_clock else 8
+    of_trace = UUID.bytes if shape.has_uuid else b""
+    sizes_at = (24 if shape.header.has_clock else 8) + len(of_trace)
     padding = bytes(-(sizes_at + 20) % shape.header.align)
     size = 8 * (sizes_at + 20 + len(padding) + len(records))
     stamps = struct.pack(shape.order + "QQ", begin, end) if shape.header.has_clock else b""
-    head = struct.pack(shape.order + "II", MAGIC, 0) + stamps + struct.pack(shape.order + "QQI", size, size, 3)
-    return head + padding + records
+    head = struct.pack(shape.order + "I", MAGIC) + of_trace + struct.pack(shape.order + "I", 0)
+    return head + stamps + struct.pack(shape.order + "QQI", size, size, 3) + padding + records
 
 
 def bodies_of(shape: Shape) -> list[bytes]:

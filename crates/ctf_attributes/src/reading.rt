@@ -6,7 +6,7 @@ ghost use Rattle.ctf_meaning.specs.Integers.{sign_of, base_of, order_of};
 ghost use Rattle.ctf_meaning.specs.Clocks.{frequency_of, offset_of};
 ghost use Rattle.ctf_attributes.specs.Mapped.{clock_in};
 
-use crate::ends::{before, after};
+use crate::ends::{after, before};
 use crate::value::{count, is_count, number, says};
 use ctf_bits::Order;
 use ctf_class::{Base, Frequency};

@@ -18,7 +18,7 @@ mod scratch;
 mod sizes;
 mod told;
 
-pub use clock::{clock_before, clock_after, clock_until, discarded_since, lost_since};
+pub use clock::{clock_after, clock_before, clock_until, discarded_since, lost_since};
 pub use fault::StreamFault;
 pub use field::Field;
 pub use header::stream_checked;

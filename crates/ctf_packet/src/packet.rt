@@ -8,7 +8,7 @@ ghost use Rattle.ctf_packet.specs.Packets as packets;
 ghost use Rattle.ctf_packet.specs.Views.{opened_of};
 ghost use Rattle.ctf_packet.specs.Gives.{Exactly, Placed};
 
-use crate::clock::{clock_before, clock_after, clock_until, discarded_since, lost_since};
+use crate::clock::{clock_after, clock_before, clock_until, discarded_since, lost_since};
 use crate::fault::StreamFault;
 use crate::packet_place::PacketPlace;
 use crate::reached::Reached;
