@@ -1,7 +1,7 @@
 #!/usr/bin/env python3
-"""Runs a program again and again, with its first growth of memory refused, then its second, and so on until a run meets no
-refusal: refuse.py PROGRAM WORD... Each run before that has to write a first part of the whole output and to end with status 1
-and the line of O2. It needs a C compiler."""
+"""Runs a program again and again, with its first allocation failing, then its second, and so on until none fails in a run:
+refuse.py PROGRAM WORD... Each run before that has to write a first part of the whole output and to end with status 1 and the
+line of O2. It needs a C compiler."""
 
 import os
 import pathlib
@@ -27,12 +27,12 @@ void *realloc(void *old, size_t size) { return refuse() ? 0 : __libc_realloc(old
 void *aligned_alloc(size_t align, size_t size) { return refuse() ? 0 : __libc_memalign(align, size); }
 """
 
-# So many runs in a row without a refusal are the end.
+# So many runs in a row in which no allocation fails are the end.
 UNTOUCHED = 200
 
 
 def run(words: list[str], library: pathlib.Path, number: int) -> tuple[int, bytes, bytes]:
-    """Status, output and messages of a run in which the growth of a number is refused."""
+    """Status, output and messages of a run in which the allocation of this number fails."""
     variables = dict(os.environ, LD_PRELOAD=str(library), REFUSE=str(number))
     done = subprocess.run(words, env=variables, capture_output=True, check=False)
     return done.returncode, done.stdout, done.stderr
@@ -51,7 +51,7 @@ def main(words: list[str]) -> int:
         source.write_text(ALLOCATOR)
         subprocess.run(["cc", "-O2", "-shared", "-fPIC", "-o", library, source], check=True)
         whole = run(words, library, 0)
-        refused = number = untouched = 0
+        failed = number = untouched = 0
         while untouched < UNTOUCHED:
             number += 1
             status, output, messages = found = run(words, library, number)
@@ -59,11 +59,11 @@ def main(words: list[str]) -> int:
                 untouched += 1
                 continue
             untouched = 0
-            refused += 1
+            failed += 1
             if status != 1 or not whole[1].startswith(output) or not is_cut(whole[2], messages):
-                print(f"growth {number}: status {status}, {messages!r}")
+                print(f"allocation {number}: status {status}, {messages!r}")
                 return 1
-    print(f"{refused} growths refused")
+    print(f"{failed} allocations failed")
     return 0
 
 
