@@ -1,5 +1,5 @@
 -- Where each route of a class leads to an integer or an enumeration of the classes before it, what is looked for is
--- found in values that stand for these classes.
+-- found in values of these classes.
 use Rattle.std.proofs.Common.{◌≡◌, ℕ, zero, suc, ℤ, false, cond, List, [], ◌∷◌, ◌++◌, Option, Some, None, refl, sym, ap, ◌∙◌, subst}
 use Rattle.std.specs.Prelude.{slice_get, option_and_then}
 use Rattle.std.proofs.lemmas.Option.{none-some, same_Some}
@@ -188,7 +188,7 @@ module _ (after : After) (earlier : Scope → Option Val) (scopes : FitAfter aft
       let rest = fit_down steps step.0 at.0 at.2 l step.2 in
       (rest.0, ap (option_and_then (down steps)) at.1 ∙ rest.1, rest.2)
 
-  -- what a route leads to stands there
+  -- what a route leads to is there
   fit_found : (route : Route) (around : Around) (env : Env) → FitAround around env → Gets (led route after around) (found route earlier env)
   unfolding found
   fit_found route around env h = fit_from route.origin route.steps around env h

@@ -1,4 +1,4 @@
--- What a reader hands in for a scope stands for the classes of the scopes before it.
+-- What a reader hands in for a scope is of the classes of the scopes before it.
 use Rattle.std.proofs.Common.{◌≡◌, ◌==◌, ℕ, ℤ, pos, ◌^◌, ◌*◌, Bool, true, false, cond, nat_lt, List, [], ◌∷◌, length, Option, Some, None, Result, Ok, Err, codes, sym, ap, ◌∙◌, subst}
 use Rattle.std.specs.List.{last_or}
 use Rattle.std.proofs.lemmas.Option.{none-some, same_Some}
@@ -33,7 +33,7 @@ use Rattle.class_laws.proofs.Leading.{After, FitsIn, FitAfter, IsNumber, read_nu
 use Rattle.class_laws.proofs.Resolving.{find_each}
 use Rattle.class_laws.proofs.Denoted.{after_of, LeadsIn, EventLeads, StreamLeads, TraceLeads}
 
--- what stands in a scope stands for its class
+-- what is in a scope is of its class
 stood_fits : (told : Fault → StreamFault) (k : Form) (c : Input) (p s : ℕ) (r : Step Val) (w : Stood) → Is k c [] p s r → stood told r ≡ Ok w → FitsIn (Some k) w.value
 stood_fits told k c p s (Ok x) w h e =
     let g : record { value = Some x.0; end = x.1; spent = x.2 } ≡ w = cc in
@@ -44,7 +44,7 @@ scope_fits : (told : Fault → StreamFault) (k : Option Form) (c : Input) (p s :
 scope_fits told None c p s w e = tt
 scope_fits told (Some k) c p s w e = stood_fits told k c p s (walk k c [] p s) w (walk_is k c [] p s) e
 
--- the values of scopes that stand for these classes
+-- the values of scopes of these classes
 fit : (header context event shared own : Option Form) (values : Values) → FitsIn header values.packet_header → FitsIn context values.packet_context → FitsIn event values.event_header
     → FitsIn shared values.stream_event_context → FitsIn own values.event_context → FitAfter (after_of header context event shared own) (value_in values)
 fit header context event shared own values a b d e f PacketHeader = a
@@ -103,7 +103,7 @@ module _ {C : Type 0} where
   event_each P events (Some id) h x e = numbered_each P events id h x e
   event_each P events None h x e = only_each P events h x e
 
-  -- a packet that was opened, with what stands in its scopes
+  -- a packet that was opened, with what is in its scopes
   abbrev IsOpened : TraceForm C → Opened C → Type 0
   IsOpened trace p = StreamLeads trace.packet_header p.stream × FitsIn trace.packet_header p.values.packet_header × FitsIn p.stream.packet_context p.values.packet_context
 
@@ -135,7 +135,7 @@ module _ {C : Type 0} where
         subst (λ (v : Values). StreamLeads trace.packet_header p.stream × FitsIn trace.packet_header v.packet_header × FitsIn p.stream.packet_context v.packet_context) g.1
         (subst (λ (x : StreamForm C). StreamLeads trace.packet_header x × FitsIn trace.packet_header values.packet_header × FitsIn x.packet_context values.packet_context) g.0 here)
 
-    -- the header of an event record, with what stands in it
+    -- the header of an event record, with what is in it
     abbrev IsHeaded : StreamForm C → Headed C → Type 0
     IsHeaded stream head = EventLeads trace.packet_header stream.packet_context stream.event_header stream.event_context head.event × FitsIn stream.event_header head.header.value
 

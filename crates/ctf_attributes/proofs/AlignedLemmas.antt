@@ -54,7 +54,7 @@ told-by bits (Some x) false e h = absurd (true≢false (sym (is_alignment-true b
 told-by bits None true e h = absurd (h (IsAlignment-true bits e))
 told-by bits None false e h = refl
 
--- what is told of an alignment
+-- what is reported of an alignment
 pub aligned-told : (bits : ℕ) (o : Option ℕ) (r : Result ℕ ResolveFault) → SomeIff o (IsAlignment bits) bits → r ≡ ok_or o SizeOrAlignment → TellsFirst (when (not (is_alignment bits)) SizeOrAlignment) (λ a. a ≡ bits) r
 aligned-told bits o r h same =
     let P : Result ℕ ResolveFault → Type 0 = λ x. TellsFirst (when (not (is_alignment bits)) SizeOrAlignment) (λ a. a ≡ bits) x in

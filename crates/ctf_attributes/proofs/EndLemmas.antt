@@ -17,7 +17,7 @@ turned a b false false h k = refl
 nat_eq-turned : (a b : ℕ) → nat_eq a b ≡ nat_eq b a
 nat_eq-turned a b = turned a b (nat_eq a b) (nat_eq b a) refl refl
 
--- what stands after a beginning is cut off by its length
+-- what is after a beginning is cut off by its length
 cut : Bool → Word → Option Word
 cut true rest = Some rest
 cut false rest = None

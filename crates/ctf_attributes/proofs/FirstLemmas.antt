@@ -35,7 +35,7 @@ two z a b clean h = ap (λ x. x ++ a ++ b) clean ∙ h
 pub first-of-two : (z a b : List ResolveFault) (f : ResolveFault) → z ≡ [] → first (a ++ b) ≡ Some f → first (z ++ a ++ b) ≡ Some f
 first-of-two z a b f clean h = ap (λ x. first (x ++ a ++ b)) clean ∙ h
 
--- what is told where a call's fault is handed on
+-- what is reported where a call's fault is handed on
 pub handed : {V : Type 0} (faults : List ResolveFault) (P : V → Type 0) (r : Result V ResolveFault) (f : ResolveFault) → IsErr r × IsErrAnd r (λ e. e ≡ f) → first faults ≡ Some f → Tells faults P r
 handed faults P (Ok v) f h k = absurd h.1
 handed faults P (Err e) f h k = inr (k ∙ ap (λ x. Some x) (sym h.1))

@@ -78,7 +78,7 @@ none_any test [] (suc n) d h = refl
 none_any test (x ∷ xs) (suc n) d h =
     ap (λ b. b || list_any test (take n xs)) (h 0 (omega arith)) ∙ none_any test xs n d (λ k less. h (suc k) (omega arith))
 
--- the test of a label that stands before one of a name
+-- the test of a label that is before one of a name
 abbrev shown_by : List Label → ℤ → ℕ → ℕ → Bool
 shown_by labels z place before = covers (label_at labels before).span z && bytes_eq (label_at labels before).name (label_at labels place).name
 

@@ -30,7 +30,7 @@ counted-more id_of items i item within at is before =
     let number : 0 + i ≡ i = omega arith in
     cc
 
--- of counted items the one of a number stands at the number
+-- of counted items the one of a number is at the number
 pub position_from-counted : {T : Type 0} (id_of : T → ℕ) (items : List T) (first id : ℕ) → map id_of items ≡ range_with_len first (length items) → first ≤ id → cond (ltb id (first + length items)) (Some id) None ≡ position_from (λ item. eqb (id_of item) id) first items
 position_from-counted id_of [] first id counted above = grind (arith, nat_tests)
 position_from-counted id_of (item ∷ items) first id counted above =
@@ -95,7 +95,7 @@ counted-firsts id_of items id counted =
     let none : length items ≡ 0 + length items = omega arith in
     ap (λ n. cond (ltb id n) (Some id) None) none ∙ position_from-counted id_of items 0 id counted (omega arith)
 
--- each place has a rank in the places as they stand, and in another order
+-- each place has a rank in the places as they are, and in another order
 pub ranks-same : {X : Type 0} (items : List X) → HasRanks items []
 ranks-same items = record { rank = λ place within. (place, within, refl) }
 

@@ -31,7 +31,7 @@ append_none (x ∷ xs) = ap (λ l. x ∷ l) (append_none xs)
 abbrev pair : Seen → List Field → Seen × List Field
 pair own fields = (own, fields)
 
--- what follows a value that is made where no fault stands
+-- what follows a value that is made where there is no fault
 bind_unless : {A B C : Type 0} (t : Told A) (faults : A → List ResolveFault) (f : A → B) (g : B → Told C) →
     (t >>= λ a. unless (faults a) (g (f a))) ≡ ((t >>= λ a. unless (faults a) (Ok (f a))) >>= g)
 bind_unless (Ok a) faults f g = unless_bind (faults a) (Ok (f a)) g

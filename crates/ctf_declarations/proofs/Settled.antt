@@ -1,4 +1,4 @@
--- What settings tell, one list of faults after another.
+-- What settings report, one list of faults after another.
 use Rattle.std.proofs.Common.{◌≡◌, List, [], ◌∷◌, ◌++◌, Result, Ok, Err, Some, OnOk, refl, ap, sym, ◌∙◌, subst, inl, inr}
 use Rattle.std.specs.Prelude.{◌⊎◌}
 use Rattle.ctf_meaning.specs.declared.fault.ResolveFault.{ResolveFault}

@@ -8,7 +8,7 @@ use Rattle.ctf_meaning.specs.There.{first}
 use Rattle.ctf_meaning_steps.specs.Told.{Told, ◌>>=◌, unless, Follows}
 use Rattle.ctf_attributes.specs.Tells.{Tells}
 
--- what an error tells of what was to be told
+-- what an error reports of what a step gives
 abbrev pub Tell : {A : Type 0} → Told A → ResolveFault → Type 0
 Tell told fault = (fault ≡ NoMemory) ⊎ (told ≡ Err fault)
 
@@ -32,7 +32,7 @@ pub bind_map : {A B C : Type 0} (t : Told A) (g : A → B) (h : B → Told C) �
 bind_map (Ok a) g h = refl
 bind_map (Err f) g h = refl
 
--- what settings tell, as a step
+-- what settings report, as a step
 pub tells_value : {A V : Type 0} (faults : List ResolveFault) (view : V → A) (a : A) (r : Result V ResolveFault) → Tells faults (λ v. view v ≡ a) r → Follows (unless faults (Ok a)) view r
 tells_value faults view a (Ok v) h = ap (λ fs. unless fs (Ok a)) h.0 ∙ ap Ok (sym h.1)
 tells_value faults view a (Err f) (inl n) = inl n

@@ -28,7 +28,7 @@ string_one d b v v' q q' h g =
     let same : h.n ≡ g.n = cc in
     (h.value ∙ ap (λ n. text_val (take n (bytes_from d b))) same ∙ sym g.value, h.ends ∙ ap (λ n. b + 8 * (n + 1)) same ∙ sym g.ends)
 
--- at the most one value stands
+-- at the most one value is there
 abbrev One : (ℕ → Val → ℕ → Type 0) → Type 0
 One R = (p : ℕ) (v : Val) (q : ℕ) (v' : Val) (q' : ℕ) → R p v q → R p v' q' → (v ≡ v') × (q ≡ q')
 

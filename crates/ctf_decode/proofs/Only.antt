@@ -1,4 +1,4 @@
--- What stands is what the function finds.
+-- What is there is what the function finds.
 use Rattle.std.proofs.Common.{◌≡◌, ℕ, zero, suc, ◌+◌, ◌*◌, ◌<◌, ◌≤◌, cond, List, [], ◌∷◌, ◌++◌, take, Option, Some, None, Ok, Err, refl, sym, ap, subst, ◌∙◌, ◌⊎◌, inl, inr, arith}
 use Rattle.std.specs.Int.{next_multiple_of}
 use Rattle.std.proofs.lemmas.Bool.{lt-ltb, le-ltb}
@@ -12,7 +12,7 @@ use Rattle.ctf_decode.specs.Breaks.{Fault, too_many, past, Begins, Opens, Breaks
 use Rattle.ctf_decode.specs.Walk.{Step, and_then, begin, open_at, leaf, string_end, string_at, repeat, with_option, as_group, as_list, as_choice, walk, walk_members, walk_option}
 use Rattle.ctf_decode.proofs.Sound.{Holds, HoldsAll, counts-snoc, one_integer}
 
--- whatever stands so, or breaks so, is w
+-- whatever value or fault is there is w
 abbrev Finds : Input → (Val → ℕ → Type 0) → (Fault → Type 0) → ℕ → Step Val → Type 0
 Finds c R B s w = (r : Step Val) → Holds c R B s r → r ≡ w
 

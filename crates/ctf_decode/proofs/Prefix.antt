@@ -1,4 +1,4 @@
--- What stands in a beginning of a packet stands in the whole.
+-- What is in a beginning of a packet is in the whole.
 use Rattle.std.proofs.Common.{◌≡◌, ℕ, zero, suc, ◌+◌, ◌-◌, ◌*◌, ◌/◌, ◌%◌, ◌^◌, ◌<◌, ◌≤◌, ◌-ℤ◌, Bool, cond, not, List, [], ◌∷◌, ◌++◌, length, take, drop, Option, Some, None, refl, sym, ap, subst, ◌∙◌, arith, nat_lt, nat_eq, pos, length-append, length-drop}
 use Rattle.std.specs.Prelude.{position}
 use Rattle.std.specs.List.{position_or_len, take_while}
@@ -109,7 +109,7 @@ module _ (packet more : List ℕ) (content whole limit : ℕ) (earlier : Scope �
       let e2 : take n (drop j (packet ++ more)) ≡ take m (xs ++ more) ++ take (n - m) (drop m (xs ++ more)) = ap (take n) e1 ∙ ap (λ x. take x (xs ++ more)) k ∙ take-add m (n - m) (xs ++ more) in
       (take (n - m) (drop m (xs ++ more)), e2 ∙ ap (λ x. x ++ take (n - m) (drop m (xs ++ more))) (take-append-le m xs more l))
 
-  -- a string that stands begins within the content
+  -- a string that is there begins within the content
   string_within : (b : ℕ) (v : Val) (q : ℕ) → StandsString c b v q → b ≤ content
   string_within b v q t =
       let s = position-Some (λ x. nat_eq x 0) (bytes_from c b) t.n 0 t.first in

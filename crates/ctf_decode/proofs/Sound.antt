@@ -1,4 +1,4 @@
--- What the function finds stands.
+-- What the function finds is there.
 use Rattle.std.proofs.Common.{◌≡◌, ℕ, zero, suc, ◌+◌, ◌*◌, ◌<◌, ◌≤◌, true, false, cond, List, [], ◌∷◌, ◌++◌, Option, Some, None, Ok, Err, refl, sym, subst, ◌⊎◌, inl, inr, arith, nat_lt, nat_eq}
 use Rattle.std.specs.Prelude.{position}
 use Rattle.std.specs.Int.{next_multiple_of}
@@ -14,7 +14,7 @@ use Rattle.ctf_decode.specs.Stands.{Leaf, StandsString, text_in, StandsRow, Stan
 use Rattle.ctf_decode.specs.Breaks.{Fault, too_many, past, Begins, Opens, BreaksLeaf, BreaksString, BreaksRow, IsOption, Breaks, BreaksMembers, BreaksOption}
 use Rattle.ctf_decode.specs.Walk.{Step, and_then, begin, open_at, leaf, string_end, string_at, repeat, with_option, as_choice, walk, walk_members, walk_option}
 
--- what was found stands by R, and raises the count from s, or breaks by B
+-- what was found is there by R, and raises the count from s, or is a fault by B
 abbrev pub Holds : Input → (Val → ℕ → Type 0) → (Fault → Type 0) → ℕ → Step Val → Type 0
 Holds c R B s (Ok x) = R x.0 x.1 × (x.2 ≡ s + count x.0) × (x.2 ≤ c.limit)
 Holds c R B s (Err f) = B f

@@ -1,4 +1,4 @@
--- What a call gives stands, or breaks so.
+-- The value that a call gives is there, or there is the fault that it gives.
 use Rattle.std.proofs.Common.{◌≡◌, ℕ, ◌+◌, Ok, subst}
 use Rattle.ctf_decode.specs.Values.{Val, count}
 use Rattle.ctf_decode.specs.Input.{Input}

@@ -52,7 +52,7 @@ there_is : (bytes : List ℕ) (known : Known) → there bytes known ≡ front by
 there_is bytes known =
     λ i. record { packet = bytes; content = min (8 * length bytes) longest; earlier = λ scope. same_value known scope i; limit = MOST_VALUES }
 
--- what was asked for and is there is what stands
+-- what was asked for and is there is what the definition says
 abbrev pub stood_or : Stood → Result Stood (Want Classes) → Stood
 stood_or d (Ok x) = x
 stood_or d (Err want) = d

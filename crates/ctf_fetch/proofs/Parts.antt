@@ -51,7 +51,7 @@ module _ (k : Form) (env : Env) (known : Known) (p s : ℕ) where
       let l = length-append bytes more in
       walk_more bytes more (min (8 * length bytes) longest) (min (8 * length (bytes ++ more)) longest) MOST_VALUES (earlier known) (omega (arith, l)) (omega arith) k env p s
 
-  -- what stands in some bytes stands in all that begin with them
+  -- what is in some bytes is in all that begin with them
   pub found_more : (bytes more : List ℕ) (x : Val × ℕ × ℕ) → at bytes ≡ Ok x → at (bytes ++ more) ≡ Ok x
   found_more bytes more x found = subst (λ r. Answers (min (8 * length (bytes ++ more)) longest) r (at (bytes ++ more))) found (whole bytes more)
 

@@ -1,4 +1,4 @@
--- Values of any class are shown where they stand.
+-- Values of any class are shown where they are.
 use Rattle.std.proofs.Common.{◌≡◌, ℕ, ℤ, ◌+◌, ◌-◌, ◌*◌, ◌<◌, ◌≤◌, Bool, true, false, cond, List, [], ◌∷◌, ◌++◌, map, length, take, get_or, Option, Some, None, Ok, Err, pos, codes, refl, sym, ap, subst, ◌∙◌, arith, rules, append_assoc, append-nil, length-append}
 use Rattle.std.specs.Fmt.{decimal}
 use Rattle.std.specs.Int.{next_multiple_of}

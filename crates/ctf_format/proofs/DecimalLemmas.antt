@@ -58,7 +58,7 @@ zeros_in word (suc (suc zero)) few high low = let z = leading_unique 32 word 18 
 zeros_in word (suc (suc (suc zero))) few high low = let z = leading_unique 32 word 26 6 refl low (omega (arith, high)) in omega (arith, z)
 zeros_in word (suc (suc (suc (suc k)))) few high low = absurd (omega (arith, few))
 
--- the digits of a number, by how many of four it does not have, which is how many zero bytes stand in front of them
+-- the digits of a number, by how many of four it does not have, which is how many zero bytes are before them
 abbrev pub Shown : ℕ → ℕ → Type 0
 Shown n m = (take (4 - m) (to_le_bytes w32 (four n / 2 ^ (8 * m))) ≡ decimal n) × (length (decimal n) + m ≡ 4) × (count_leading_zeros 32 (four n / 2 ^ (8 * m)) / 8 ≡ m)
 

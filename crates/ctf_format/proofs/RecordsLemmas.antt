@@ -135,7 +135,7 @@ number_alone s n base from first place content packet line is whole starts withi
     let near : begun ≤ n.window.place = omega (arith, ap (λ (w : Placed). w.place) is.window) in
     (omega (arith, begins, near, within), subst (λ p. PutsOne (form m.class) (λ v. s.lead ++ part_text (member_part m) v) packet content p end line after) (sym begins) there)
 
--- and an unsigned one stands there as its number
+-- and an unsigned one is there as its number
 number_stands : (s : Slot) (n : PlainNumber) (base from first place content v : ℕ) (packet : List ℕ) → IsNumber base from s n → place % base ≡ 0 → 8 * first ≡ place → place + (n.window.place + n.window.size) ≤ content → n.integer.is_signed ≡ false → number_after n.window packet first ≡ pos v
     → StandsAsNumber (form s.member.class) packet content (next_multiple_of (place + from) s.align) v
 unfolding number nat_of

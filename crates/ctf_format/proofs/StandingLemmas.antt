@@ -1,4 +1,4 @@
--- Values that are shown where they stand, one member more at a time.
+-- Values that are shown where they are, one member more at a time.
 use Rattle.std.proofs.Common.{◌≡◌, ℕ, zero, suc, ◌+◌, ◌-◌, ◌*◌, ◌/◌, ◌<◌, ◌≤◌, Bool, true, false, cond, List, [], ◌∷◌, ◌++◌, map, take, drop, length, get_or, position, nat_eq, not, Option, Some, None, IfSome, Ok, Err, pos, rules, refl, sym, ap, subst, ◌∙◌, arith, append_assoc, append-nil, length-append}
 use Rattle.std.specs.Int.{next_multiple_of}
 use Rattle.std.specs.List.{take_while}
@@ -147,7 +147,7 @@ known_is : (o : Option ℕ) (v : Val) → IfSome o (λ n. v ≡ unsigned n) → 
 known_is None v is = tt
 known_is (Some n) v is = is
 
--- what stands in a step, if there is a value
+-- what is there in a step, if there is a value
 abbrev value_of : Step Val → Val
 value_of (Ok x) = x.0
 value_of (Err e) = unsigned 0
@@ -285,7 +285,7 @@ pub as_class : (r : Option Position) (k l : Form) (shown told : Shown) (packet :
 as_class (Some e) k l shown told packet content place before line forms_are texts_are puts = as_one k l shown told packet content place e.place before (take e.text line) (take e.text line) forms_are texts_are refl puts
 as_class None k l shown told packet content place before line forms_are texts_are puts = tt
 
--- What stands in front of a line stands in front of the buffer that the line is in.
+-- What is before a line is before the buffer that the line is in.
 pub same_front : (text at n : ℕ) (line items : List ℕ) → length line ≡ n → at ≤ n → text ≤ at → take text line ≡ take text (take n (line ++ drop (length line) items))
 same_front text at n line items long room near =
     let within : text ≤ n = omega (arith, room, near) in

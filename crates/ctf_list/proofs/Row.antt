@@ -1,11 +1,11 @@
--- Pieces in a row: there is one row at the most, and it goes to the end or to where nothing stands.
+-- Pieces in a row: there is one row at the most, and it goes to the end or to where no piece is.
 use Rattle.std.proofs.Common.{◌≡◌, ◌≢◌, ℕ, zero, suc, ◌<◌, ◌≤◌, List, [], ◌∷◌, ◌++◌, length, refl, sym, ap, subst, ◌∙◌, arith, append_assoc, ◌⊎◌, inl, inr, ⊎_elim}
 use Rattle.std.specs.List.{flat_map}
 use Rattle.std.proofs.lemmas.List.{append-nil, length-append}
 use Rattle.std.proofs.lemmas.List.Concat.{flat_map-append}
 use Rattle.ctf_list.specs.Row.{AllStand, NothingStands}
 
--- what is asked of a kind of pieces: a piece that stands has elements, and at one place at most one piece stands
+-- what is asked of a kind of pieces: a piece that is there has elements, and at most one piece is at one place
 pub record AreTold {P A : Type 0} (elements : P → List A) (Stands : P → List A → Type 0) : Type 0 where
   pub some : (p : P) (after : List A) → Stands p after → 0 < length (elements p)
   pub one : (p q : P) (s t : List A) → Stands p s → Stands q t → elements p ++ s ≡ elements q ++ t → (p ≡ q) × (s ≡ t)
@@ -24,7 +24,7 @@ AllStand-push elements Stands (p ∷ pieces) piece after all stands = (
 
 -- ---- one row
 
--- at the end nothing stands
+-- at the end no piece is
 pub nothing_at_end : {P A : Type 0} (elements : P → List A) (Stands : P → List A → Type 0) → AreTold elements Stands → NothingStands elements Stands []
 nothing_at_end elements Stands told piece after e stands =
     let l = ap length e in
@@ -32,7 +32,7 @@ nothing_at_end elements Stands told piece after e stands =
     let n = told.some piece after stands in
     omega arith
 
--- two rows from one place on, each to where nothing stands, are one
+-- two rows from one place on, each to where no piece is, are one
 pub one_row : {P A : Type 0} (elements : P → List A) (Stands : P → List A → Type 0) → AreTold elements Stands → (ps qs : List P) (a b : List A) → AllStand elements Stands ps a → AllStand elements Stands qs b → NothingStands elements Stands a → NothingStands elements Stands b → flat_map elements ps ++ a ≡ flat_map elements qs ++ b → (ps ≡ qs) × (a ≡ b)
 one_row elements Stands told [] [] a b s t m n e = (refl, e)
 one_row elements Stands told [] (q ∷ qs) a b s t m n e = absurd (m q (flat_map elements qs ++ b) (e ∙ append_assoc (elements q) (flat_map elements qs) b) t.0)

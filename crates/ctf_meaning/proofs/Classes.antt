@@ -198,7 +198,7 @@ module _ (text : List Declaration) where
       (then_there _ (scope_class text order.0 (home_of_stream text None) PacketHeader) (header_there found.number found.entries order.0 found.holds found.numbered)
       (then_there _ (all_there (map (stream_class text order.0) (streams text))) (streams_there text shaped order.0 clean) (_, refl))))
 
--- There is no fault, or one that is told.
+-- There is no fault, or one that is reported.
 none_or_one : (fs : List ResolveFault) → (fs ≡ []) ⊎ ((f : ResolveFault) × Contains fs f)
 none_or_one [] = inl refl
 none_or_one (f ∷ fs) = inr (f, (0, omega arith, refl))

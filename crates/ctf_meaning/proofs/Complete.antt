@@ -25,7 +25,7 @@ use Rattle.ctf_meaning.proofs.Shaped.{Shaped, when_not, part_shaped}
 use Rattle.ctf_meaning.proofs.Linked.{linked_there}
 use Rattle.ctf_meaning.proofs.Clean.{Clean}
 
--- the classes that stand under a name in a block
+-- the classes that are under a name in a block
 
 module _ (text : List Declaration) (shaped : Each Shaped (entries_in text)) where
   abbrev pub HasShape : Place → ℕ × Form → Type 0
@@ -55,7 +55,7 @@ module _ (text : List Declaration) (shaped : Each Shaped (entries_in text)) wher
       filtered_each (HasShape (k ∷ [])) (class_by name) (enumerate_from 0 es)
       (entries_classes (k ∷ []) 0 es name (each_front Sound (located_entries (k ∷ []) 0 es) ((k ∷ [], of_text (Block which es)) ∷ []) c.parts))
 
--- of a scope's class the first that stands under its name, or what is there where none does
+-- of a scope's class the first that is under its name, or what is there where none is
 module _ (make : ℕ × Form → Option Shape) where
   pub first_there : (ps : List (ℕ × Form)) (missing : Option Shape) → Each (λ p. IsThere (make p)) ps → IsThere missing → IsThere (option_map_or make (first ps) missing)
   first_there [] missing h m = m

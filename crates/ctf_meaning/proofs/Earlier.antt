@@ -1,4 +1,4 @@
--- The class that is written in a part, and the part's faults, depend on what stands before the part alone.
+-- The class that is written in a part, and the part's faults, depend on what is before the part alone.
 use Rattle.std.proofs.Common.{◌≡◌, ℕ, ◌+◌, Bool, ◌||◌, List, [], ◌∷◌, ◌++◌, map, Option, Some, None, refl, ap, ◌∙◌}
 use Rattle.std.specs.Prelude.{option_map, option_and_then, is_none, is_some}
 use Rattle.std.specs.List.{list_any}

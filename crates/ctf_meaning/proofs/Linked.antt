@@ -1,4 +1,4 @@
--- A class without floats and without link faults is there where it stands.
+-- A class without floats and without link faults is there at its place.
 use Rattle.std.proofs.Common.{◌≡◌, false, List, [], ◌∷◌, ◌++◌, Option, refl, arith}
 use Rattle.std.specs.Prelude.{is_none}
 use Rattle.ctf_bits.specs.declared.number.Order.{Order}

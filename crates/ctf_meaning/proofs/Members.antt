@@ -1,4 +1,4 @@
--- Where no own fault stands, the members of a body are those that are written.
+-- Where there is no own fault, the members of a body are those that are written.
 use Rattle.std.proofs.Common.{◌≡◌, ℕ, ◌+◌, List, [], ◌∷◌, ◌++◌, map, Option, Some, None, refl, ap, sym, ◌∙◌, subst, ◌≤◌, nat_lt, false, arith}
 use Rattle.std.specs.Prelude.{flat_map, option_and_then}
 use Rattle.std.specs.List.{list_any}
@@ -134,7 +134,7 @@ module _ (text : List Declaration) (shaped : Each Shaped (entries_in text)) wher
   form_names at (Enum name c labels) h = refl
   form_names at (Named name tag) h = refl
 
--- the one of a list that stands between two others
+-- the one of a list that is between two others
 each_between : {X : Type 0} (P : X → Type 0) (xs : List X) (x : X) (ys zs : List X) → zs ≡ xs ++ x ∷ ys → Each P zs → P x
 each_between P xs x ys zs e h = (each_back P xs (x ∷ ys) (subst (Each P) e h)).0
 

@@ -203,7 +203,7 @@ module _ (text : List Declaration) where
       (each_append Named (map (own_faults text) (numbered text)) (map (link_faults text) (numbered text)) (each_made Named (own_faults text) own_named (numbered text)) (each_made Named (link_faults text) link_faults_named (numbered text)))
       (whole_named, tt))
 
--- ---- what is told
+-- ---- what is reported
 
 none_is_at : (fs : List ResolveFault) → Each IsNamed fs → (k : ℕ) → k < length fs → slice_index_or fs k NoMemory ≡ NoMemory → ⊥
 none_is_at [] h k less e = absurd (omega arith)

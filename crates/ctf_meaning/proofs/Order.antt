@@ -1,4 +1,4 @@
--- The parts of a text stand in such an order that no place sees its own part or a later one.
+-- The parts of a text are in such an order that no place sees its own part or a later one.
 use Rattle.std.proofs.Common.{◌≡◌, ℕ, ◌+◌, ◌≤◌, false, List, [], ◌∷◌, ◌++◌, arith}
 use Rattle.ctf_meaning.specs.Written.{Form, Item, Items, BlockEntry, Declaration, Integer, Float, String, Struct, Variant, Enum, Named, Fields, Alias, Definition, Compound, no_item, some_items, Assigned, Classed, Declared, Block, Table, Names}
 use Rattle.ctf_meaning.specs.Parts.{Place, Part, Located, of_text, of_block, of_body, located_form, located_item, located_items, located_entry, located_entries, located, located_from}

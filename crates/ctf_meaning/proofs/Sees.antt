@@ -1,10 +1,10 @@
--- Which parts a place sees: those that stand before it in a block around it.
+-- Which parts a place sees: those that are before it in a block around it.
 use Rattle.std.proofs.Common.{◌≡◌, ℕ, ◌<◌, ◌≤◌, nat_eq, nat_lt, Bool, false, ◌&&◌, ◌||◌, [], ◌∷◌, length, refl, arith}
 use Rattle.ctf_meaning.specs.Parts.{Place}
 use Rattle.ctf_meaning.specs.Names.{same_place}
 use Rattle.ctf_meaning.proofs.Lists.{or_both, and_left, and_right}
 
--- the part of this place stands in the block, before the part of this number
+-- the part of this place is in the block, before the part of this number
 abbrev pub is_before : ℕ → Place → Place → Bool
 is_before number block [] = false
 is_before number block (m ∷ b) = same_place b block && nat_lt m number

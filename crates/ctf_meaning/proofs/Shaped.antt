@@ -1,4 +1,4 @@
--- Where no own fault stands, each name stands for a class, and each class that is written has a shape.
+-- Where there is no own fault, each name stands for a class, and each class that is written has a shape.
 use Rattle.std.proofs.Common.{◌≡◌, ℕ, nat_lt, ◌&&◌, Bool, true, false, ◌⊎◌, inl, inr, if◌then◌else◌, List, [], ◌∷◌, ◌++◌, map, Option, Some, None, refl, ap, sym, ◌∙◌, subst, append_assoc, arith}
 use Rattle.std.specs.Prelude.{option_and_then, is_none}
 use Rattle.std.specs.Option.{option_or, option_map_or}

@@ -43,13 +43,13 @@ pub record Good (text : List Declaration) (es : List Entry) (k : ℕ) (before : 
   pub few : nat_lt most_nodes (nodes_before text k) ≡ false
   pub rows : Rows text 0 walked.rows before
 
--- where a declaration stands
+-- where a declaration is
 pub record Stands (text before : List Declaration) (k : ℕ) (d : Declaration) : Type 0 where
   pub taken : take k text ≡ before
   pub number : slice_get text k ≡ Some d
   pub long : length before ≡ k
 
--- the own faults of a block in the order in which they are told
+-- the own faults of a block in the order in which they are reported
 module _ (w b t f n : List ResolveFault) where
   abbrev told : List ResolveFault
   told = b ++ (t ++ (w ++ (f ++ (n ++ []))))
@@ -103,7 +103,7 @@ table_listed m b t =
 names_listed : (w : List ResolveFault) → w ≡ (((w ++ []) ++ []) ++ []) ++ []
 names_listed w = sym (append-nil (((w ++ []) ++ []) ++ []) ∙ append-nil ((w ++ []) ++ []) ∙ append-nil (w ++ []) ∙ append-nil w)
 
--- In a block without faults no name of a class stands twice.
+-- In a block without faults no name of a class is there twice.
 entry_none : (which : BlockKind) (es : List BlockEntry) → block_faults (Block which es) ≡ [] → entry_faults which es ≡ []
 entry_none Trace es h = append_left (entry_faults Trace es) (trace_faults es) h
 entry_none Stream es h = append_left (entry_faults Stream es) (stream_faults es) h

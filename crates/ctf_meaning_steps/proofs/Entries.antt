@@ -1,5 +1,5 @@
--- The entries of a block: what is told of them is what is wrong with them and the parts in them, or the classes under
--- their names.
+-- The entries of a block: what is reported of them is what is wrong with them and the parts in them, or the classes
+-- under their names.
 use Rattle.std.proofs.Common.{◌≡◌, ℕ, ◌+◌, List, [], ◌∷◌, ◌++◌, Some, Ok, refl, ap, ap₂, sym, ◌∙◌, subst, append-nil, append_assoc, flat_map}
 use Rattle.ctf_meaning.specs.Written.{Form, BlockEntry, Declaration, Assigned, Classed, Declared}
 use Rattle.ctf_meaning.specs.Parts.{Place, Part, Located, of_block, own_name, located_form, located_item, located_entry, located_entries, located_from}

@@ -1,5 +1,5 @@
 -- The names that a part gives to its class: each is new, and no class is too deep; else one of the part's faults is
--- told.
+-- reported.
 use Rattle.std.proofs.Common.{◌≡◌, ℕ, ◌+◌, nat_lt, Bool, true, false, ◌&&◌, ◌||◌, if◌then◌else◌, List, [], ◌∷◌, ◌++◌, map, Option, Some, None, is_some, refl, ap, ap₂, sym, ◌∙◌, subst, append-nil, append_assoc, option_map, arith}
 use Rattle.std.specs.List.{list_any}
 use Rattle.std.specs.Option.{option_or}
@@ -108,7 +108,7 @@ module _ (block : Place) (number : ℕ) (shape : Shape) (es : List Entry) (own :
   abbrev rest : Told Seen
   rest = declare_each (with_name own g.name (arrays g.lengths shape)) shape gs
 
-  -- what is told of the others
+  -- what is reported of the others
   abbrev Others : Type 0
   Others = is_some (own g.name) ≡ false → Tells (Unit {0}) rest (when deep TooDeep ++ when (is_taken (with_name own g.name (arrays g.lengths shape)) gs) DeclaredTwice)
       (λ after. Holds (es ++ entry_by block number shape g ∷ [] ++ map (entry_by block number shape) gs) block (number + 1) after)

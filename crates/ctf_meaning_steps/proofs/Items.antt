@@ -1,5 +1,5 @@
--- Classes with their bodies: what is told of them is what is wrong with the parts in them and with themselves, or their
--- shape.
+-- Classes with their bodies: what is reported of them is what is wrong with the parts in them and with themselves, or
+-- their shape.
 use Rattle.std.proofs.Common.{◌≡◌, ℕ, ◌+◌, max, nat_lt, Bool, true, false, ◌||◌, inl, inr, List, [], ◌∷◌, ◌++◌, map, Option, Some, None, Ok, is_none, refl, ap, ap₂, sym, ◌∙◌, subst, append-nil, append_assoc, flat_map, option_map, Contains, arith}
 use Rattle.std.proofs.lemmas.List.Folds.{list_any-append}
 use Rattle.std.proofs.lemmas.List.Elements.{Contains-append_left, Contains-append_right, Contains-append_cases}

@@ -1,4 +1,4 @@
--- Classes without a body: what is told of them is what is wrong with them where they are written, or their shape.
+-- Classes without a body: what is reported of them is what is wrong with them where they are written, or their shape.
 use Rattle.std.proofs.Common.{◌≡◌, inl, inr, if◌then◌else◌, List, [], ◌++◌, Some, None, Ok, is_none, refl, ap, sym, ◌∙◌, append-nil, option_and_then, Contains}
 use Rattle.std.specs.Option.{option_map_or}
 use Rattle.std.proofs.lemmas.List.Elements.{Contains-append_left, Contains-append_right, Contains-append_cases}
@@ -30,7 +30,7 @@ turned xs ys f h =
       | inr right ↦ Contains-append_left ys xs f right
     ]
 
--- a value unless some faults or others stand
+-- a value unless there are some faults or others
 pub tells_two : {A : Type 0} (first second : List ResolveFault) (a : A) (Q : A → Type 0) → (second ≡ [] → Q a) → Tells (Unit {0}) (unless first (unless second (Ok a))) (second ++ first) Q
 tells_two first second a Q h =
     tells_by (Unit {0}) (unless first (unless second (Ok a))) (first ++ second) (second ++ first) Q (turned_none first second) (turned first second)

@@ -1,4 +1,4 @@
--- Linking a shape gives the class that it is where it stands, or one of its link faults.
+-- Linking a shape gives the class that it is at its place, or one of its link faults.
 use Rattle.std.proofs.Common.{◌≡◌, false, List, [], ◌∷◌, ◌++◌, Some, Ok, Err, refl, ap, sym, ◌∙◌, subst, append-nil, Contains, flat_map, is_none, option_and_then, arith}
 use Rattle.std.proofs.lemmas.Grind.{flat_map-append}
 use Rattle.ctf_bits.specs.declared.number.Order.{Order}

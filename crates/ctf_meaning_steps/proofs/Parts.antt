@@ -1,4 +1,4 @@
--- A part that has a class: what is told of the class, and of the names that it is given, is what is wrong with the
+-- A part that has a class: what is reported of the class, and of the names that it is given, is what is wrong with the
 -- part.
 use Rattle.std.proofs.Common.{◌≡◌, ℕ, ◌+◌, nat_lt, Bool, true, false, ◌||◌, inl, inr, List, [], ◌∷◌, ◌++◌, map, Option, Some, None, Ok, is_some, refl, ap, ap₂, sym, ◌∙◌, subst, append_assoc, option_map, option_and_then, Contains, arith}
 use Rattle.std.specs.List.{list_any}
@@ -40,7 +40,7 @@ any_same : {X : Type 0} (f g : X → Bool) → ((x : X) → f x ≡ g x) → (xs
 any_same f g h [] = refl
 any_same f g h (x ∷ xs) = ap₂ (λ a b. a || b) (h x) (any_same f g h xs)
 
--- the faults of a part in the order in which they are told
+-- the faults of a part in the order in which they are reported
 module _ (i c m d n : List ResolveFault) where
   abbrev told : List ResolveFault
   told = (i ++ (c ++ m)) ++ (d ++ n)
@@ -123,7 +123,7 @@ module _ (es : List Entry) (block : Place) (number : ℕ) (part : Part) (form : 
       (ap₂ (λ a b. a ++ b) (depth_here shape known) (names_here own holds))
       (declare_tells block number shape es own (given_of part) next))
 
--- What is told of a part: of the parts in it, of its class, and of the names that it gives.
+-- What is reported of a part: of the parts in it, of its class, and of the names that it gives.
 pub part_tells : {B : Type 0} (es : List Entry) (block : Place) (number : ℕ) (inner : List Located) (part : Part) (form : Form) (t : Told Shape) (own : Seen) (gs : List Given) (make : Shape → Seen → B)
     (R : B → Type 0) →
     class_of part ≡ Some form → settings_in part ≡ settings_in_form form → given_of part ≡ gs →

@@ -48,7 +48,7 @@ module _ (all : List Entry) (block : Place) where
       by_case true rest = h.3.2
       by_case false rest = rest
 
--- A name that does not stand twice has one class at the most.
+-- A name that is not there twice has one class at the most.
 entries_fewer : (number : ℕ) (es : List BlockEntry) (name : Words) →
     length (filter_map (class_by name) (enumerate_from number es)) ≤ length (filter (λ e. is_value_of name e || is_class_of name e) es)
 entries_fewer number [] name = omega arith

@@ -167,7 +167,7 @@ find_same : {X : Type 0} (f g : X → Bool) (xs : List X) → Each (λ x. f x �
 find_same f g [] h = refl
 find_same f g (x ∷ xs) h = ap (λ b. cond b (Some x) (find f xs)) h.0 ∙ ap (λ o. cond (g x) (Some x) o) (find_same f g xs h.1)
 
--- Where no entry of the part stands yet, the names before it are those before the next.
+-- Where no entry of the part is there yet, the names before it are those before the next.
 pub holds_next : (es : List Entry) (block : Place) (number : ℕ) (own : Seen) → Clear es block number → Holds es block number own → Holds es block (number + 1) own
 holds_next es block number own c h name =
     ap (option_map (λ e. e.shape))

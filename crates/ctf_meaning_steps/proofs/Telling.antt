@@ -1,4 +1,4 @@
--- What is told beside a list of faults: a value where the list is empty, and else one of its faults.
+-- What is reported beside a list of faults: a value where the list is empty, and else one of its faults.
 use Rattle.std.proofs.Common.{◌≡◌, ◌⊎◌, inl, inr, Bool, true, false, List, [], ◌∷◌, ◌++◌, Option, Some, None, Ok, Err, refl, ap, sym, ◌∙◌, subst, Contains, is_none, arith}
 use Rattle.std.proofs.lemmas.List.Elements.{Contains-append_left, Contains-append_right}
 use Rattle.ctf_meaning.specs.declared.fault.ResolveFault.{ResolveFault}
@@ -63,7 +63,7 @@ pub tells_under : (P O : Type 0) {A : Type 0} (t : Told A) (F : List ResolveFaul
 tells_under P O (Ok a) F Q k h = h
 tells_under P O (Err fault) F Q k h = λ p. h (k p)
 
--- Beside the faults, that a class is too deep may be told where it is.
+-- Beside the faults, that a class is too deep may be reported where it is.
 abbrev pub TellsDeep : {A : Type 0} → Told A → List ResolveFault → Bool → (A → Type 0) → Type 0
 TellsDeep (Ok a) faults deep Q = (faults ≡ []) × Q a
 TellsDeep (Err fault) faults deep Q = Contains faults fault ⊎ ((fault ≡ TooDeep) × (deep ≡ true))
@@ -84,7 +84,7 @@ deep_more (Ok b) F G deep R e m = (append_none F G e m.0, m.1)
 deep_more (Err fault) F G deep R e (inl m) = inl (Contains-append_right F G fault m)
 deep_more (Err fault) F G deep R e (inr m) = inr m
 
--- first faults that are told of no deep class
+-- first faults that are reported of no deep class
 pub deep_after : {A B : Type 0} (t : Told A) (next : A → Told B) (F G : List ResolveFault) (deep : Bool) (Q : A → Type 0) (R : B → Type 0) →
     Tells (Unit {0}) t F Q → ((a : A) → F ≡ [] → Q a → TellsDeep (next a) G deep R) → TellsDeep (t >>= next) (F ++ G) deep R
 deep_after (Ok a) next F G deep Q R h k = deep_more (next a) F G deep R h.0 (k a h.0 h.1)

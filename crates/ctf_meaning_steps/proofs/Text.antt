@@ -1,4 +1,4 @@
--- The whole text: what is told is an own fault of the first declaration that has one, or the classes of the scopes.
+-- The whole text: what is reported is an own fault of the first declaration that has one, or the classes of the scopes.
 use Rattle.std.proofs.Common.{◌≡◌, ℕ, ◌+◌, List, [], ◌∷◌, ◌++◌, map, length, take, length-append, Some, Ok, Err, refl, ap, sym, ◌∙◌, subst, append-nil, append_assoc, flat_map, slice_get, Contains, arith}
 use Rattle.std.specs.List.{enumerate_from}
 use Rattle.std.proofs.Math.Seq.{take-append_seam}
@@ -50,7 +50,7 @@ abbrev entries_before : List Declaration → List Entry
 entries_before before = entries_after [] (located_from 0 before)
 
 module _ (text : List Declaration) where
-  -- where a declaration stands among the others
+  -- where a declaration is among the others
   stands_here : (before : List Declaration) (d : Declaration) (ds : List Declaration) (k : ℕ) → text ≡ before ++ d ∷ ds → length before ≡ k → Stands text before k d
   stands_here before d ds k e long = record {
     taken = subst (λ n. take n text ≡ before) long (ap (take (length before)) e ∙ take-append_seam before (d ∷ ds));

@@ -138,7 +138,7 @@ faultless_advance [] n = refl
 faultless_advance (r ∷ rs) zero = refl
 faultless_advance (r ∷ rs) (suc m) = ap (λ (l : List (Run Classes)). without_fault r ∷ l) (faultless_advance rs m)
 
--- where an item comes first, no fault stands in front
+-- where an item comes first, no fault comes next
 no_fault_by : (items : List (Item Classes)) (fault : Option StreamFault) (f : First) (n : ℕ) (x : Item Classes) → with_first (head_by items fault) (later f) ≡ item n x
     → (head_by items None ≡ head_by items fault) × ((g : StreamFault) → fault ≡ Some g → items ≡ [] → ⊥)
 no_fault_by [] None f n x e = (refl, λ g is none. absurd cc)

@@ -57,7 +57,7 @@ pub leaves_front : (m : Merge) (n : ℕ) (x : Item Classes) (before after : Read
 leaves_front m n x before after at is fetched goes =
     subst (λ (f : First). LeavesFront f m.readers (set m.readers n after)) (sym at.first) (leaves_one m.readers n x before after at.heads is fetched goes)
 
--- the growth that was refused for the item is told
+-- the allocation that failed for the item is reported
 pub refused_told : (m : Merge) (n : ℕ) (x : Item Classes) (f : StreamFault) → first_now m ≡ item n x → f ≡ faults.NoMemory → IsTold (first_now m) (Stream n f)
 refused_told m n x f e is = subst (λ (t : First). IsTold t (Stream n f)) (sym e) (ap (λ (g : StreamFault). Stream n g) is)
 

@@ -18,7 +18,7 @@ use Rattle.ctf_merge.specs.Finding.{Finds}
 use Rattle.ctf_merge.specs.declared.merge.First.TheVariants as firsts
 use Rattle.ctf_merge.proofs.Merging.{later_item, least_item, merged-item, merged-broken, merged-nothing, gone_on, all_fetched}
 
--- ---- what stands in front is what is to come first
+-- ---- what is current is what is to come first
 
 head-coming : (h : reader.Peeked) (cut : ℕ) (after : Run Classes) → IsFetched h → head_of (with_ahead h (after_ahead h cut after)) ≡ h
 head-coming reader.start cut after f = absurd f
@@ -104,7 +104,7 @@ next_by h f m x e = by_head h e
     by_head reader.ended k = after k
     by_head (reader.fault g) k = absurd cc
 
--- the first item is what stands in front of its reader
+-- the first item is the current one of its reader
 pub front : (readers : List Reader) (n : ℕ) (x : Item Classes) (r : Reader) → first_of (map (λ s. s.ahead) readers) ≡ item n x → r ≡ get_or readers n r
     → (n < length readers) × (r.ahead ≡ reader.item x) × (run_at n (map coming readers) ≡ coming r)
 front [] n x r e is = absurd cc
@@ -156,7 +156,7 @@ room-set [] n old new lt is less = absurd (omega (arith, lt))
 room-set (s ∷ rs) zero old new lt is less = let same = ap (λ (r : Reader). r.room) is in omega (arith, less, same)
 room-set (s ∷ rs) (suc m) old new lt is less = let rest = room-set rs m old new (omega (arith, lt)) is less in omega (arith, rest)
 
--- ---- what stands in front is passed
+-- ---- what is current is passed
 
 abbrev rest_placed : List Placed → List Placed
 rest_placed [] = []

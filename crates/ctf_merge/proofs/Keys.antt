@@ -1,4 +1,4 @@
--- Turns as single numbers: they stand in the order of these.
+-- Turns as single numbers: they are in the order of these.
 use Rattle.std.proofs.Common.{◌≡◌, ℕ, zero, suc, ◌+◌, ◌*◌, ◌/◌, ◌%◌, ◌^◌, ◌<◌, inl, inr, ℤ, pos, ◌-ℤ◌, ◌<ℤ◌, refl, subst, arith}
 use Rattle.std.proofs.lemmas.Int.{ints}
 use Rattle.std.specs.Ordering.{int_cmp, nat_cmp, ordering_then, MatchOrdering}
@@ -46,7 +46,7 @@ parts_ranked x y Equal Equal h l = omega (arith, h, l)
 parts_ranked x y Equal Greater h l = omega (arith, h, l)
 parts_ranked x y Greater p h l = omega (arith, h)
 
--- turns stand in the order of their numbers
+-- turns are in the order of their numbers
 pub keys_cmp : (x y : ℕ) → IsTimed (x / (2 ^ 63)) → IsTimed (y / (2 ^ 63)) → turn_cmp (turn_of_key x) (turn_of_key y) ≡ nat_cmp x y
 keys_cmp x y p q =
     let time = option_cmp int_cmp (time_at (x / (2 ^ 63))) (time_at (y / (2 ^ 63))) in

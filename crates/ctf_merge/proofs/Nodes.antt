@@ -205,7 +205,7 @@ tree_of_nothing leaves = record {
     same : (i : ℕ) → i < leaves + leaves → node i (replicate (leaves + leaves) nothing) ≡ nothing
     same i lt = lists.get_or-replicate (leaves + leaves) i nothing 0 lt
 
--- ---- what a look at the first node tells
+-- ---- what a look at the first node gives
 
 -- the first node, as it is read
 pub root_is : (read nodes : List ℕ) (v : ℕ) → read ≡ nodes → 1 < length read → v ≡ get_or read 1 v → v ≡ node 1 nodes

@@ -6,7 +6,7 @@ use Rattle.std.proofs.Math.Seq.{take-append_seam}
 use Rattle.std.specs.Borrow.{Bor}
 use Rattle.ctf_options.specs.Asked.{unbracketed, given}
 
--- a text that ends with a byte is what stands before it and the byte
+-- a text that ends with a byte is what is before the byte, and the byte
 last_is : (text : List ℕ) (byte : ℕ) → 0 < length text → slice_index text (length text - 1) ≡ byte → text ≡ take (length text - 1) text ++ (byte ∷ [])
 last_is text byte some e =
     let rest : drop (length text - 1) text ≡ byte ∷ [] = drop-cons text (length text - 1) 0 (omega arith)

@@ -35,7 +35,7 @@ module _ (shared_class own_class : Option Form) (fields_class : Form) (bytes : L
   no_shared known after place f (inl e) = inl (opens known place ∙ ap (λ r. r >>= after_shared (values_of known)) e)
   no_shared known after place f (inr e) = inr e
 
-  -- a scope's value leads to where the code stands
+  -- a scope's value leads to where the code is
   next : (scope : Scope) (k l : Option Form) (known after : Known) (place end : ℕ) (h : At scope k known place (Ok end) after)
       → scope_at fault_in_record l (input_of bytes content (put scope (h.0).value (values_of known))) (h.0).end (h.0).spent ≡ scope_at fault_in_record l (input_of bytes content (values_of after)) end after.spent
   next scope k l known after place end h = λ i. scope_at fault_in_record l (input_of bytes content (sym h.4 i)) (sym h.2 i) (sym h.3 i)

@@ -1,4 +1,4 @@
--- What stands for a class has its form: each integer in it has what every number that is read has.
+-- What is of a class has its form: each integer in it has what every number that is read has.
 use Rattle.std.proofs.Common.{◌≡◌, ℕ, zero, suc, ℤ, List, [], ◌∷◌, ◌++◌, refl, sym, ◌∙◌, subst, append_assoc, append-nil}
 use Rattle.ctf_class.specs.declared.integer.Integer.{Integer}
 use Rattle.ctf_decode.specs.Values.{Val, label, group, list, choice, vals_of}

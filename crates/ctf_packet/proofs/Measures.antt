@@ -47,7 +47,7 @@ all_seen p c ending rest end h g =
 pub none_told : (p c : Option ℕ) (ending : Ending) (rest end : ℕ) (r : Result Sizes StreamFault) → (p ≡ None) × (c ≡ None) → r ≡ sizes_checked None None ending rest end → r ≡ sizes_checked p c ending rest end
 none_told p c ending rest end r h e = e ∙ (λ i. sizes_checked (sym h.0 i) (sym h.1 i) ending rest end)
 
--- sizes that were told, and a stream that is too short for them, or long enough
+-- sizes that were decoded, and a stream that is too short for them, or long enough
 pub told_short : (p c : Option ℕ) (ending : Ending) (n end : ℕ) (s : Sizes) (f : StreamFault) → SizesTold p c (8 * n) end (Ok (Some s)) → n < s.packet / 8 → f ≡ cut_short ending → Err f ≡ sizes_checked p c ending (8 * n) end
 told_short p c ending n end s f h l e =
     let known : are_possible (sizes_of p c (8 * n)) end ≡ true = ap (λ (x : Sizes). are_possible x end) h.0 ∙ h.1 in

@@ -64,7 +64,7 @@ module _ {C : Type 0} (trace : TraceForm C) (ending : Ending) (reached : Option 
       let same : header.value ≡ (values_of known).packet_header = sym (ap (λ (v : Values). v.packet_header) h.4) in
       opens ∙ (ap (λ r. r >>= after_header) h.1 ∙ ap (λ r. r >>= after_stream header) (ap (stream_checked trace reached) same ∙ e))
 
-  -- the context stands where the definition looks for it
+  -- the context is where the definition looks for it
   same_context : (end : ℕ) (known : Known) (h : Header (Ok end) known) (k : Option Form)
       → scope_at (fault_in_front ending) k (front left (values_of known)) end known.spent ≡ scope_at (fault_in_front ending) k (front left (put PacketHeader (h.0).value no_values)) (h.0).end (h.0).spent
   same_context end known h k = λ i. scope_at (fault_in_front ending) k (front left (h.4 i)) (h.2 i) (h.3 i)

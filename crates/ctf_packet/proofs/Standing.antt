@@ -1,4 +1,4 @@
--- What stands in a scope, by the function on lists.
+-- What is in a scope, by the function on lists.
 use Rattle.std.proofs.Common.{◌≡◌, ℕ, ◌+◌, ◌≤◌, List, [], Option, Some, None, Ok, Err, option_map, option_copied, Bor, inl, inr, refl, sym, ap, ◌∙◌, subst}
 use Rattle.ctf_class.specs.declared.class.Class.{Class}
 use Rattle.ctf_class.specs.declared.route.Scope.{Scope}

@@ -19,7 +19,7 @@ use Rattle.ctf_packet.specs.Items.{Run, stops, end_fault, longest_stream, record
 use Rattle.ctf_packet.specs.declared.reached.Reached.{Reached}
 use Rattle.ctf_packet.specs.declared.fault.StreamFault.TheVariants as faults
 
--- the value or fault that packets and event records are made of is the one that stands
+-- the value or fault that packets and event records are made of is the one that is there
 abbrev pub WalkFindsWhatStands : Type 0
 WalkFindsWhatStands = (k : Form) (c : Input) (env : Env) (p s : ℕ) → Is k c env p s (walk k c env p s)
 

@@ -1,4 +1,4 @@
--- What stands in a scope, as the code puts it.
+-- What is in a scope, as the code puts it.
 use Rattle.std.proofs.Common.{◌≡◌, ℕ, [], Option, Some, None, Ok, refl, sym, ap, ◌∙◌, subst}
 use Rattle.ctf_class.specs.declared.route.Scope.{Scope}
 use Rattle.ctf_decode.specs.Values.{Val}

@@ -35,7 +35,7 @@ module _ (trace : TraceForm Classes) (reached : Option Reached) (have : List ℕ
   Context stream place known end after =
       PutsAsked PacketContext (values_of known) (asked_at stream.packet_context (front have (values_of known)) place known.spent) end after
 
-  -- the context stands where the definition looks for it
+  -- the context is where the definition looks for it
   pub to_context : (end : ℕ) (known : Known) (h : Header end known) (stream : StreamForm Classes) → stream_checked trace reached (values_of known).packet_header ≡ Ok stream
       → wanted trace reached have ≡ follow (asked_at stream.packet_context (front have (values_of known)) end known.spent) (after_context trace reached have stream (put PacketHeader (h.0).value no_values))
   to_context end known h stream e =

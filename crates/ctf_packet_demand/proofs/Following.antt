@@ -40,7 +40,7 @@ module _ {C : Type 0} (trace : TraceForm C) (reached : Option Reached) (have : L
   unfolding wanted
   wants = refl
 
--- more is asked for than so many bits, and sizes that are told can be
+-- more is asked for than so many bits, and sizes that are decoded can be
 abbrev pub Sound : {C : Type 0} → ℕ → Want C → Type 0
 Sound n (more bits) = n < bits
 Sound n (whole begun sizes) = are_possible sizes begun.first ≡ true

@@ -1,4 +1,4 @@
--- A value that stands in a packet stands in each beginning that reaches its end.
+-- A value that is in a packet is in each beginning that reaches its end.
 use Rattle.std.proofs.Common.{◌≡◌, ℕ, zero, suc, ◌+◌, ◌-◌, ◌*◌, ◌/◌, ◌<◌, ◌≤◌, Bool, cond, true, List, [], ◌∷◌, ◌++◌, length, take, drop, Option, Some, None, Ok, Err, refl, sym, ap, subst, ◌∙◌, arith, nat_lt, nat_eq}
 use Rattle.std.specs.Prelude.{position, max}
 use Rattle.std.specs.Int.{next_multiple_of}

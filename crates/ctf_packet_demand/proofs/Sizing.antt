@@ -1,4 +1,4 @@
--- What a packet asks for whose sizes are told, or are not.
+-- What a packet asks for whose sizes are decoded, or are not.
 use Rattle.std.proofs.Common.{◌≡◌, ℕ, if◌then◌else◌, Option, Some, None, Ok, Err, refl, sym, ap, ◌∙◌}
 use Rattle.ctf_packet.specs.Packets.{sizes_of}
 use Rattle.ctf_packet.specs.Gives.{SizesTold}

@@ -1,4 +1,4 @@
--- What some first bytes ask for tells what the packet is.
+-- What some first bytes ask for says what the packet is.
 use Rattle.std.proofs.Common.{◌≡◌, ◌∙◌, ℕ, ◌*◌, ◌<◌, Bool, true, false, List, [], ◌++◌, length, nat_le, if◌then◌else◌, Option, Some, None, Result, Ok, Err, refl, sym, ap, subst, arith, codes, length-append}
 use Rattle.std.specs.Prelude.{min}
 use Rattle.ctf_bits.specs.declared.source.Ending.{Ending}
@@ -63,7 +63,7 @@ module _ (C : Type 0) (ending : Ending) (reached : Option Reached) (start : ℕ)
   leads_checked (Ok x) = refl
   leads_checked (Err fault) = λ next. refl
 
-  -- sizes that are told
+  -- sizes that are decoded
   settles_told : (begun : Begun C) (p q : Option ℕ) (sizes : Sizes) → sizes_of p q (8 * length (have ++ more_bytes)) ≡ sizes → (((p ≡ None) × (q ≡ None)) → ⊥)
       → Settles (if_possible begun sizes) (sizes_checked p q ending (8 * length (have ++ more_bytes)) begun.first >>= place_of begun)
   settles_told begun p q sizes e told = judged (are_possible sizes begun.first) refl

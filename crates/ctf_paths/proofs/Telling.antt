@@ -21,7 +21,7 @@ use Rattle.ctf_meaning_steps.specs.Linking.{class_told, members_told, options_to
 use Rattle.ctf_paths.proofs.Lists.{drop_get, take_get}
 use Rattle.ctf_paths.specs.Telling.{each_told, member_told, option_told, depth_in, nodes_in, class_around}
 
--- a fault that is told, unless memory was refused
+-- a fault that is reported, unless an allocation failed
 abbrev Fails : {A : Type 0} → Told A → ResolveFault → Type 0
 Fails told fault = (fault ≡ NoMemory) ⊎ (told ≡ Err fault)
 

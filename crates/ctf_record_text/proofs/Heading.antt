@@ -1,4 +1,4 @@
--- The header of an event record, from what was told of it.
+-- The header of an event record, from what was decoded of it.
 use Rattle.std.proofs.Common.{◌≡◌, ℕ, List, [], Option, Some, None, Result, Ok, option_map, refl, ap, subst, ◌∙◌}
 use Rattle.std.specs.List.{last_or}
 use Rattle.ctf_class.specs.declared.class.Class.{Class}

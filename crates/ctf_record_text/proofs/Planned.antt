@@ -1,4 +1,4 @@
--- Headers that are decoded by their plan tell what their class tells.
+-- Headers that are decoded by their plan give what those decoded by their class give.
 use Rattle.std.proofs.Common.{◌≡◌, ℕ, ℤ, true, false, cond, pos, ◌+◌, ◌-◌, ◌*◌, ◌/◌, ◌%◌, ◌≤◌, List, [], ◌∷◌, Some, None, refl, sym, ap, ◌∙◌, add_assoc, add-zero, le-add_right, arith, rules}
 use Rattle.std.proofs.Math.Nat.{mod_self, sub-zero}
 use Rattle.std.specs.Prelude.{codes}
@@ -143,6 +143,6 @@ read_so w i bytes first begin place n reads is little starts =
     let unsigned_is : pos (number Le bytes (8 * first + place) (bits_of i)) ≡ pos n = ap (λ (v : Placed). number_after v bytes first) (sym is) ∙ reads in
     sym (pos_same (number Le bytes (8 * first + place) (bits_of i)) n unsigned_is) ∙ ap (λ b. number Le bytes (b + place) (bits_of i)) starts ∙ ap (λ o. number o bytes (begin + place) (bits_of i)) (sym little)
 
--- whole bytes stand before what begins at a byte
+-- whole bytes are before what begins at a byte
 pub byte_begins : (begin align : ℕ) → begin % align ≡ 0 → align % 8 ≡ 0 → 8 * (begin / 8) ≡ begin
 byte_begins begin align multiple whole = omega (arith, divides_too begin align 8 multiple whole)

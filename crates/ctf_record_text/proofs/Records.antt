@@ -96,7 +96,7 @@ module _ (shift : Shift) (o : OpenPacket) (old : Values) (bytes part : List ℕ)
       inl (to_body g (Ok b.0) b.1 ∙ ends ∙ ap Err (sym b.3))
   fault_made after f g (inr (inr e)) = inr e
 
--- the same where the header was told without its value
+-- the same where the header was decoded without its value
 pub text_told : (shift : Shift) (o : OpenPacket) (near : Known) (bytes part : List ℕ) (clock : Option Moment) (place : ℕ) (told : ToldHead) (text : List ℕ) (end : ℕ) (r : EventRecord)
     → TellsHead o.stream.now (stream_form shift o.stream.now) bytes o.content clock place told → PutsBody near o.stream.now told.head.event.now part bytes o.content told.head.end told.spent end text → place < end → r ≡ record { event = told.head.event; clock = told.head.clock; end = end }
     → (values : Values) × (stands shift o (values_of near) bytes clock place ≡ Ok (recorded_of o.stream.now values r)) × (packet_values values ≡ packet_values (values_of near)) × (text ≡ values_text part o.stream.now r.event.now values)

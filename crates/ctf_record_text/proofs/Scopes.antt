@@ -52,7 +52,7 @@ module _ (known : Known) (stream : StreamClass) (event : EventClass) (part bytes
   unfolding bodied
   opens values place spent = refl
 
-  -- The three scopes, each where those before it stand.
+  -- The three scopes, each where those before it are there.
   abbrev Stands : (Values → Type 0) → Option Class → Standing → List ℕ → Standing → List ℕ → (Option Val → Type 0) → Type 0
   Stands Where class from before to after Is =
       (values : Values) → Where values → (s : Stood) × (scope_at fault_in_record (option_map form class) (input_of bytes content values) from.place from.spent ≡ Ok s)
@@ -96,7 +96,7 @@ puts_body known none nothing first_members second_members last stream event part
     (λ values so_far. has_own values (so_far.0, so_far.1, none_known nothing values.event_context no_others))
     (λ values shares stream_is event_is. (let f = has_fields (value_in values) [] (shares, stream_is, event_is) in (f.0, f.1, f.2)))
 
--- a scope that stands whatever was decoded before
+-- a scope that is there whatever was decoded before
 abbrev StandsPlain : Option Class → List ℕ → ℕ → Standing → List ℕ → Standing → List ℕ → Type 0
 StandsPlain class bytes content from before to after =
     (values : Values) → (s : Stood) × (scope_at fault_in_record (option_map form class) (input_of bytes content values) from.place from.spent ≡ Ok s)

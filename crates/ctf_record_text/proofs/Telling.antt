@@ -1,4 +1,4 @@
--- Headers that are told where they stand, one member more at a time.
+-- Headers that are decoded where they are, one member more at a time.
 use Rattle.std.proofs.Common.{◌≡◌, ℕ, ℤ, Bool, true, false, cond, pos, ◌+◌, ◌<◌, ◌≤◌, List, [], ◌∷◌, ◌++◌, map, take, drop, length, get_or, Option, Some, None, IfSome, Ok, Err, rules, refl, sym, ap, subst, ◌∙◌, arith, append_assoc, append-nil, length-append}
 use Rattle.std.specs.Prelude.{option_and_then, codes}
 use Rattle.std.specs.Int.{next_multiple_of}

@@ -40,7 +40,7 @@ module _ {S : Type 0} (given : S → Given) where
   have_first (suc number) (t ∷ ts) [] have = absurd have
   have_first (suc number) (t ∷ ts) (class ∷ classes) have = (have.0, have_first number ts classes have.1)
 
-  -- the name that the line tells
+  -- the name that is in the line
   named_so : (traces : List (declared.Trace S)) (number : ℕ) (t : declared.Trace S) → slice_get traces number ≡ Some t → name_at traces number ≡ named (are_several (traces_of given traces)) (string_bytes t.name)
   named_so traces number t at =
       ap (λ o. cond (nat_lt 1 (length traces)) (option_map (λ u. string_bytes u.name) o) None) at

@@ -33,7 +33,7 @@ front_is m number is r x next at shows first =
     let given : is.next ≡ item_of x shows.0.0 shows.0.1.0 = let e = sym ahead ∙ shows.0.1.1 in cc in
     (shows.0.0, (shows.0.1.0, sym same_next ∙ given))
 
--- the text that the reader of the stream tells is that of the item that comes next
+-- the text that the reader of the stream gives is that of the item that comes next
 pub text_is : (m : Merge) (number : ℕ) (is : IsNext m number) (r : Reader) (t : EventText) (next : items.Item Classes) → slice_get m.readers number ≡ Some r → ShowsText r.ahead t
     → first_now m ≡ item number next → (e : items.Event Classes) × (next ≡ items.event e) × (t.moment ≡ e.clock) × (t.text.now ≡ event_text e)
 text_is m number is r t next at shows first =

@@ -16,7 +16,7 @@ use Rattle.ctf_session.specs.Writing.{Texts, no_texts, and_then, joined, first_o
 use Rattle.ctf_session.proofs.Pieces.{WritesPart-longer}
 use Rattle.ctf_session.proofs.Runs.{add, shown_pieces, joined-append, joined-shown, joined-fault, ends_last, answer-then, answer-end, next-first}
 
--- a growth was refused, which is to be told
+-- an allocation failed, which is to be reported
 abbrev pub IsRefused : Merged → Type 0
 IsRefused m = (m.items ≡ []) × ((f : MergeFault) × (m.fault ≡ Some f) × IsRefusal f)
 

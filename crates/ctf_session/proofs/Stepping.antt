@@ -200,7 +200,7 @@ line_is streams.ReadFailed name e = refl
 line_is streams.StreamTooLong name e = refl
 line_is streams.NoMemory name e = absurd (e refl)
 
--- a step that told a stream's fault
+-- a step that reported a stream's fault
 pub ended_fault : (old : Session) (number : ℕ) (fault : StreamFault) (outcome : Outcome) (w : Written) → old.coming ≡ ends (Some (Stream number fault)) → TellsFault old.setting number fault outcome w → EndsBy old outcome w
 ended_fault old number fault outcomes.Done w is told = absurd told
 ended_fault old number fault (outcomes.Fault f) w is told = record {

@@ -30,7 +30,7 @@ module _ (cut : PacketStart) (ending : Ending) (left : List ℕ) (bytes : List �
   same_follows known after p q same values =
       ap (λ v. after_packet (trace_of cut) ending (opened_of cut.shift v p.opened) left) (sym values) ∙ ap (λ o. after_packet (trace_of cut) ending (opened_in cut.shift after o) left) (sym same)
 
-  -- the packet at hand as it stands
+  -- the packet at hand as it is
   pub inside : (taken : ℕ) (held : Option Packet) (p : Packet) → held ≡ Some p → StandsAt cut bytes taken held → Inside cut bytes taken p
   inside taken held p is stands = subst (StandsAt cut bytes taken) is stands
 
@@ -80,7 +80,7 @@ pub after_item : (c : ReadState) (packet : Option Packet) (front : Front) (at : 
 after_item c (Some p) front at run = refl
 after_item c None front at run = refl
 
--- the item that was found stands in front, and what is to come begins with it
+-- the item that was found is the current one, and what is to come begins with it
 pub comes : (old new : Run Classes) (c : ReadState) (packet : Option Packet) (left : List ℕ) (front : Front) (at : ℕ) → Advances old new c.cut c.scopes c.buffer packet left (Ok (Some front))
     → with_ahead (item_at c packet front) (after_ahead (item_at c packet front) at new) ≡ old
 comes old new c (Some p) left front at goes = sym goes

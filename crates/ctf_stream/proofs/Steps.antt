@@ -17,7 +17,7 @@ use Rattle.ctf_packet.proofs.Going.{goes_on}
 use Rattle.ctf_stream.specs.Coming.{opened_in, left_in, item_in, values_in, values_at, front_as, HoldsFront}
 use Rattle.ctf_stream.specs.declared.packet.Packet.{Packet}
 
--- nothing is told before the event records any more
+-- no item comes before the event records any more
 told : (packet : Opened Classes) (lost dropped : Option ℕ) (run : Run Classes) → lost ≡ None → dropped ≡ None → before (lost_before packet lost ++ discarded_before packet dropped) run ≡ run
 told packet lost dropped run no_lost no_dropped =
     ap (λ l. before (lost_before packet l ++ discarded_before packet dropped) run) no_lost ∙ ap (λ d. before (lost_before packet None ++ discarded_before packet d) run) no_dropped

@@ -1,4 +1,4 @@
--- The clocks that stand in the declarations so far.
+-- The clocks that are in the declarations so far.
 use Rattle.std.proofs.Common.{◌≡◌, ℕ, ◌+◌, ◌<◌, ◌≤◌, List, [], ◌∷◌, ◌++◌, length, get_or, Some, None, sym, ap, ◌∙◌, append-nil}
 use Rattle.std.specs.Prelude.{filter_map}
 use Rattle.tsdl_tree.specs.declared.tree.Declaration.{Declaration as TreeDeclaration}

@@ -1,4 +1,4 @@
--- What an event block gives, and which of its faults is told.
+-- What an event block gives, and which of its faults is reported.
 use Rattle.std.proofs.Common.{◌≡◌, ℕ, zero, suc, ◌+◌, ◌<◌, ◌^◌, Bool, true, false, ◌&&◌, ◌||◌, nat_eq, List, [], ◌∷◌, ◌++◌, map, take, Option, Some, None, refl, sym, ap, ◌∙◌, subst, arith, inl, inr, ◌⊎◌}
 use Rattle.std.specs.Prelude.{Contains, option_map, option_and_then, slice_get, codes}
 use Rattle.std.specs.Option.{option_map_or}
@@ -36,7 +36,7 @@ use Rattle.ctf_meaning.proofs.Lists.{some_same}
 then_is : {A B : Type 0} (f : A → Option B) (o : Option A) (a : A) → o ≡ Some a → option_and_then f o ≡ f a
 then_is f o a e = ap (option_and_then f) e
 
--- settings in which nothing is wrong tell no fault
+-- settings in which nothing is wrong report no fault
 pub no_fault : {R : Type 0} (faults : List ResolveFault) (f : ResolveFault) → faults ≡ [] → (f ≡ NoMemory) ⊎ (first faults ≡ Some f) → (f ≡ NoMemory) ⊎ R
 no_fault faults f none (inl refused) = inl refused
 no_fault faults f none (inr told) = absurd (grind (arith, ap first none, told))

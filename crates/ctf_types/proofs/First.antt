@@ -33,7 +33,7 @@ is_one (Block Event fs) es h = absurd (grind (arith, h))
 is_one (Table kind settings) es h = absurd (grind (arith, h))
 is_one (Names item) es h = absurd (grind (arith, h))
 
--- all that stands before is passed over
+-- all that is before is passed over
 pub record Passed (ds : List TreeDeclaration) (i : ℕ) : Type 0 where
   pub number : trace_of (map declaration_of ds) ≡ number_from ds i
   pub entries : first (filter_map trace_entries (map declaration_of ds)) ≡ entries_from ds i

@@ -1,4 +1,4 @@
--- Of which fault one is told.
+-- Of which faults one is reported.
 use Rattle.std.proofs.Common.{◌≡◌, List, [], ◌∷◌, ◌++◌, map, refl, sym, ap, ◌∙◌, subst, arith, append_assoc}
 use Rattle.std.specs.Prelude.{flat_map, Contains}
 use Rattle.ctf_meaning.specs.declared.fault.ResolveFault.{ResolveFault}
@@ -29,7 +29,7 @@ pub of_first : (fs : List ResolveFault) (more : List (List ResolveFault)) (fault
 of_first [] more fault h = absurd (omega (arith, h.1))
 of_first (g ∷ gs) more fault h = h
 
--- what the first groups tell is told
+-- what the first groups report is reported
 pub of_front : (xs more : List (List ResolveFault)) (fault : ResolveFault) → Contains (first_faults xs) fault → Contains (first_faults (xs ++ more)) fault
 of_front [] more fault h = absurd (omega (arith, h.1))
 of_front ([] ∷ xs) more fault h = of_front xs more fault h

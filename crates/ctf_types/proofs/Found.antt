@@ -1,4 +1,4 @@
--- The streams that stand in the declarations so far.
+-- The streams that are in the declarations so far.
 use Rattle.std.proofs.Common.{◌≡◌, ℕ, zero, suc, subst, ◌+◌, ◌<◌, ◌≤◌, List, [], ◌∷◌, ◌++◌, map, length, get_or, Some, None, sym, ap, ◌∙◌, arith, append-nil}
 use Rattle.std.specs.Prelude.{filter_map, option_map, slice_get}
 use Rattle.std.proofs.lemmas.List.{map-append}

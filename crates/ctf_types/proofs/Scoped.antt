@@ -1,4 +1,4 @@
--- The class of a scope where it stands.
+-- The class of a scope at its place.
 use Rattle.std.proofs.Common.{◌≡◌, false, List, [], Some, None, Ok, Err, sym, ap, ◌∙◌, subst}
 use Rattle.std.specs.Prelude.{option_map, Contains}
 use Rattle.std.specs.Option.{option_map_or}
@@ -40,7 +40,7 @@ module _ (text : List Declaration) (order : Order) (home : Home) (scope : Scope)
       subst (λ o. Contains (option_map_or (link_faults_at (clocks_of text) (spot_of text home scope)) o []) fault) (sym e)
       (linking_tells_fault order (clocks_of text) (spot_of text home scope) s fault solid told)
 
-  -- what is told by the parts that the code has
+  -- what is reported by the parts that the code has
   pub told_at : (clocks : List Clock) (before : List Frame) (s here : Shape) (told : Told Class) → clocks ≡ clocks_of text → before ≡ frames_before text home scope → here ≡ s →
       class_told order clocks (record { scope = scope; around = []; before = before; member = None; is_top = false; name = Some [] }) here ≡ told →
       class_told order (clocks_of text) (spot_of text home scope) s ≡ told

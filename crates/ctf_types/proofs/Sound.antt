@@ -22,7 +22,7 @@ IsSound p = scope_faults p.1 ≡ []
 abbrev pub AreSound : List (List Placed) → Type 0
 AreSound rows = Each (λ row. Each IsSound row) rows
 
--- what a step that goes on has told
+-- what a step that goes on has given
 pub after_unless : {A : Type 0} (fs : List ResolveFault) (told : Told A) (a : A) → unless fs told ≡ Ok a → (fs ≡ []) × (told ≡ Ok a)
 after_unless [] told a h = (refl, h)
 after_unless (f ∷ fs) told a h = absurd (grind (arith, h))

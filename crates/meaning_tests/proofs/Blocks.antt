@@ -1,4 +1,4 @@
--- What stands in blocks, and which fault is told.
+-- What is in blocks, and which fault is reported.
 use Rattle.std.specs.Prelude.{◌≡◌, true, false, List, [], ◌∷◌, Some, None, pos, negsuc, codes, refl}
 use Rattle.uuid.specs.Text.{by_index}
 use Rattle.tsdl_tree.specs.declared.tree.BlockKind.TheVariants as kind

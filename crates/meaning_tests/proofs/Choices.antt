@@ -1,4 +1,4 @@
--- Which option of a variant a tag's number names, and what stands in an event's heading.
+-- Which option of a variant a tag's number names, and what is in an event's heading.
 use Rattle.std.specs.Prelude.{◌≡◌, false, List, [], ◌∷◌, Some, None, pos, codes, refl}
 use Rattle.tsdl_tree.specs.declared.tree.BlockKind.TheVariants as kind
 use Rattle.tsdl_tree.specs.declared.tree.TableKind.TheVariants as table
@@ -32,7 +32,7 @@ class_chosen labels choices =
     ∷ member (codes "v") (made 1 2 3 (class.Variant (inside 0 (0 ∷ [])) choices (member (codes "A") (unsigned 8 8) ∷ member (codes "B") (unsigned 8 8) ∷ [])))
     ∷ []))
 
--- Choices stand in the order of the labels, not of the options: enum { B, A } and variant { A; B; }.
+-- Choices are in the order of the labels, not of the options: enum { B, A } and variant { A; B; }.
 pub in_order_of_labels_class : class_of_text (chosen (bare (codes "B") ∷ bare (codes "A") ∷ []) (option (codes "A") ∷ option (codes "B") ∷ []))
     ≡ denotes_fields (class_chosen (covers (codes "B") (pos 0) (pos 0) ∷ covers (codes "A") (pos 1) (pos 1) ∷ []) (choice (pos 0) (pos 0) 1 ∷ choice (pos 1) (pos 1) 0 ∷ []))
 in_order_of_labels_class = refl
@@ -53,7 +53,7 @@ pub option_without_label_class : class_of_text (chosen (bare (codes "A") ∷ [])
     ≡ denotes_fields (class_chosen (covers (codes "A") (pos 0) (pos 0) ∷ []) (choice (pos 0) (pos 0) 0 ∷ []))
 option_without_label_class = refl
 
--- A label that stands twice gives a choice each time, and ranges that overlap stay as they are.
+-- A label that is there twice gives a choice each time, and ranges that overlap stay as they are.
 pub label_twice_class : class_of_text (chosen (ranged (codes "A") (plus 0) (plus 3) ∷ ranged (codes "B") (plus 2) (plus 5) ∷ single (codes "A") (plus 300) ∷ []) (option (codes "A") ∷ option (codes "B") ∷ []))
     ≡ denotes_fields (class_chosen (covers (codes "A") (pos 0) (pos 3) ∷ covers (codes "B") (pos 2) (pos 5) ∷ covers (codes "A") (pos 300) (pos 300) ∷ [])
     (choice (pos 0) (pos 3) 0 ∷ choice (pos 2) (pos 5) 1 ∷ choice (pos 300) (pos 300) 0 ∷ []))
@@ -85,7 +85,7 @@ pub label_empty_class : class_of_text (chosen (single (codes "") (plus 0) ∷ ba
     ≡ denotes_fields (class_chosen (covers (codes "") (pos 0) (pos 0) ∷ covers (codes "A") (pos 1) (pos 1) ∷ []) (choice (pos 1) (pos 1) 0 ∷ []))
 label_empty_class = refl
 
--- The host stands in the heading of each event, also of one before the environment.
+-- The host is in the heading of each event, also of one before the environment.
 -- trace { .. }; event { name = "a"; }; env { hostname = "h"; }; event { name = ""; id = 1; };
 abbrev pub headings : List Declaration
 headings =

@@ -48,7 +48,7 @@ encoding_aligned_class = refl
 pub align_minus_faults : told (with_setting (set (codes "align" ∷ []) (value.Number (minus 8)))) ≡ SizeOrAlignment ∷ []
 align_minus_faults = refl
 
--- A setting of a float means nothing, and may stand twice: typealias floating_point { exp_dig = 8; exp_dig = 8; } := f;
+-- A setting of a float means nothing, also twice: typealias floating_point { exp_dig = 8; exp_dig = 8; } := f;
 pub float_twice_faults : told (Names (Alias (Float (counts (codes "exp_dig") 8 ∷ counts (codes "exp_dig") 8 ∷ [])) (codes "f" ∷ [])) ∷ le_trace ∷ []) ≡ []
 float_twice_faults = refl
 
@@ -85,7 +85,7 @@ pub ignored_class_links_faults : told (le_trace ∷ Block kind.Event (Assigned (
     ∷ field (Integer (counts (codes "size") 8 ∷ set (codes "map" ∷ []) (value.Name (codes "clock" ∷ codes "q" ∷ codes "value" ∷ [])) ∷ [])) (codes "i") ∷ [])) ∷ []) ∷ []) ≡ []
 ignored_class_links_faults = refl
 
--- A length to nowhere in a class that stands in no scope: typealias struct { string s[nowhere]; } := t;
+-- A length to nowhere in a class that is in no scope: typealias struct { string s[nowhere]; } := t;
 pub length_unused_faults : told (Names (Alias (structure (Fields (String []) (declarator (codes "s") (lengths.Path (codes "nowhere" ∷ []) ∷ []) ∷ []) ∷ [])) (codes "t" ∷ [])) ∷ le_trace ∷ []) ≡ []
 length_unused_faults = refl
 

@@ -179,7 +179,7 @@ rank fault.Clock = 7
 rank fault.Twice = 8
 rank fault.TooDeep = 9
 
--- the faults of which one is told, each once and in the order of their codes
+-- the faults of which one is reported, each once and in the order of their codes
 abbrev pub told : List Declaration → List ResolveFault
 told text = filter (λ f. list_any (λ g. nat_eq (rank f) (rank g)) (faults text))
     (fault.UnknownType ∷ fault.DeclaredTwice ∷ fault.Attribute ∷ fault.FloatingPoint ∷ fault.SizeOrAlignment ∷ fault.LengthOrTag ∷ fault.Clock ∷ fault.Twice ∷ fault.TooDeep ∷ [])

@@ -1,4 +1,4 @@
--- Numbers that stand at any bit of some bytes.
+-- Numbers that are at any bit of some bytes.
 use Rattle.std.specs.Prelude.{◌≡◌, ℕ, ℤ, pos, negsuc, ◌+◌, ◌-◌, ◌*◌, ◌/◌, ◌%◌, ◌^◌, ◌-ℤ◌, List, [], ◌∷◌, map, refl, length, if◌then◌else◌, nat_lt, nat_le, Option, Some, None}
 use Rattle.std.specs.List.{range_with_len, flat_map}
 use Rattle.ctf_bits.specs.declared.number.Order.{Order}

@@ -1,4 +1,4 @@
--- A packet that tells a size is the same whatever follows its bytes.
+-- A packet that has a size is the same whatever follows its bytes.
 use Rattle.std.proofs.Common.{◌≡◌, ℕ, ◌+◌, ◌-◌, ◌*◌, ◌/◌, ◌%◌, ◌<◌, ◌≤◌, Bool, true, false, List, [], ◌++◌, length, take, drop, Option, Some, None, option_and_then, Result, Ok, Err, ◌⊎◌, inl, inr, nat_le, if◌then◌else◌, refl, sym, ap, subst, ◌∙◌, arith, codes, length-append}
 use Rattle.std.specs.Prelude.{min}
 use Rattle.std.proofs.lemmas.Bool.Decides.{nat_tests}
@@ -100,7 +100,7 @@ module _ {C : Type 0} where
     abbrev placed_of : Begun C → Sizes → Result (Opened C) StreamFault
     placed_of begun sizes = placed begun.stream reached start begun.values begun.first sizes
 
-    -- the packet tells a size, and its bytes are there
+    -- the packet has a size, and its bytes are there
     abbrev pub Sized : Type 0
     Sized = (begun : Begun C) × (sizes : Sizes) × (wanted trace reached left ≡ whole begun sizes) × (sizes.packet ≤ 8 * length left) × (placed_of begun sizes ≡ Ok p)
 
@@ -148,7 +148,7 @@ module _ {C : Type 0} where
             let m = resting_where begun ending k in
             inr (ap is_rest e, m.0, m.1, m.2)
 
-    -- a packet that tells a size, however the stream ends
+    -- a packet that has a size, however the stream ends
     sized_opens : (ending : Ending) → Sized → open_at trace ending reached start left ≡ Ok p
     sized_opens ending s =
         let begun = s.0 in

@@ -1,4 +1,4 @@
--- Clocks that stand at the times of their values.
+-- Clocks that are at the times of their values.
 use Rattle.std.proofs.Common.{◌≡◌, ℕ, zero, suc, ℤ, pos, negsuc, ◌/◌, ◌^◌, ◌≤◌, ◌≤ℤ◌, ◌+ℤ◌, ◌*ℤ◌, Bool, true, false, List, [], ◌∷◌, Option, Some, None, option_and_then, Ok, nat_lt, if◌then◌else◌, refl, sym, ap, subst, ◌∙◌, arith}
 use Rattle.std.specs.Int.{int_div_euclid}
 use Rattle.std.specs.Option.{is_some}
@@ -32,13 +32,13 @@ time_rises line a b h =
     let l = floor_rises ((line.offset +ℤ pos a) *ℤ pos 1000000000) ((line.offset +ℤ pos b) *ℤ pos 1000000000) line.frequency (omega (arith, ints)) in
     omega (arith, ints)
 
--- a clock is there where its line is, and tells the time of its value
+-- a clock is there where its line is, and has the time of its value
 abbrev pub OnLine : Option Line → Option Moment → Type 0
 OnLine None clock = clock ≡ None
 OnLine (Some line) None = ⊥
 OnLine (Some line) (Some moment) = moment.time ≡ nanoseconds line moment.cycles
 
--- it tells a time where its line is there
+-- it has a time where its line is there
 pub timed : (line : Option Line) (clock : Option Moment) → OnLine line clock → is_some (time_at clock) ≡ is_some line
 timed None clock h = ap (λ c. is_some (time_at c)) h
 timed (Some line) None h = absurd h

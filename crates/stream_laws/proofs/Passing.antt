@@ -46,7 +46,7 @@ module _ {C : Type 0} (trace : TraceForm C) where
   abbrev Ends : Ending → ℕ → List ℕ → List ℕ → Item C → Type 0
   Ends other at left more_bytes x = is_rest (wanted trace None (drop (packet_start x - at) left)) ≡ true → (other ≡ Clean) × (more_bytes ≡ [])
 
-  -- where the packet of an item stands, among the bytes from a place on; where it is the rest of the stream, this ends
+  -- where the packet of an item is, among the bytes from a place on; where it is the rest of the stream, this ends
   -- with it, cleanly
   abbrev Peeked : Ending → ℕ → List ℕ → Item C → Type 0
   Peeked ending at left x =
@@ -71,7 +71,7 @@ module _ {C : Type 0} (trace : TraceForm C) where
       let rest : drop m (own ++ ys) ≡ ys = ap (λ k. drop k (own ++ ys)) (sym long) ∙ drop-append_seam own ys in
       (g ∙ ap (λ xs. from_packet p xs (cutting.after trace other (own ++ ys) p)) seam, rest)
 
-  -- an item that follows a packet that tells a size
+  -- an item that follows a packet that has a size
   after_sized : (other : Ending) (reached : Option Reached) (at : ℕ) (left more_bytes : List ℕ) (first : List (Item C)) (x : Item C) (p : Opened C) (clock : Option Moment) (later : List (Item C)) → nat_lt longest_stream at ≡ false → Sized trace reached at left p → p.end ≤ packet_end x
       → ((g : Option Moment → Run C) (others : List (Item C)) → (g clock).items ≡ later ++ x ∷ others → (from_packet p (take (p.end - p.start) left) g).items ≡ first ++ x ∷ others)
       → Same other (Some (reached_after p clock)) p.end (drop (p.end - p.start) left) more_bytes later x
@@ -90,7 +90,7 @@ module _ {C : Type 0} (trace : TraceForm C) where
       let next : (cutting.after trace other (own ++ ys) p clock).items ≡ later ++ x ∷ same.0 = ap (λ xs. (from_bytes trace other (Some (reached_after p clock)) p.end xs).items) g.1 ∙ same.1 in
       (same.0, ap (λ xs. (from_bytes trace other reached at xs).items) parts ∙ (ap (λ (r : Run C). r.items) g.0 ∙ back (cutting.after trace other (own ++ ys) p) same.0 next))
 
-  -- an item of a packet that tells a size
+  -- an item of a packet that has a size
   in_sized : (other : Ending) (reached : Option Reached) (at : ℕ) (left more_bytes : List ℕ) (first : List (Item C)) (x : Item C) (p : Opened C) → nat_lt longest_stream at ≡ false → Sized trace reached at left p
       → Within p (from_packet p (take (p.end - p.start) left)) first x → Same other reached at left more_bytes first x
   in_sized other reached at left more_bytes first x p short s w =

@@ -54,7 +54,7 @@ abbrev pub one_stream : Option (List Part) → Option Form → Option Line → L
 one_stream context header line events =
     record { uuid = None; packet_header = None; streams = record { id = 0; packet_context = context_of context; event_header = header; event_context = None; line = line; events = events } ∷ [] }
 
--- what is compared of an item: its class and cycles; or its count, and the cycles at which it stands and between
+-- what is compared of an item: its class and cycles; or its count, and the cycles at which it is and between
 -- which
 pub data Brief : Type 0 where
   told : ℕ → Option ℕ → Brief

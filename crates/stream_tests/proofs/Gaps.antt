@@ -28,7 +28,7 @@ pub clock_goes_on : items_of (counted []) Clean three_packets
 unfolding number found string_at role uuid_field stream_checked sizes_checked placed open_at headed bodied record_at run_of
 clock_goes_on = refl
 
--- a count of 8 bits that goes from 254 to 1; the first packet's count is not told
+-- a count of 8 bits that goes from 254 to 1; the first packet's count is not given
 pub count_wraps : items_of (counted []) Clean (0x20 ∷ 0x20 ∷ 0xFE ∷ 0x10 ∷ 0x20 ∷ 0x20 ∷ 0x01 ∷ 0x20 ∷ [])
     ≡ (told 0 (Some 16) ∷ dropped 3 (Some 16) (Some 16) (Some 16) ∷ told 0 (Some 32) ∷ [], None, 8)
 unfolding number found string_at role uuid_field stream_checked sizes_checked placed open_at headed bodied record_at run_of
@@ -40,7 +40,7 @@ pub until_the_end : items_of with_end Clean (0x28 ∷ 0x28 ∷ 0xFE ∷ 0x18 ∷
 unfolding number found string_at role uuid_field stream_checked sizes_checked placed open_at headed bodied record_at run_of
 until_the_end = refl
 
--- sequence numbers from 254 to 1; one that went back tells nothing
+-- sequence numbers from 254 to 1; one that went back gives nothing
 pub number_wraps : items_of with_number Clean (0x28 ∷ 0x28 ∷ 0x00 ∷ 0xFE ∷ 0x10 ∷ 0x28 ∷ 0x28 ∷ 0x00 ∷ 0x01 ∷ 0x20 ∷ [])
     ≡ (told 0 (Some 16) ∷ missed 2 (Some 16) (Some 16) (Some 16) ∷ told 0 (Some 32) ∷ [], None, 10)
 unfolding number found string_at role uuid_field stream_checked sizes_checked placed open_at headed bodied record_at run_of
@@ -61,7 +61,7 @@ pub same_number : items_of with_number Clean (0x28 ∷ 0x28 ∷ 0x00 ∷ 0x05 �
 unfolding number found string_at role uuid_field stream_checked sizes_checked placed open_at headed bodied record_at run_of
 same_number = refl
 
--- half of all numbers on is told, more is a step back
+-- half of all numbers on is given, more is a step back
 pub half_on : items_of with_number Clean (0x28 ∷ 0x28 ∷ 0x00 ∷ 0x00 ∷ 0x10 ∷ 0x28 ∷ 0x28 ∷ 0x00 ∷ 0x80 ∷ 0x20 ∷ [])
     ≡ (told 0 (Some 16) ∷ missed 127 (Some 16) (Some 16) (Some 16) ∷ told 0 (Some 32) ∷ [], None, 10)
 unfolding number found string_at role uuid_field stream_checked sizes_checked placed open_at headed bodied record_at run_of

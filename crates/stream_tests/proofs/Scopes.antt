@@ -72,7 +72,7 @@ stamp = integer 8 (build.number Le 8 false true)
 abbrev signed_stamp : Form
 signed_stamp = integer 8 (build.number Le 8 true true)
 
--- the steps of the clock are those that are told as stamps, below 0 too
+-- the steps of the clock are those that are given as stamps, below 0 too
 pub step_of_clock : moved signed_stamp (signed (negsuc 127)) ≡ (8, 128) ∷ []
 step_of_clock = refl
 

@@ -115,7 +115,7 @@ constant_no_string {n} {t} i = ap is_string (constant_kind t.kind n i.holds)
 pub constant_other : (b : Symbol) {n : ℕ} {t : Token} → IsConstant n t → is b t ≡ false
 constant_other b {n} {t} i = ap (is_symbol b) (constant_kind t.kind n i.holds)
 
--- ---- what stands first
+-- ---- what is first
 
 pub begins_other : (b a : Symbol) (ts : List Token) → begins a ts ≡ true → is_same a b ≡ false → begins b ts ≡ false
 begins_other b a [] e d = refl
@@ -134,7 +134,7 @@ unfolding past
 past_none a [] e = refl
 past_none a (t ∷ ts) e = rw e refl
 
--- no typeword stands first
+-- no typeword is first
 pub no_run : {a : Symbol} {t : Token} (post : List Token) → Is a t → is_type_keyword a ≡ false → run (t ∷ post) ≡ 0
 unfolding run
 no_run {a} {t} post i d = let e : is_typeword t.kind ≡ false = typeword_by i ∙ d in rw e refl

@@ -85,7 +85,7 @@ pub not_empty : (go : List Token → Bool) (ts : List Token) → go [] ≡ false
 not_empty go [] z e = absurd cc
 not_empty go (t ∷ ts) z e = omega arith
 
--- items that stand any number of times
+-- items that are there any number of times
 module _ {A : Type 0} {P : A → List Token → Type 0} (go : List Token → Bool) (item : Parse A) (stops : go [] ≡ false) (turns : (x : A) (ts : List Token) → P x ts → (post : List Token) → go (ts ++ post) ≡ true)
     (reads : (x : A) (ts : List Token) → P x ts → (post : List Token) → Comes (item (ts ++ post)) (x, post)) where
   pub many_come : {xs : List A} {ts : List Token} → Many P xs ts → (post : List Token) → go post ≡ false → (n : ℕ) → length ts ≤ n → Comes (loop go item n (ts ++ post)) (xs, post)

@@ -94,7 +94,7 @@ pub class_begins : {c : Specifier} {ts : List Token} → IsClass c ts → (post 
 class_begins (IsClass.plain p) post = plain_begins p post
 class_begins (IsClass.const i p) post = rw (is_other s.CloseBrace i refl) refl
 
--- none of the words that a declaration of names begins with stands first
+-- none of the words that a declaration of names begins with is first
 pub record NoDeclaration (ts : List Token) : Type 0 where
   pub struct : begins s.Struct ts ≡ false
   pub variant : begins s.Variant ts ≡ false

@@ -63,7 +63,7 @@ pub declarator_run : {d : Declarator} {ts : List Token} → IsDeclarator d ts �
 unfolding run
 declarator_run (IsDeclarator.declarator w m) post z = rw (typeword_of w, lengths_run m post z) refl
 
--- one typeword stands first in declarators
+-- one typeword is first in declarators
 pub declarators_run : {ds : List Declarator} {us : List Token} → Listed IsDeclarator ds us → (e : Token) (post : List Token) → Is s.Semicolon e → run (us ++ (e ∷ post)) ≡ 1
 declarators_run (Listed.last p) e post i = declarator_run p (e ∷ post) (no_run post i refl)
 declarators_run (Listed.more p j m) e post i = rw append_assoc (declarator_run p _ (no_run _ j refl))
@@ -121,7 +121,7 @@ enum_comes {us = us} {vs = vs} body d post i p q r =
 
 -- ---- how a compound begins
 
--- `struct`, `variant` or `enum` stands first
+-- `struct`, `variant` or `enum` is first
 pub data Opens : List Token → Type 0 where
   struct : {t : Token} {ts : List Token} → Is s.Struct t → Opens (t ∷ ts)
   variant : {t : Token} {ts : List Token} → Is s.Variant t → Opens (t ∷ ts)

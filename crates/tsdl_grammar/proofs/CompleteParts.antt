@@ -120,7 +120,7 @@ pub tag_comes : {g : Option Words} {ts : List Token} → Optional IsTag g ts →
 tag_comes Optional.none post z = comes_none (begins s.Less) tag_at z
 tag_comes (Optional.some p) post z = comes_some (begins s.Less) tag_at (less_begins p post) (tag_some p post)
 
--- before a brace no identifier stands first, with a tag or without
+-- before a brace no identifier is first, with a tag or without
 pub tag_begins : {g : Option Words} {ts : List Token} → Optional IsTag g ts → (post : List Token) → begins s.OpenBrace post ≡ true → begins_identifier (ts ++ post) ≡ false
 tag_begins Optional.none post z = begins_no_identifier s.OpenBrace post z
 tag_begins (Optional.some (IsTag.tag i p j)) post z = no_identifier i

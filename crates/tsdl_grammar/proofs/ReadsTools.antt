@@ -183,7 +183,7 @@ pub reads_close : {B : Type 0} {d e : ℕ} {ts : List Token} (f : List Token →
     → ((t : Token) (rest : List Token) → Is s.CloseBrace t → Reads (f rest) (suc d) e rest (λ y vs. Q y (t ∷ vs))) → Reads (expect s.CloseBrace ts >>= f) d e ts Q
 reads_close {d = d} f next = expect_reads s.CloseBrace f (λ t rest i. room_close i d rest) next
 
--- a symbol that may stand there
+-- a symbol that may be there
 pub reads_past : {B : Type 0} (a : Symbol) {d e : ℕ} (ts : List Token) (f : List Token → Result (B × List Token) Refusal) {Q : B → List Token → Type 0}
     → is_brace a ≡ false → Reads (f ts) d e ts Q → ((t : Token) (rest : List Token) → Is a t → Reads (f rest) d e rest (λ y vs. Q y (t ∷ vs))) → Reads (f (past a ts)) d e ts Q
 unfolding past

@@ -10,7 +10,7 @@ use Rattle.tsdl_grammar.specs.Terminals.{is}
 use Rattle.tsdl_grammar.specs.Spelling.{run}
 use Rattle.tsdl_grammar.specs.Reading.{words_of, some_words}
 
--- the token at a place is of that kind, as its own value tells
+-- the token at a place is of that kind, as its own value says
 same_test : (p : Token → Bool) (ts : List Token) (i : ℕ) (t : Token) (b : Bool) → t ≡ get_or ts i t → p t ≡ b → p (get_or ts i t) ≡ b
 same_test p ts i t b e o = ap p (sym e) ∙ o
 

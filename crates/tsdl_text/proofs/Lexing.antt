@@ -82,7 +82,7 @@ cut_more text start line line' found found' x e found_is line_is cut =
 pub piece_some : (s : List ℕ) (x : Extent) → piece_at s ≡ Some x → 0 < x.len
 piece_some s x e = let f = piece_front s x e in omega (arith, f.len, f.some)
 
--- where no piece is read, none stands
+-- where no piece is read, none is there
 pub nothing_stands : (s : List ℕ) → piece_at s ≡ None → NothingStands (λ (piece : Piece). piece.bytes) Stands s
 nothing_stands s e piece rest h stands =
     let r = piece_is_read piece rest stands in

@@ -75,7 +75,7 @@ told order id = record { some = λ p after is. some_bytes p is.has_header; one =
 nothing_left : (order : Order) (id : List ℕ) → NothingStands (λ (p : Packet). p.bytes) (Stands order id) []
 nothing_left order id = nothing_at_end (λ (p : Packet). p.bytes) (Stands order id) (told order id)
 
--- where a check fails no packet stands
+-- where a check fails no packet is there
 nothing_good : (order : Order) (id rest : List ℕ) (fault : MetaFault) → first_fault order id rest ≡ Some fault → NothingStands (λ (p : Packet). p.bytes) (Stands order id) rest
 nothing_good order id rest fault f p after e is = none-some fault (sym (packet_no_fault order id p after is) ∙ ap (first_fault order id) (sym e) ∙ f)
 
@@ -135,7 +135,7 @@ Answer order bytes = ((text : List ℕ) × IsJoined order bytes text) ⊎ ((faul
 abbrev Fails : Order → List ℕ → List ℕ → Type 0
 Fails order id rest = (fault : MetaFault) × (first_fault order id rest ≡ Some fault)
 
--- what stands at the front where no check fails
+-- what is at the front where no check fails
 packet_there : (order : Order) (id rest : List ℕ) → first_fault order id rest ≡ None → Front (λ (p : Packet). p.bytes) (Stands order id) rest
 unfolding first_fault
 packet_there order id rest e =

@@ -254,7 +254,7 @@ broken_after order bytes text start fault h e so_far =
       fails = e;
     }
 
--- ---- no check tells S1
+-- ---- no check reports S1
 
 never : (b : Bool) (f : MetaFault) (o : Option MetaFault) (line : ℕ) → (f ≡ faults.NoToken line → ⊥) → (o ≡ Some (faults.NoToken line) → ⊥) → cond b (Some f) o ≡ Some (faults.NoToken line) → ⊥
 never true f o line differs rest e = differs cc
@@ -281,7 +281,7 @@ first_never : (order : Order) (id rest : List ℕ) (line : ℕ) → first_fault 
 unfolding first_fault
 first_never order id rest line e = or_else_never (header_fault order id rest) _ line (header_never order id rest line) (sizes_never (sizes_fit order rest) line) e
 
--- what a check tells is a refusal
+-- what a check reports is a refusal
 pub refused_by : (order : Order) (bytes rest : List ℕ) (fault : MetaFault) → first_fault order (uuid bytes) rest ≡ Some fault → IsBrokenAfter order bytes fault → JoinRefused order bytes fault
 refused_by order bytes rest faults.CutShort e broken = broken
 refused_by order bytes rest faults.WrongMagic e broken = broken

@@ -43,13 +43,13 @@ end_parts a b t e =
     let more = and_parts (eqb 47 b) true parts.1 in
     (sym (eqb-true 42 a parts.0), sym (eqb-true 47 b more.0))
 
--- `*/` stands at the front
+-- `*/` is at the front
 at_end : (t : List ℕ) → bytes_eq (codes "*/") (take 2 t) ≡ true → (rest : List ℕ) × (t ≡ codes "*/" ++ rest)
 at_end [] e = absurd cc
 at_end (a ∷ []) e = let parts = and_parts (eqb 42 a) false e in absurd (false≢true parts.1)
 at_end (a ∷ b ∷ t) e = let p = end_parts a b t e in (t, ap (λ (n : ℕ). n ∷ b ∷ t) p.0 ∙ ap (λ (n : ℕ). 42 ∷ n ∷ t) p.1)
 
--- the end does not stand where the comment goes on
+-- the end is not where the comment goes on
 not_yet : (a : ℕ) (inside after : List ℕ) → EndsFirst (a ∷ inside) → bytes_eq (codes "*/") (take 2 (a ∷ ((inside ++ codes "*/") ++ after))) ≡ true → ⊥
 not_yet a [] after first e =
     let p = end_parts a 42 (47 ∷ after) e in omega (arith, p.1)
@@ -82,7 +82,7 @@ record BlockFront (t : List ℕ) (n : ℕ) : Type 0 where
 heads_are : (a b : ℕ) (s t : List ℕ) → a ∷ s ≡ b ∷ t → (a ≡ b) × (s ≡ t)
 heads_are a b s t e = (cc, cc)
 
--- one more byte, at which the end does not stand
+-- one more byte, at which the end is not
 longer_first : (a : ℕ) (inside after : List ℕ) → bytes_eq (codes "*/") (take 2 (a ∷ ((inside ++ codes "*/") ++ after))) ≡ false → EndsFirst inside → EndsFirst (a ∷ inside)
 longer_first a inside after no_end first [] rest e =
     let heads = heads_are a 42 (inside ++ codes "*/") (47 ∷ rest) e in

@@ -218,7 +218,7 @@ string_values-are (next {bytes} {rest} {values} {value} c r) =
     ∙ ap (λ t. value ∷ all_values t) (drop_at bytes rest (length bytes) refl)
     ∙ ap (λ vs. value ∷ vs) (string_values-are r)
 
--- the string whose inside stands at the front
+-- the string whose inside is at the front
 pub record StringFront (s : List ℕ) (n : ℕ) : Type 0 where
   pub inside : List ℕ
   pub after : List ℕ

@@ -135,7 +135,7 @@ unfolding punctuator_at
 punctuator_front t x e =
     by_arm _ _ _ x (ellipsis_front t x) (by_arm _ _ _ x (assign_front t x) (single_front t x)) e
 
--- where a punctuator stands, one at least as long is found
+-- where a punctuator is, one at least as long is found
 reach_by : (word : Bool) (n k : ℕ) → (word || leb n 1) ≡ true → word ≡ false → 1 ≤ k → n ≤ k
 reach_by true n k e h l = absurd cc
 reach_by false n k e h l = let m = leb-true n 1 e in omega arith
@@ -149,7 +149,7 @@ punctuator_reach symbols.Ellipsis after x w e = let l : 3 ≡ x.1 = ap (λ (y : 
 punctuator_reach symbols.Assign after x w e = let l : 2 ≡ x.1 = ap (λ (y : Symbol × ℕ). y.1) (same_Some _ x e) in omega arith
 punctuator_reach s after x w e = reach_by (begins is_word_start (spelling s)) (length (spelling s)) x.1 refl w (positive (spelling s ++ after) x e)
 
--- a punctuator is found where no longer one stands
+-- a punctuator is found where no longer one is
 pub punctuator_found : (s : Symbol) (after : List ℕ) → ((longer : Symbol) (rest : List ℕ) → spelling s ++ after ≡ spelling longer ++ rest → length (spelling longer) ≤ length (spelling s)) → punctuator_at (spelling s ++ after) ≡ cond (begins is_word_start (spelling s)) None (Some (s, length (spelling s)))
 unfolding is_word_start punctuator_at single
 punctuator_found symbols.Dot after longest =

@@ -18,7 +18,7 @@ use Rattle.tsdl_text.proofs.Lexing.{nothing_stands, piece_token}
 same_extent : (p q : Extent) → p ≡ q → (p.kind ≡ q.kind) × (p.len ≡ q.len)
 same_extent p q e = (ap (λ (x : Extent). x.kind) e, ap (λ (x : Extent). x.len) e)
 
--- two pieces that stand at one place are one
+-- two pieces that are at one place are one
 pub one_piece : (p q : Piece) (s t : List ℕ) → Stands p s → Stands q t → p.bytes ++ s ≡ q.bytes ++ t → (p ≡ q) × (s ≡ t)
 one_piece p q s t a b e =
     let r = piece_is_read p s a in
