@@ -39,6 +39,20 @@ pub record IsFirstChoice (tag : Route) (choices : List Choice) (choice : Choice)
   pub others : List Choice
   pub is : choices ≡ choice ∷ others
 
+-- a class is a variant, of which the first choice is this option, where the innermost structure's first member has a
+-- number from the first to the last of these
+pub record IsFirstOption (variant : Class) (option : Member) (low high : ℕ) : Type 0 where
+  pub route : Route
+  pub choices : List Choice
+  pub options : List Member
+  pub choice : Choice
+  pub of_variant : variant.kind ≡ kind.Variant route choices options
+  pub first_choice : IsFirstChoice route choices choice
+  pub first : choice.span.first ≡ pos low
+  pub last : choice.span.last ≡ pos high
+  pub within : choice.option < length options
+  pub chosen : option ≡ get_or options choice.option option
+
 -- wherever a header begins, a tag of so many bits is right there, and the stamp of an option after it at this distance:
 -- their alignments divide the header's (own)
 pub record IsStampPlace (header tag size option stamp place : ℕ) : Type 0 where
@@ -60,7 +74,8 @@ pub record AreWindows (plan : HeaderPlan) : Type 0 where
   pub whole : plan.align % 8 ≡ 0
   pub tag : plan.tag_window ≡ record { place = 0; size = bits_of plan.tag; is_signed = false }
   pub tag_order : plan.tag.order ≡ Le
-  pub stamp : plan.stamp_window ≡ record { place = plan.stamp_place; size = bits_of plan.stamp; is_signed = false }
+  pub stamp : plan.stamp_window
+      ≡ record { place = plan.stamp_place; size = bits_of plan.stamp; is_signed = false }
   pub stamp_order : plan.stamp.order ≡ Le
 
 -- a header's class is a tag and a variant on it, and this is read of them as long as the tag makes the first choice
@@ -68,27 +83,20 @@ pub record AreWindows (plan : HeaderPlan) : Type 0 where
 pub record IsHeaderPlan (plan : HeaderPlan) (class : Class) : Type 0 where
   pub tag : Member
   pub variant : Member
-  pub route : Route
-  pub choices : List Choice
-  pub options : List Member
-  pub choice : Choice
   pub option : Member
   pub stamp_align : ℕ
   pub align : class.align ≡ plan.align
   pub is : class.kind ≡ kind.Structure (tag ∷ variant ∷ [])
-  pub of_variant : variant.class.kind ≡ kind.Variant route choices options
-  pub first_choice : IsFirstChoice route choices choice
-  pub first : choice.span.first ≡ pos plan.first
-  pub last : choice.span.last ≡ pos plan.last
-  pub within : choice.option < length options
-  pub chosen : option ≡ get_or options choice.option option
+  pub of_option : IsFirstOption variant.class option plan.first plan.last
   pub of_tag : IsTagOf tag plan.tag
   pub of_stamp : IsStampOf option.class stamp_align plan.stamp
-  pub placed : IsStampPlace plan.align tag.class.align (bits_of plan.tag) option.class.align stamp_align plan.stamp_place
+  pub placed : IsStampPlace plan.align tag.class.align (bits_of plan.tag) option.class.align
+      stamp_align plan.stamp_place
   pub near : EndsNear plan
   pub read : AreWindows plan
 
 -- what is known of event headers of a class, if there is one and anything is
 abbrev pub IsHeaderPlanOf : Option Class → Option HeaderPlan → Type 0
 IsHeaderPlanOf header None = Unit {0}
-IsHeaderPlanOf header (Some plan) = (class : Class) × (header ≡ Some class) × IsHeaderPlan plan class
+IsHeaderPlanOf header (Some plan) =
+    (class : Class) × (header ≡ Some class) × IsHeaderPlan plan class

@@ -3,7 +3,7 @@
 ghost use Rattle.std.specs.Prelude.{◌≡◌, ◌≤◌, ◌<◌, ◌+◌, ◌%◌, ◌^◌, codes, false, pos, IfSome, IsTrue, option_copied};
 ghost use Rattle.std.specs.Str.{bytes_eq};
 ghost use Rattle.ctf_bits.specs.declared.number.Order.TheVariants.{Le};
-ghost use Rattle.ctf_class.specs.HeaderPlans.{IsHeaderPlan, IsHeaderPlanOf, IsTagOf, IsStampOf, IsStampPlace, IsFirstChoice};
+ghost use Rattle.ctf_class.specs.HeaderPlans.{IsHeaderPlan, IsHeaderPlanOf, IsTagOf, IsStampOf, IsStampPlace, IsFirstChoice, IsFirstOption};
 ghost use Rattle.ctf_class.specs.Integers.{bits_of};
 
 use crate::align::Align;
@@ -47,6 +47,15 @@ struct AlignedInteger {
     integer: Integer,
 }
 
+/// The option of a variant's first choice.
+#[derive(Clone, Copy)]
+struct FirstOption<'a> {
+    option: &'a Member,
+    /// The first and the last of the tag's numbers that choose it.
+    first: u64,
+    last: u64,
+}
+
 /// The plan for event headers of a class; `None` where there is no class, or it is not of the form that `HeaderPlan`
 /// names.
 pub(crate) fn header_plan(class: Option<&Class>) -> Option<HeaderPlan>
@@ -68,22 +77,8 @@ fn plan_of(class: &Class) -> Option<HeaderPlan>
     let [tag, variant] = members.as_slice() else {
         return None;
     };
-    let Kind::Variant {
-        tag: route,
-        choices,
-        options,
-    } = &variant.class.kind
-    else {
-        return None;
-    };
-    let choice = first_choice(route, choices)?;
-    let options = options.as_slice();
-    if choice.option >= options.len() {
-        return None;
-    }
-    let option = &options[choice.option].class;
-    let first = unsigned(choice.span.first)?;
-    let last = unsigned(choice.span.last)?;
+    let chosen = option_of(&variant.class)?;
+    let option = &chosen.option.class;
     let integer = tag_of(tag)?;
     let stamp = stamp_of(option)?;
     let stamp_place = stamp_place(
@@ -100,8 +95,8 @@ fn plan_of(class: &Class) -> Option<HeaderPlan>
         align: class.align,
         tag: integer,
         tag_window,
-        first,
-        last,
+        first: chosen.first,
+        last: chosen.last,
         stamp: stamp.integer,
         stamp_place,
         stamp_window,
@@ -192,6 +187,34 @@ fn stamp_of(class: &Class) -> Option<AlignedInteger>
     Some(AlignedInteger {
         align: stamp.class.align,
         integer: *integer,
+    })
+}
+
+/// The option of the first choice, if that is made by the first member of the innermost structure, with numbers that
+/// 64 bits hold.
+fn option_of(variant: &Class) -> Option<FirstOption<'_>>
+    ensures { IfSome result
+        (λ chosen. IsFirstOption variant.now chosen.option.now chosen.first chosen.last) }
+{
+    let Kind::Variant {
+        tag,
+        choices,
+        options,
+    } = &variant.kind
+    else {
+        return None;
+    };
+    let choice = first_choice(tag, choices)?;
+    let options = options.as_slice();
+    if choice.option >= options.len() {
+        return None;
+    }
+    let first = unsigned(choice.span.first)?;
+    let last = unsigned(choice.span.last)?;
+    Some(FirstOption {
+        option: &options[choice.option],
+        first,
+        last,
     })
 }
 

@@ -69,6 +69,7 @@ tells_so line plan class packet content place clock next begin tag_end inner end
     let j = plan.stamp in
     let tag = is.tag in
     let stamp = is.of_stamp.stamp in
+    let chosen = is.of_option in
     let z = pos id in
     let from = begins_telling clock place in
     let at : Telling = record { id = None; clock = clock; place = begin; spent = 1 } in
@@ -96,8 +97,8 @@ tells_so line plan class packet content place clock next begin tag_end inner end
     (ap (λ b. cond b (signed_number i.order packet (next_multiple_of begin tag.class.align) (bits_of i)) (pos (number i.order packet (next_multiple_of begin tag.class.align) (bits_of i)))) is.of_tag.unsigned ∙ ap pos (sym id_at))
     in
     let pair : TellsMembers (Some line) (tag ∷ is.variant ∷ []) packet content at to =
-    tells_pair (Some line) tag is.variant i is.of_tag.labels is.route is.choices is.options packet content at chose (Some to) read is.choice.option is.option is.of_tag.is is.of_variant (omega arith) is.within is.chosen stands
-    (chosen_first is.choices is.choice is.route plan.first plan.last id is.first_choice is.first is.last above below) (sym (ap (last_or None) (named_so tag i is.of_tag.labels z class_tag is.of_tag.named))) refl refl refl of_option
+    tells_pair (Some line) tag is.variant i is.of_tag.labels chosen.route chosen.choices chosen.options packet content at chose (Some to) read chosen.choice.option is.option is.of_tag.is chosen.of_variant (omega arith) chosen.within chosen.chosen stands
+    (chosen_first chosen.choices chosen.choice chosen.route plan.first plan.last id chosen.first_choice chosen.first chosen.last above below) (sym (ap (last_or None) (named_so tag i is.of_tag.labels z class_tag is.of_tag.named))) refl refl refl of_option
     in
     tells_structure (Some line) class (tag ∷ is.variant ∷ []) packet content from at (Some to) is.is at_is room (omega arith) pair
 
