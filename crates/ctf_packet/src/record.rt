@@ -76,6 +76,23 @@ pub fn planned_named(stream: &StreamClass, id: Option<i128>) -> Option<PlannedEv
     }
 }
 
+/// Where a scope of the event record at a place begins.
+#[inline(always)]
+fn scope_place<'p>(at: &RecordPlace<'p, '_>, scope: Scope, place: u64) -> ScopePlace<'p>
+    requires { place ≤ at.now.packet.now.content }
+    ensures scope { result.scope ≡ scope }
+    ensures bytes { result.bytes.now ≡ at.now.bytes.now }
+    ensures content { result.content ≡ at.now.packet.now.content }
+    ensures place { result.place ≡ place }
+{
+    ScopePlace {
+        scope,
+        bytes: at.bytes,
+        content: at.packet.content,
+        place,
+    }
+}
+
 /// Decodes the scopes after the header of the event record at a place, the contexts and the fields (CTF 1.8.3, section
 /// 6.2), and gives the place where the last one ends, in bits from the packet's first one. Their values are in `scopes`
 /// then, and the memory of `scratch` is used.
@@ -105,12 +122,7 @@ pub fn put_body(
         return Err(StreamFault::NoMemory);
     };
     let stream_context = at.packet.stream.event_context();
-    let first = ScopePlace {
-        scope: Scope::StreamEventContext,
-        bytes: at.bytes,
-        content: at.packet.content,
-        place: head.end,
-    };
+    let first = scope_place(at, Scope::StreamEventContext, head.end);
     let end = record_scope(
         alloc,
         stream_context,
@@ -119,12 +131,7 @@ pub fn put_body(
         scopes,
     )?;
     let event_context = event.context();
-    let second = ScopePlace {
-        scope: Scope::EventContext,
-        bytes: at.bytes,
-        content: at.packet.content,
-        place: end,
-    };
+    let second = scope_place(at, Scope::EventContext, end);
     let body = &mut scratch.bodies[i];
     let end = record_scope(
         alloc,
@@ -134,12 +141,7 @@ pub fn put_body(
         scopes,
     )?;
     let fields = event.fields();
-    let third = ScopePlace {
-        scope: Scope::EventFields,
-        bytes: at.bytes,
-        content: at.packet.content,
-        place: end,
-    };
+    let third = scope_place(at, Scope::EventFields, end);
     record_scope(alloc, Some(fields), &third, &mut body.fields, scopes)
 }
 
@@ -164,12 +166,7 @@ fn put_head<'a>(
     let packet = at.packet;
     let stream = packet.stream;
     let class = stream.event_header();
-    let place = ScopePlace {
-        scope: Scope::EventHeader,
-        bytes: at.bytes,
-        content: packet.content,
-        place: at.place,
-    };
+    let place = scope_place(at, Scope::EventHeader, at.place);
     let end = record_scope(alloc, class, &place, spare, scopes)?;
     let header = scopes.get(Scope::EventHeader);
     match told_by(packet.timeline.as_ref(), at.clock, class, header) {

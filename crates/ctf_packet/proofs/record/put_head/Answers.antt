@@ -14,7 +14,7 @@ returns-in-Err-clause-puts c = λ shift line.
     let k = stream_form shift s in
     let old = c.args.scopes.now in
     let new = c.record_scope.new.scopes in
-    let header : heads.Header k c.args.at.now.bytes.now c.args.at.now.packet.now.content c.args.at.now.clock c.args.at.now.place old (Ok c.in_ok-end.end) new = rw c.event_header-class.ensures at c.in_ok-end.ensures.puts in
+    let header : heads.Header k c.args.at.now.bytes.now c.args.at.now.packet.now.content c.args.at.now.clock c.args.at.now.place old (Ok c.in_ok-end.end) new = rw (c.scope_place-place.ensures.scope, c.scope_place-place.ensures.bytes, c.scope_place-place.ensures.content, c.scope_place-place.ensures.place, c.event_header-class.ensures) at c.in_ok-end.ensures.puts in
     let clock = (λ i. packets.clock_after ((sym line ∙ sym c.as_ref.ensures.value) i) c.args.at.now.clock (packets.moves (option_map form (sym c.event_header-class.ensures i)) (option_map val (sym c.get-header.ensures i)))) ∙ c.in-Err.ensures in
     inl (heads.no_clock k c.args.at.now.bytes.now c.args.at.now.packet.now.content c.args.at.now.clock c.args.at.now.place old new c.in_ok-end.end c.requires.spent header c.in-Err.fault clock)
 
@@ -24,7 +24,7 @@ returns-in-Some-clause-puts c = λ shift line.
     let k = stream_form shift s in
     let old = c.args.scopes.now in
     let new = c.record_scope.new.scopes in
-    let header : heads.Header k c.args.at.now.bytes.now c.args.at.now.packet.now.content c.args.at.now.clock c.args.at.now.place old (Ok c.in_ok-end.end) new = rw c.event_header-class.ensures at c.in_ok-end.ensures.puts in
+    let header : heads.Header k c.args.at.now.bytes.now c.args.at.now.packet.now.content c.args.at.now.clock c.args.at.now.place old (Ok c.in_ok-end.end) new = rw (c.scope_place-place.ensures.scope, c.scope_place-place.ensures.bytes, c.scope_place-place.ensures.content, c.scope_place-place.ensures.place, c.event_header-class.ensures) at c.in_ok-end.ensures.puts in
     let clock = (λ i. packets.clock_after ((sym line ∙ sym c.as_ref.ensures.value) i) c.args.at.now.clock (packets.moves (option_map form (sym c.event_header-class.ensures i)) (option_map val (sym c.get-header.ensures i)))) ∙ c.in-Ok.ensures.0 in
     let id = (λ i. last_or None (records.ids_in (option_map form (sym c.event_header-class.ensures i)) (option_map val (sym c.get-header.ensures i)))) ∙ sym c.in-Ok.ensures.1 in
     let event = ap (records.event_named k.events) id ∙ sym c.in-Some.ensures in
@@ -37,11 +37,13 @@ returns-in-None-clause-puts c = λ shift line.
     let k = stream_form shift s in
     let old = c.args.scopes.now in
     let new = c.record_scope.new.scopes in
-    let header : heads.Header k c.args.at.now.bytes.now c.args.at.now.packet.now.content c.args.at.now.clock c.args.at.now.place old (Ok c.in_ok-end.end) new = rw c.event_header-class.ensures at c.in_ok-end.ensures.puts in
+    let header : heads.Header k c.args.at.now.bytes.now c.args.at.now.packet.now.content c.args.at.now.clock c.args.at.now.place old (Ok c.in_ok-end.end) new = rw (c.scope_place-place.ensures.scope, c.scope_place-place.ensures.bytes, c.scope_place-place.ensures.content, c.scope_place-place.ensures.place, c.event_header-class.ensures) at c.in_ok-end.ensures.puts in
     let clock = (λ i. packets.clock_after ((sym line ∙ sym c.as_ref.ensures.value) i) c.args.at.now.clock (packets.moves (option_map form (sym c.event_header-class.ensures i)) (option_map val (sym c.get-header.ensures i)))) ∙ c.in-Ok.ensures.0 in
     let id = (λ i. last_or None (records.ids_in (option_map form (sym c.event_header-class.ensures i)) (option_map val (sym c.get-header.ensures i)))) ∙ sym c.in-Ok.ensures.1 in
     let event = ap (records.event_named k.events) id ∙ sym c.in-None.ensures in
     inl (heads.no_event k c.args.at.now.bytes.now c.args.at.now.packet.now.content c.args.at.now.clock c.args.at.now.place old new c.in_ok-end.end c.requires.spent header c.in-Ok.told.clock clock event)
 
 pub returns-in-Some-clause-packet : goal.returns-in-Some-clause-packet
-returns-in-Some-clause-packet c = ap packet_values c.in_ok-end.ensures.puts.4
+returns-in-Some-clause-packet c =
+    let header = rw (c.scope_place-place.ensures.scope) at c.in_ok-end.ensures.puts in
+    ap packet_values header.4
