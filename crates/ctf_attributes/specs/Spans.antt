@@ -10,7 +10,10 @@ use Rattle.ctf_meaning.specs.Labels.{first_number, last_number, has_no_number}
 
 -- the numbers of a label, where the label before ends one below `next`
 abbrev pub span_of : ℤ → Option WrittenSpan → Span
-span_of next written = record { first = first_number next written; last = last_number (first_number next written) written }
+span_of next written = record {
+  first = first_number next written;
+  last = last_number (first_number next written) written;
+}
 
 abbrev pub is_numberless : Option WrittenSpan → Bool
 is_numberless written = option_map_or has_no_number written false

@@ -13,7 +13,8 @@ Tells faults IsValue (Ok v) = (faults ≡ []) × IsValue v
 Tells faults IsValue (Err fault) = (fault ≡ NoMemory) ⊎ (first faults ≡ Some fault)
 
 -- Where nothing is wrong, the value; else the first fault: the function takes no memory.
-abbrev pub TellsFirst : {V : Type 0} → List ResolveFault → (V → Type 0) → Result V ResolveFault → Type 0
+abbrev pub TellsFirst : {V : Type 0} → List ResolveFault → (V → Type 0) → Result V ResolveFault
+    → Type 0
 TellsFirst faults IsValue (Ok v) = (faults ≡ []) × IsValue v
 TellsFirst faults IsValue (Err fault) = first faults ≡ Some fault
 

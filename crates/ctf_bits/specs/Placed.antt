@@ -13,4 +13,5 @@ pub record Placed : Type 0 where
 -- its number, little endian, where that byte is after so many others (CTF 1.8.3, section 4.1.5)
 abbrev pub number_after : Placed → List ℕ → ℕ → ℤ
 number_after w bytes first =
-    if w.is_signed then signed_number Le bytes (8 * first + w.place) w.size else pos (number Le bytes (8 * first + w.place) w.size)
+    if w.is_signed then signed_number Le bytes (8 * first + w.place) w.size
+    else pos (number Le bytes (8 * first + w.place) w.size)

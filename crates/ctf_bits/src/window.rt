@@ -31,10 +31,17 @@ impl Model for Window {
 
     ghost Value = { Placed };
 
-    ghost view = { λ window. record { place = 8 * window.bytes + window.shift; size = window.size; is_signed = window.is_signed } };
+    ghost view = { λ window. record {
+      place = 8 * window.bytes + window.shift;
+      size = window.size;
+      is_signed = window.is_signed;
+    } };
 
-    ghost invariant = { λ window. (1 ≤ window.size) × (window.shift < 8) × (window.shift + window.size ≤ 64) × (8 * window.bytes + window.shift < 2 ^ 64) × (window.mask ≡ 2 ^ window.size - 1)
-        × (window.last ≡ (if window.is_signed then 2 ^ (window.size - 1) - 1 else 2 ^ window.size - 1)) };
+    ghost invariant = { λ window. (1 ≤ window.size) × (window.shift < 8)
+        × (window.shift + window.size ≤ 64) × (8 * window.bytes + window.shift < 2 ^ 64)
+        × (window.mask ≡ 2 ^ window.size - 1)
+        × (window.last
+        ≡ (if window.is_signed then 2 ^ (window.size - 1) - 1 else 2 ^ window.size - 1)) };
 }
 
 impl Window {

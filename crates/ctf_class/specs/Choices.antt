@@ -12,7 +12,9 @@ option_named names name = position (λ option. bytes_eq option name) names
 
 -- the choice that a label makes: the option of its name, if there is one
 abbrev pub choice_by : List (List ℕ) → Label → Option Choice
-choice_by names label = option_map (λ option. record { span = label.span; option = option }) (option_named names label.name)
+choice_by names label =
+    option_map (λ option. record { span = label.span; option = option })
+    (option_named names label.name)
 
 -- the choices that labels make among options of these names
 abbrev pub choices_by : List (List ℕ) → List Label → List Choice
@@ -20,4 +22,6 @@ choices_by names labels = filter_map (choice_by names) labels
 
 -- the option of the first choice that covers a number
 abbrev pub chosen : List Choice → ℤ → Option ℕ
-chosen choices z = option_map (λ (choice : Choice). choice.option) (find (λ (choice : Choice). covers choice.span z) choices)
+chosen choices z =
+    option_map (λ (choice : Choice). choice.option)
+    (find (λ (choice : Choice). covers choice.span z) choices)

@@ -15,8 +15,9 @@ shown_byte byte =
     if byte == 0x0A then codes "\\n" else
     if byte == 0x09 then codes "\\t" else
     if byte == 0x0D then codes "\\r" else
-    if nat_lt byte 0x20 || byte == 0x7F then codes "\\x" ++ (hex_digit (byte / 16) ∷ hex_digit (byte % 16) ∷ []) else
-    byte ∷ []
+    if nat_lt byte 0x20 || byte == 0x7F
+    then codes "\\x" ++ (hex_digit (byte / 16) ∷ hex_digit (byte % 16) ∷ [])
+    else byte ∷ []
 
 -- a text, byte by byte (own)
 abbrev pub escaped : List ℕ → List ℕ

@@ -23,7 +23,8 @@ members_of class = members_of_kind (out-Kind class.kind)
 -- section 5.2)
 abbrev pub packet_names : List (List ℕ)
 packet_names =
-    codes "packet_size" ∷ codes "content_size" ∷ codes "timestamp_begin" ∷ codes "timestamp_end" ∷ codes "events_discarded" ∷ codes "packet_seq_num" ∷ []
+    codes "packet_size" ∷ codes "content_size" ∷ codes "timestamp_begin" ∷ codes "timestamp_end"
+    ∷ codes "events_discarded" ∷ codes "packet_seq_num" ∷ []
 
 abbrev pub is_of_packet : List ℕ → Bool
 is_of_packet name = list_any (bytes_eq name) packet_names

@@ -14,23 +14,29 @@ span_in labels order rank = (label_at labels (place_in order rank)).span
 
 -- the labels' numbers are one after the other in an order
 pub record AreApart (labels : List Label) (order : List ℕ) : Type 0 where
-  pub forward : (rank : ℕ) → rank < length labels → (span_in labels order rank).first ≤ℤ (span_in labels order rank).last
-  pub apart : (rank later : ℕ) → rank < later → later < length labels → (span_in labels order rank).last <ℤ (span_in labels order later).first
+  pub forward : (rank : ℕ) → rank < length labels
+      → (span_in labels order rank).first ≤ℤ (span_in labels order rank).last
+  pub apart : (rank later : ℕ) → rank < later → later < length labels
+      → (span_in labels order rank).last <ℤ (span_in labels order later).first
 
 -- the place of a label that covers a number, if there is one
 abbrev pub FindsCovering : List Label → ℤ → Option ℕ → Type 0
 FindsCovering labels z found =
-    MatchOption found ((place : ℕ) → place < length labels → covers (label_at labels place).span z ≡ false) (λ place. covers (label_at labels place).span z ≡ true)
+    MatchOption found
+    ((place : ℕ) → place < length labels → covers (label_at labels place).span z ≡ false)
+    (λ place. covers (label_at labels place).span z ≡ true)
 
 -- one past the place of the last label of a name before an end, or 0
 pub record IsLast (labels : List Label) (end : ℕ) (name : List ℕ) (kept : ℕ) : Type 0 where
   pub within : kept ≤ end
   pub named : 0 < kept → (label_at labels (kept - 1)).name ≡ name
-  pub last : (place : ℕ) → kept ≤ place → place < end → bytes_eq (label_at labels place).name name ≡ false
+  pub last : (place : ℕ) → kept ≤ place → place < end
+      → bytes_eq (label_at labels place).name name ≡ false
 
 -- for each label the last one before it of its name
 pub record IsChain (labels : List Label) (earlier : List ℕ) : Type 0 where
-  pub links : (place : ℕ) → place < length labels → IsLast labels place (label_at labels place).name (get_or earlier place 0)
+  pub links : (place : ℕ) → place < length labels
+      → IsLast labels place (label_at labels place).name (get_or earlier place 0)
 
 -- what is kept finds the labels
 abbrev pub Finds : List Label → Search → Type 0

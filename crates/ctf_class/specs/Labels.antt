@@ -20,11 +20,14 @@ label_at labels place = get_or labels place no_label
 
 -- whether one of some labels covers a number and has a name
 abbrev pub is_shown : List Label → ℤ → List ℕ → Bool
-is_shown labels z name = list_any (λ (label : Label). covers label.span z && bytes_eq label.name name) labels
+is_shown labels z name =
+    list_any (λ (label : Label). covers label.span z && bytes_eq label.name name) labels
 
 -- whether the label at a place covers a number, and none that is before it and covers the number has its name
 abbrev pub shows_at : List Label → ℤ → ℕ → Bool
-shows_at labels z place = covers (label_at labels place).span z && not (is_shown (take place labels) z (label_at labels place).name)
+shows_at labels z place =
+    covers (label_at labels place).span z
+    && not (is_shown (take place labels) z (label_at labels place).name)
 
 -- no label from a place on shows the number
 pub record NoneShown (labels : List Label) (z : ℤ) (begin : ℕ) : Type 0 where
@@ -39,4 +42,5 @@ pub record IsNextShown (labels : List Label) (z : ℤ) (begin place : ℕ) : Typ
 
 -- the place of the first label from a place on that shows the number, if there is one
 abbrev pub FindsNext : List Label → ℤ → ℕ → Option ℕ → Type 0
-FindsNext labels z begin found = MatchOption found (NoneShown labels z begin) (IsNextShown labels z begin)
+FindsNext labels z begin found =
+    MatchOption found (NoneShown labels z begin) (IsNextShown labels z begin)

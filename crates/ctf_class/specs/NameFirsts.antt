@@ -14,5 +14,6 @@ place_in firsts name = get_by (λ key. slice_cmp nat_cmp name key.items) firsts.
 
 -- for each name its first place is kept, and whether two names are the same
 pub record IsIndex (names : List (List ℕ)) (firsts : Firsts) : Type 0 where
-  pub places : (name : List ℕ) → place_in firsts name ≡ position_from (λ other. bytes_eq other name) 0 names
+  pub places : (name : List ℕ)
+      → place_in firsts name ≡ position_from (λ other. bytes_eq other name) 0 names
   pub twins : firsts.has_twins ≡ has_twins bytes_eq names

@@ -12,9 +12,11 @@ name_in names order rank = get_or names (place_in order rank) []
 -- there is a name of a rank, which comes after that of the rank before
 pub record IsNext (names : List (List ℕ)) (order : List ℕ) (rank : ℕ) : Type 0 where
   pub within : place_in order rank < length names
-  pub after : 0 < rank → slice_cmp nat_cmp (name_in names order (rank - 1)) (name_in names order rank) ≡ Less
+  pub after : 0 < rank
+      → slice_cmp nat_cmp (name_in names order (rank - 1)) (name_in names order rank) ≡ Less
 
 -- the names come one after the other in an order
 pub record AreAscending (names : List (List ℕ)) (order : List ℕ) : Type 0 where
   pub within : (rank : ℕ) → rank < length names → place_in order rank < length names
-  pub ascending : (rank later : ℕ) → rank < later → later < length names → slice_cmp nat_cmp (name_in names order rank) (name_in names order later) ≡ Less
+  pub ascending : (rank later : ℕ) → rank < later → later < length names
+      → slice_cmp nat_cmp (name_in names order rank) (name_in names order later) ≡ Less

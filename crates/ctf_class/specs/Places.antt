@@ -13,4 +13,5 @@ place_of (Sorted places) count id = get nat_cmp places id
 
 -- for each number the place of its first item is kept
 pub record FindsFirst {T : Type 0} (id_of : T → ℕ) (items : List T) (places : Places) : Type 0 where
-  pub firsts : (id : ℕ) → place_of places (length items) id ≡ position_from (λ item. id_of item == id) 0 items
+  pub firsts : (id : ℕ)
+      → place_of places (length items) id ≡ position_from (λ item. id_of item == id) 0 items

@@ -7,4 +7,5 @@ place_in order rank = get_or order rank rank
 
 -- each item has a rank
 pub record HasRanks {X : Type 0} (items : List X) (order : List ℕ) : Type 0 where
-  pub rank : (place : ℕ) → place < length items → (rank : ℕ) × (rank < length items) × (place_in order rank ≡ place)
+  pub rank : (place : ℕ) → place < length items
+      → (rank : ℕ) × (rank < length items) × (place_in order rank ≡ place)

@@ -20,4 +20,5 @@ abbrev pub ArePlans : Option Class → List EventClass → List RecordPlan → T
 ArePlans shared [] [] = ⊤
 ArePlans shared [] (p ∷ ps) = ⊥
 ArePlans shared (e ∷ es) [] = ⊥
-ArePlans shared (e ∷ es) (p ∷ ps) = IsPlanOf (scopes_of shared e.context e.fields) p × ArePlans shared es ps
+ArePlans shared (e ∷ es) (p ∷ ps) =
+    IsPlanOf (scopes_of shared e.context e.fields) p × ArePlans shared es ps

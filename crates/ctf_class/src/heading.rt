@@ -26,7 +26,8 @@ impl Model for Heading {
 
     ghost view = { λ heading. record { host = heading.host; name = heading.name } };
 
-    ghost invariant = { λ heading. heading.ready ≡ heading_text (record { host = heading.host; name = heading.name }) };
+    ghost invariant = { λ heading.
+        heading.ready ≡ heading_text (record { host = heading.host; name = heading.name }) };
 }
 
 impl Heading {

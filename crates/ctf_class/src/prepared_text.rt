@@ -35,9 +35,11 @@ impl Model for PreparedText {
 
     ghost coded = { coded_list coded_ℕ };
 
-    ghost view = { λ ready. first_bytes (ready.first ∷ ready.second ∷ ready.third ∷ ready.rest) ready.length };
+    ghost view = { λ ready.
+        first_bytes (ready.first ∷ ready.second ∷ ready.third ∷ ready.rest) ready.length };
 
-    ghost invariant = { λ ready. (ready.length ≤ 8 * (3 + length_of ready.rest)) × (8 * length_of ready.rest ≤ ready.length) × (ready.length ≤ 2 ^ 63) };
+    ghost invariant = { λ ready. (ready.length ≤ 8 * (3 + length_of ready.rest))
+        × (8 * length_of ready.rest ≤ ready.length) × (ready.length ≤ 2 ^ 63) };
 }
 
 impl PreparedText {

@@ -18,11 +18,16 @@ pub record Line : Type 0 where
 -- a clock (CTF 1.8.3, section 8), shifted (own)
 abbrev pub line_of : Clock → Shift → Line
 line_of clock shift =
-    record { start = (clock.offset_seconds +ℤ shift.seconds) *ℤ pos 1000000000 +ℤ shift.nanos; offset = clock.offset; frequency = clock.frequency }
+    record {
+      start = (clock.offset_seconds +ℤ shift.seconds) *ℤ pos 1000000000 +ℤ shift.nanos;
+      offset = clock.offset;
+      frequency = clock.frequency;
+    }
 
 -- the time at a value, in nanoseconds since the epoch, rounded down (CTF 1.8.3, section 8)
 abbrev pub nanoseconds : Line → ℕ → ℤ
-nanoseconds line value = line.start +ℤ int_div_euclid ((line.offset +ℤ pos value) *ℤ pos 1000000000) (pos line.frequency)
+nanoseconds line value =
+    line.start +ℤ int_div_euclid ((line.offset +ℤ pos value) *ℤ pos 1000000000) (pos line.frequency)
 
 -- whether a number is one of 64 bits in two's complement
 abbrev pub fits : ℤ → Bool
@@ -50,4 +55,5 @@ advanced line from n x = moment_at line (least_from n from.cycles x)
 -- the moment at which integers set the clock, one after the other, each with its width
 abbrev pub advanced_by : Line → Moment → List (ℕ × ℕ) → Option Moment
 advanced_by line from [] = Some from
-advanced_by line from (m ∷ ms) = option_and_then (λ next. advanced_by line next ms) (advanced line from m.0 m.1)
+advanced_by line from (m ∷ ms) =
+    option_and_then (λ next. advanced_by line next ms) (advanced line from m.0 m.1)

@@ -24,7 +24,8 @@ discarded_between n before now = let d = steps_up n before now in if d == 0 then
 -- same or the next, nor where it went back, that is more than half of all numbers on (own)
 abbrev pub lost_between : ℕ → ℕ → ℕ → Option ℕ
 lost_between n before now =
-    let d = steps_up n before now in if nat_le 2 d && nat_le d (2 ^ (n - 1)) then Some (d - 1) else None
+    let d = steps_up n before now in
+    if nat_le 2 d && nat_le d (2 ^ (n - 1)) then Some (d - 1) else None
 
 -- it is that number
 abbrev pub SumIsLeast : Type 0

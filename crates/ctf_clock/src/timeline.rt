@@ -27,11 +27,20 @@ impl Model for Timeline {
 
     ghost Value = { Line };
 
-    ghost view = { λ timeline. record { start = timeline.start; offset = timeline.offset; frequency = timeline.frequency } };
+    ghost view = { λ timeline. record {
+      start = timeline.start;
+      offset = timeline.offset;
+      frequency = timeline.frequency;
+    } };
 
-    ghost invariant = { λ timeline. (neg_ℤ (pos (2 ^ 96)) <ℤ timeline.start) × (timeline.start <ℤ pos (2 ^ 96)) };
+    ghost invariant = { λ timeline. (neg_ℤ (pos (2 ^ 96)) <ℤ timeline.start)
+        × (timeline.start <ℤ pos (2 ^ 96)) };
 
-    ghost inverse = { λ line. record { start = line.start; offset = line.offset; frequency = line.frequency } };
+    ghost inverse = { λ line. record {
+      start = line.start;
+      offset = line.offset;
+      frequency = line.frequency;
+    } };
 }
 
 impl Timeline {

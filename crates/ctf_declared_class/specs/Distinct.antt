@@ -9,4 +9,6 @@ use Rattle.ctf_meaning_steps.specs.Told.{Told, unless}
 
 -- the members, where no two have one name
 abbrev pub members_told : List Field → Told Members
-members_told fields = unless (when (has_twins same_word (map (λ f. f.name) fields)) DeclaredTwice) (Ok (members_from fields))
+members_told fields =
+    unless (when (has_twins same_word (map (λ f. f.name) fields)) DeclaredTwice)
+    (Ok (members_from fields))

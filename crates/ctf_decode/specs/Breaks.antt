@@ -29,13 +29,17 @@ BreaksLeaf c e f = (c.content < e) × (f ≡ past e)
 -- no zero byte up to the content's end: the next byte is needed
 abbrev pub BreaksString : Input → ℕ → Fault → Type 0
 BreaksString c b f =
-    (position (λ x. nat_eq x 0) (bytes_from c b) ≡ None) × (f ≡ past (b + 8 * (length (bytes_from c b) + 1)))
+    (position (λ x. nat_eq x 0) (bytes_from c b) ≡ None)
+    × (f ≡ past (b + 8 * (length (bytes_from c b) + 1)))
 
 -- one of so many values breaks, and those before it are there
-abbrev pub BreaksRow : Input → (ℕ → Val → ℕ → Type 0) → (ℕ → ℕ → Fault → Type 0) → ℕ → ℕ → ℕ → Fault → Type 0
+abbrev pub BreaksRow : Input → (ℕ → Val → ℕ → Type 0) → (ℕ → ℕ → Fault → Type 0) → ℕ → ℕ → ℕ → Fault
+    → Type 0
 BreaksRow c R B zero p s f = ⊥
 BreaksRow c R B (suc n) p s f =
-    B p s f ⊎ ((v : Val) × (m : ℕ) × R p v m × (s + count v ≤ c.limit) × BreaksRow c R B n m (s + count v) f)
+    B p s f
+    ⊎ ((v : Val) × (m : ℕ) × R p v m × (s + count v ≤ c.limit)
+    × BreaksRow c R B n m (s + count v) f)
 
 -- the option that is named breaks, or none is named
 abbrev pub IsOption : Option ℕ → Fault → (ℕ → Type 0) → Type 0
@@ -46,17 +50,24 @@ abbrev mutual
   -- the fault f is that of the first value, in the order in which they begin, that is not there, where s
   -- values were begun before p (own)
   pub Breaks : Form → Input → Env → ℕ → ℕ → Fault → Type 0
-  Breaks (integer a i) c env p s f = Begins c s f (BreaksLeaf c (next_multiple_of p a + bits_of i) f)
-  Breaks (enumeration a i) c env p s f = Begins c s f (BreaksLeaf c (next_multiple_of p a + bits_of i) f)
+  Breaks (integer a i) c env p s f =
+      Begins c s f (BreaksLeaf c (next_multiple_of p a + bits_of i) f)
+  Breaks (enumeration a i) c env p s f =
+      Begins c s f (BreaksLeaf c (next_multiple_of p a + bits_of i) f)
   Breaks (string a) c env p s f = Begins c s f (BreaksString c (next_multiple_of p 8) f)
   Breaks (structure a ps) c env p s f =
       let b = next_multiple_of p a in
       Begins c s f (Opens c b f (BreaksMembers ps c env [] b (s + 1) f))
   Breaks (variant a tag choices ps) c env p s f =
-      Begins c s f (IsOption (option_at tag choices c.earlier env) f (λ i. BreaksOption ps i c env p (s + 1) f))
+      Begins c s f
+      (IsOption (option_at tag choices c.earlier env) f (λ i.
+      BreaksOption ps i c env p (s + 1) f))
   Breaks (array a many k) c env p s f =
       let b = next_multiple_of p (align_of k) in
-      Begins c s f (Opens c b f (BreaksRow c (Stands k c env) (Breaks k c env) (length_of many c.earlier env) b (s + 1) f))
+      Begins c s f
+      (Opens c b f
+      (BreaksRow c (Stands k c env) (Breaks k c env) (length_of many c.earlier env) b
+      (s + 1) f))
   Breaks (text a many) c env p s f =
       Begins c s f (BreaksLeaf c (next_multiple_of p 8 + 8 * length_of many c.earlier env) f)
 
@@ -65,7 +76,8 @@ abbrev mutual
   BreaksMembers no_parts c env done p s f = ⊥
   BreaksMembers (part n k ps) c env done p s f =
       Breaks k c (done ∷ env) p s f
-      ⊎ ((v : Val) × (m : ℕ) × Stands k c (done ∷ env) p v m × (s + count v ≤ c.limit) × BreaksMembers ps c env (done ++ v ∷ []) m (s + count v) f)
+      ⊎ ((v : Val) × (m : ℕ) × Stands k c (done ∷ env) p v m × (s + count v ≤ c.limit)
+      × BreaksMembers ps c env (done ++ v ∷ []) m (s + count v) f)
 
   -- option i breaks, or there is none
   pub BreaksOption : Parts → ℕ → Input → Env → ℕ → ℕ → Fault → Type 0

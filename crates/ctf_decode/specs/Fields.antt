@@ -89,7 +89,9 @@ signed_pair n _ = []
 
 -- the width and the unsigned number of an integer that sets the clock
 abbrev pub moved_in : Integer → Val → List (ℕ × ℕ)
-moved_in i v = if i.is_moving then (if i.is_signed then signed_pair i.size v else unsigned_pair i.size v) else []
+moved_in i v =
+    if i.is_moving then (if i.is_signed then signed_pair i.size v else unsigned_pair i.size v)
+    else []
 
 abbrev mutual
   -- what is said of each integer of a value, at any depth, in the order of decoding (own)

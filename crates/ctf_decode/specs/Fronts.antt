@@ -23,7 +23,8 @@ OnNeed P (Need n) = P n
 -- every packet with this beginning in which a value is there has a content of at least n bits (own)
 abbrev pub Needed : Form → List ℕ → Known → ℕ → ℕ → Type 0
 Needed k front known start n =
-    (more : List ℕ) (whole : ℕ) (v : Val) (q : ℕ) → 8 * length front ≤ whole → Stands k (input_in (front ++ more) whole known) [] start v q → n ≤ whole
+    (more : List ℕ) (whole : ℕ) (v : Val) (q : ℕ) → 8 * length front ≤ whole
+    → Stands k (input_in (front ++ more) whole known) [] start v q → n ≤ whole
 
 -- the reported fault is there, unless memory ran out; a content that ends is none
 abbrev pub ToldInFront : (Fault → Type 0) → DecodeFault → Type 0

@@ -21,7 +21,8 @@ Gives (Err _) at x step = Fails at.fault step
 
 -- the value after others, and decoding has come so far; or the fault is this
 abbrev pub GivesNext : Result (Unit {0}) Stopped → Cursor → List Val → List Val → Step Val → Type 0
-GivesNext (Ok _) at done all step = (v : Val) × (all ≡ done ++ v ∷ []) × (step ≡ Ok (v, at.end, at.spent))
+GivesNext (Ok _) at done all step =
+    (v : Val) × (all ≡ done ++ v ∷ []) × (step ≡ Ok (v, at.end, at.spent))
 GivesNext (Err _) at done all step = Fails at.fault step
 
 -- the reported fault is there, unless memory ran out

@@ -21,12 +21,14 @@ Env = List (List Val)
 -- an integer's value at a place (CTF 1.8.3, section 4.1.5)
 abbrev pub integer_at : Input → Integer → ℕ → Val
 integer_at c i b =
-    if i.is_signed then signed (signed_number i.order c.packet b (bits_of i)) else unsigned (number i.order c.packet b (bits_of i))
+    if i.is_signed then signed (signed_number i.order c.packet b (bits_of i))
+    else unsigned (number i.order c.packet b (bits_of i))
 
 -- an enumeration's value at a place: its container's number (CTF 1.8.3, section 4.1.8)
 abbrev pub label_at : Input → Integer → ℕ → Val
 label_at c i b =
-    label (if i.is_signed then signed_number i.order c.packet b (bits_of i) else pos (number i.order c.packet b (bits_of i)))
+    label (if i.is_signed then signed_number i.order c.packet b (bits_of i)
+    else pos (number i.order c.packet b (bits_of i)))
 
 -- the whole bytes from a place to the content's end
 abbrev pub bytes_from : Input → ℕ → List ℕ

@@ -15,7 +15,15 @@ pub record Known : Type 0 where
 
 abbrev pub nothing_known : Known
 nothing_known =
-    record { packet_header = None; packet_context = None; event_header = None; stream_event_context = None; event_context = None; event_fields = None; spent = 0 }
+    record {
+      packet_header = None;
+      packet_context = None;
+      event_header = None;
+      stream_event_context = None;
+      event_context = None;
+      event_fields = None;
+      spent = 0;
+    }
 
 abbrev pub value_at : Known → Scope → Option Value
 value_at known PacketHeader = known.packet_header
@@ -47,4 +55,10 @@ with_spent known spent = record known { spent = spent }
 -- the values of the packet alone, and none begun
 abbrev pub without_record : Known → Known
 without_record known =
-    record known { event_header = None; stream_event_context = None; event_context = None; event_fields = None; spent = 0 }
+    record known {
+      event_header = None;
+      stream_event_context = None;
+      event_context = None;
+      event_fields = None;
+      spent = 0;
+    }

@@ -16,22 +16,32 @@ Is k c env p s (Err f) = Breaks k c env p s f
 -- one of them is there, and nothing else
 abbrev pub OneStands : Type 0
 OneStands =
-    (k : Form) (c : Input) (env : Env) (p s : ℕ) → (r : Step Val) × Is k c env p s r × ((x : Step Val) → Is k c env p s x → x ≡ r)
+    (k : Form) (c : Input) (env : Env) (p s : ℕ)
+    → (r : Step Val) × Is k c env p s r × ((x : Step Val) → Is k c env p s x → x ≡ r)
 
 abbrev pub input_of : List ℕ → ℕ → (Scope → Option Val) → ℕ → Input
-input_of packet content earlier limit = record { packet = packet; content = content; earlier = earlier; limit = limit }
+input_of packet content earlier limit = record {
+  packet = packet;
+  content = content;
+  earlier = earlier;
+  limit = limit;
+}
 
 -- what is in a beginning of a packet is in the whole
 abbrev pub StandsInWhole : Type 0
 StandsInWhole =
-    (k : Form) (packet more : List ℕ) (content whole limit : ℕ) (earlier : Scope → Option Val) (env : Env) (p : ℕ) (v : Val) (q : ℕ)
+    (k : Form) (packet more : List ℕ) (content whole limit : ℕ) (earlier : Scope → Option Val)
+    (env : Env) (p : ℕ) (v : Val) (q : ℕ)
     → content ≤ whole → content ≤ 8 * length packet
-    → Stands k (input_of packet content earlier limit) env p v q → Stands k (input_of (packet ++ more) whole earlier limit) env p v q
+    → Stands k (input_of packet content earlier limit) env p v q
+    → Stands k (input_of (packet ++ more) whole earlier limit) env p v q
 
 -- a place that a beginning of a packet does not reach is reached by each packet with this beginning in which
 -- a value is there
 abbrev pub NeedsSoMuch : Type 0
 NeedsSoMuch =
-    (k : Form) (packet more : List ℕ) (content whole limit : ℕ) (earlier : Scope → Option Val) (env : Env) (p s n : ℕ) (v : Val) (q : ℕ)
-    → content ≤ whole → content ≤ 8 * length packet → Breaks k (input_of packet content earlier limit) env p s (past n)
+    (k : Form) (packet more : List ℕ) (content whole limit : ℕ) (earlier : Scope → Option Val)
+    (env : Env) (p s n : ℕ) (v : Val) (q : ℕ)
+    → content ≤ whole → content ≤ 8 * length packet
+    → Breaks k (input_of packet content earlier limit) env p s (past n)
     → Stands k (input_of (packet ++ more) whole earlier limit) env p v q → n ≤ whole

@@ -42,8 +42,11 @@ tag_of _ = None
 
 -- the option that the tag names (CTF 1.8.3, section 4.2.2)
 abbrev pub option_at : Route → List Choice → (Scope → Option Val) → Env → Option ℕ
-option_at tag choices earlier env = option_and_then (chosen choices) (tag_of (found tag earlier env))
+option_at tag choices earlier env =
+    option_and_then (chosen choices) (tag_of (found tag earlier env))
 
 -- whatever was decoded before, this option is named where the only member before it is an enumeration with this number
 abbrev pub FirstChooses : Route → List Choice → ℤ → ℕ → Type 0
-FirstChooses tag choices number i = (earlier : Scope → Option Val) (outer : Env) → option_at tag choices earlier ((label number ∷ []) ∷ outer) ≡ Some i
+FirstChooses tag choices number i =
+    (earlier : Scope → Option Val) (outer : Env)
+    → option_at tag choices earlier ((label number ∷ []) ∷ outer) ≡ Some i

@@ -28,7 +28,8 @@ text_in c b n = text_val (take_while (λ x. not (nat_eq x 0)) (take n (drop (b /
 -- so many values are there one after another, after those that are done
 abbrev pub StandsRow : (ℕ → Val → ℕ → Type 0) → ℕ → List Val → ℕ → List Val → ℕ → Type 0
 StandsRow R zero done p vs q = (vs ≡ done) × (q ≡ p)
-StandsRow R (suc n) done p vs q = (v : Val) × (m : ℕ) × R p v m × StandsRow R n (done ++ v ∷ []) m vs q
+StandsRow R (suc n) done p vs q =
+    (v : Val) × (m : ℕ) × R p v m × StandsRow R n (done ++ v ∷ []) m vs q
 
 abbrev mutual
   -- the value v of a class is there from p to q. Integers, enumerations and structures begin at the next
@@ -42,12 +43,16 @@ abbrev mutual
   Stands (string a) c env p v q = StandsString c (next_multiple_of p 8) v q
   Stands (structure a ps) c env p v q =
       let b = next_multiple_of p a in
-      (b ≤ c.content) × ((vs : List Val) × (v ≡ group (vals_of vs)) × StandsMembers ps c env [] b vs q)
+      (b ≤ c.content)
+      × ((vs : List Val) × (v ≡ group (vals_of vs)) × StandsMembers ps c env [] b vs q)
   Stands (variant a tag choices ps) c env p v q =
-      (i : ℕ) × (option_at tag choices c.earlier env ≡ Some i) × ((w : Val) × (v ≡ choice i w) × StandsOption ps i c env p w q)
+      (i : ℕ) × (option_at tag choices c.earlier env ≡ Some i)
+      × ((w : Val) × (v ≡ choice i w) × StandsOption ps i c env p w q)
   Stands (array a many k) c env p v q =
       let b = next_multiple_of p (align_of k) in
-      (b ≤ c.content) × ((vs : List Val) × (v ≡ list (vals_of vs)) × StandsRow (Stands k c env) (length_of many c.earlier env) [] b vs q)
+      (b ≤ c.content)
+      × ((vs : List Val) × (v ≡ list (vals_of vs))
+      × StandsRow (Stands k c env) (length_of many c.earlier env) [] b vs q)
   Stands (text a many) c env p v q =
       let b = next_multiple_of p 8 in
       let n = length_of many c.earlier env in Leaf c (b + 8 * n) (text_in c b n) v q
@@ -56,7 +61,8 @@ abbrev mutual
   pub StandsMembers : Parts → Input → Env → List Val → ℕ → List Val → ℕ → Type 0
   StandsMembers no_parts c env done p vs q = (vs ≡ done) × (q ≡ p)
   StandsMembers (part n k ps) c env done p vs q =
-      (v : Val) × (m : ℕ) × Stands k c (done ∷ env) p v m × StandsMembers ps c env (done ++ v ∷ []) m vs q
+      (v : Val) × (m : ℕ) × Stands k c (done ∷ env) p v m
+      × StandsMembers ps c env (done ++ v ∷ []) m vs q
 
   -- the value of option i
   pub StandsOption : Parts → ℕ → Input → Env → ℕ → Val → ℕ → Type 0

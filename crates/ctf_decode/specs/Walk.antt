@@ -63,12 +63,18 @@ abbrev mutual
       let b = next_multiple_of p a in begin c s (leaf c (b + bits_of i) s (label_at c i b))
   walk (string a) c env p s = begin c s (string_at c (next_multiple_of p 8) s)
   walk (structure a ps) c env p s =
-      let b = next_multiple_of p a in begin c s (open_at c b (and_then (walk_members ps c env [] b (s + 1)) as_group))
+      let b = next_multiple_of p a in
+      begin c s (open_at c b (and_then (walk_members ps c env [] b (s + 1)) as_group))
   walk (variant a tag choices ps) c env p s =
-      begin c s (with_option (option_at tag choices c.earlier env) (λ i. and_then (walk_option ps i c env p (s + 1)) (as_choice i)))
+      begin c s
+      (with_option (option_at tag choices c.earlier env) (λ i.
+      and_then (walk_option ps i c env p (s + 1)) (as_choice i)))
   walk (array a many k) c env p s =
       let b = next_multiple_of p (align_of k) in
-      begin c s (open_at c b (and_then (repeat (walk k c env) (length_of many c.earlier env) [] b (s + 1)) as_list))
+      begin c s
+      (open_at c b
+      (and_then (repeat (walk k c env) (length_of many c.earlier env) [] b (s + 1))
+      as_list))
   walk (text a many) c env p s =
       let b = next_multiple_of p 8 in
       let n = length_of many c.earlier env in begin c s (leaf c (b + 8 * n) s (text_in c b n))

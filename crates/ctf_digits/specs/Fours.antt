@@ -4,7 +4,9 @@ use mir.Val.{bool_byte}
 
 -- the digits of a number below 10000 as they are printed, with leading zeros, the first in the lowest byte (own)
 abbrev pub four : ℕ → ℕ
-four n = 48 + n / 1000 + (48 + n / 100 % 10) * 2 ^ 8 + (48 + n / 10 % 10) * 2 ^ 16 + (48 + n % 10) * 2 ^ 24
+four n =
+    48 + n / 1000 + (48 + n / 100 % 10) * 2 ^ 8 + (48 + n / 10 % 10) * 2 ^ 16
+    + (48 + n % 10) * 2 ^ 24
 
 -- how many of four digits it does not have (own)
 abbrev pub missing : ℕ → ℕ

@@ -34,7 +34,10 @@ pub record Sight : Type 0 where
 
 abbrev pub around_step : Around-F Sight → Sight
 around_step (Around-F.Scopes input) = record { input = input.now; frames = [] }
-around_step (Around-F.Within members outer) = record { input = outer.now.input; frames = members.now ∷ outer.now.frames }
+around_step (Around-F.Within members outer) = record {
+  input = outer.now.input;
+  frames = members.now ∷ outer.now.frames;
+}
 
 -- what is seen around a structure
 abbrev pub sight : Around → Sight
@@ -48,7 +51,9 @@ Finds (lasts.Label z) found = found ≡ Some (label z)
 
 -- the last eight members have the numbers that are kept
 abbrev pub Keeps : Members → (ℕ → Option Val) → Type 0
-Keeps m member = (j : ℕ) → j < m.count → m.count ≤ j + 8 → Finds (get_or m.numbers (j % 8) lasts.Unknown) (member j)
+Keeps m member =
+    (j : ℕ) → j < m.count → m.count ≤ j + 8
+    → Finds (get_or m.numbers (j % 8) lasts.Unknown) (member j)
 
 -- there are as many values as members, and the last eight have the numbers that are kept
 abbrev pub MembersAre : Members → List Val → Type 0
@@ -66,7 +71,9 @@ FramesAre (m ∷ ms) (vs ∷ env) = MembersAre m vs × FramesAre ms env
 
 -- the values of the packet's header and context are those that are known
 abbrev pub SharesPacket : Known → (Scope → Option Val) → Type 0
-SharesPacket known earlier = (earlier PacketHeader ≡ views.earlier known PacketHeader) × (earlier PacketContext ≡ views.earlier known PacketContext)
+SharesPacket known earlier =
+    (earlier PacketHeader ≡ views.earlier known PacketHeader)
+    × (earlier PacketContext ≡ views.earlier known PacketContext)
 
 -- what is known of the scopes before: the values of the packet, and members of the contexts of an event record
 pub record KnownScopes : Type 0 where
@@ -75,12 +82,17 @@ pub record KnownScopes : Type 0 where
   pub event_context : Members
 
 abbrev pub known_in : ScopeInput → KnownScopes
-known_in i = record { packet = i.scopes.now; stream_context = i.stream_context.now; event_context = i.event_context.now }
+known_in i = record {
+  packet = i.scopes.now;
+  stream_context = i.stream_context.now;
+  event_context = i.event_context.now;
+}
 
 -- the scopes before are those that are known, as far as they are
 abbrev pub ScopesAre : KnownScopes → (Scope → Option Val) → Type 0
 ScopesAre known earlier =
-    SharesPacket known.packet earlier × ScopeIs known.stream_context (earlier StreamEventContext) × ScopeIs known.event_context (earlier EventContext)
+    SharesPacket known.packet earlier × ScopeIs known.stream_context (earlier StreamEventContext)
+    × ScopeIs known.event_context (earlier EventContext)
 
 abbrev pub Agrees : Sight → (Scope → Option Val) → Env → Type 0
 Agrees s earlier env = ScopesAre (known_in s.input) earlier × FramesAre s.frames env
@@ -92,18 +104,24 @@ Sees s earlier (vs ∷ env) = MembersAre s.members.now vs × Agrees (sight s.aro
 
 -- an array of this length has so many elements there
 abbrev pub CountsIn : Seen → Length → ℕ → Type 0
-CountsIn seen many n = (earlier : Scope → Option Val) (env : Env) → Sees seen earlier env → length_of many earlier env ≡ n
+CountsIn seen many n =
+    (earlier : Scope → Option Val) (env : Env) → Sees seen earlier env
+    → length_of many earlier env ≡ n
 
 -- a tag makes this choice there
 abbrev pub ChoosesIn : Seen → Route → List Choice → ℕ → Type 0
-ChoosesIn seen tag choices i = (earlier : Scope → Option Val) (env : Env) → Sees seen earlier env → option_at tag choices earlier env ≡ Some i
+ChoosesIn seen tag choices i =
+    (earlier : Scope → Option Val) (env : Env) → Sees seen earlier env
+    → option_at tag choices earlier env ≡ Some i
 
 -- The value of a scope is there from a place to another, whatever was decoded before with so much known of it, and its
 -- text follows a text. Its members have the numbers that are kept. So many values were begun before it, and after it.
-abbrev pub PutsWith : KnownScopes → Members → Form → Shown → List ℕ → ℕ → ℕ → ℕ → ℕ → ℕ → List ℕ → List ℕ → Type 0
+abbrev pub PutsWith : KnownScopes → Members → Form → Shown → List ℕ → ℕ → ℕ → ℕ → ℕ → ℕ → List ℕ
+    → List ℕ → Type 0
 PutsWith known members k shown packet content place spent end total before after =
     (earlier : Scope → Option Val) (env : Env) → ScopesAre known earlier
-    → (v : Val) × (walk k (among packet content earlier) env place spent ≡ Ok (v, end, total)) × (after ≡ before ++ shown v) × ScopeIs members (Some v)
+    → (v : Val) × (walk k (among packet content earlier) env place spent ≡ Ok (v, end, total))
+    × (after ≡ before ++ shown v) × ScopeIs members (Some v)
 
 -- the packet around a value, where this was decoded before
 abbrev pub packet_of : Seen → (Scope → Option Val) → Input
@@ -113,29 +131,49 @@ packet_of seen earlier = among seen.packet.now.bytes.now seen.packet.now.end ear
 -- follows a text.
 abbrev pub PutsIn : Seen → Form → Shown → ℕ → List ℕ → Next → List ℕ → Type 0
 PutsIn seen k shown place line next after =
-    (spent : ℕ) → spent + next.more < MOST_VALUES → (earlier : Scope → Option Val) (env : Env) → Sees seen earlier env
-    → (v : Val) × (walk k (packet_of seen earlier) env place spent ≡ Ok (v, next.place, spent + 1 + next.more)) × (after ≡ line ++ shown v) × ValueIs next.last v
+    (spent : ℕ) → spent + next.more < MOST_VALUES → (earlier : Scope → Option Val) (env : Env)
+    → Sees seen earlier env
+    → (v : Val)
+    × (walk k (packet_of seen earlier) env place spent ≡ Ok (v, next.place, spent + 1 + next.more))
+    × (after ≡ line ++ shown v) × ValueIs next.last v
 
 -- a value, if one was written, is there, and its text is after a line now
 abbrev pub WritesIn : Option Next → Seen → Form → Shown → ℕ → List ℕ → List ℕ → Type 0
-WritesIn result seen k shown place line items = IfSome result (λ next. PutsIn seen k shown place line next (take next.text items))
+WritesIn result seen k shown place line items =
+    IfSome result (λ next. PutsIn seen k shown place line next (take next.text items))
 
 -- Members are there one after the other in a structure where this was decoded before, with so many values in them,
 -- which are so, and their texts follow a text together.
-abbrev pub PutsMembers : (List (List ℕ) → List ℕ) → ((Scope → Option Val) → Env → Type 0) → (List Val → Type 0) → List Member → List ℕ → ℕ → ℕ → List ℕ → MembersEnd → List ℕ → Type 0
+abbrev pub PutsMembers : (List (List ℕ) → List ℕ) → ((Scope → Option Val) → Env → Type 0)
+    → (List Val → Type 0) → List Member → List ℕ → ℕ → ℕ → List ℕ → MembersEnd → List ℕ → Type 0
 PutsMembers together Where Are ms packet content place before end after =
-    (spent : ℕ) → spent + length ms + end.more ≤ MOST_VALUES → (earlier : Scope → Option Val) (env : Env) → Where earlier env
-    → (vs : List Val) × (walk_members (parts_of (map views.member_part ms)) (among packet content earlier) env [] place spent ≡ Ok (vs, end.place, spent + length ms + end.more)) × (length vs ≡ length ms) × (after ≡ before ++ together (member_texts (map member_part ms) (vals_of vs))) × Are vs
+    (spent : ℕ) → spent + length ms + end.more ≤ MOST_VALUES
+    → (earlier : Scope → Option Val) (env : Env) → Where earlier env
+    → (vs : List Val)
+    × (walk_members (parts_of (map views.member_part ms)) (among packet content earlier) env []
+    place spent
+    ≡ Ok (vs, end.place, spent + length ms + end.more))
+    × (length vs ≡ length ms)
+    × (after ≡ before ++ together (member_texts (map member_part ms) (vals_of vs))) × Are vs
 
 -- members, if they were written, are there, have the numbers that are kept, and their texts are after a line now
-abbrev pub WritesMembers : (List (List ℕ) → List ℕ) → Option MembersEnd → Outside → Members → List Member → ℕ → List ℕ → List ℕ → Type 0
+abbrev pub WritesMembers : (List (List ℕ) → List ℕ) → Option MembersEnd → Outside → Members
+    → List Member → ℕ → List ℕ → List ℕ → Type 0
 WritesMembers together result outside members ms place line items =
-    IfSome result (λ end. PutsMembers together (Agrees (sight outside.around.now)) (MembersAre members) ms outside.packet.now.bytes.now outside.packet.now.end place line end (take end.text items))
+    IfSome result (λ end.
+    PutsMembers together (Agrees (sight outside.around.now)) (MembersAre members) ms
+    outside.packet.now.bytes.now outside.packet.now.end place line end
+    (take end.text items))
 
 -- so many elements of an array are there one after the other among what is seen around it, with so many values in all
 -- of them
-abbrev pub PutsItems : (List (List ℕ) → List ℕ) → Seen → Form → Shown → ℕ → ℕ → List ℕ → MembersEnd → List ℕ → Type 0
+abbrev pub PutsItems : (List (List ℕ) → List ℕ) → Seen → Form → Shown → ℕ → ℕ → List ℕ → MembersEnd
+    → List ℕ → Type 0
 PutsItems together seen k shown count place line end after =
-    (spent : ℕ) → spent + count + end.more ≤ MOST_VALUES → (earlier : Scope → Option Val) (env : Env) → Sees seen earlier env
-    → (ws : List Val) × (repeat (walk k (packet_of seen earlier) env) count [] place spent ≡ Ok (ws, end.place, spent + count + end.more)) × (length ws ≡ count)
+    (spent : ℕ) → spent + count + end.more ≤ MOST_VALUES
+    → (earlier : Scope → Option Val) (env : Env) → Sees seen earlier env
+    → (ws : List Val)
+    × (repeat (walk k (packet_of seen earlier) env) count [] place spent
+    ≡ Ok (ws, end.place, spent + count + end.more))
+    × (length ws ≡ count)
     × (after ≡ line ++ together (element_texts shown 0 (vals_of ws)))

@@ -11,7 +11,8 @@ use Rattle.ctf_format.specs.Rows.{enclosed}
 
 -- whether one of some labels covers a number and has a name
 abbrev pub is_named : List Label → ℤ → List ℕ → Bool
-is_named labels z name = list_any (λ (label : Label). covers label.span z && bytes_eq label.name name) labels
+is_named labels z name =
+    list_any (λ (label : Label). covers label.span z && bytes_eq label.name name) labels
 
 -- whether a label shows a number after labels that are before it: it covers the number, and none of those
 -- that cover it has the same name
@@ -22,7 +23,8 @@ shows before label z = covers label.span z && not (is_named before z label.name)
 abbrev pub names_after : List Label → List Label → ℤ → List (List ℕ)
 names_after before [] z = []
 names_after before (label ∷ labels) z =
-    if shows before label z then label.name ∷ names_after (before ++ label ∷ []) labels z else names_after (before ++ label ∷ []) labels z
+    if shows before label z then label.name ∷ names_after (before ++ label ∷ []) labels z
+    else names_after (before ++ label ∷ []) labels z
 
 -- the names of the labels that cover a number, in their order, each once (CTF 1.8.3, section 4.1.8)
 abbrev pub names_of : List Label → ℤ → List (List ℕ)
@@ -37,4 +39,6 @@ names_text (first ∷ second ∷ rest) = enclosed 123 125 (map label_text (first
 -- the names, and the container's number (own)
 abbrev pub labelled_text : Integer → List Label → ℤ → List ℕ
 labelled_text container labels z =
-    codes "( " ++ (names_text (names_of labels z) ++ (codes " : container = " ++ (number_text container z ++ codes " )")))
+    codes "( "
+    ++ (names_text (names_of labels z)
+    ++ (codes " : container = " ++ (number_text container z ++ codes " )")))

@@ -16,7 +16,8 @@ abbrev pub shown_members : List Member → Vals → List (List ℕ)
 shown_members [] vs = []
 shown_members (member ∷ members) no_vals = []
 shown_members (member ∷ members) (more_vals v vs) =
-    if is_of_packet member.name then shown_members members vs else part_text (member_part member) v ∷ shown_members members vs
+    if is_of_packet member.name then shown_members members vs
+    else part_text (member_part member) v ∷ shown_members members vs
 
 -- a packet context; nothing where none of its members is shown (own)
 abbrev pub context_text : List (List ℕ) → List ℕ
@@ -45,10 +46,14 @@ scope_texts None v = []
 
 -- the scopes of an event record: the packet context, of which the text is given, the stream event context,
 -- the event context and the event fields (own; the order is that of CTF 1.8.3, section 7.3.2)
-abbrev pub record_texts : List ℕ → StreamClass → EventClass → Option Val → Option Val → Val → List (List ℕ)
+abbrev pub record_texts : List ℕ → StreamClass → EventClass → Option Val → Option Val → Val
+    → List (List ℕ)
 record_texts packet stream event shared own fields =
-    if_shown packet ++ (scope_texts stream.event_context shared ++ (scope_texts event.context own ++ (value_text event.fields fields ∷ [])))
+    if_shown packet
+    ++ (scope_texts stream.event_context shared
+    ++ (scope_texts event.context own ++ (value_text event.fields fields ∷ [])))
 
 -- the host, the name and the scopes (own)
 abbrev pub record_text : List ℕ → StreamClass → EventClass → Option Val → Option Val → Val → List ℕ
-record_text packet stream event shared own fields = heading_text event.heading ++ joined (record_texts packet stream event shared own fields)
+record_text packet stream event shared own fields =
+    heading_text event.heading ++ joined (record_texts packet stream event shared own fields)

@@ -20,18 +20,26 @@ use Rattle.ctf_format.specs.declared.standing.Next.{Next}
 
 -- a packet's bytes and the place in bits where its content ends, whatever was decoded before (own)
 abbrev pub among : List ℕ → ℕ → (Scope → Option Val) → Input
-among packet content earlier = record { packet = packet; content = content; earlier = earlier; limit = MOST_VALUES }
+among packet content earlier = record {
+  packet = packet;
+  content = content;
+  earlier = earlier;
+  limit = MOST_VALUES;
+}
 
 -- A value is there from a place to another, whatever was decoded before, and its text follows a text. So many values
 -- were begun before it, and after it (own).
 abbrev pub Puts : Form → Shown → List ℕ → ℕ → ℕ → ℕ → ℕ → ℕ → List ℕ → List ℕ → Type 0
 Puts k shown packet content place spent end total before after =
-    (earlier : Scope → Option Val) (env : Env) → (v : Val) × (walk k (among packet content earlier) env place spent ≡ Ok (v, end, total)) × (after ≡ before ++ shown v)
+    (earlier : Scope → Option Val) (env : Env)
+    → (v : Val) × (walk k (among packet content earlier) env place spent ≡ Ok (v, end, total))
+    × (after ≡ before ++ shown v)
 
 -- a value that counts as one is there from a place to another, and its text follows a text, where there may be one more
 abbrev pub PutsOne : Form → Shown → List ℕ → ℕ → ℕ → ℕ → List ℕ → List ℕ → Type 0
 PutsOne k shown packet content place end before after =
-    (spent : ℕ) → spent < MOST_VALUES → Puts k shown packet content place spent end (spent + 1) before after
+    (spent : ℕ) → spent < MOST_VALUES
+    → Puts k shown packet content place spent end (spent + 1) before after
 
 -- a value is this, as far as it is known
 abbrev pub ValueIs : Last → Val → Type 0
@@ -67,22 +75,32 @@ pub record Before : Type 0 where
 -- a value and its text are there after the members of a structure, with so many values in it, of which so much is known
 abbrev pub PutsNext : Before → Form → Shown → List ℕ → ℕ → ℕ → List ℕ → Next → List ℕ → Type 0
 PutsNext before k shown packet content place line next after =
-    (spent : ℕ) → spent + next.more < MOST_VALUES → (earlier : Scope → Option Val) (env : Env) (vs : List Val) → length vs ≡ before.index → LastIs before.last vs
-    → (v : Val) × (walk k (among packet content earlier) (vs ∷ env) place spent ≡ Ok (v, next.place, spent + 1 + next.more)) × (after ≡ line ++ shown v) × ValueIs next.last v
+    (spent : ℕ) → spent + next.more < MOST_VALUES
+    → (earlier : Scope → Option Val) (env : Env) (vs : List Val) → length vs ≡ before.index
+    → LastIs before.last vs
+    → (v : Val)
+    × (walk k (among packet content earlier) (vs ∷ env) place spent
+    ≡ Ok (v, next.place, spent + 1 + next.more))
+    × (after ≡ line ++ shown v) × ValueIs next.last v
 
 -- an unsigned integer of this number is at a place, whatever was decoded before
 abbrev pub StandsAsNumber : Form → List ℕ → ℕ → ℕ → ℕ → Type 0
 StandsAsNumber k packet content place n =
-    (spent : ℕ) → spent < MOST_VALUES → (earlier : Scope → Option Val) (env : Env) → (end : ℕ) × (walk k (among packet content earlier) env place spent ≡ Ok (unsigned n, end, spent + 1))
+    (spent : ℕ) → spent < MOST_VALUES → (earlier : Scope → Option Val) (env : Env)
+    → (end : ℕ)
+    × (walk k (among packet content earlier) env place spent ≡ Ok (unsigned n, end, spent + 1))
 
 -- an array of this length has so many elements after the members of a structure
 abbrev pub Counts : Length → Before → ℕ → Type 0
-Counts many before n = (earlier : Scope → Option Val) (env : Env) (vs : List Val) → length vs ≡ before.index → LastIs before.last vs → length_of many earlier (vs ∷ env) ≡ n
+Counts many before n =
+    (earlier : Scope → Option Val) (env : Env) (vs : List Val) → length vs ≡ before.index
+    → LastIs before.last vs → length_of many earlier (vs ∷ env) ≡ n
 
 -- a value, if one was written, is in a packet, and its text follows a line now
 abbrev pub Writes : Option Next → Before → Form → Shown → Content → ℕ → List ℕ → List ℕ → Type 0
 Writes result before k shown packet place line items =
-    IfSome result (λ next. PutsNext before k shown packet.bytes.now packet.end place line next (take next.text items))
+    IfSome result (λ next.
+    PutsNext before k shown packet.bytes.now packet.end place line next (take next.text items))
 
 -- what is shown of a structure of these members
 abbrev pub structure_text : List Member → Shown
@@ -101,8 +119,12 @@ abbrev pub elements_text : Integer → Shown
 elements_text i = array_text (integer_text i)
 
 -- so many integers follow each other, where there may be as many more, and they are shown as elements
-abbrev pub PutsElements : (List (List ℕ) → List ℕ) → ℕ → Integer → ℕ → List ℕ → ℕ → ℕ → ℕ → List ℕ → List ℕ → Type 0
+abbrev pub PutsElements : (List (List ℕ) → List ℕ) → ℕ → Integer → ℕ → List ℕ → ℕ → ℕ → ℕ → List ℕ
+    → List ℕ → Type 0
 PutsElements together align i count packet content place end before after =
     (spent : ℕ) → spent + count ≤ MOST_VALUES → (earlier : Scope → Option Val) (env : Env)
-    → (vs : List Val) × (repeat (walk (integer align i) (among packet content earlier) env) count [] place spent ≡ Ok (vs, end, spent + count)) × (length vs ≡ count)
+    → (vs : List Val)
+    × (repeat (walk (integer align i) (among packet content earlier) env) count [] place spent
+    ≡ Ok (vs, end, spent + count))
+    × (length vs ≡ count)
     × (after ≡ before ++ together (element_texts (integer_text i) 0 (vals_of vs)))

@@ -71,12 +71,14 @@ is_class_of name _ = false
 
 -- A name with a meaning that is there twice in one block, whatever its entries are: R3 (own).
 abbrev pub stands_twice : List BlockEntry → Words → Bool
-stands_twice entries name = nat_lt 1 (length (filter (λ e. is_value_of name e || is_class_of name e) entries))
+stands_twice entries name =
+    nat_lt 1 (length (filter (λ e. is_value_of name e || is_class_of name e) entries))
 
 -- A name with a meaning and the wrong kind of entry: R3 (own).
 abbrev pub entry_faults : BlockKind → List BlockEntry → List ResolveFault
 entry_faults which entries =
-    flat_map (λ name. when (stands_twice entries name) Attribute) (values_in which ++ classes_in which)
+    flat_map (λ name. when (stands_twice entries name) Attribute)
+    (values_in which ++ classes_in which)
     ++ flat_map (λ name. when (list_any (is_class_of name) entries) Attribute) (values_in which)
     ++ flat_map (λ name. when (list_any (is_value_of name) entries) Attribute) (classes_in which)
 
@@ -90,7 +92,8 @@ value_at entries word = attribute (filter_map setting_of entries) (one word)
 
 -- the class entries of this name, each with its number in the block
 abbrev pub class_by : Words → ℕ × BlockEntry → Option (ℕ × Form)
-class_by name (number, Classed words form) = if same_words words name then Some (number, form) else None
+class_by name (number, Classed words form) =
+    if same_words words name then Some (number, form) else None
 class_by name _ = None
 
 abbrev pub class_entries : List BlockEntry → Words → List (ℕ × Form)
@@ -113,7 +116,8 @@ abbrev pub trace_faults : List BlockEntry → List ResolveFault
 trace_faults entries =
     when (not (option_map_or (is_count 1) (value_at entries (codes "major")) false)) Attribute
     ++ when (not (option_map_or (is_count 8) (value_at entries (codes "minor")) false)) Attribute
-    ++ when (is_none (option_and_then trace_order_of (value_at entries (codes "byte_order")))) Attribute
+    ++ when (is_none (option_and_then trace_order_of (value_at entries (codes "byte_order"))))
+    Attribute
     ++ wrong uuid_of (value_at entries (codes "uuid"))
 
 abbrev pub stream_faults : List BlockEntry → List ResolveFault
@@ -154,7 +158,9 @@ clocks_of = filter_map clock_of
 abbrev pub twice_faults : List Declaration → Declaration → List ResolveFault
 twice_faults before (Block Trace entries) = when (list_any is_trace before) Twice
 twice_faults before (Block Stream entries) =
-    option_map_or (λ id. when (list_any (nat_eq id) (filter_map stream_id_of before)) Twice) (id_of entries) []
+    option_map_or (λ id. when (list_any (nat_eq id) (filter_map stream_id_of before)) Twice)
+    (id_of entries) []
 twice_faults before (Table table.Clock settings) =
-    option_map_or (λ c. when (list_any (λ b. same_word b.name c.name) (clocks_of before)) Twice) (clock.clock_by settings) []
+    option_map_or (λ c. when (list_any (λ b. same_word b.name c.name) (clocks_of before)) Twice)
+    (clock.clock_by settings) []
 twice_faults before _ = []

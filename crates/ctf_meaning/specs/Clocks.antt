@@ -79,7 +79,9 @@ is_stamp spot i = is_none i.clock && not i.is_signed && is_stamp_in spot.scope s
 
 -- the clock to which an integer is mapped at its place
 abbrev pub clock_at : List Clock → Spot → DeclaredInteger → Option Clock
-clock_at clocks spot i = option_or (option_and_then (clock_named clocks) i.clock) (if is_stamp spot i then only_clock clocks else None)
+clock_at clocks spot i =
+    option_or (option_and_then (clock_named clocks) i.clock)
+    (if is_stamp spot i then only_clock clocks else None)
 
 -- A clock is set by the mapped integers of the packet context, without a `timestamp_end` at its top, and of the event
 -- header; a signed one sets it too (own).

@@ -38,7 +38,9 @@ string_of _ = None
 
 abbrev pub host_of : List Declaration → Option Word
 host_of text = do
-  setting ← find (λ s. same_words s.name (one (codes "hostname"))) (reverse (flat_map environment_by text))
+  setting ←
+      find (λ s. same_words s.name (one (codes "hostname")))
+      (reverse (flat_map environment_by text))
   string_of setting.value
 
 abbrev pub trace_entries : Declaration → Option (List BlockEntry)
@@ -48,7 +50,9 @@ trace_entries _ = None
 module _ (text : List Declaration) where
   -- what a scope's class is at its place, if the scope is declared
   abbrev pub scope_class : Order → Home → Scope → Option (Option Class)
-  scope_class order home scope = if_there (class_at order (clocks_of text) (spot_of text home scope)) (scope_of text home scope)
+  scope_class order home scope =
+      if_there (class_at order (clocks_of text) (spot_of text home scope))
+      (scope_of text home scope)
 
   abbrev pub event_class : Order → ℕ → List BlockEntry → Option EventClass
   event_class order k entries = do
@@ -56,11 +60,17 @@ module _ (text : List Declaration) where
     name ← value_at entries (codes "name") >>= text_of
     context ← scope_class order (home_of_event text k entries) EventContext
     fields ← scope_class order (home_of_event text k entries) EventFields >>= λ c. c
-    Some (record { id = id; heading = record { host = host_of text; name = name }; context = context; fields = fields })
+    Some (record {
+      id = id;
+      heading = record { host = host_of text; name = name };
+      context = context;
+      fields = fields;
+    })
 
   -- the event class of a declaration that is an event of this stream
   abbrev pub event_in : Order → ℕ → ℕ × Declaration → Option (Option EventClass)
-  event_in order stream (k, Block Event entries) = if is_in_stream text stream entries then Some (event_class order k entries) else None
+  event_in order stream (k, Block Event entries) =
+      if is_in_stream text stream entries then Some (event_class order k entries) else None
   event_in order stream _ = None
 
   -- A stream class has its events in the order of the text, and the clock that its integers set.

@@ -45,26 +45,37 @@ module _ (text : List Declaration) where
   -- the faults of a block's scopes at their places: lengths, tags and mappings
   abbrev pub scope_links : Home → BlockKind → List ResolveFault
   scope_links home which =
-      flat_map (λ scope. option_map_or (link_faults_at (clocks_of text) (spot_of text home scope)) (scope_of text home scope) []) (own_scopes which)
+      flat_map
+      (λ scope.
+      option_map_or (link_faults_at (clocks_of text) (spot_of text home scope))
+      (scope_of text home scope) [])
+      (own_scopes which)
 
   -- An event's stream is unknown: R3. An earlier event of the stream has its id: R8.
   abbrev pub event_links : ℕ → List BlockEntry → List ResolveFault
   event_links k entries = option_map_or
-      (λ s. option_map_or (λ id. when (list_any (is_event text s.id id) (take k text)) Twice) (id_of entries) [])
+      (λ s.
+      option_map_or (λ id. when (list_any (is_event text s.id id) (take k text)) Twice)
+      (id_of entries) [])
       (stream_of text entries)
       (Attribute ∷ [])
 
   -- The link faults of a declaration are those that it has by what is elsewhere, in any order.
   abbrev pub link_faults : ℕ × Declaration → List ResolveFault
-  link_faults (k, Block Trace entries) = scope_links (record { trace = Some k; stream = None; event = None }) Trace
+  link_faults (k, Block Trace entries) =
+      scope_links (record { trace = Some k; stream = None; event = None }) Trace
   link_faults (k, Block Stream entries) = scope_links (home_of_stream text (Some k)) Stream
-  link_faults (k, Block Event entries) = event_links k entries ++ scope_links (home_of_event text k entries) Event
+  link_faults (k, Block Event entries) =
+      event_links k entries ++ scope_links (home_of_event text k entries) Event
   link_faults _ = []
 
   -- the clocks that the integers of a stream's classes set
   abbrev pub clocks_moved : Option ℕ → List Clock
   clocks_moved block = flat_map
-      (λ scope. option_map_or (moved_clocks (clocks_of text) (spot_of text (home_of_stream text block) scope)) (scope_of text (home_of_stream text block) scope) [])
+      (λ scope.
+      option_map_or
+      (moved_clocks (clocks_of text) (spot_of text (home_of_stream text block) scope))
+      (scope_of text (home_of_stream text block) scope) [])
       (own_scopes Stream)
 
   -- The faults of the whole trace: no `trace` block, R3; several clocks that the integers of a stream set, R7.
@@ -76,4 +87,6 @@ module _ (text : List Declaration) where
   -- The faults of which one is reported: of the first declaration with an own fault; else of the first with a link
   -- fault; else of the whole.
   abbrev pub faults : List ResolveFault
-  faults = first_faults (map own_faults (numbered text) ++ map link_faults (numbered text) ++ whole_faults ∷ [])
+  faults =
+      first_faults (map own_faults (numbered text) ++ map link_faults (numbered text)
+      ++ whole_faults ∷ [])

@@ -15,20 +15,35 @@ use Rattle.ctf_meaning.specs.Settings.{when, one, attribute, says, is_count, num
 
 -- signed: true TRUE 1 or false FALSE 0
 abbrev pub sign_of : Value → Option Bool
-sign_of value = if says value (codes "true" ∷ codes "TRUE" ∷ codes "1" ∷ []) || is_count 1 value then Some true else
-    (if says value (codes "false" ∷ codes "FALSE" ∷ codes "0" ∷ []) || is_count 0 value then Some false else None)
+sign_of value =
+    if says value (codes "true" ∷ codes "TRUE" ∷ codes "1" ∷ []) || is_count 1 value then Some true
+    else (if says value (codes "false" ∷ codes "FALSE" ∷ codes "0" ∷ []) || is_count 0 value
+    then Some false
+    else None)
 
 -- byte_order: as a trace's, or native, which is None in the inner place
 abbrev pub order_of : Value → Option (Option Order)
-order_of value = if says value (codes "native" ∷ []) then Some None else option_map (λ order. Some order) (trace_order_of value)
+order_of value =
+    if says value (codes "native" ∷ []) then Some None
+    else option_map (λ order. Some order) (trace_order_of value)
 
 -- base: 10 decimal dec d i u, 16 hexadecimal hex x X p, 8 octal oct o, 2 binary b
 abbrev pub base_of : Value → Option Base
 base_of value =
-    if says value (codes "10" ∷ codes "decimal" ∷ codes "dec" ∷ codes "d" ∷ codes "i" ∷ codes "u" ∷ []) || is_count 10 value then Some Decimal else
-    (if says value (codes "16" ∷ codes "hexadecimal" ∷ codes "hex" ∷ codes "x" ∷ codes "X" ∷ codes "p" ∷ []) || is_count 16 value then Some Hexadecimal else
-    (if says value (codes "8" ∷ codes "octal" ∷ codes "oct" ∷ codes "o" ∷ []) || is_count 8 value then Some Octal else
-    (if says value (codes "2" ∷ codes "binary" ∷ codes "b" ∷ []) || is_count 2 value then Some Binary else None)))
+    if says value
+    (codes "10" ∷ codes "decimal" ∷ codes "dec" ∷ codes "d" ∷ codes "i" ∷ codes "u" ∷ [])
+    || is_count 10 value
+    then Some Decimal
+    else (if says value
+    (codes "16" ∷ codes "hexadecimal" ∷ codes "hex" ∷ codes "x" ∷ codes "X" ∷ codes "p" ∷ [])
+    || is_count 16 value
+    then Some Hexadecimal
+    else (if says value (codes "8" ∷ codes "octal" ∷ codes "oct" ∷ codes "o" ∷ [])
+    || is_count 8 value
+    then Some Octal
+    else (if says value (codes "2" ∷ codes "binary" ∷ codes "b" ∷ []) || is_count 2 value
+    then Some Binary
+    else None)))
 
 -- what is after a beginning
 abbrev pub after : Word → Word → Option Word
@@ -39,7 +54,9 @@ after (b ∷ bs) (c ∷ cs) = if nat_eq b c then after bs cs else None
 -- map: `clock.NAME.value`, where the name may hold dots (own); section 8
 abbrev pub clock_of : Value → Option Word
 clock_of value =
-    option_map reverse (option_and_then (after (reverse (codes ".value"))) (option_map reverse (option_and_then (after (codes "clock.")) (text_of value))))
+    option_map reverse
+    (option_and_then (after (reverse (codes ".value")))
+    (option_map reverse (option_and_then (after (codes "clock.")) (text_of value))))
 
 abbrev pub size_of : List Setting → ℕ
 size_of settings = known_as count_of 0 (attribute settings (one (codes "size")))
@@ -48,7 +65,9 @@ size_of settings = known_as count_of 0 (attribute settings (one (codes "size")))
 abbrev pub integer_of : List Setting → DeclaredInteger
 integer_of settings = record {
   size = size_of settings;
-  align = known_as count_of (if size_of settings % 8 == 0 then 8 else 1) (attribute settings (one (codes "align")));
+  align =
+      known_as count_of (if size_of settings % 8 == 0 then 8 else 1)
+      (attribute settings (one (codes "align")));
   is_signed = known_as sign_of false (attribute settings (one (codes "signed")));
   base = known_as base_of Decimal (attribute settings (one (codes "base")));
   order = known_as order_of None (attribute settings (one (codes "byte_order")));
@@ -71,11 +90,14 @@ is_alignment_number _ = false
 
 -- a number that is there and out of its range: R5 (one that is no number is R3)
 abbrev pub outside : (ℤ → Bool) → Option Value → List ResolveFault
-outside fits value = option_map_or (λ n. when (not (fits n)) SizeOrAlignment) (option_and_then number_of value) []
+outside fits value =
+    option_map_or (λ n. when (not (fits n)) SizeOrAlignment) (option_and_then number_of value) []
 
 -- the attributes of an integer with a meaning
 abbrev pub integer_words : List Word
-integer_words = codes "size" ∷ codes "align" ∷ codes "signed" ∷ codes "base" ∷ codes "byte_order" ∷ codes "encoding" ∷ codes "map" ∷ []
+integer_words =
+    codes "size" ∷ codes "align" ∷ codes "signed" ∷ codes "base" ∷ codes "byte_order"
+    ∷ codes "encoding" ∷ codes "map" ∷ []
 
 -- What is wrong with the settings of an integer: a size is required.
 abbrev pub integer_faults : List Setting → List ResolveFault
@@ -98,4 +120,5 @@ is_none_wrong (fault ∷ faults) = false
 
 -- the integer of these settings, where nothing is wrong with them
 abbrev pub good_integer : List Setting → Option DeclaredInteger
-good_integer settings = if is_none_wrong (integer_faults settings) then Some (integer_of settings) else None
+good_integer settings =
+    if is_none_wrong (integer_faults settings) then Some (integer_of settings) else None

@@ -24,7 +24,8 @@ labels_from next [] = []
 labels_from next (l ∷ ls) =
     let first = first_number next l.span in
     let last = last_number first l.span in
-    record { name = l.name; span = record { first = first; last = last } } ∷ labels_from (last +ℤ pos 1) ls
+    record { name = l.name; span = record { first = first; last = last } }
+    ∷ labels_from (last +ℤ pos 1) ls
 
 -- The first label is 0. The numbers have no bounds, whatever the container holds (own).
 abbrev pub labels_of : List WrittenLabel → List Label
@@ -32,7 +33,8 @@ labels_of = labels_from (pos 0)
 
 -- a `-` before a constant above 2^63: R3 (own)
 abbrev pub has_no_number : WrittenSpan → Bool
-has_no_number span = is_none (number_by span.first) || option_map_or (λ n. is_none (number_by n)) span.last false
+has_no_number span =
+    is_none (number_by span.first) || option_map_or (λ n. is_none (number_by n)) span.last false
 
 -- a range that goes backwards: R3
 abbrev pub goes_backwards : Label → Bool

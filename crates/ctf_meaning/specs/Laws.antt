@@ -20,11 +20,14 @@ OneClass = (tree : Tree) (s t : TraceClass) → Denotes tree s → Denotes tree 
 
 -- A text denotes no trace class where it has a fault that may be reported.
 abbrev pub NeverBoth : Type 0
-NeverBoth = (tree : Tree) (t : TraceClass) (fault : ResolveFault) → Denotes tree t → Faulty tree fault → ⊥
+NeverBoth =
+    (tree : Tree) (t : TraceClass) (fault : ResolveFault) → Denotes tree t → Faulty tree fault → ⊥
 
 -- A text denotes a trace class, or has a fault that may be reported.
 abbrev pub ClassOrFault : Type 0
-ClassOrFault = (tree : Tree) → ((t : TraceClass) × Denotes tree t) ⊎ ((fault : ResolveFault) × Faulty tree fault)
+ClassOrFault =
+    (tree : Tree)
+    → ((t : TraceClass) × Denotes tree t) ⊎ ((fault : ResolveFault) × Faulty tree fault)
 
 -- A fault that may be reported is one of a rule: `NoMemory` is none.
 abbrev pub FaultsAreNamed : Type 0
@@ -70,12 +73,14 @@ KeepsMembers =
     (text : List Declaration) → HasNoOwnFault text →
     (earlier later : List Located) (p : Located) (form : Form) →
     located_from 0 text ≡ earlier ++ p ∷ later → class_of p.1 ≡ Some form →
-    map (λ f. f.name) (fields_by (shape_named (entries_in text)) p.0 0 (items_of form)) ≡ flat_map field_names (body_of form)
+    map (λ f. f.name) (fields_by (shape_named (entries_in text)) p.0 0 (items_of form))
+    ≡ flat_map field_names (body_of form)
 
 -- Where there is no own fault, no class that is written is deeper than the limit.
 abbrev pub DepthBounded : Type 0
 DepthBounded =
     (text : List Declaration) → HasNoOwnFault text →
     (earlier later : List Located) (p : Located) (form : Form) (shape : Shape) →
-    located_from 0 text ≡ earlier ++ p ∷ later → class_of p.1 ≡ Some form → shape_of (entries_in text) p.0 form ≡ Some shape →
+    located_from 0 text ≡ earlier ++ p ∷ later → class_of p.1 ≡ Some form
+    → shape_of (entries_in text) p.0 form ≡ Some shape →
     depth_of shape ≤ most_deep

@@ -29,17 +29,21 @@ Standing = Spot × Shape
 abbrev mutual
   -- A class and all in it, at their places.
   pub standing : Spot → Shape → List Standing
-  standing spot (struct align members) = (spot, struct align members) ∷ standing_members spot [] members
-  standing spot (variant tag options) = (spot, variant tag options) ∷ standing_options (below spot) options
+  standing spot (struct align members) =
+      (spot, struct align members) ∷ standing_members spot [] members
+  standing spot (variant tag options) =
+      (spot, variant tag options) ∷ standing_options (below spot) options
   standing spot (array count element) = (spot, array count element) ∷ standing (below spot) element
-  standing spot (sequence path element) = (spot, sequence path element) ∷ standing (below spot) element
+  standing spot (sequence path element) =
+      (spot, sequence path element) ∷ standing (below spot) element
   standing spot shape = (spot, shape) ∷ []
 
   -- the members of a structure after some earlier ones
   pub standing_members : Spot → List Field → Members → List Standing
   standing_members spot earlier no_member = []
   standing_members spot earlier (member word shape more) =
-      standing (at_member spot earlier word) shape ++ standing_members spot (earlier ++ record { name = word; shape = shape } ∷ []) more
+      standing (at_member spot earlier word) shape
+      ++ standing_members spot (earlier ++ record { name = word; shape = shape } ∷ []) more
 
   pub standing_options : Spot → Members → List Standing
   standing_options spot no_member = []
@@ -60,11 +64,13 @@ integer_by _ = None
 -- A mapping to an unknown clock, a container's too: R7.
 abbrev pub mapping_faults : List Clock → Standing → List ResolveFault
 mapping_faults clocks (spot, shape) =
-    option_map_or (λ name. when (is_none (clock_named clocks name)) UnknownClock) (option_and_then (λ i. i.clock) (integer_by shape)) []
+    option_map_or (λ name. when (is_none (clock_named clocks name)) UnknownClock)
+    (option_and_then (λ i. i.clock) (integer_by shape)) []
 
 -- what is wrong with a class at a spot, and with all in it
 abbrev pub link_faults_at : List Clock → Spot → Shape → List ResolveFault
-link_faults_at clocks spot shape = flat_map (λ p. path_faults p ++ mapping_faults clocks p) (standing spot shape)
+link_faults_at clocks spot shape =
+    flat_map (λ p. path_faults p ++ mapping_faults clocks p) (standing spot shape)
 
 -- The clocks that a class at a spot sets, those of each integer in it: an enumeration's container sets none.
 abbrev pub moved_by : List Clock → Standing → Option Clock
@@ -85,37 +91,54 @@ array_kind count element c = if is_character element then kind.Text count else k
 -- The option of a variant is that of the first label, in the order of the declaration, that covers the tag's number and
 -- names an option (own): a label names the option of its name, and one without such an option gives no choice.
 abbrev pub choice_of : List Field → Label → Option Choice
-choice_of options label = option_map (λ p. record { span = label.span; option = p.0 }) (member_named label.name options)
+choice_of options label =
+    option_map (λ p. record { span = label.span; option = p.0 }) (member_named label.name options)
 
 abbrev pub choices_of : List Field → List Label → List Choice
 choices_of options labels = filter_map (choice_of options) labels
 
 -- A class keeps its alignment, its depth and its count of nodes.
 abbrev pub class_by : Shape → Kind → Class
-class_by shape what = roll-Class (record { align = align_of shape; depth = depth_of shape; nodes = nodes_of shape; kind = what })
+class_by shape what =
+    roll-Class (record {
+      align = align_of shape;
+      depth = depth_of shape;
+      nodes = nodes_of shape;
+      kind = what;
+    })
 
 abbrev pub named_by : Word → Class → Member
 named_by word c = roll-Member (record { name = word; «class» = c })
 
 -- Native byte order is the trace's.
 abbrev pub placed : Order → Bool → DeclaredInteger → Integer
-placed order is_moving i = record { size = i.size; is_signed = i.is_signed; base = i.base; order = unwrap_or i.order order; is_moving = is_moving }
+placed order is_moving i = record {
+  size = i.size;
+  is_signed = i.is_signed;
+  base = i.base;
+  order = unwrap_or i.order order;
+  is_moving = is_moving;
+}
 
 -- The trace's order and clocks.
 module _ (order : Order) (clocks : List Clock) where
   abbrev mutual
     -- The class that a shape is at a spot. There is none where a path finds nothing that fits, and none of a float.
     pub class_at : Spot → Shape → Option Class
-    class_at spot (integer i) = Some (class_by (integer i) (kind.Integer (placed order (is_some (moved_clock clocks spot i)) i)))
+    class_at spot (integer i) =
+        Some (class_by (integer i)
+        (kind.Integer (placed order (is_some (moved_clock clocks spot i)) i)))
     class_at spot string = Some (class_by string kind.String)
-    class_at spot (enum i labels) = Some (class_by (enum i labels) (kind.Enumeration (placed order false i) labels))
+    class_at spot (enum i labels) =
+        Some (class_by (enum i labels) (kind.Enumeration (placed order false i) labels))
     class_at spot (struct align members) = do
       ms ← members_at spot [] members
       Some (class_by (struct align members) (kind.Structure ms))
     class_at spot (variant tag options) = do
       found ← tag_at spot tag
       os ← options_at (below spot) options
-      Some (class_by (variant tag options) (kind.Variant found.0 (choices_of (fields_in options) found.1) os))
+      Some (class_by (variant tag options)
+          (kind.Variant found.0 (choices_of (fields_in options) found.1) os))
     class_at spot (array count element) = do
       c ← class_at (below spot) element
       Some (class_by (array count element) (array_kind (lengths.Fixed count) element c))

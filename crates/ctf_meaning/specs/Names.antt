@@ -28,7 +28,8 @@ earlier_entry entries block number name =
 -- ones, and the names of a block end with it.
 abbrev pub meaning : List Entry → Place → Name → Option Entry
 meaning entries [] name = None
-meaning entries (number ∷ block) name = option_or (earlier_entry entries block number name) (meaning entries block name)
+meaning entries (number ∷ block) name =
+    option_or (earlier_entry entries block number name) (meaning entries block name)
 
 abbrev pub shape_named : List Entry → Place → Name → Option Shape
 shape_named entries at name = option_and_then (λ e. e.shape) (meaning entries at name)
@@ -45,7 +46,9 @@ entries_of earlier (number ∷ block, part) =
       block = block;
       number = number;
       name = g.name;
-      shape = option_map (arrays g.lengths) (option_and_then (shape_of earlier (number ∷ block)) (class_of part));
+      shape =
+          option_map (arrays g.lengths)
+          (option_and_then (shape_of earlier (number ∷ block)) (class_of part));
     }) (given_of part)
 
 -- The entries of some parts after earlier ones. The parts are in the order in which they end, so that each entry is

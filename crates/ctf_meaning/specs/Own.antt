@@ -50,7 +50,8 @@ label_faults _ = []
 
 -- The `align(N)` of a structure is a power of two from 1 to 2^31, else R5.
 abbrev pub align_faults : Form → List ResolveFault
-align_faults (Struct name is align) = option_map_or (λ n. when (not (is_alignment n)) SizeOrAlignment) align []
+align_faults (Struct name is align) =
+    option_map_or (λ n. when (not (is_alignment n)) SizeOrAlignment) align []
 align_faults _ = []
 
 -- Two members or options of one name: R2.
@@ -64,17 +65,20 @@ member_faults form = when (has_twins same_word (flat_map field_names (body_of fo
 module _ (entries : List Entry) where
   -- A name that is not declared before its use: R1.
   abbrev pub unknown_faults : Place → Form → List ResolveFault
-  unknown_faults at form = option_map_or (λ name. when (is_none (meaning entries at name)) UnknownType) (use_in form) []
+  unknown_faults at form =
+      option_map_or (λ name. when (is_none (meaning entries at name)) UnknownType) (use_in form) []
 
   -- A container that is known and no integer: R3.
   abbrev pub no_integer_faults : Place → Form → List ResolveFault
   no_integer_faults at form =
-      option_map_or (λ shape. when (is_none (integer_in shape)) Attribute) (option_and_then (shape_named entries at) (container_in form)) []
+      option_map_or (λ shape. when (is_none (integer_in shape)) Attribute)
+      (option_and_then (shape_named entries at) (container_in form)) []
 
   -- what is wrong with the class that is written at a place, outside of its body
   abbrev pub class_faults : Place → Form → List ResolveFault
   class_faults at form =
-      unknown_faults at form ++ member_faults form ++ attribute_faults form ++ no_integer_faults at form ++ label_faults form ++ align_faults form
+      unknown_faults at form ++ member_faults form ++ attribute_faults form
+      ++ no_integer_faults at form ++ label_faults form ++ align_faults form
 
   -- A class deeper than 64, with the arrays of each name that it is given: R9. A member's own arrays lie in the
   -- compound around it, which is deeper and is in the same declaration.
@@ -83,7 +87,10 @@ module _ (entries : List Entry) where
 
   abbrev pub depth_faults : Located → List ResolveFault
   depth_faults (at, part) =
-      option_map_or (λ shape. when (list_any (is_deep shape) ([] ∷ map (λ g. g.lengths) (given_of part))) TooDeep) (option_and_then (shape_of entries at) (class_of part)) []
+      option_map_or
+      (λ shape.
+      when (list_any (is_deep shape) ([] ∷ map (λ g. g.lengths) (given_of part))) TooDeep)
+      (option_and_then (shape_of entries at) (class_of part)) []
 
   -- A name that an earlier part of the block declares, or this one twice: R2.
   abbrev pub is_taken : Place → Name → Bool
@@ -92,11 +99,15 @@ module _ (entries : List Entry) where
 
   abbrev pub name_faults : Located → List ResolveFault
   name_faults (at, part) =
-      when (list_any (λ g. is_taken at g.name) (given_of part) || has_twins same_name (map (λ g. g.name) (given_of part))) DeclaredTwice
+      when
+      (list_any (λ g. is_taken at g.name) (given_of part)
+      || has_twins same_name (map (λ g. g.name) (given_of part)))
+      DeclaredTwice
 
   abbrev pub part_faults : Located → List ResolveFault
   part_faults (at, part) =
-      option_map_or (class_faults at) (class_of part) [] ++ depth_faults (at, part) ++ name_faults (at, part) ++ minus_faults (settings_in part)
+      option_map_or (class_faults at) (class_of part) [] ++ depth_faults (at, part)
+      ++ name_faults (at, part) ++ minus_faults (settings_in part)
 
   -- what is wrong with a declaration and the parts in it, at whatever depth
   abbrev pub faults_within : ℕ → Declaration → List ResolveFault

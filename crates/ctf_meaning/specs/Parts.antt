@@ -49,7 +49,8 @@ abbrev pub given_in : Item → List Given
 given_in (Fields form declarators) = own_name form
 given_in (Alias form words) = own_name form ++ plainly (name.Plain words) ∷ []
 given_in (Definition form declarators) =
-    own_name form ++ map (λ d. record { name = name.Plain (d.name ∷ []); lengths = d.lengths }) declarators
+    own_name form
+    ++ map (λ d. record { name = name.Plain (d.name ∷ []); lengths = d.lengths }) declarators
 given_in (Compound form) = own_name form
 
 -- the names that a part declares in its block
@@ -98,19 +99,23 @@ abbrev mutual
 
   pub located_items : Place → ℕ → Items → List Located
   located_items block number no_item = []
-  located_items block number (some_items i is) = located_item (number ∷ block) (of_body i) i ++ located_items block (number + 1) is
+  located_items block number (some_items i is) =
+      located_item (number ∷ block) (of_body i) i ++ located_items block (number + 1) is
 
 abbrev pub located_entry : Place → BlockEntry → List Located
 located_entry at (Assigned setting) = (at, of_block (Assigned setting)) ∷ []
-located_entry at (Classed words form) = located_form at form ++ (at, of_block (Classed words form)) ∷ []
+located_entry at (Classed words form) =
+    located_form at form ++ (at, of_block (Classed words form)) ∷ []
 located_entry at (Declared item) = located_item at (of_block (Declared item)) item
 
 abbrev pub located_entries : Place → ℕ → List BlockEntry → List Located
 located_entries block number [] = []
-located_entries block number (e ∷ es) = located_entry (number ∷ block) e ++ located_entries block (number + 1) es
+located_entries block number (e ∷ es) =
+    located_entry (number ∷ block) e ++ located_entries block (number + 1) es
 
 abbrev pub located : Place → Declaration → List Located
-located at (Block kind entries) = located_entries at 0 entries ++ (at, of_text (Block kind entries)) ∷ []
+located at (Block kind entries) =
+    located_entries at 0 entries ++ (at, of_text (Block kind entries)) ∷ []
 located at (Table kind settings) = (at, of_text (Table kind settings)) ∷ []
 located at (Names item) = located_item at (of_text (Names item)) item
 

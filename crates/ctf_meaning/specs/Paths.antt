@@ -15,7 +15,9 @@ use Rattle.ctf_meaning.specs.Shapes.{Shape, Field, integer, enum, struct, fields
 
 -- the scopes in order
 abbrev pub scopes : List Scope
-scopes = PacketHeader ∷ PacketContext ∷ EventHeader ∷ StreamEventContext ∷ EventContext ∷ EventFields ∷ []
+scopes =
+    PacketHeader ∷ PacketContext ∷ EventHeader ∷ StreamEventContext ∷ EventContext ∷ EventFields
+    ∷ []
 
 abbrev pub rank : Scope → ℕ
 rank PacketHeader = 0
@@ -70,7 +72,9 @@ below spot = record spot { member = None; is_top = false; name = None }
 
 -- the structures in which a path may begin, the nearest first
 abbrev pub frames : Spot → List (Origin × Frame)
-frames spot = map (λ p. (Enclosing p.0, p.1)) (enumerate_from 0 spot.around) ++ map (λ f. (Earlier f.scope, f)) spot.before
+frames spot =
+    map (λ p. (Enclosing p.0, p.1)) (enumerate_from 0 spot.around)
+    ++ map (λ f. (Earlier f.scope, f)) spot.before
 
 -- the members of a structure
 abbrev pub members_of : Shape → List Field
@@ -107,7 +111,9 @@ after_words (a ∷ more) (b ∷ words) = if same_word a b then after_words more 
 
 -- the scope whose name a path begins with, and the words after it
 abbrev pub scope_named : Words → Option (Scope × Words)
-scope_named path = first (filter_map (λ scope. option_map (λ words. (scope, words)) (after_words (words_of scope) path)) scopes)
+scope_named path =
+    first (filter_map
+    (λ scope. option_map (λ words. (scope, words)) (after_words (words_of scope) path)) scopes)
 
 -- A path that begins with a scope's name names a field of an earlier scope, or an earlier one of its own. It may lead
 -- into a structure in which it is itself, to a member before it.
@@ -134,7 +140,9 @@ found_near spot path = do
 
 -- what a path finds from where it is
 abbrev pub found_at : Spot → Words → Option (Route × Shape)
-found_at spot path = option_map_or (λ p. first (filter_map (found_below p.0 p.1) (frames spot))) (scope_named path) (found_near spot path)
+found_at spot path =
+    option_map_or (λ p. first (filter_map (found_below p.0 p.1) (frames spot))) (scope_named path)
+    (found_near spot path)
 
 -- A length is an unsigned integer. (4.2.4.)
 abbrev pub is_length : Shape → Bool

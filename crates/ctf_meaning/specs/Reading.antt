@@ -45,7 +45,8 @@ form_by (Specifier-F.Named r) = named r
 abbrev pub type_by : TypeDeclaration-F Body Item Form Item → Item
 type_by (TypeDeclaration-F.Alias form typename) = Alias form typename.words
 type_by (TypeDeclaration-F.Definition form declarators) = Definition form declarators
-type_by (TypeDeclaration-F.«TypeDeclaration::Compound» word compound) = Compound (compound (Some word))
+type_by (TypeDeclaration-F.«TypeDeclaration::Compound» word compound) =
+    Compound (compound (Some word))
 
 abbrev pub form_of : Specifier → Form
 form_of = fold-Specifier Body Item Form Item compound_by item_by form_by type_by

@@ -27,7 +27,8 @@ is_structure _ = false
 
 -- The class of a scope is a structure, else R3. A float somewhere in it: R4 (own).
 abbrev pub scope_faults : Shape → List ResolveFault
-scope_faults shape = when (not (is_structure shape)) Attribute ++ when (has_float shape) FloatingPoint
+scope_faults shape =
+    when (not (is_structure shape)) Attribute ++ when (has_float shape) FloatingPoint
 
 -- where the scopes around a class are declared: by which trace, stream and event block, where there is one
 pub record Home : Type 0 where
@@ -41,14 +42,19 @@ in_home home Stream = home.stream
 in_home home Event = home.event
 
 abbrev pub frame_by : Scope → Shape → Option Frame
-frame_by scope (struct align members) = Some (record { scope = scope; name = Some []; fields = fields_in members })
+frame_by scope (struct align members) = Some (record {
+  scope = scope;
+  name = Some [];
+  fields = fields_in members;
+})
 frame_by scope _ = None
 
 module _ (text : List Declaration) where
   -- the class of a scope by a declaration with its number, None where it declares none
   abbrev pub scope_by : ℕ → Scope → Declaration → Option Shape
   scope_by k scope (Block which entries) = if same_kind which (block_of scope)
-      then option_map_or (λ p. shape_of (entries_in text) (p.0 ∷ k ∷ []) p.1) (class_entry entries (entry_name scope)) (missing_scope scope)
+      then option_map_or (λ p. shape_of (entries_in text) (p.0 ∷ k ∷ []) p.1)
+      (class_entry entries (entry_name scope)) (missing_scope scope)
       else None
   scope_by k scope _ = None
 
@@ -58,16 +64,19 @@ module _ (text : List Declaration) where
   -- the classes that a declaration gives to scopes, all of them where it gives several to one (own)
   abbrev pub classes_at : ℕ → Declaration → List Shape
   classes_at k (Block which entries) =
-      filter_map (λ p. shape_of (entries_in text) (p.0 ∷ k ∷ []) p.1) (flat_map (class_entries entries) (classes_in which))
+      filter_map (λ p. shape_of (entries_in text) (p.0 ∷ k ∷ []) p.1)
+      (flat_map (class_entries entries) (classes_in which))
   classes_at k _ = []
 
   -- how many classes the scopes of the first k declarations have
   abbrev pub nodes_before : ℕ → ℕ
-  nodes_before k = sum (map nodes_of (flat_map (λ j. filter_map (scope_at j) scopes) (range_with_len 0 k)))
+  nodes_before k =
+      sum (map nodes_of (flat_map (λ j. filter_map (scope_at j) scopes) (range_with_len 0 k)))
 
   -- The block with which that sum passes a limit: R9 (own).
   abbrev pub node_faults : ℕ → ℕ → List ResolveFault
-  node_faults limit k = when (not (nat_lt limit (nodes_before k)) && nat_lt limit (nodes_before (suc k))) TooDeep
+  node_faults limit k =
+      when (not (nat_lt limit (nodes_before k)) && nat_lt limit (nodes_before (suc k))) TooDeep
 
   -- The class of a scope, by the blocks that declare it. Blocks are in any order.
   abbrev pub scope_of : Home → Scope → Option Shape
@@ -75,8 +84,17 @@ module _ (text : List Declaration) where
 
   -- the scopes before a scope, the nearest first
   abbrev pub frames_before : Home → Scope → List Frame
-  frames_before home scope = filter_map (λ s. option_and_then (frame_by s) (scope_of home s)) (reverse (take (rank scope) scopes))
+  frames_before home scope =
+      filter_map (λ s. option_and_then (frame_by s) (scope_of home s))
+      (reverse (take (rank scope) scopes))
 
   -- the spot of a scope's class, after the scopes before it
   abbrev pub spot_of : Home → Scope → Spot
-  spot_of home scope = record { scope = scope; around = []; before = frames_before home scope; member = None; is_top = false; name = Some [] }
+  spot_of home scope = record {
+    scope = scope;
+    around = [];
+    before = frames_before home scope;
+    member = None;
+    is_top = false;
+    name = Some [];
+  }

@@ -22,7 +22,10 @@ one word = word ∷ []
 
 -- A `-` before a constant above 2^63 makes no number (own).
 abbrev pub number_by : Constant → Option ℤ
-number_by n = if n.is_negative then (if nat_lt (2 ^ 63) n.magnitude then None else Some (neg_ℤ (pos n.magnitude))) else Some (pos n.magnitude)
+number_by n =
+    if n.is_negative then
+    (if nat_lt (2 ^ 63) n.magnitude then None else Some (neg_ℤ (pos n.magnitude)))
+    else Some (pos n.magnitude)
 
 -- A string is no number (own).
 abbrev pub number_of : Value → Option ℤ
@@ -57,12 +60,15 @@ is_count n value = option_map_or (nat_eq n) (count_of value) false
 
 -- the byte order of a trace: le, be, or network, which is be (4.1.3; `native` would mean itself)
 abbrev pub trace_order_of : Value → Option Order
-trace_order_of value = if says value (codes "le" ∷ []) then Some Le else (if says value (codes "be" ∷ codes "network" ∷ []) then Some Be else None)
+trace_order_of value =
+    if says value (codes "le" ∷ []) then Some Le
+    else (if says value (codes "be" ∷ codes "network" ∷ []) then Some Be else None)
 
 -- the encoding of an integer or a string, and whether it is one of characters (4.1.5, 4.2.5)
 abbrev pub is_text_of : Value → Option Bool
-is_text_of value = if says value (codes "UTF8" ∷ codes "utf8" ∷ codes "ASCII" ∷ codes "ascii" ∷ []) then Some true else
-    (if says value (codes "none" ∷ codes "NONE" ∷ []) then Some false else None)
+is_text_of value =
+    if says value (codes "UTF8" ∷ codes "utf8" ∷ codes "ASCII" ∷ codes "ascii" ∷ []) then Some true
+    else (if says value (codes "none" ∷ codes "NONE" ∷ []) then Some false else None)
 
 -- what a setting's value is, or a default where the setting is missing or can't be read
 abbrev pub known_as : {A : Type 0} → (Value → Option A) → A → Option Value → A
@@ -74,7 +80,8 @@ wrong read value = option_map_or (λ v. when (is_none (read v)) Attribute) value
 
 -- two settings of one name with a meaning: R3 (own)
 abbrev pub repeated : List Setting → Word → List ResolveFault
-repeated settings word = when (nat_lt 1 (length (filter (λ s. same_words s.name (one word)) settings))) Attribute
+repeated settings word =
+    when (nat_lt 1 (length (filter (λ s. same_words s.name (one word)) settings))) Attribute
 
 -- A `-` before a constant above 2^63 is R3, also in a setting with no meaning (own).
 abbrev pub has_no_number : Value → Bool
@@ -86,4 +93,6 @@ minus_faults settings = when (list_any (λ s. has_no_number s.value) settings) A
 
 -- What is wrong with the settings of a string: its encoding alone has a meaning. (4.2.5.)
 abbrev pub string_faults : List Setting → List ResolveFault
-string_faults settings = repeated settings (codes "encoding") ++ wrong is_text_of (attribute settings (one (codes "encoding")))
+string_faults settings =
+    repeated settings (codes "encoding")
+    ++ wrong is_text_of (attribute settings (one (codes "encoding")))

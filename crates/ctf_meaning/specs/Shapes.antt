@@ -117,7 +117,8 @@ arrays (Path path ∷ lengths) shape = sequence path (arrays lengths shape)
 abbrev pub declared : Option Shape → List Declarator → List Field
 declared None ds = []
 declared (Some shape) [] = []
-declared (Some shape) (d ∷ ds) = record { name = d.name; shape = arrays d.lengths shape } ∷ declared (Some shape) ds
+declared (Some shape) (d ∷ ds) =
+    record { name = d.name; shape = arrays d.lengths shape } ∷ declared (Some shape) ds
 
 -- Of a tag where a variant is used and one where it is declared, the first counts (own).
 abbrev pub with_tag : Option Words → Shape → Shape
@@ -141,7 +142,8 @@ container_name (Some (container.Integer settings)) = None
 module _ (shape_named : Place → Name → Option Shape) where
   abbrev pub container_at : Place → Option Container → Option DeclaredInteger
   container_at at (Some (container.Integer settings)) = good_integer settings
-  container_at at c = option_and_then integer_in (option_and_then (shape_named at) (container_name c))
+  container_at at c =
+      option_and_then integer_in (option_and_then (shape_named at) (container_name c))
 
   abbrev mutual
     pub shape_by : Place → Form → Option Shape
@@ -150,7 +152,8 @@ module _ (shape_named : Place → Name → Option Shape) where
     shape_by at (String settings) = Some string
     shape_by at (Struct name is align) = Some (structure align (fields_by at 0 is))
     shape_by at (Variant name tag is) = Some (variant tag (members_from (fields_by at 0 is)))
-    shape_by at (Enum name c labels) = option_map (λ i. enum i (labels_of labels)) (container_at at c)
+    shape_by at (Enum name c labels) =
+        option_map (λ i. enum i (labels_of labels)) (container_at at c)
     shape_by at (Named name tag) = option_map (with_tag tag) (shape_named at name)
 
     -- The members that an item of a body declares: a declaration of names has none.
@@ -162,4 +165,5 @@ module _ (shape_named : Place → Name → Option Shape) where
 
     pub fields_by : Place → ℕ → Items → List Field
     fields_by block number no_item = []
-    fields_by block number (some_items i is) = fields_by_item (number ∷ block) i ++ fields_by block (number + 1) is
+    fields_by block number (some_items i is) =
+        fields_by_item (number ∷ block) i ++ fields_by block (number + 1) is

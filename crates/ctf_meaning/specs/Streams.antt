@@ -38,20 +38,26 @@ module _ (text : List Declaration) where
   -- The stream of an event is that of its `stream_id`, or the only one where it has none (own).
   abbrev pub stream_of : List BlockEntry → Option Stream
   stream_of entries =
-      option_map_or (λ id. find (λ s. nat_eq s.id id) streams) (option_and_then count_of (value_at entries (codes "stream_id"))) (only streams)
+      option_map_or (λ id. find (λ s. nat_eq s.id id) streams)
+      (option_and_then count_of (value_at entries (codes "stream_id"))) (only streams)
 
   abbrev pub is_in_stream : ℕ → List BlockEntry → Bool
   is_in_stream id entries = option_map_or (λ s. nat_eq s.id id) (stream_of entries) false
 
   -- an event of this id in this stream
   abbrev pub is_event : ℕ → ℕ → Declaration → Bool
-  is_event stream id (Block Event entries) = is_in_stream stream entries && option_map_or (nat_eq id) (id_of entries) false
+  is_event stream id (Block Event entries) =
+      is_in_stream stream entries && option_map_or (nat_eq id) (id_of entries) false
   is_event stream id _ = false
 
   -- The scopes of an event are those of the trace block, of its stream's block and its own; of an event of an unknown
   -- stream the trace's and its own alone (own).
   abbrev pub home_of_event : ℕ → List BlockEntry → Home
-  home_of_event k entries = record { trace = trace_of; stream = option_and_then (λ s. s.block) (stream_of entries); event = Some k }
+  home_of_event k entries = record {
+    trace = trace_of;
+    stream = option_and_then (λ s. s.block) (stream_of entries);
+    event = Some k;
+  }
 
   abbrev pub home_of_stream : Option ℕ → Home
   home_of_stream block = record { trace = trace_of; stream = block; event = None }

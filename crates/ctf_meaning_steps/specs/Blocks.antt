@@ -48,7 +48,9 @@ abbrev pub class_named : List NamedClass → Words → Option Shape
 class_named classes name = option_map (λ p. p.1) (find (λ p. same_words p.0 name) classes)
 
 abbrev pub placed_in : List NamedClass → Scope → Option Placed
-placed_in classes scope = option_map (λ shape. (scope, shape)) (option_or (class_named classes (entry_name scope)) (missing_scope scope))
+placed_in classes scope =
+    option_map (λ shape. (scope, shape))
+    (option_or (class_named classes (entry_name scope)) (missing_scope scope))
 
 -- the scopes that a block declares, in their order
 abbrev pub placed : BlockKind → List NamedClass → List Placed
@@ -73,7 +75,11 @@ abbrev pub scopes_told : Walked → List Placed → Told Walked
 scopes_told walked scopes =
     unless (flat_map (λ p. scope_faults p.1) scopes)
     (unless (when (nat_lt most_nodes (walked.nodes + sum (map (λ p. nodes_of p.1) scopes))) TooDeep)
-    (Ok (record { own = walked.own; nodes = walked.nodes + sum (map (λ p. nodes_of p.1) scopes); rows = walked.rows ++ scopes ∷ [] })))
+    (Ok (record {
+      own = walked.own;
+      nodes = walked.nodes + sum (map (λ p. nodes_of p.1) scopes);
+      rows = walked.rows ++ scopes ∷ [];
+    })))
 
 -- a declaration after others
 abbrev pub declaration_told : List Declaration → Walked → Declaration → Told Walked
@@ -92,7 +98,8 @@ declaration_told before walked (Names item) =
 
 abbrev pub declarations_told : List Declaration → Walked → List Declaration → Told Walked
 declarations_told before walked [] = Ok walked
-declarations_told before walked (d ∷ ds) = declaration_told before walked d >>= λ next. declarations_told (before ++ d ∷ []) next ds
+declarations_told before walked (d ∷ ds) =
+    declaration_told before walked d >>= λ next. declarations_told (before ++ d ∷ []) next ds
 
 -- The whole text.
 abbrev pub text_told : List Declaration → Told Walked

@@ -22,7 +22,8 @@ use Rattle.ctf_meaning_steps.specs.Seen.{Seen}
 
 -- an integer of these settings
 abbrev pub integer_told : List Setting → Told DeclaredInteger
-integer_told settings = unless (minus_faults settings) (unless (integer_faults settings) (Ok (integer_of settings)))
+integer_told settings =
+    unless (minus_faults settings) (unless (integer_faults settings) (Ok (integer_of settings)))
 
 -- a string of these settings
 abbrev pub string_told : List Setting → Told Shape
@@ -35,15 +36,20 @@ named_told seen name = there_or UnknownType (seen name)
 -- the integer that holds an enumeration's numbers
 abbrev pub container_told : Seen → Option Container → Told DeclaredInteger
 container_told seen (Some (container.Integer settings)) = integer_told settings
-container_told seen (Some (container.Named typename)) = named_told seen (Name.Plain typename.words) >>= λ shape. there_or Attribute (integer_in shape)
-container_told seen None = option_map_or (λ name. named_told seen name >>= λ shape. there_or Attribute (integer_in shape)) (container_name None) (Err UnknownType)
+container_told seen (Some (container.Named typename)) =
+    named_told seen (Name.Plain typename.words) >>= λ shape. there_or Attribute (integer_in shape)
+container_told seen None =
+    option_map_or (λ name. named_told seen name >>= λ shape. there_or Attribute (integer_in shape))
+    (container_name None) (Err UnknownType)
 
 abbrev pub enum_told : Seen → Option Container → List Label → Told Shape
-enum_told seen c ls = container_told seen c >>= λ i. unless (labels.label_faults ls) (Ok (enum i (labels_of ls)))
+enum_told seen c ls =
+    container_told seen c >>= λ i. unless (labels.label_faults ls) (Ok (enum i (labels_of ls)))
 
 -- a structure or a variant, whose members have different names
 abbrev pub compound_told : List Field → Shape → Told Shape
-compound_told fields shape = unless (when (has_twins same_word (map (λ f. f.name) fields)) DeclaredTwice) (Ok shape)
+compound_told fields shape =
+    unless (when (has_twins same_word (map (λ f. f.name) fields)) DeclaredTwice) (Ok shape)
 
 -- the members that an item declares for its class
 abbrev pub fields_told : Item → Shape → List Field

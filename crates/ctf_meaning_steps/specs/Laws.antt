@@ -26,7 +26,8 @@ class_in_row rows k scope = option_and_then (class_among scope) (slice_get rows 
 abbrev pub WalkFindsScopes : Type 0
 WalkFindsScopes =
     (text : List Declaration) (walked : Walked) → text_told text ≡ Ok walked →
-    (flat_map (own_faults text) (numbered text) ≡ []) × ((k : ℕ) (scope : Scope) → scope_at text k scope ≡ class_in_row walked.rows k scope)
+    (flat_map (own_faults text) (numbered text) ≡ [])
+    × ((k : ℕ) (scope : Scope) → scope_at text k scope ≡ class_in_row walked.rows k scope)
 
 -- A fault that is reported on the way is an own fault of the first declaration that has one.
 abbrev pub WalkTellsOwn : Type 0
@@ -37,11 +38,13 @@ WalkTellsOwn =
 -- Where linking gives a class, no length, tag or mapping in it fails, and the class is what the shape is there.
 abbrev pub LinkingGivesClass : Type 0
 LinkingGivesClass =
-    (order : Order) (clocks : List Clock) (spot : Spot) (shape : Shape) (c : Class) → class_told order clocks spot shape ≡ Ok c →
+    (order : Order) (clocks : List Clock) (spot : Spot) (shape : Shape) (c : Class)
+    → class_told order clocks spot shape ≡ Ok c →
     (link_faults_at clocks spot shape ≡ []) × (class_at order clocks spot shape ≡ Some c)
 
 -- A fault that it reports is one of them, where no float is in the shape.
 abbrev pub LinkingTellsFault : Type 0
 LinkingTellsFault =
     (order : Order) (clocks : List Clock) (spot : Spot) (shape : Shape) (fault : ResolveFault) →
-    has_float shape ≡ false → class_told order clocks spot shape ≡ Err fault → Contains (link_faults_at clocks spot shape) fault
+    has_float shape ≡ false → class_told order clocks spot shape ≡ Err fault
+    → Contains (link_faults_at clocks spot shape) fault

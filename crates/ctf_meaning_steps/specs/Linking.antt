@@ -19,18 +19,24 @@ module _ (order : Order) (clocks : List Clock) where
   abbrev mutual
     pub class_told : Spot → Shape → Told Class
     class_told spot (integer i) =
-        unless (mapping_faults clocks (spot, integer i)) (Ok (class_by (integer i) (kind.Integer (placed order (is_some (moved_clock clocks spot i)) i))))
+        unless (mapping_faults clocks (spot, integer i))
+        (Ok (class_by (integer i)
+        (kind.Integer (placed order (is_some (moved_clock clocks spot i)) i))))
     class_told spot string = Ok (class_by string kind.String)
     class_told spot (enum i labels) =
-        unless (mapping_faults clocks (spot, enum i labels)) (Ok (class_by (enum i labels) (kind.Enumeration (placed order false i) labels)))
+        unless (mapping_faults clocks (spot, enum i labels))
+        (Ok (class_by (enum i labels) (kind.Enumeration (placed order false i) labels)))
     class_told spot (struct align members) =
-        members_told spot [] members >>= λ ms. Ok (class_by (struct align members) (kind.Structure ms))
+        members_told spot [] members
+        >>= λ ms. Ok (class_by (struct align members) (kind.Structure ms))
     class_told spot (variant tag options) =
         there_or LengthOrTag (tag_at spot tag) >>= λ found.
         options_told (below spot) options >>= λ os.
-        Ok (class_by (variant tag options) (kind.Variant found.0 (choices_of (fields_in options) found.1) os))
+        Ok (class_by (variant tag options)
+        (kind.Variant found.0 (choices_of (fields_in options) found.1) os))
     class_told spot (array count element) =
-        class_told (below spot) element >>= λ c. Ok (class_by (array count element) (array_kind (lengths.Fixed count) element c))
+        class_told (below spot) element
+        >>= λ c. Ok (class_by (array count element) (array_kind (lengths.Fixed count) element c))
     class_told spot (sequence path element) =
         there_or LengthOrTag (length_at spot path) >>= λ route.
         class_told (below spot) element >>= λ c.

@@ -39,7 +39,12 @@ pub record Classes : Type 0 where
 
 abbrev pub event_form : StreamClass → EventClass → EventForm Classes
 event_form stream event =
-    record { class = record { stream = stream; event = event }; id = event.id; context = option_map form event.context; fields = form event.fields }
+    record {
+      class = record { stream = stream; event = event };
+      id = event.id;
+      context = option_map form event.context;
+      fields = form event.fields;
+    }
 
 abbrev pub stream_form : Shift → StreamClass → StreamForm Classes
 stream_form shift stream =
@@ -55,4 +60,8 @@ stream_form shift stream =
 -- the classes of the code, with each time shifted
 abbrev pub trace_form : Shift → TraceClass → TraceForm Classes
 trace_form shift trace =
-    record { uuid = trace.uuid; packet_header = option_map form trace.packet_header; streams = map (stream_form shift) trace.streams }
+    record {
+      uuid = trace.uuid;
+      packet_header = option_map form trace.packet_header;
+      streams = map (stream_form shift) trace.streams;
+    }

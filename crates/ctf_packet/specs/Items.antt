@@ -53,11 +53,24 @@ before items run = record { items = items ++ run.items; fault = run.fault; at = 
 
 abbrev pub item_of : {C : Type 0} → Opened C → Recorded C → Item C
 item_of packet r =
-    event (record { class = r.event.class; clock = r.clock; values = r.values; packet_end = packet.end; packet_length = packet.end - packet.start })
+    event (record {
+      class = r.event.class;
+      clock = r.clock;
+      values = r.values;
+      packet_end = packet.end;
+      packet_length = packet.end - packet.start;
+    })
 
 abbrev pub gap_of : {C : Type 0} → Opened C → ℕ → Option Moment → Gap
 gap_of packet count to =
-    record { count = count; clock = packet.clock; from = packet.before; to = to; packet_end = packet.end; packet_length = packet.end - packet.start }
+    record {
+      count = count;
+      clock = packet.clock;
+      from = packet.before;
+      to = to;
+      packet_end = packet.end;
+      packet_length = packet.end - packet.start;
+    }
 
 abbrev pub lost_before : {C : Type 0} → Opened C → Option ℕ → List (Item C)
 lost_before packet (Some count) = lost (gap_of packet count packet.clock) ∷ []
@@ -72,22 +85,27 @@ abbrev pub gaps : {C : Type 0} → Opened C → List (Item C)
 gaps packet = lost_before packet packet.lost ++ discarded_before packet packet.dropped
 
 -- the item that an event record is, and what follows from its clock and end; or its fault
-abbrev pub recorded : {C : Type 0} → Opened C → (Option Moment → ℕ → Run C) → Result (Recorded C) StreamFault → Run C
+abbrev pub recorded : {C : Type 0} → Opened C → (Option Moment → ℕ → Run C)
+    → Result (Recorded C) StreamFault → Run C
 recorded packet goes (Ok r) = before (item_of packet r ∷ []) (goes r.clock r.end)
 recorded packet goes (Err fault) = stops (Some fault) packet.start
 
 -- The event records of a packet from a place on, where the clock came so far, up to the content's end; then what
 -- follows from the clock that is reached. `fuel` bounds their number.
-abbrev pub from_record : {C : Type 0} → ℕ → Opened C → List ℕ → Option Moment → ℕ → (Option Moment → Run C) → Run C
+abbrev pub from_record : {C : Type 0} → ℕ → Opened C → List ℕ → Option Moment → ℕ
+    → (Option Moment → Run C) → Run C
 from_record zero packet bytes clock place follows = follows clock
 from_record (suc fuel) packet bytes clock place follows =
     if nat_lt place packet.content
-    then recorded packet (λ next end. from_record fuel packet bytes next end follows) (record_at packet bytes clock place)
+    then recorded packet (λ next end. from_record fuel packet bytes next end follows)
+    (record_at packet bytes clock place)
     else follows clock
 
 -- the event records from a place on, without a bound: each has a bit at least
-abbrev pub from_place : {C : Type 0} → Opened C → List ℕ → Option Moment → ℕ → (Option Moment → Run C) → Run C
-from_place packet bytes clock place follows = from_record (packet.content - place) packet bytes clock place follows
+abbrev pub from_place : {C : Type 0} → Opened C → List ℕ → Option Moment → ℕ
+    → (Option Moment → Run C) → Run C
+from_place packet bytes clock place follows =
+    from_record (packet.content - place) packet bytes clock place follows
 
 -- the items of a packet's bytes; then what follows from the clock that is reached
 abbrev pub from_packet : {C : Type 0} → Opened C → List ℕ → (Option Moment → Run C) → Run C
@@ -104,8 +122,10 @@ abbrev pub longest_stream : ℕ
 longest_stream = 2 ^ 60
 
 -- the items of a packet, and what follows from the clock that is reached; or its fault
-abbrev pub opened : {C : Type 0} → ℕ → List ℕ → (Opened C → Option Moment → Run C) → Result (Opened C) StreamFault → Run C
-opened at left follows (Ok packet) = from_packet packet (take (packet.end - packet.start) left) (follows packet)
+abbrev pub opened : {C : Type 0} → ℕ → List ℕ → (Opened C → Option Moment → Run C)
+    → Result (Opened C) StreamFault → Run C
+opened at left follows (Ok packet) =
+    from_packet packet (take (packet.end - packet.start) left) (follows packet)
 opened at left follows (Err fault) = stops (Some fault) at
 
 -- The items from a packet boundary on, where the stream has come so far: packets one after the other (CTF 1.8.3,
@@ -117,7 +137,11 @@ from_cut (suc fuel) trace ending reached at (byte ∷ bytes) =
     let left = byte ∷ bytes in
     if nat_lt longest_stream at
     then stops (Some faults.StreamTooLong) at
-    else opened at left (λ packet clock. from_cut fuel trace ending (Some (reached_after packet clock)) packet.end (drop (packet.end - packet.start) left)) (open_at trace ending reached at left)
+    else opened at left
+    (λ packet clock.
+    from_cut fuel trace ending (Some (reached_after packet clock)) packet.end
+    (drop (packet.end - packet.start) left))
+    (open_at trace ending reached at left)
 
 -- the items from a packet boundary on, without a bound: each packet has a byte at least
 abbrev pub from_bytes : {C : Type 0} → TraceForm C → Ending → Option Reached → ℕ → List ℕ → Run C

@@ -66,22 +66,29 @@ abbrev pub same_stream : {C : Type 0} → Option Reached → StreamForm C → Op
 same_stream None stream = Some stream
 same_stream (Some reached) stream = if stream.id == reached.stream then Some stream else None
 
-abbrev pub stream_of : {C : Type 0} → TraceForm C → Option Reached → Option Val → Option (StreamForm C)
+abbrev pub stream_of : {C : Type 0} → TraceForm C → Option Reached → Option Val
+    → Option (StreamForm C)
 stream_of trace reached header =
-    option_and_then (same_stream reached) (stream_named trace.streams (number_in (role (codes "stream_id") trace.packet_header header)))
+    option_and_then (same_stream reached)
+    (stream_named trace.streams
+    (number_in (role (codes "stream_id") trace.packet_header header)))
 
 -- a size that is missing is the other one, the packet's taken up to a whole byte; with neither the packet is the rest
 -- of the stream (CTF 1.8.3, section 5.2; the whole byte is own)
 abbrev pub sizes_of : Option ℕ → Option ℕ → ℕ → Sizes
 sizes_of (Some packet) (Some content) rest = record { packet = packet; content = content }
 sizes_of (Some packet) None rest = record { packet = packet; content = packet }
-sizes_of None (Some content) rest = record { packet = next_multiple_of content 8; content = content }
+sizes_of None (Some content) rest = record {
+  packet = next_multiple_of content 8;
+  content = content;
+}
 sizes_of None None rest = record { packet = rest; content = rest }
 
 -- sizes that can be, where the context ends at a bit (the limit is own)
 abbrev pub are_possible : Sizes → ℕ → Bool
 are_possible sizes end =
-    nat_lt 0 sizes.packet && sizes.packet % 8 == 0 && nat_le sizes.packet longest && nat_le sizes.content sizes.packet && nat_le end sizes.content
+    nat_lt 0 sizes.packet && sizes.packet % 8 == 0 && nat_le sizes.packet longest
+    && nat_le sizes.content sizes.packet && nat_le end sizes.content
 
 abbrev pub is_clean : Ending → Bool
 is_clean Clean = true
@@ -102,12 +109,15 @@ moves None v = []
 -- the clock before a packet: it starts at 0, and that is judged once (own)
 abbrev pub clock_before : Option Line → Option Reached → Result (Option Moment) StreamFault
 clock_before None reached = Ok None
-clock_before (Some line) None = or_fault faults.ClockRefused (moment_at line 0) >>= (λ start. Ok (Some start))
+clock_before (Some line) None =
+    or_fault faults.ClockRefused (moment_at line 0) >>= (λ start. Ok (Some start))
 clock_before (Some line) (Some reached) = Ok reached.clock
 
 -- the clock after a scope whose integers set it
-abbrev pub clock_after : Option Line → Option Moment → List (ℕ × ℕ) → Result (Option Moment) StreamFault
-clock_after (Some line) (Some clock) ms = or_fault faults.ClockRefused (advanced_by line clock ms) >>= (λ next. Ok (Some next))
+abbrev pub clock_after : Option Line → Option Moment → List (ℕ × ℕ)
+    → Result (Option Moment) StreamFault
+clock_after (Some line) (Some clock) ms =
+    or_fault faults.ClockRefused (advanced_by line clock ms) >>= (λ next. Ok (Some next))
 clock_after (Some line) None ms = Ok None
 clock_after None clock ms = Ok None
 
@@ -118,7 +128,8 @@ or_else None other = other
 -- the clock at a packet's end, where the packet says it and that is none before its own time (CTF 1.8.3, section
 -- 5.2; what is refused is own)
 abbrev pub clock_until : Option Line → Option Moment → Option Field → Option Moment
-clock_until (Some line) (Some clock) (Some field) = or_else (advanced line clock field.width field.number) (Some clock)
+clock_until (Some line) (Some clock) (Some field) =
+    or_else (advanced line clock field.width field.number) (Some clock)
 clock_until (Some line) (Some clock) None = Some clock
 clock_until (Some line) None field = None
 clock_until None clock field = None
@@ -131,7 +142,8 @@ since between None field = None
 
 -- The stream class of a packet, where its header says nothing else: a magic number, an identifier and a stream class
 -- that can be, in this order (CTF 1.8.3, section 5.1; the order is own).
-unfoldable pub stream_checked : {C : Type 0} → TraceForm C → Option Reached → Option Val → Result (StreamForm C) StreamFault
+unfoldable pub stream_checked : {C : Type 0} → TraceForm C → Option Reached → Option Val
+    → Result (StreamForm C) StreamFault
 stream_checked trace reached header = do
   magic ← unless faults.WrongMagic (is_magic (role (codes "magic") trace.packet_header header))
   uuid ← unless faults.OtherTrace (is_of_trace trace.uuid (uuid_field trace.packet_header header))
@@ -147,7 +159,8 @@ sizes_checked packet_size content_size ending rest end = do
   Ok sizes
 
 -- A packet of these sizes, whose header and context have these values: the clock, and what its counts say (own).
-unfoldable pub placed : {C : Type 0} → StreamForm C → Option Reached → ℕ → Values → ℕ → Sizes → Result (Opened C) StreamFault
+unfoldable pub placed : {C : Type 0} → StreamForm C → Option Reached → ℕ → Values → ℕ → Sizes
+    → Result (Opened C) StreamFault
 placed stream reached start values first sizes = do
   let field = λ (name : List ℕ). role name stream.packet_context values.packet_context
   before ← clock_before stream.line reached
@@ -162,24 +175,38 @@ placed stream reached start values first sizes = do
     before = before;
     clock = clock;
     until = clock_until stream.line clock (field (codes "timestamp_end"));
-    lost = since lost_between (option_and_then (λ (r : Reached). r.number) reached) (field (codes "packet_seq_num"));
-    dropped = since discarded_between (option_and_then (λ (r : Reached). r.discarded) reached) (field (codes "events_discarded"));
+    lost =
+        since lost_between (option_and_then (λ (r : Reached). r.number) reached)
+        (field (codes "packet_seq_num"));
+    dropped =
+        since discarded_between (option_and_then (λ (r : Reached). r.discarded) reached)
+        (field (codes "events_discarded"));
     discarded = number_in (field (codes "events_discarded"));
     number = number_in (field (codes "packet_seq_num"));
   })
 
 -- A packet at a place of a stream, out of what is left there; or its first fault, in this order (CTF 1.8.3,
 -- section 5; the order is own). The stream ends as it says, and has come so far.
-unfoldable pub open_at : {C : Type 0} → TraceForm C → Ending → Option Reached → ℕ → List ℕ → Result (Opened C) StreamFault
+unfoldable pub open_at : {C : Type 0} → TraceForm C → Ending → Option Reached → ℕ → List ℕ
+    → Result (Opened C) StreamFault
 open_at trace ending reached start left = do
   header ← scope_at (fault_in_front ending) trace.packet_header (front left no_values) 0 0
   stream ← stream_checked trace reached header.value
   let known = record no_values { packet_header = header.value }
-  context ← scope_at (fault_in_front ending) stream.packet_context (front left known) header.end header.spent
+  context ←
+      scope_at (fault_in_front ending) stream.packet_context (front left known) header.end
+      header.spent
   let size = λ (name : List ℕ). number_in (role name stream.packet_context context.value)
-  sizes ← sizes_checked (size (codes "packet_size")) (size (codes "content_size")) ending (8 * length left) context.end
+  sizes ←
+      sizes_checked (size (codes "packet_size")) (size (codes "content_size")) ending
+      (8 * length left) context.end
   placed stream reached start (record known { packet_context = context.value }) context.end sizes
 
 -- what is reached after a packet, where its clock came so far
 abbrev pub reached_after : {C : Type 0} → Opened C → Option Moment → Reached
-reached_after packet clock = record { stream = packet.stream.id; clock = clock; discarded = packet.discarded; number = packet.number }
+reached_after packet clock = record {
+  stream = packet.stream.id;
+  clock = clock;
+  discarded = packet.discarded;
+  number = packet.number;
+}

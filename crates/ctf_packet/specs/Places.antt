@@ -15,8 +15,11 @@ IsTimed shift packet = packet.timeline ≡ (stream_form shift packet.stream.now)
 
 -- the header there, after these values
 abbrev pub headed_at : Shift → Values → RecordPlace → Result (Headed Classes) StreamFault
-headed_at shift values at = headed (stream_form shift at.packet.now.stream.now) at.bytes.now at.packet.now.content values at.clock at.place
+headed_at shift values at =
+    headed (stream_form shift at.packet.now.stream.now) at.bytes.now at.packet.now.content values
+    at.clock at.place
 
 -- the event record there, after the packet's values among these
 abbrev pub record_there : Shift → Values → RecordPlace → Result (Recorded Classes) StreamFault
-record_there shift values at = record_at (opened_of shift (packet_values values) at.packet.now) at.bytes.now at.clock at.place
+record_there shift values at =
+    record_at (opened_of shift (packet_values values) at.packet.now) at.bytes.now at.clock at.place

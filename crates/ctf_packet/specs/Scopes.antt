@@ -15,7 +15,8 @@ use Rattle.ctf_packet.specs.declared.fault.StreamFault.TheVariants as faults
 
 -- one thing, and what follows from it; or the fault
 infixl 10 ◌>>=◌
-abbrev pub ◌>>=◌ : {A B : Type 0} → Result A StreamFault → (A → Result B StreamFault) → Result B StreamFault
+abbrev pub ◌>>=◌ : {A B : Type 0} → Result A StreamFault → (A → Result B StreamFault)
+    → Result B StreamFault
 Ok x >>= f = f x
 Err e >>= f = Err e
 
@@ -30,7 +31,14 @@ pub record Values : Type 0 where
 
 abbrev pub no_values : Values
 no_values =
-    record { packet_header = None; packet_context = None; event_header = None; stream_event_context = None; event_context = None; event_fields = None }
+    record {
+      packet_header = None;
+      packet_context = None;
+      event_header = None;
+      stream_event_context = None;
+      event_context = None;
+      event_fields = None;
+    }
 
 abbrev pub value_in : Values → Scope → Option Val
 value_in values PacketHeader = values.packet_header
@@ -42,7 +50,12 @@ value_in values EventFields = values.event_fields
 
 -- what a scope is decoded from: bytes, the bit at which their content ends, and the scopes before
 abbrev pub input_of : List ℕ → ℕ → Values → Input
-input_of bytes content values = record { packet = bytes; content = content; earlier = value_in values; limit = MOST_VALUES }
+input_of bytes content values = record {
+  packet = bytes;
+  content = content;
+  earlier = value_in values;
+  limit = MOST_VALUES;
+}
 
 -- the value of a scope, the bit at which it ends, and how many values were begun so far
 pub record Stood : Type 0 where
@@ -73,7 +86,8 @@ cut_short Failed = faults.ReadFailed
 abbrev pub fault_in_front : Ending → Fault → StreamFault
 fault_in_front ending too_many = faults.TooManyValues
 fault_in_front ending no_option = faults.NoOption
-fault_in_front ending (past e) = if nat_lt longest e then faults.ImpossibleSizes else cut_short ending
+fault_in_front ending (past e) =
+    if nat_lt longest e then faults.ImpossibleSizes else cut_short ending
 
 -- what is wrong with a scope of an event record (own)
 abbrev pub fault_in_record : Fault → StreamFault

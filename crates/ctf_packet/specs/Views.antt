@@ -60,9 +60,11 @@ PutsValue scope before step (Ok end) after =
 PutsValue scope before step (Err f) after = Fails f step
 
 -- the value of a scope, which may have no class, was put there; or it has this fault, with the stream's faults
-abbrev pub PutsScope : Scope → Values → Result Stood StreamFault → Result ℕ StreamFault → Known → Type 0
+abbrev pub PutsScope : Scope → Values → Result Stood StreamFault → Result ℕ StreamFault → Known
+    → Type 0
 PutsScope scope before stood (Ok end) after =
-    (s : Stood) × (stood ≡ Ok s) × (end ≡ s.end) × (after.spent ≡ s.spent) × (values_of after ≡ put scope s.value before)
+    (s : Stood) × (stood ≡ Ok s) × (end ≡ s.end) × (after.spent ≡ s.spent)
+    × (values_of after ≡ put scope s.value before)
 PutsScope scope before stood (Err f) after = (stood ≡ Err f) ⊎ (f ≡ faults.NoMemory)
 
 -- a fault of a value, as the stream's
@@ -74,12 +76,18 @@ IsTold told NoMemory fault = fault ≡ faults.NoMemory
 
 -- the values of the packet alone
 abbrev pub packet_values : Values → Values
-packet_values values = record no_values { packet_header = values.packet_header; packet_context = values.packet_context }
+packet_values values = record no_values {
+  packet_header = values.packet_header;
+  packet_context = values.packet_context;
+}
 
 -- the header of an event record: its class and the clock after it, and its value in its scope; or its fault
-abbrev pub PutsHead : StreamClass → Values → Result (Headed Classes) StreamFault → Result Head StreamFault → Known → Type 0
+abbrev pub PutsHead : StreamClass → Values → Result (Headed Classes) StreamFault
+    → Result Head StreamFault → Known → Type 0
 PutsHead stream before headed (Ok head) after =
-    (h : Headed Classes) × (headed ≡ Ok h) × (event_form stream head.event.now ≡ h.event) × (head.clock ≡ h.clock) × (head.end ≡ h.header.end) × (after.spent ≡ h.header.spent) × (values_of after ≡ put EventHeader h.header.value before)
+    (h : Headed Classes) × (headed ≡ Ok h) × (event_form stream head.event.now ≡ h.event)
+    × (head.clock ≡ h.clock) × (head.end ≡ h.header.end) × (after.spent ≡ h.header.spent)
+    × (values_of after ≡ put EventHeader h.header.value before)
 PutsHead stream before headed (Err f) after = (headed ≡ Err f) ⊎ (f ≡ faults.NoMemory)
 
 -- the scopes after it
@@ -89,4 +97,9 @@ PutsBody bodied (Err f) after = (bodied ≡ Err f) ⊎ (f ≡ faults.NoMemory)
 
 -- an event record with the values of its scopes
 abbrev pub recorded_of : StreamClass → Values → EventRecord → Recorded Classes
-recorded_of stream values r = record { event = event_form stream r.event.now; clock = r.clock; values = values; end = r.end }
+recorded_of stream values r = record {
+  event = event_form stream r.event.now;
+  clock = r.clock;
+  values = values;
+  end = r.end;
+}

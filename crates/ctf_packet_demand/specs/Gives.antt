@@ -14,7 +14,11 @@ use Rattle.ctf_packet_demand.specs.declared.want.Want.TheVariants.{Whole, Rest}
 
 -- a begun packet with the values of its header and context
 abbrev pub begun_of : Shift → Values → Begun → wants.Begun Classes
-begun_of shift values b = record { stream = stream_form shift b.stream.now; values = values; first = b.first }
+begun_of shift values b = record {
+  stream = stream_form shift b.stream.now;
+  values = values;
+  first = b.first;
+}
 
 -- what is asked for, with each time shifted
 abbrev pub want_of : Shift → Values → Want → wants.Want Classes
@@ -34,4 +38,5 @@ EndsAt n (Rest begun) = begun.first ≡ n
 -- the value that is there, which ends at this bit, was put in its scope
 abbrev pub PutsAsked : Scope → Values → Result Stood (wants.Want Classes) → ℕ → Known → Type 0
 PutsAsked scope before asked end after =
-    (s : Stood) × (asked ≡ Ok s) × (end ≡ s.end) × (after.spent ≡ s.spent) × (values_of after ≡ put scope s.value before)
+    (s : Stood) × (asked ≡ Ok s) × (end ≡ s.end) × (after.spent ≡ s.spent)
+    × (values_of after ≡ put scope s.value before)

@@ -61,7 +61,8 @@ or_faulty (Err fault) = Err (faulty fault)
 
 -- a packet of sizes that can be
 abbrev pub if_possible : {C : Type 0} → Begun C → Sizes → Want C
-if_possible begun sizes = if are_possible sizes begun.first then whole begun sizes else faulty faults.ImpossibleSizes
+if_possible begun sizes =
+    if are_possible sizes begun.first then whole begun sizes else faulty faults.ImpossibleSizes
 
 -- a packet that gives a size or two; with neither it is the rest of the stream (CTF 1.8.3, section 5.2)
 abbrev pub sized : {C : Type 0} → Begun C → Option ℕ → Option ℕ → Want C
@@ -78,4 +79,10 @@ wanted trace reached have = do
   let known = record no_values { packet_header = header.value }
   context ← asked_at stream.packet_context (front have known) header.end header.spent
   let size = λ (name : List ℕ). number_in (role name stream.packet_context context.value)
-  sized (record { stream = stream; values = record known { packet_context = context.value }; first = context.end }) (size (codes "packet_size")) (size (codes "content_size"))
+  sized
+      (record {
+        stream = stream;
+        values = record known { packet_context = context.value };
+        first = context.end;
+      })
+      (size (codes "packet_size")) (size (codes "content_size"))

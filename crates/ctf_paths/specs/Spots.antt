@@ -13,11 +13,19 @@ use Rattle.ctf_paths.specs.declared.spot.Spot.{Spot}
 
 -- the structure of a scope before, which has no scope's name in its own
 abbrev pub earlier_by : EarlierStructure → paths.Frame
-earlier_by e = record { scope = e.scope; name = Some []; fields = fields_in (members e.members.now) }
+earlier_by e = record {
+  scope = e.scope;
+  name = Some [];
+  fields = fields_in (members e.members.now);
+}
 
 -- a structure with those of its members that are before a path
 abbrev pub frame_by : Frame → paths.Frame
-frame_by f = record { scope = f.scope; name = name_of f.name; fields = take f.count (fields_in (members f.members.now)) }
+frame_by f = record {
+  scope = f.scope;
+  name = name_of f.name;
+  fields = take f.count (fields_in (members f.members.now));
+}
 
 abbrev pub around_step : Around-F (List paths.Frame) → List paths.Frame
 around_step Around-F.Outside = []
@@ -43,4 +51,11 @@ frame_in spot earlier = record { scope = spot.scope; name = spot.name; fields = 
 
 -- the spot of a scope's own class, after the structures of the scopes before
 abbrev pub scope_spot : Scope → List paths.Frame → paths.Spot
-scope_spot scope before = record { scope = scope; around = []; before = before; member = None; is_top = false; name = Some [] }
+scope_spot scope before = record {
+  scope = scope;
+  around = [];
+  before = before;
+  member = None;
+  is_top = false;
+  name = Some [];
+}

@@ -12,15 +12,19 @@ use Rattle.ctf_meaning_steps.specs.Told.{Told, ◌>>=◌}
 use Rattle.ctf_meaning_steps.specs.Linking.{class_told}
 
 -- each after the earlier ones
-abbrev pub each_told : (List Field → Field → Told Member) → List Field → List Field → Told (List Member)
+abbrev pub each_told : (List Field → Field → Told Member) → List Field → List Field
+    → Told (List Member)
 each_told at earlier [] = Ok []
-each_told at earlier (f ∷ fs) = at earlier f >>= λ m. each_told at (earlier ++ f ∷ []) fs >>= λ ms. Ok (m ∷ ms)
+each_told at earlier (f ∷ fs) =
+    at earlier f >>= λ m. each_told at (earlier ++ f ∷ []) fs >>= λ ms. Ok (m ∷ ms)
 
 -- The trace's order and clocks.
 module _ (order : Order) (clocks : List Clock) where
   -- a member of a structure at a spot
   abbrev pub member_told : Spot → List Field → Field → Told Member
-  member_told spot earlier f = class_told order clocks (at_member spot earlier f.name) f.shape >>= λ c. Ok (named_by f.name c)
+  member_told spot earlier f =
+      class_told order clocks (at_member spot earlier f.name) f.shape
+      >>= λ c. Ok (named_by f.name c)
 
   -- an option of a variant
   abbrev pub option_told : Spot → List Field → Field → Told Member
@@ -38,4 +42,5 @@ nodes_in (m ∷ ms) = m.class.nodes + nodes_in ms
 
 -- a class around parts of this depth and so many classes
 abbrev pub class_around : ℕ → ℕ → ℕ → Kind → Class
-class_around align depth nodes what = roll-Class (record { align = align; depth = 1 + depth; nodes = 1 + nodes; kind = what })
+class_around align depth nodes what =
+    roll-Class (record { align = align; depth = 1 + depth; nodes = 1 + nodes; kind = what })

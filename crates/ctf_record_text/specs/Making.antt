@@ -25,35 +25,59 @@ use Rattle.ctf_format.specs.declared.standing.Standing.{Standing}
 
 -- Whatever is in the scopes of the event record, with so much known of those before: this scope's value is there from a
 -- place on, has members of the numbers that are kept, and its text and a comma follow a text.
-abbrev pub PutsScope : KnownScopes → Members → Option Class → List ℕ → ℕ → Standing → List ℕ → Standing → List ℕ → Type 0
+abbrev pub PutsScope : KnownScopes → Members → Option Class → List ℕ → ℕ → Standing → List ℕ
+    → Standing → List ℕ → Type 0
 PutsScope known members class bytes content from before to after =
-    (values : Values) → ScopesAre known (value_in values) → (s : Stood) × (scope_at fault_in_record (option_map form class) (input_of bytes content values) from.place from.spent ≡ Ok s)
-    × (to.place ≡ s.end) × (to.spent ≡ s.spent) × (after ≡ before ++ flat_map (λ text. text ++ codes ", ") (scope_texts class s.value)) × ScopeIs members s.value
+    (values : Values) → ScopesAre known (value_in values)
+    → (s : Stood)
+    × (scope_at fault_in_record (option_map form class) (input_of bytes content values)
+    from.place from.spent
+    ≡ Ok s)
+    × (to.place ≡ s.end) × (to.spent ≡ s.spent)
+    × (after ≡ before ++ flat_map (λ text. text ++ codes ", ") (scope_texts class s.value))
+    × ScopeIs members s.value
 
 -- the scopes after the header are there, with these values of the packet, and the text is that of the event record
-abbrev pub PutsBody : Known → StreamClass → EventClass → List ℕ → List ℕ → ℕ → ℕ → ℕ → ℕ → List ℕ → Type 0
+abbrev pub PutsBody : Known → StreamClass → EventClass → List ℕ → List ℕ → ℕ → ℕ → ℕ → ℕ → List ℕ
+    → Type 0
 PutsBody known stream event part bytes content place spent end text =
-    (values : Values) → SharesPacket known (value_in values) → (b : Body) × (bodied (option_map form stream.event_context) (option_map form event.context) (form event.fields) bytes content values place spent ≡ Ok b)
-    × (end ≡ b.end) × (packet_values b.values ≡ packet_values values) × (text ≡ values_text part stream event b.values)
+    (values : Values) → SharesPacket known (value_in values)
+    → (b : Body)
+    × (bodied (option_map form stream.event_context) (option_map form event.context)
+    (form event.fields) bytes content values place spent
+    ≡ Ok b)
+    × (end ≡ b.end) × (packet_values b.values ≡ packet_values values)
+    × (text ≡ values_text part stream event b.values)
 
 -- the scopes after a header that was decoded where the record begins are there, and the text is that of the record
 abbrev pub PutsRecord : Known → RecordPlace → ToldHead → List ℕ → ℕ → List ℕ → Type 0
 PutsRecord known at told part end text =
-    PutsBody known at.packet.now.stream.now told.head.event.now part at.bytes.now at.packet.now.content told.head.end told.spent end text
+    PutsBody known at.packet.now.stream.now told.head.event.now part at.bytes.now
+    at.packet.now.content told.head.end told.spent end text
 
 -- the event record there has its values in the scopes, or its text in the line
-abbrev pub Made : StreamClass → Result (Recorded Classes) StreamFault → List ℕ → Known → List ℕ → EventRecord → Option ℕ → Type 0
+abbrev pub Made : StreamClass → Result (Recorded Classes) StreamFault → List ℕ → Known → List ℕ
+    → EventRecord → Option ℕ → Type 0
 Made stream stands part known line r None = stands ≡ Ok (recorded_of stream (values_of known) r)
 Made stream stands part known line r (Some end) =
-    (values : Values) × (stands ≡ Ok (recorded_of stream values r)) × (packet_values values ≡ packet_values (values_of known)) × (take end line ≡ values_text part stream r.event.now values)
+    (values : Values) × (stands ≡ Ok (recorded_of stream values r))
+    × (packet_values values ≡ packet_values (values_of known))
+    × (take end line ≡ values_text part stream r.event.now values)
 
 -- the event record was made, or it is the fault of the record, or memory ran out
-abbrev pub Makes : StreamClass → Result (Recorded Classes) StreamFault → List ℕ → Known → List ℕ → Result LineRecord StreamFault → Type 0
+abbrev pub Makes : StreamClass → Result (Recorded Classes) StreamFault → List ℕ → Known → List ℕ
+    → Result LineRecord StreamFault → Type 0
 Makes stream stands part known line (Ok r) = Made stream stands part known line r.record r.text
 Makes stream stands part known line (Err f) = (stands ≡ Err f) ⊎ (f ≡ faults.NoMemory)
 
 -- The values of the scopes after a header are there, and the record ends further on than at its place; or the first
 -- fault of these scopes; or the record has no bits; or memory ran out.
-abbrev pub MakesValues : StreamClass → Head → Result Body StreamFault → ℕ → Known → Result EventRecord StreamFault → Type 0
-MakesValues stream head body place known (Ok r) = (body ≡ Ok (record { values = values_of known; end = r.end })) × (r ≡ record { event = head.event; clock = head.clock; end = r.end }) × (place < r.end)
-MakesValues stream head body place known (Err f) = (body ≡ Err f) ⊎ (((b : Body) × (body ≡ Ok b) × (b.end ≡ place) × (f ≡ faults.EmptyEvent)) ⊎ (f ≡ faults.NoMemory))
+abbrev pub MakesValues : StreamClass → Head → Result Body StreamFault → ℕ → Known
+    → Result EventRecord StreamFault → Type 0
+MakesValues stream head body place known (Ok r) =
+    (body ≡ Ok (record { values = values_of known; end = r.end }))
+    × (r ≡ record { event = head.event; clock = head.clock; end = r.end }) × (place < r.end)
+MakesValues stream head body place known (Err f) =
+    (body ≡ Err f)
+    ⊎ (((b : Body) × (body ≡ Ok b) × (b.end ≡ place) × (f ≡ faults.EmptyEvent))
+    ⊎ (f ≡ faults.NoMemory))

@@ -15,7 +15,9 @@ or_nothing None = unsigned 0
 
 -- the host, the name and the scopes, with the text of the packet's part
 abbrev pub values_text : List ℕ → StreamClass → EventClass → Values → List ℕ
-values_text packet stream event values = record_text packet stream event values.stream_event_context values.event_context (or_nothing values.event_fields)
+values_text packet stream event values =
+    record_text packet stream event values.stream_event_context values.event_context
+    (or_nothing values.event_fields)
 
 -- the text of an event record of a stream
 abbrev pub body_text : List ℕ → Event Classes → List ℕ

@@ -36,7 +36,8 @@ is_in_rest trace bytes x = is_rest (wanted trace None (drop (packet_start x) byt
 
 -- The packet of an item has a byte at least, and all of its bytes are there. Where it is the rest of the stream, this
 -- ends with it, and cleanly.
-pub record IsHeld {C : Type 0} (trace : TraceForm C) (ending : Ending) (bytes : List ℕ) (x : Item C) : Type 0 where
+pub record IsHeld {C : Type 0} (trace : TraceForm C) (ending : Ending) (bytes : List ℕ) (x : Item C)
+    : Type 0 where
   pub some : packet_start x < packet_end x
   pub there : packet_end x ≤ length bytes
   pub last : is_in_rest trace bytes x ≡ true → (ending ≡ Clean) × (packet_end x ≡ length bytes)

@@ -14,8 +14,13 @@ closing ts = count_by (is s.CloseBrace) ts
 
 -- a beginning of the tokens opens more than so many braces that it does not close
 abbrev pub NestsDeeper : ℕ → List Token → Type 0
-NestsDeeper n ts = (front : List Token) × (rest : List Token) × (ts ≡ front ++ rest) × (closing front + n < opening front)
+NestsDeeper n ts =
+    (front : List Token) × (rest : List Token) × (ts ≡ front ++ rest)
+    × (closing front + n < opening front)
 
 -- Under any limit tokens spell a tree and nest no deeper, or spell none, or nest deeper.
 abbrev pub TreeOrNot : Type 0
-TreeOrNot = (limit : ℕ) (ts : List Token) → ((tree : Tree) × Spells tree ts × (NestsDeeper limit ts → ⊥)) ⊎ (IsUnspelled ts ⊎ NestsDeeper limit ts)
+TreeOrNot =
+    (limit : ℕ) (ts : List Token)
+    → ((tree : Tree) × Spells tree ts × (NestsDeeper limit ts → ⊥))
+    ⊎ (IsUnspelled ts ⊎ NestsDeeper limit ts)

@@ -70,13 +70,16 @@ magnitude_at is_negative ts = do
   Ok (record { is_negative = is_negative; magnitude = n.0 }, n.1)
 
 unfoldable pub number_at : Parse Number
-number_at ts = if begins s.Minus ts then (expect s.Minus ts >>= λ rest. magnitude_at true rest) else magnitude_at false (past s.Plus ts)
+number_at ts =
+    if begins s.Minus ts then (expect s.Minus ts >>= λ rest. magnitude_at true rest)
+    else magnitude_at false (past s.Plus ts)
 
 unfoldable pub value_at : Parse Value
 value_at [] = Err bad
 value_at (t ∷ ts) =
     if is_word t.kind then (path_at (t ∷ ts) >>= λ p. Ok (values.Name p.0, p.1))
-    else (if is_string t.kind then Ok (values.Text (string_value t.text.now), ts) else (number_at (t ∷ ts) >>= λ n. Ok (values.Number n.0, n.1)))
+    else (if is_string t.kind then Ok (values.Text (string_value t.text.now), ts)
+    else (number_at (t ∷ ts) >>= λ n. Ok (values.Number n.0, n.1)))
 
 -- a setting's rest, after its name
 unfoldable pub setting_after : Words → Parse Setting
@@ -115,7 +118,9 @@ abbrev pub typename_len : Bool → List Token → ℕ
 typename_len before_declarator ts = if before_declarator then run ts - 1 else run ts
 
 unfoldable pub typename_at : Bool → Parse Typename
-typename_at before_declarator ts = some_words (words_of (take (typename_len before_declarator ts) ts)) (drop (typename_len before_declarator ts) ts)
+typename_at before_declarator ts =
+    some_words (words_of (take (typename_len before_declarator ts) ts))
+    (drop (typename_len before_declarator ts) ts)
 
 abbrev pub bound_by : Option ℕ → Token → List Token → Result (Length × List Token) Refusal
 bound_by (Some n) t ts = Ok (lengths.Constant n, ts)
@@ -180,7 +185,8 @@ container_at d ts = do
   if begins s.Integer o then (do
     t ← expect s.Integer o
     xs ← attributes_at d t
-    Ok (containers.Integer xs.0, xs.1)) else (typename_at false o >>= λ n. Ok (containers.Named n.0, n.1))
+    Ok (containers.Integer xs.0, xs.1))
+      else (typename_at false o >>= λ n. Ok (containers.Named n.0, n.1))
 
 -- the end of a range
 unfoldable pub range_end_at : Parse Number
@@ -197,7 +203,9 @@ span_at ts = do
 
 unfoldable pub label_name_at : Parse Word
 label_name_at [] = Err bad
-label_name_at (t ∷ ts) = if is_word t.kind then Ok (t.text.now, ts) else (if is_string t.kind then Ok (string_value t.text.now, ts) else Err bad)
+label_name_at (t ∷ ts) =
+    if is_word t.kind then Ok (t.text.now, ts)
+    else (if is_string t.kind then Ok (string_value t.text.now, ts) else Err bad)
 
 unfoldable pub label_at : Parse Label
 label_at ts = do
@@ -220,7 +228,8 @@ labels_at d ts = do
   Ok (first.0 ∷ more.0, close)
 
 -- a compound's name alone
-abbrev pub named_by : (Word → Reference) → Option Word → List Token → Result (Specifier × List Token) Refusal
+abbrev pub named_by : (Word → Reference) → Option Word → List Token
+    → Result (Specifier × List Token) Refusal
 named_by reference None ts = Err bad
 named_by reference (Some n) ts = Ok (classes.Named (reference n), ts)
 
@@ -250,7 +259,8 @@ floating_point_at d ts = do
 unfoldable pub string_at : ℕ → Parse Specifier
 string_at d ts = do
   rest ← expect s.String ts
-  if begins s.OpenBrace rest then (attributes_at d rest >>= λ xs. Ok (classes.String xs.0, xs.1)) else Ok (classes.String [], rest)
+  if begins s.OpenBrace rest then (attributes_at d rest >>= λ xs. Ok (classes.String xs.0, xs.1))
+      else Ok (classes.String [], rest)
 
 -- a class with the declarators after it
 unfoldable pub class_declared : Specifier → Parse (Specifier × List Declarator)
@@ -265,7 +275,8 @@ fields_after c ts = do
 
 -- the semicolon after a compound with a name and a body
 unfoldable pub compound_after : Specifier → Parse TypeDeclaration
-compound_after (classes.Compound (Some n) c) ts = expect s.Semicolon ts >>= λ e. Ok (typedecls.Compound n c, e)
+compound_after (classes.Compound (Some n) c) ts =
+    expect s.Semicolon ts >>= λ e. Ok (typedecls.Compound n c, e)
 compound_after _ ts = Err bad
 
 -- the name of an alias, after its class
@@ -277,7 +288,8 @@ alias_name_at ts = do
   Ok (n.0, e)
 
 -- a declaration of names in the place of an item
-abbrev pub as_item : Result (TypeDeclaration × List Token) Refusal → Result (Item × List Token) Refusal
+abbrev pub as_item : Result (TypeDeclaration × List Token) Refusal
+    → Result (Item × List Token) Refusal
 as_item read = read >>= λ d. Ok (items.Types d.0, d.1)
 
 -- The parts that bodies are in, over the bodies.
@@ -289,17 +301,22 @@ module _ (body : Parse (List Item)) where
     if begins s.OpenBrace n.1 then (do
       es ← body n.1
       a ← optional (begins s.Align) align_at es.1
-      Ok (classes.Compound n.0 (compounds.Struct es.0 a.0), a.1)) else named_by references.Struct n.0 n.1
+      Ok (classes.Compound n.0 (compounds.Struct es.0 a.0), a.1))
+        else named_by references.Struct n.0 n.1
 
   unfoldable pub variant_at : Parse Specifier
   variant_at ts = do
     rest ← expect s.Variant ts
     n ← optional begins_identifier identifier_at rest
     g ← optional (begins s.Less) tag_at n.1
-    if begins s.OpenBrace g.1 then (body g.1 >>= λ es. Ok (classes.Compound n.0 (compounds.Variant g.0 es.0), es.1)) else named_by (λ n. references.Variant n g.0) n.0 g.1
+    if begins s.OpenBrace g.1
+        then (body g.1 >>= λ es. Ok (classes.Compound n.0 (compounds.Variant g.0 es.0), es.1))
+        else named_by (λ n. references.Variant n g.0) n.0 g.1
 
   unfoldable pub compound_at : ℕ → Parse Specifier
-  compound_at d ts = if begins s.Struct ts then struct_at ts else (if begins s.Variant ts then variant_at ts else enum_at d ts)
+  compound_at d ts =
+      if begins s.Struct ts then struct_at ts
+      else (if begins s.Variant ts then variant_at ts else enum_at d ts)
 
   unfoldable pub plain_at : Bool → ℕ → Parse Specifier
   plain_at before_declarator d ts =
@@ -307,7 +324,8 @@ module _ (body : Parse (List Item)) where
       else (if begins s.FloatingPoint ts then floating_point_at d ts
       else (if begins s.String ts then string_at d ts
       else (if begins_compound ts then compound_at d ts
-      else (typename_at before_declarator ts >>= λ n. Ok (classes.Named (references.Plain n.0), n.1)))))
+      else (typename_at before_declarator ts
+      >>= λ n. Ok (classes.Named (references.Plain n.0), n.1)))))
 
   unfoldable pub class_at : Bool → ℕ → Parse Specifier
   class_at before_declarator d ts = plain_at before_declarator d (past s.Const ts)
@@ -329,13 +347,16 @@ module _ (body : Parse (List Item)) where
   unfoldable pub typedecl_at : ℕ → Parse TypeDeclaration
   typedecl_at d ts =
       if begins s.Typealias ts then alias_at d ts
-      else (if begins s.Typedef ts then definition_at d ts else (compound_at d ts >>= λ c. compound_after c.0 c.1))
+      else (if begins s.Typedef ts then definition_at d ts
+      else (compound_at d ts >>= λ c. compound_after c.0 c.1))
 
   unfoldable pub item_at : ℕ → Parse Item
   item_at d ts =
       if begins s.Typealias ts then as_item (alias_at d ts)
       else (if begins s.Typedef ts then as_item (definition_at d ts)
-      else (if begins_compound ts then (compound_at d ts >>= λ c. if begins s.Semicolon c.1 then as_item (compound_after c.0 c.1) else fields_after c.0 c.1)
+      else (if begins_compound ts then (compound_at d ts >>= λ c.
+      if begins s.Semicolon c.1 then as_item (compound_after c.0 c.1)
+      else fields_after c.0 c.1)
       else (class_at true d ts >>= λ c. fields_after c.0 c.1)))
 
   -- ---- blocks
@@ -350,7 +371,11 @@ module _ (body : Parse (List Item)) where
   unfoldable pub entry_at : ℕ → Parse BlockEntry
   entry_at d ts =
       if begins_declaration ts then (typedecl_at d ts >>= λ x. Ok (entries.Types x.0, x.1))
-      else (path_at ts >>= λ n. if begins s.Equals n.1 then (setting_after n.0 n.1 >>= λ x. Ok (entries.Setting x.0, x.1)) else class_after d n.0 n.1)
+      else (path_at ts
+      >>= λ n.
+      if begins s.Equals n.1 then
+      (setting_after n.0 n.1 >>= λ x. Ok (entries.Setting x.0, x.1))
+      else class_after d n.0 n.1)
 
 -- A body, with braces that nest no deeper than the number.
 unfoldable pub body_at : ℕ → Parse (List Item)
@@ -362,10 +387,16 @@ body_at (suc d) ts = do
   Ok (es.0, close)
 
 abbrev pub block_kind : Token → Option BlockKind
-block_kind t = if is s.Trace t then Some blocks.Trace else (if is s.Stream t then Some blocks.Stream else (if is s.Event t then Some blocks.Event else None))
+block_kind t =
+    if is s.Trace t then Some blocks.Trace
+    else (if is s.Stream t then Some blocks.Stream
+    else (if is s.Event t then Some blocks.Event else None))
 
 abbrev pub table_kind : Token → Option TableKind
-table_kind t = if is s.Clock t then Some tables.Clock else (if is s.Env t then Some tables.Env else (if is s.Callsite t then Some tables.Callsite else None))
+table_kind t =
+    if is s.Clock t then Some tables.Clock
+    else (if is s.Env t then Some tables.Env
+    else (if is s.Callsite t then Some tables.Callsite else None))
 
 -- entries in braces, and a semicolon
 unfoldable pub block_at : ℕ → BlockKind → Parse Declaration
@@ -383,10 +414,12 @@ table_at d kind ts = do
   e ← expect s.Semicolon xs.1
   Ok (declarations.Table kind xs.0, e)
 
-abbrev pub declaration_by : ℕ → Option BlockKind → Option TableKind → Token → List Token → Result (Declaration × List Token) Refusal
+abbrev pub declaration_by : ℕ → Option BlockKind → Option TableKind → Token → List Token
+    → Result (Declaration × List Token) Refusal
 declaration_by d (Some kind) other t ts = block_at d kind ts
 declaration_by d None (Some kind) t ts = table_at d kind ts
-declaration_by d None None t ts = typedecl_at (body_at d) d (t ∷ ts) >>= λ x. Ok (declarations.Types x.0, x.1)
+declaration_by d None None t ts =
+    typedecl_at (body_at d) d (t ∷ ts) >>= λ x. Ok (declarations.Types x.0, x.1)
 
 unfoldable pub declaration_at : ℕ → Parse Declaration
 declaration_at d [] = Err bad

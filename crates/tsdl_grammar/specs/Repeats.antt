@@ -7,12 +7,14 @@ use Rattle.tsdl_grammar.specs.Terminals.{Is}
 -- `{ x }`
 pub data Many {A : Type 0} (P : A → List Token → Type 0) : List A → List Token → Type 0 where
   none : Many P [] []
-  more : {x : A} {xs : List A} {ts us : List Token} → P x ts → Many P xs us → Many P (x ∷ xs) (ts ++ us)
+  more : {x : A} {xs : List A} {ts us : List Token} → P x ts → Many P xs us
+      → Many P (x ∷ xs) (ts ++ us)
 
 -- `x { "," x }`
 pub data Listed {A : Type 0} (P : A → List Token → Type 0) : List A → List Token → Type 0 where
   last : {x : A} {ts : List Token} → P x ts → Listed P (x ∷ []) ts
-  more : {x : A} {xs : List A} {ts us : List Token} {c : Token} → P x ts → Is s.Comma c → Listed P xs us → Listed P (x ∷ xs) (ts ++ (c ∷ us))
+  more : {x : A} {xs : List A} {ts us : List Token} {c : Token} → P x ts → Is s.Comma c
+      → Listed P xs us → Listed P (x ∷ xs) (ts ++ (c ∷ us))
 
 -- `[ x ]`
 pub data Optional {A : Type 0} (P : A → List Token → Type 0) : Option A → List Token → Type 0 where

@@ -30,9 +30,11 @@ run (t ∷ ts) = if is_typeword t.kind then suc (run ts) else 0
 -- A typename is a whole run of typewords. Before a declarator it lacks the run's last word, which is
 -- the declarator's name.
 pub record WholeRun : Type 0 where
-  pub alone : (name : Typename) (ts : List Token) (e : Token) (rest : List Token) → IsTypename name ts → is_typeword e.kind ≡ false
+  pub alone : (name : Typename) (ts : List Token) (e : Token) (rest : List Token)
+      → IsTypename name ts → is_typeword e.kind ≡ false
       → run (ts ++ (e ∷ rest)) ≡ length ts
-  pub before_declarator : (name : Typename) (ts : List Token) (ds : List Declarator) (n : Token) (us : List Token) (e : Token) (rest : List Token)
+  pub before_declarator : (name : Typename) (ts : List Token) (ds : List Declarator) (n : Token)
+      (us : List Token) (e : Token) (rest : List Token)
       → IsTypename name ts → Listed IsDeclarator ds (n ∷ us) → Is s.Semicolon e
       → IsIdentifier n × (run (ts ++ (n ∷ (us ++ (e ∷ rest)))) ≡ suc (length ts))
 

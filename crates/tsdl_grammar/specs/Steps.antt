@@ -52,7 +52,8 @@ begins_identifier (t ∷ ts) = is_identifier t.kind
 
 -- a struct, a variant or an enum is first
 abbrev pub begins_compound : List Token → Bool
-begins_compound ts = if begins s.Struct ts then true else (if begins s.Variant ts then true else begins s.Enum ts)
+begins_compound ts =
+    if begins s.Struct ts then true else (if begins s.Variant ts then true else begins s.Enum ts)
 
 -- the labels of an enum, or the container before them, are first
 abbrev pub begins_labels : List Token → Bool
@@ -80,7 +81,9 @@ before_end (t ∷ ts) = true
 -- Items as long as the test holds of the tokens. The number bounds the turns: the count of the tokens is enough.
 unfoldable pub loop : {A : Type 0} → (List Token → Bool) → Parse A → ℕ → Parse (List A)
 loop go item zero ts = if go ts then Err bad else Ok ([], ts)
-loop go item (suc n) ts = if go ts then (item ts >>= λ x. loop go item n x.1 >>= λ xs. Ok (x.0 ∷ xs.0, xs.1)) else Ok ([], ts)
+loop go item (suc n) ts =
+    if go ts then (item ts >>= λ x. loop go item n x.1 >>= λ xs. Ok (x.0 ∷ xs.0, xs.1))
+    else Ok ([], ts)
 
 abbrev pub all : {A : Type 0} → (List Token → Bool) → Parse A → Parse (List A)
 all go item ts = loop go item (length ts) ts

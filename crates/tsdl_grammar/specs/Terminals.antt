@@ -19,7 +19,9 @@ is symbol token = is_symbol symbol token.kind
 
 -- one of the words that a declaration of names begins with
 abbrev pub opens_declaration : Token → Bool
-opens_declaration token = is s.Struct token || is s.Variant token || is s.Enum token || is s.Typedef token || is s.Typealias token
+opens_declaration token =
+    is s.Struct token || is s.Variant token || is s.Enum token || is s.Typedef token
+    || is s.Typealias token
 
 -- a quoted word
 pub record Is (symbol : Symbol) (token : Token) : Type 0 where

@@ -35,14 +35,18 @@ pub record IsNumeric (base most : ℕ) (digits after : List ℕ) (value : ℕ) :
 -- escape has one to three digits, a hexadecimal one or two.
 pub data Character : List ℕ → ℕ → List ℕ → Type 0 where
   plain : {b : ℕ} {after : List ℕ} → IsPlain b → Character (b ∷ []) b after
-  escape : {c value : ℕ} {after : List ℕ} → simple_escape c ≡ Some value → Character (92 ∷ c ∷ []) value after
-  octal : {digits after : List ℕ} {value : ℕ} → IsNumeric 8 3 digits after value → Character (92 ∷ digits) value after
-  hexadecimal : {digits after : List ℕ} {value : ℕ} → IsNumeric 16 2 digits after value → Character (92 ∷ 120 ∷ digits) value after
+  escape : {c value : ℕ} {after : List ℕ} → simple_escape c ≡ Some value
+      → Character (92 ∷ c ∷ []) value after
+  octal : {digits after : List ℕ} {value : ℕ} → IsNumeric 8 3 digits after value
+      → Character (92 ∷ digits) value after
+  hexadecimal : {digits after : List ℕ} {value : ℕ} → IsNumeric 16 2 digits after value
+      → Character (92 ∷ 120 ∷ digits) value after
 
 -- Characters up to and with the closing quote, and the bytes that they stand for.
 pub data Closes : List ℕ → List ℕ → Type 0 where
   close : Closes (34 ∷ []) []
-  next : {bytes rest values : List ℕ} {value : ℕ} → Character bytes value rest → Closes rest values → Closes (bytes ++ rest) (value ∷ values)
+  next : {bytes rest values : List ℕ} {value : ℕ} → Character bytes value rest → Closes rest values
+      → Closes (bytes ++ rest) (value ∷ values)
 
 -- the slice of a string token, and the bytes that the characters between its quotes stand for
 pub record StandsFor (slice values : List ℕ) : Type 0 where

@@ -34,7 +34,8 @@ packet_size order bytes = word order (take 4 (drop 28 bytes))
 
 -- the text is neither compressed, nor encrypted, nor does it have a checksum
 abbrev pub is_plain : List ℕ → Bool
-is_plain bytes = slice_index bytes 32 == 0 && (slice_index bytes 33 == 0 && slice_index bytes 34 == 0)
+is_plain bytes =
+    slice_index bytes 32 == 0 && (slice_index bytes 33 == 0 && slice_index bytes 34 == 0)
 
 abbrev pub is_version_1_8 : List ℕ → Bool
 is_version_1_8 bytes = slice_index bytes 35 == 1 && slice_index bytes 36 == 8
@@ -45,7 +46,10 @@ unfoldable pub sizes_fit : Order → List ℕ → Bool
 sizes_fit order rest =
     let content = content_size order rest in
     let packet = packet_size order rest in
-    content % 8 == 0 && (packet % 8 == 0 && (nat_le HEADER_LEN (content / 8) && (nat_le content packet && nat_le (packet / 8) (length rest))))
+    content % 8 == 0
+    && (packet % 8 == 0
+    && (nat_le HEADER_LEN (content / 8)
+    && (nat_le content packet && nat_le (packet / 8) (length rest))))
 
 -- ---- good packets
 
@@ -79,7 +83,8 @@ contents_of packets = flat_map (λ packet. packet.content) packets
 
 -- good packets, one after the other, and then these bytes
 abbrev pub AllPackets : Order → List ℕ → List Packet → List ℕ → Type 0
-AllPackets order id packets after = AllStand (λ packet. packet.bytes) (Stands order id) packets after
+AllPackets order id packets after =
+    AllStand (λ packet. packet.bytes) (Stands order id) packets after
 
 -- ---- metadata
 
@@ -119,7 +124,9 @@ header_fault order id rest =
 
 -- The first check that fails where a packet has to begin; none does where a good packet begins.
 unfoldable pub first_fault : Order → List ℕ → List ℕ → Option MetaFault
-first_fault order id rest = or_else (header_fault order id rest) (if sizes_fit order rest then None else Some faults.CutShort)
+first_fault order id rest =
+    or_else (header_fault order id rest)
+    (if sizes_fit order rest then None else Some faults.CutShort)
 
 -- after as many good packets as there are, bytes are left, and this is the first check that they fail
 pub record IsBrokenAfter (order : Order) (bytes : List ℕ) (fault : MetaFault) : Type 0 where
@@ -134,7 +141,8 @@ pub record IsBrokenAfter (order : Order) (bytes : List ℕ) (fault : MetaFault) 
 abbrev pub MetaBroken : List ℕ → MetaFault → Type 0
 MetaBroken bytes fault =
     ((MOST_BYTES < length bytes) × (fault ≡ faults.TooLong))
-    ⊎ ((length bytes ≤ MOST_BYTES) × ((order : Order) × (order_of bytes ≡ Some order) × IsBrokenAfter order bytes fault))
+    ⊎ ((length bytes ≤ MOST_BYTES)
+    × ((order : Order) × (order_of bytes ≡ Some order) × IsBrokenAfter order bytes fault))
 
 -- what a refusal says: nothing where an allocation failed
 abbrev pub Refused : (MetaFault → Type 0) → MetaFault → Type 0

@@ -20,7 +20,9 @@ use Rattle.tsdl_text.specs.Strings.{digit_count, character_at}
 -- how many bytes there are up to and with the first `*/`
 unfoldable pub block_len : List ℕ → Option ℕ
 block_len [] = None
-block_len (a ∷ text) = if bytes_eq (codes "*/") (take 2 (a ∷ text)) then Some 2 else option_map (λ n. 1 + n) (block_len text)
+block_len (a ∷ text) =
+    if bytes_eq (codes "*/") (take 2 (a ∷ text)) then Some 2
+    else option_map (λ n. 1 + n) (block_len text)
 
 -- how many bytes there are before the next newline or the end
 abbrev pub line_len : List ℕ → ℕ
@@ -50,7 +52,8 @@ keywords_with b =
     else (if b == 102 then symbols.Float ∷ symbols.FloatingPoint ∷ []
     else (if b == 105 then symbols.Integer ∷ symbols.Int ∷ []
     else (if b == 108 then symbols.Long ∷ []
-    else (if b == 115 then symbols.Struct ∷ symbols.Signed ∷ symbols.String ∷ symbols.Stream ∷ symbols.Short ∷ []
+    else (if b == 115 then symbols.Struct ∷ symbols.Signed ∷ symbols.String ∷ symbols.Stream
+    ∷ symbols.Short ∷ []
     else (if b == 116 then symbols.Typealias ∷ symbols.Typedef ∷ symbols.Trace ∷ []
     else (if b == 117 then symbols.Unsigned ∷ []
     else (if b == 118 then symbols.Variant ∷ symbols.Void ∷ []
@@ -58,7 +61,8 @@ keywords_with b =
 
 -- the keyword that is spelled so
 unfoldable pub keyword_of : List ℕ → Option Symbol
-keyword_of word = find (λ symbol. bytes_eq (spelling symbol) word) (keywords_with (slice_index word 0))
+keyword_of word =
+    find (λ symbol. bytes_eq (spelling symbol) word) (keywords_with (slice_index word 0))
 
 -- ---- constants
 
@@ -67,7 +71,8 @@ unfoldable pub unmarked_value : ℕ → List ℕ → Option ℕ
 unmarked_value base bytes =
     let count = digit_count base (length bytes) bytes in
     let value = number base (take count bytes) in
-    if count == 0 || (not (is_suffix (drop count bytes)) || nat_le (2 ^ 64) value) then None else Some value
+    if count == 0 || (not (is_suffix (drop count bytes)) || nat_le (2 ^ 64) value) then None
+    else Some value
 
 -- `0x` or `0X` is at the beginning
 abbrev pub is_hexadecimal : List ℕ → Bool
@@ -113,7 +118,8 @@ begins_with c text = begins (λ b. b == c) text
 
 -- `...` is at the beginning
 abbrev pub is_ellipsis : List ℕ → Bool
-is_ellipsis text = begins_with 46 text && (begins_with 46 (drop 1 text) && begins_with 46 (drop 2 text))
+is_ellipsis text =
+    begins_with 46 text && (begins_with 46 (drop 1 text) && begins_with 46 (drop 2 text))
 
 -- `:=` is at the beginning
 abbrev pub is_assign : List ℕ → Bool
@@ -137,7 +143,8 @@ unfoldable pub closing_len : ℕ → List ℕ → Option ℕ
 closing_len zero text = None
 closing_len (suc turns) text =
     if begins_with 34 text then Some 1
-    else option_and_then (λ x. option_map (λ n. x.1 + n) (closing_len turns (drop x.1 text))) (character_at text)
+    else option_and_then (λ x. option_map (λ n. x.1 + n) (closing_len turns (drop x.1 text)))
+    (character_at text)
 
 -- how many bytes a string has, after its first quote
 unfoldable pub string_len : List ℕ → Option ℕ
@@ -156,7 +163,8 @@ token_at (b ∷ text) =
     let len = word_len (b ∷ text) in
     let word = take len (b ∷ text) in
     if is_word_start b then Some (word_kind word, len)
-    else (if is_ascii_digit b then option_map (λ value. (kinds.Constant value, len)) (constant_value word)
+    else (if is_ascii_digit b
+    then option_map (λ value. (kinds.Constant value, len)) (constant_value word)
     else (if b == 34 then option_map (λ n. (kinds.String, 1 + n)) (string_len text)
     else option_map (λ x. (kinds.Symbol x.0, x.1)) (punctuator_at (b ∷ text))))
 

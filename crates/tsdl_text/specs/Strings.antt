@@ -33,7 +33,8 @@ character_at (b ∷ text) =
 -- what the characters at the beginning of a text stand for, as far as there are characters, at most `turns`
 unfoldable pub values : ℕ → List ℕ → List ℕ
 values zero text = []
-values (suc turns) text = option_map_or (λ x. x.0 ∷ values turns (drop x.1 text)) (character_at text) []
+values (suc turns) text =
+    option_map_or (λ x. x.0 ∷ values turns (drop x.1 text)) (character_at text) []
 
 -- The bytes that the slice of a string token spells, quotes taken off and escapes undone. At other
 -- bytes: what the characters after the first byte stand for, up to where there is no character.

@@ -41,7 +41,9 @@ Spells (kinds.Symbol symbol) bytes = bytes ≡ spelling symbol
 
 -- no token at the same place is longer
 abbrev pub IsLongest : List ℕ → List ℕ → Type 0
-IsLongest bytes after = (kind : Kind) (other rest : List ℕ) → bytes ++ after ≡ other ++ rest → Spells kind other → length other ≤ length bytes
+IsLongest bytes after =
+    (kind : Kind) (other rest : List ℕ) → bytes ++ after ≡ other ++ rest → Spells kind other
+    → length other ≤ length bytes
 
 abbrev pub is_constant : Kind → Bool
 is_constant kinds.Identifier = false
@@ -62,8 +64,11 @@ pub record IsToken (kind : Kind) (bytes after : List ℕ) : Type 0 where
 -- end of its line or of the text.
 pub data Skipped : List ℕ → List ℕ → Type 0 where
   blank : {b : ℕ} {after : List ℕ} → is_blank b ≡ true → Skipped (b ∷ []) after
-  block : (inside : List ℕ) {after : List ℕ} → ((front rest : List ℕ) → inside ++ codes "*/" ≡ (front ++ codes "*/") ++ rest → rest ≡ []) → Skipped (codes "/*" ++ (inside ++ codes "*/")) after
-  rest_of_line : {inside after : List ℕ} → list_all (λ b. not (b == 10)) inside ≡ true → begins (λ b. not (b == 10)) after ≡ false → Skipped (codes "//" ++ inside) after
+  block : (inside : List ℕ) {after : List ℕ}
+      → ((front rest : List ℕ) → inside ++ codes "*/" ≡ (front ++ codes "*/") ++ rest → rest ≡ [])
+      → Skipped (codes "/*" ++ (inside ++ codes "*/")) after
+  rest_of_line : {inside after : List ℕ} → list_all (λ b. not (b == 10)) inside ≡ true
+      → begins (λ b. not (b == 10)) after ≡ false → Skipped (codes "//" ++ inside) after
 
 -- ---- a text as pieces
 
@@ -74,7 +79,8 @@ pub record Piece : Type 0 where
 
 -- the piece is before these bytes, which go on to the end of the text
 abbrev pub Stands : Piece → List ℕ → Type 0
-Stands piece after = MatchOption piece.kind (Skipped piece.bytes after) (λ kind. IsToken kind piece.bytes after)
+Stands piece after =
+    MatchOption piece.kind (Skipped piece.bytes after) (λ kind. IsToken kind piece.bytes after)
 
 -- the bytes of pieces, one after the other
 abbrev pub joined : List Piece → List ℕ
@@ -94,7 +100,12 @@ pub record Lexeme : Type 0 where
   pub line : ℕ
 
 abbrev pub lexeme : Token → Lexeme
-lexeme token = record { kind = token.kind; bytes = token.text.now; start = token.start; line = token.line }
+lexeme token = record {
+  kind = token.kind;
+  bytes = token.text.now;
+  start = token.start;
+  line = token.line;
+}
 
 -- how many newlines there are
 abbrev pub newlines : List ℕ → ℕ
@@ -108,7 +119,15 @@ line_after front = 1 + newlines front
 abbrev pub lexemes : List ℕ → List Piece → List Lexeme
 lexemes front [] = []
 lexemes front (piece ∷ pieces) =
-    option_to_list (option_map (λ kind. record { kind = kind; bytes = piece.bytes; start = length front; line = line_after front }) piece.kind)
+    option_to_list (option_map
+    (λ kind.
+    record {
+      kind = kind;
+      bytes = piece.bytes;
+      start = length front;
+      line = line_after front;
+    })
+    piece.kind)
     ++ lexemes (front ++ piece.bytes) pieces
 
 -- These are the tokens of the text: it is blanks, comments and tokens, one after the other.
