@@ -14,10 +14,11 @@ use crate::copy::copy;
 use crate::owned::{OwnedEvent, OwnedGap, OwnedItem};
 use crate::packet::Front;
 use crate::read_state::ReadState;
-use ctf_class::Scope;
+use ctf_class::{Scope, StreamClass, TraceClass};
+use ctf_clock::Moment;
 use ctf_decode::Scopes;
 use ctf_list::{NoMemory, Text};
-use ctf_packet::{EventRecord, RecordPlace, Scratch, next_record};
+use ctf_packet::{EventRecord, OpenPacket, RecordPlace, Scratch, next_record};
 use std::alloc::Global;
 
 impl<'a> ReadState<'a> {
@@ -49,13 +50,13 @@ impl<'a> ReadState<'a> {
         };
         let opened = &packet.opened;
         match front {
-            Front::Event(record) => Ok(OwnedItem::Event(OwnedEvent {
-                trace: self.cut.trace,
-                stream: opened.stream,
-                class: record.event,
-                moment: record.clock,
-                scopes: take_values(alloc, &mut self.scopes)?,
-            })),
+            Front::Event(record) => Ok(OwnedItem::Event(take_event(
+                alloc,
+                self.cut.trace,
+                opened.stream,
+                record,
+                &mut self.scopes,
+            )?)),
             Front::Written(written) => {
                 let at = RecordPlace {
                     packet: opened,
@@ -64,30 +65,71 @@ impl<'a> ReadState<'a> {
                     place: written.begin,
                 };
                 let record = read_again(alloc, &at, &mut self.scratch, &mut self.scopes)?;
-                Ok(OwnedItem::Event(OwnedEvent {
-                    trace: self.cut.trace,
-                    stream: opened.stream,
-                    class: record.event,
-                    moment: record.clock,
-                    scopes: take_values(alloc, &mut self.scopes)?,
-                }))
+                Ok(OwnedItem::Event(take_event(
+                    alloc,
+                    self.cut.trace,
+                    opened.stream,
+                    &record,
+                    &mut self.scopes,
+                )?))
             }
-            Front::Discarded(count) => Ok(OwnedItem::Discarded(OwnedGap {
-                count: *count,
-                moment: opened.clock,
-                from: opened.before,
-                to: opened.until,
-                name: name.clone()?,
-            })),
-            Front::Lost(count) => Ok(OwnedItem::Lost(OwnedGap {
-                count: *count,
-                moment: opened.clock,
-                from: opened.before,
-                to: opened.clock,
-                name: name.clone()?,
-            })),
+            Front::Discarded(count) => Ok(OwnedItem::Discarded(gap(
+                opened,
+                *count,
+                opened.until,
+                name,
+            )?)),
+            Front::Lost(count) => Ok(OwnedItem::Lost(gap(opened, *count, opened.clock, name)?)),
         }
     }
+}
+
+/// An event record whose values are in `scopes`, with these and those of its packet.
+fn take_event<'a>(
+    alloc: Global,
+    trace: &'a TraceClass,
+    stream: &'a StreamClass,
+    read: &EventRecord<'a>,
+    scopes: &mut Scopes,
+) -> Result<OwnedEvent<'a>, NoMemory>
+    ensures trace { IfOk result (λ event. event.trace.now ≡ trace.now) }
+    ensures stream { IfOk result (λ event. event.stream.now ≡ stream.now) }
+    ensures class { IfOk result (λ event. event.class.now ≡ read.now.event.now) }
+    ensures moment { IfOk result (λ event. event.moment ≡ read.now.clock) }
+    ensures taken { IfOk result (λ event. values_of event.scopes ≡ values_of scopes.old) }
+    ensures packet { packet_values (values_of scopes.new) ≡ packet_values (values_of scopes.old) }
+{
+    Ok(OwnedEvent {
+        trace,
+        stream,
+        class: read.event,
+        moment: read.clock,
+        scopes: take_values(alloc, scopes)?,
+    })
+}
+
+/// What a tracer did not write before a packet, from the clock before it until a moment.
+fn gap(
+    opened: &OpenPacket<'_>,
+    count: u64,
+    to: Option<Moment>,
+    name: &Text,
+) -> Result<OwnedGap, NoMemory>
+    ensures { IfOk result (λ gap. gap ≡ record {
+      count = count;
+      moment = opened.now.clock;
+      from = opened.now.before;
+      to = to;
+      name = name.now;
+    }) }
+{
+    Ok(OwnedGap {
+        count,
+        moment: opened.clock,
+        from: opened.before,
+        to,
+        name: name.clone()?,
+    })
 }
 
 /// Reads an event record once more, for its values.
