@@ -29,7 +29,8 @@ opened_in shift known packet = opened_of shift (packet_values (values_of known))
 abbrev pub left_in : Shift → Known → List ℕ → (Option Moment → Run Classes) → Packet → Run Classes
 left_in shift known bytes follows p =
     let packet = opened_in shift known p.opened in
-    before (lost_before packet p.lost ++ discarded_before packet p.dropped) (from_place packet bytes p.clock p.place follows)
+    before (lost_before packet p.lost ++ discarded_before packet p.dropped)
+    (from_place packet bytes p.clock p.place follows)
 
 -- the values of an event record that was found; those of its packet where none was
 abbrev pub values_in : Values → Result (Recorded Classes) StreamFault → Values
@@ -43,17 +44,23 @@ values_at packet bytes w = values_in packet.values (record_at packet bytes w.bef
 -- the current event record, which was read from a place on, where its packet's clock came so far
 abbrev pub front_as : EventRecord → Option Moment → ℕ → Option ℕ → Front
 front_as r before begin None = fronts.Event r
-front_as r before begin (Some end) = fronts.Written (record { event = r; begin = begin; before = before; end = end })
+front_as r before begin (Some end) =
+    fronts.Written (record { event = r; begin = begin; before = before; end = end })
 
 abbrev pub front_in : LineRecord → Option Moment → ℕ → Front
 front_in made before begin = front_as made.record before begin made.text
 
 -- the current item
 abbrev pub item_in : Shift → Known → List ℕ → Packet → Front → Item Classes
-item_in shift known bytes p (fronts.Written w) = let packet = opened_in shift known p.opened in item_of packet (recorded_of p.opened.stream.now (values_at packet bytes w) w.event)
-item_in shift known bytes p (fronts.Event r) = item_of (opened_in shift known p.opened) (recorded_of p.opened.stream.now (values_of known) r)
-item_in shift known bytes p (fronts.Lost count) = let packet = opened_in shift known p.opened in lost (gap_of packet count packet.clock)
-item_in shift known bytes p (fronts.Discarded count) = let packet = opened_in shift known p.opened in discarded (gap_of packet count packet.until)
+item_in shift known bytes p (fronts.Written w) =
+    let packet = opened_in shift known p.opened in
+    item_of packet (recorded_of p.opened.stream.now (values_at packet bytes w) w.event)
+item_in shift known bytes p (fronts.Event r) =
+    item_of (opened_in shift known p.opened) (recorded_of p.opened.stream.now (values_of known) r)
+item_in shift known bytes p (fronts.Lost count) =
+    let packet = opened_in shift known p.opened in lost (gap_of packet count packet.clock)
+item_in shift known bytes p (fronts.Discarded count) =
+    let packet = opened_in shift known p.opened in discarded (gap_of packet count packet.until)
 
 -- how many gaps are to be reported
 abbrev pub one_if_some : Option ℕ → ℕ
@@ -71,10 +78,13 @@ pub record Within (bytes : List ℕ) (p : Packet) : Type 0 where
   pub held : p.opened.content ≤ 8 * length bytes
 
 -- the next item of a packet, and what is left then; or its end; or its fault
-abbrev pub TakesItem : Shift → (Option Moment → Run Classes) → Run Classes → Packet → Known → List ℕ → Result (Option Front) StreamFault → Type 0
-TakesItem shift follows old p known bytes (Ok (Some front)) = old ≡ before (item_in shift known bytes p front ∷ []) (left_in shift known bytes follows p)
+abbrev pub TakesItem : Shift → (Option Moment → Run Classes) → Run Classes → Packet → Known → List ℕ
+    → Result (Option Front) StreamFault → Type 0
+TakesItem shift follows old p known bytes (Ok (Some front)) =
+    old ≡ before (item_in shift known bytes p front ∷ []) (left_in shift known bytes follows p)
 TakesItem shift follows old p known bytes (Ok None) = old ≡ follows p.clock
-TakesItem shift follows old p known bytes (Err fault) = (old ≡ stops (Some fault) p.opened.start) ⊎ (fault ≡ faults.NoMemory)
+TakesItem shift follows old p known bytes (Err fault) =
+    (old ≡ stops (Some fault) p.opened.start) ⊎ (fault ≡ faults.NoMemory)
 
 -- an item that was found takes room
 abbrev pub TakesRoom : ℕ → ℕ → Result (Option Front) StreamFault → Type 0
@@ -83,9 +93,11 @@ TakesRoom old new (Ok None) = new ≤ old
 TakesRoom old new (Err fault) = Unit {0}
 
 -- where texts are written, this one is that of the event record at the place where it was read
-pub record IsWritten (writes : Bool) (packet : Opened Classes) (stream : StreamClass) (bytes part line : List ℕ) (w : WrittenRecord) : Type 0 where
+pub record IsWritten (writes : Bool) (packet : Opened Classes) (stream : StreamClass)
+    (bytes part line : List ℕ) (w : WrittenRecord) : Type 0 where
   pub asked : IsTrue writes
-  pub stands : record_at packet bytes w.before w.begin ≡ Ok (recorded_of stream (values_at packet bytes w) w.event)
+  pub stands : record_at packet bytes w.before w.begin
+      ≡ Ok (recorded_of stream (values_at packet bytes w) w.event)
   pub same : packet_values (values_at packet bytes w) ≡ packet.values
   pub begins : w.begin ≤ packet.content
   pub held : w.end ≤ length line
@@ -93,7 +105,8 @@ pub record IsWritten (writes : Bool) (packet : Opened Classes) (stream : StreamC
 
 -- an item that has no values in the scopes has its text in the line
 abbrev pub HoldsFront : Bool → Shift → Known → List ℕ → List ℕ → List ℕ → Packet → Front → Type 0
-HoldsFront writes shift known bytes part line p (fronts.Written w) = IsWritten writes (opened_in shift known p.opened) p.opened.stream.now bytes part line w
+HoldsFront writes shift known bytes part line p (fronts.Written w) =
+    IsWritten writes (opened_in shift known p.opened) p.opened.stream.now bytes part line w
 HoldsFront writes shift known bytes part line p (fronts.Event r) = Unit {0}
 HoldsFront writes shift known bytes part line p (fronts.Lost count) = Unit {0}
 HoldsFront writes shift known bytes part line p (fronts.Discarded count) = Unit {0}

@@ -21,10 +21,23 @@ use Rattle.ctf_stream.specs.declared.owned.OwnedItem.TheVariants as owned
 -- an event record, whose packet ends at a byte of the stream and has so many
 abbrev pub event_of : OwnedEvent → ℕ → ℕ → items.Event Classes
 event_of e end length =
-    record { class = record { stream = e.stream.now; event = e.class.now }; clock = e.moment; values = values_of e.scopes; packet_end = end; packet_length = length }
+    record {
+      class = record { stream = e.stream.now; event = e.class.now };
+      clock = e.moment;
+      values = values_of e.scopes;
+      packet_end = end;
+      packet_length = length;
+    }
 
 abbrev pub gap_of : OwnedGap → ℕ → ℕ → items.Gap
-gap_of g end length = record { count = g.count; clock = g.moment; from = g.from; to = g.to; packet_end = end; packet_length = length }
+gap_of g end length = record {
+  count = g.count;
+  clock = g.moment;
+  from = g.from;
+  to = g.to;
+  packet_end = end;
+  packet_length = length;
+}
 
 abbrev pub item_of : OwnedItem → ℕ → ℕ → items.Item Classes
 item_of (owned.Event e) end length = items.event (event_of e end length)
@@ -51,7 +64,8 @@ with_scope known EventFields value = record known { event_fields = value }
 abbrev pub Gives : Run Classes → Reader → Result (Option OwnedItem) StreamFault → Type 0
 Gives old new (Ok (Some x)) = old ≡ before (item_of x new.taken new.held ∷ []) (coming new)
 Gives old new (Ok None) = (old ≡ stops None new.cut) × (coming new ≡ old)
-Gives old new (Err f) = OrNoMemory (λ g. old ≡ stops (Some g) new.cut) f × (coming new ≡ stops (Some f) new.cut)
+Gives old new (Err f) =
+    OrNoMemory (λ g. old ≡ stops (Some g) new.cut) f × (coming new ≡ stops (Some f) new.cut)
 
 -- what comes next then: nothing yet after an item that was given, and the end or the fault that was reported
 abbrev pub ahead_after : Result (Option OwnedItem) StreamFault → Peeked

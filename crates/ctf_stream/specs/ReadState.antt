@@ -20,9 +20,11 @@ trace_of cut = trace_form cut.shift cut.trace.now
 
 -- what is to come at a packet boundary, or within the packet that begins there
 abbrev pub coming_at : PacketStart → Ending → List ℕ → Known → List ℕ → Option Packet → Run Classes
-coming_at cut ending left known bytes None = from_bytes (trace_of cut) ending cut.reached cut.at left
+coming_at cut ending left known bytes None =
+    from_bytes (trace_of cut) ending cut.reached cut.at left
 coming_at cut ending left known bytes (Some p) =
-    left_in cut.shift known bytes (after_packet (trace_of cut) ending (opened_in cut.shift known p.opened) left) p
+    left_in cut.shift known bytes
+    (after_packet (trace_of cut) ending (opened_in cut.shift known p.opened) left) p
 
 -- what is to come, where so much is left of the stream
 abbrev pub coming_of : Ending → List ℕ → ReadState → Run Classes
@@ -51,7 +53,8 @@ Stands c = StandsAt c.cut c.buffer c.taken c.packet
 -- the text that the lines of a packet share, of one with these values
 abbrev pub IsPartOf : Values → List ℕ → Option Packet → Type 0
 IsPartOf values text None = Unit {0}
-IsPartOf values text (Some p) = text ≡ packet_part p.opened.stream.now.packet_context values.packet_context
+IsPartOf values text (Some p) =
+    text ≡ packet_part p.opened.stream.now.packet_context values.packet_context
 
 -- that of the packet at hand was made
 abbrev pub HasPart : ReadState → Type 0
@@ -59,7 +62,8 @@ HasPart c = IsPartOf (packet_values (values_of c.scopes)) c.line.part c.packet
 
 -- the text of the current event record was written, where that has no values
 abbrev pub HoldsIn : ReadState → Option Packet → Front → Type 0
-HoldsIn c (Some p) front = HoldsFront c.writes c.cut.shift c.scopes c.buffer c.line.part c.line.bytes.items p front
+HoldsIn c (Some p) front =
+    HoldsFront c.writes c.cut.shift c.scopes c.buffer c.line.part c.line.bytes.items p front
 HoldsIn c None front = Unit {0}
 
 abbrev pub HoldsFound : ReadState → Option Front → Type 0
@@ -76,11 +80,14 @@ room_of c = 11 * (most_taken - c.taken) + room_within c.packet
 
 -- the items of the packet at hand give the next one, and the rest is to come; or they are over, and what is to come
 -- stays; or a fault is in the packet
-abbrev pub StepsWithin : Run Classes → Run Classes → PacketStart → Known → List ℕ → Option Packet → Result (Option Front) StreamFault → Type 0
-StepsWithin old new cut known bytes (Some p) (Ok (Some front)) = old ≡ before (item_in cut.shift known bytes p front ∷ []) new
+abbrev pub StepsWithin : Run Classes → Run Classes → PacketStart → Known → List ℕ → Option Packet
+    → Result (Option Front) StreamFault → Type 0
+StepsWithin old new cut known bytes (Some p) (Ok (Some front)) =
+    old ≡ before (item_in cut.shift known bytes p front ∷ []) new
 StepsWithin old new cut known bytes None (Ok (Some front)) = ⊥
 StepsWithin old new cut known bytes packet (Ok None) = (old ≡ new) × (packet ≡ None)
-StepsWithin old new cut known bytes packet (Err fault) = OrNoMemory (λ f. old ≡ stops (Some f) cut.at) fault
+StepsWithin old new cut known bytes packet (Err fault) =
+    OrNoMemory (λ f. old ≡ stops (Some f) cut.at) fault
 
 -- the next packet is at hand, and what is to come stays; or the stream ends; or a fault is at the packet boundary
 abbrev pub Enters : Run Classes → Run Classes → PacketStart → List ℕ → Result Bool StreamFault
@@ -96,11 +103,14 @@ EntersRoom old new (Ok false) = new ≤ old
 EntersRoom old new (Err fault) = Unit {0}
 
 -- the next item, and the rest is to come; or the end; or a fault
-abbrev pub Advances : Run Classes → Run Classes → PacketStart → Known → List ℕ → Option Packet → List ℕ → Result (Option Front) StreamFault → Type 0
-Advances old new cut known bytes (Some p) left (Ok (Some front)) = old ≡ before (item_in cut.shift known bytes p front ∷ []) new
+abbrev pub Advances : Run Classes → Run Classes → PacketStart → Known → List ℕ → Option Packet
+    → List ℕ → Result (Option Front) StreamFault → Type 0
+Advances old new cut known bytes (Some p) left (Ok (Some front)) =
+    old ≡ before (item_in cut.shift known bytes p front ∷ []) new
 Advances old new cut known bytes None left (Ok (Some front)) = ⊥
 Advances old new cut known bytes packet left (Ok None) = (old ≡ stops None cut.at) × (left ≡ [])
-Advances old new cut known bytes packet left (Err fault) = OrNoMemory (λ f. old ≡ stops (Some f) cut.at) fault
+Advances old new cut known bytes packet left (Err fault) =
+    OrNoMemory (λ f. old ≡ stops (Some f) cut.at) fault
 
 -- an item is one of the packet at hand, and no packet is at hand at the end
 abbrev pub IsOfPacket : Option Packet → Option Front → Type 0

@@ -113,7 +113,8 @@ packet_length (lost gap) = gap.packet_length
 -- at most a packet and a byte after the boundary, and none (own).
 abbrev pub OnLine : Peeked → ℕ → ℕ → ℕ → Type 0
 OnLine start taken cut held = (taken ≡ cut + held) × (held ≤ longest_bytes)
-OnLine (item x) taken cut held = (taken ≡ packet_end x) × (held ≡ packet_length x) × (held ≤ longest_bytes)
+OnLine (item x) taken cut held =
+    (taken ≡ packet_end x) × (held ≡ packet_length x) × (held ≤ longest_bytes)
 OnLine ended taken cut held = (taken ≡ cut) × (held ≡ 0)
 OnLine (fault f) taken cut held = (cut ≤ taken) × (taken ≤ cut + longest_bytes + 1) × (held ≡ 0)
 

@@ -19,10 +19,23 @@ use Rattle.ctf_format.specs.Lines.{packet_part}
 -- an event record, whose packet ends at a byte of the stream and has so many
 abbrev pub event_of : Event → ℕ → ℕ → items.Event Classes
 event_of e end length =
-    record { class = record { stream = e.stream.now; event = e.class.now }; clock = e.moment; values = values_of e.scopes.now; packet_end = end; packet_length = length }
+    record {
+      class = record { stream = e.stream.now; event = e.class.now };
+      clock = e.moment;
+      values = values_of e.scopes.now;
+      packet_end = end;
+      packet_length = length;
+    }
 
 abbrev pub gap_of : Gap → ℕ → ℕ → items.Gap
-gap_of g end length = record { count = g.count; clock = g.moment; from = g.from; to = g.to; packet_end = end; packet_length = length }
+gap_of g end length = record {
+  count = g.count;
+  clock = g.moment;
+  from = g.from;
+  to = g.to;
+  packet_end = end;
+  packet_length = length;
+}
 
 abbrev pub item_of : Item → ℕ → ℕ → items.Item Classes
 item_of (shown.Event e) end length = items.event (event_of e end length)
@@ -31,7 +44,9 @@ item_of (shown.Lost g) end length = items.lost (gap_of g end length)
 
 -- the text that the lines of its packet share, where it has it, is that of the packet context
 abbrev pub PartIsRight : Event → Type 0
-PartIsRight e = IfSome (option_copied e.part) (λ text. text ≡ packet_part e.stream.now.packet_context (option_map val e.scopes.now.packet_context))
+PartIsRight e =
+    IfSome (option_copied e.part) (λ text.
+    text ≡ packet_part e.stream.now.packet_context (option_map val e.scopes.now.packet_context))
 
 -- an event record has the text that the lines of its packet share
 abbrev pub IsMade : Item → Type 0
@@ -47,7 +62,9 @@ IsOf trace name (shown.Lost g) = g.name.now ≡ name
 
 -- it is the current item; or there is none
 abbrev pub Shows : TraceClass → List ℕ → Peeked → Option Item → Type 0
-Shows trace name ahead (Some x) = ((end : ℕ) × ((length : ℕ) × (item_ahead ahead ≡ Some (item_of x end length)))) × IsOf trace name x
+Shows trace name ahead (Some x) =
+    ((end : ℕ) × ((length : ℕ) × (item_ahead ahead ≡ Some (item_of x end length))))
+    × IsOf trace name x
 Shows trace name ahead None = item_ahead ahead ≡ None
 
 -- where values are not to be had of each item, there may be none of an item that is there
@@ -57,7 +74,9 @@ ShowsValues writes trace name ahead None = (item_ahead ahead ≡ None) ⊎ IsTru
 
 -- it is the text of the current event record, with its clock
 abbrev pub ShowsText : Peeked → EventText → Type 0
-ShowsText ahead t = (e : items.Event Classes) × (item_ahead ahead ≡ Some (items.event e)) × (t.moment ≡ e.clock) × (t.text.now ≡ event_text e)
+ShowsText ahead t =
+    (e : items.Event Classes) × (item_ahead ahead ≡ Some (items.event e)) × (t.moment ≡ e.clock)
+    × (t.text.now ≡ event_text e)
 
 -- the current item is given, or there is none
 abbrev pub Tells : TraceClass → List ℕ → Peeked → Option CurrentItem → Type 0

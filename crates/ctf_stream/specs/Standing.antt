@@ -34,4 +34,6 @@ abbrev pub IsStanding : ReadState → Head → Type 0
 IsStanding c heads.Start = Stands c × HasPart c
 IsStanding c (heads.Item front) = Stands c × HasPart c × IsSome c.packet × HoldsIn c c.packet front
 IsStanding c heads.Ended = Stands c × (c.packet ≡ None)
-IsStanding c (heads.Fault f) = (c.buffer ≡ []) × (c.cut.at ≤ c.taken) × (c.taken ≤ c.cut.at + longest_bytes + 1) × (c.taken ≤ most_taken)
+IsStanding c (heads.Fault f) =
+    (c.buffer ≡ []) × (c.cut.at ≤ c.taken) × (c.taken ≤ c.cut.at + longest_bytes + 1)
+    × (c.taken ≤ most_taken)

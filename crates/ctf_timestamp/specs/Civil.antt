@@ -17,11 +17,13 @@ within_second nanos = unsigned_abs (int_rem_euclid nanos (pos 1000000000))
 
 -- `hh:mm:ss` (own)
 unfoldable pub clock_text : ℕ → ℕ → ℕ → List ℕ
-clock_text hour minute second = last_digits 2 hour ++ codes ":" ++ last_digits 2 minute ++ codes ":" ++ last_digits 2 second
+clock_text hour minute second =
+    last_digits 2 hour ++ codes ":" ++ last_digits 2 minute ++ codes ":" ++ last_digits 2 second
 
 -- `YYYY-MM-DD` (own); the years of times of 64 bits are 1677 to 2262
 unfoldable pub date_text : ℕ → ℕ → ℕ → List ℕ
-date_text year month day = last_digits 4 year ++ codes "-" ++ last_digits 2 month ++ codes "-" ++ last_digits 2 day
+date_text year month day =
+    last_digits 4 year ++ codes "-" ++ last_digits 2 month ++ codes "-" ++ last_digits 2 day
 
 -- the time of day so many seconds after midnight
 abbrev pub time_of_day : ℕ → List ℕ
@@ -30,16 +32,19 @@ time_of_day s = clock_text (s / 3600) (s / 60 % 60) (s % 60)
 -- the most months of a year, at most n, that lie before a day of it, days counted from 0
 unfoldable pub months_before : ℤ → ℕ → ℕ → ℕ
 months_before year zero day = 0
-months_before year (suc n) day = if nat_le (days_of_months year (suc n)) day then suc n else months_before year n day
+months_before year (suc n) day =
+    if nat_le (days_of_months year (suc n)) day then suc n else months_before year n day
 
 -- a day of a year, counted from 0
 abbrev pub day_in_year : ℤ → ℕ → List ℕ
 day_in_year year day =
-    let months = months_before year 11 day in date_text (unsigned_abs year) (months + 1) (day - days_of_months year months + 1)
+    let months = months_before year 11 day in
+    date_text (unsigned_abs year) (months + 1) (day - days_of_months year months + 1)
 
 -- a day, counted from the start of 1970
 unfoldable pub day_text : ℤ → List ℕ
-day_text day = let year = year_of_day day in day_in_year year (unsigned_abs (day -ℤ days_from_civil year 1 1))
+day_text day =
+    let year = year_of_day day in day_in_year year (unsigned_abs (day -ℤ days_from_civil year 1 1))
 
 -- the time of day at a second, counted from the start of 1970
 unfoldable pub time_at : ℤ → List ℕ

@@ -15,7 +15,8 @@ use Rattle.ctf_timestamp.specs.Zones.{IsUtcOrRule}
 -- the texts of a civil time by its nanoseconds are those of jiff's civil time with these nanoseconds
 pub record ShowsCivilTime (dt : DateTime) : Type 0 where
   pub time : time_at (second_of (civil_nanos dt)) ≡ shown_time dt.time
-  pub date : date_at (second_of (civil_nanos dt)) ≡ shown_date dt.date ++ codes " " ++ shown_time dt.time
+  pub date : date_at (second_of (civil_nanos dt))
+      ≡ shown_date dt.date ++ codes " " ++ shown_time dt.time
   pub nanos : fraction (civil_nanos dt) ≡ codes "." ++ last_digits 9 dt.time.subsec_nanosecond
 
 -- of each
@@ -26,5 +27,6 @@ CivilTimesAreShown = (dt : DateTime) → ShowsCivilTime dt
 -- earlier one.
 abbrev pub FoldsGiveTheEarlier : Type 0
 FoldsGiveTheEarlier =
-    (zone : TimeZone) → IsUtcOrRule zone → (civil : DateTime) (before after : Offset) → ambiguous_at zone civil ≡ Fold before after
+    (zone : TimeZone) → IsUtcOrRule zone → (civil : DateTime) (before after : Offset)
+    → ambiguous_at zone civil ≡ Fold before after
     → instant_of civil before <ℤ instant_of civil after

@@ -20,8 +20,10 @@ fraction nanos = codes "." ++ last_digits 9 (within_second nanos)
 
 -- the stamp of a moment in a zone
 abbrev pub stamp_by : ClockStyle → TimeZone → Moment → List ℕ
-stamp_by Time zone moment = time_at (second_of (civil_at zone moment.time)) ++ fraction (civil_at zone moment.time)
-stamp_by Date zone moment = date_at (second_of (civil_at zone moment.time)) ++ fraction (civil_at zone moment.time)
+stamp_by Time zone moment =
+    time_at (second_of (civil_at zone moment.time)) ++ fraction (civil_at zone moment.time)
+stamp_by Date zone moment =
+    date_at (second_of (civil_at zone moment.time)) ++ fraction (civil_at zone moment.time)
 stamp_by Seconds zone moment = signed_seconds moment.time
 stamp_by Cycles zone moment = last_digits 20 moment.cycles
 
@@ -36,12 +38,14 @@ delta_text (Some before) time = codes "+" ++ seconds_text (unsigned_abs (time -�
 
 -- the delta with its brackets, where the style has one
 unfoldable pub delta_part : Style → Option ℤ → ℤ → List ℕ
-delta_part style last time = if style.delta then codes "(" ++ delta_text last time ++ codes ") " else []
+delta_part style last time =
+    if style.delta then codes "(" ++ delta_text last time ++ codes ") " else []
 
 -- the beginning of a line: nothing where it has no time
 abbrev pub stamp_part : Style → Option Moment → Option ℤ → List ℕ
 stamp_part style None last = []
-stamp_part style (Some moment) last = codes "[" ++ stamp style moment ++ codes "] " ++ delta_part style last moment.time
+stamp_part style (Some moment) last =
+    codes "[" ++ stamp style moment ++ codes "] " ++ delta_part style last moment.time
 
 -- what a civil style shows of a second before the dot
 abbrev pub head_at : ClockStyle → ℤ → List ℕ

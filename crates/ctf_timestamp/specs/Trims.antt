@@ -17,4 +17,5 @@ is_early (Some begin) time = int_lt time begin
 -- what has no time stays; a time above the end is after it, also where it is below the beginning
 abbrev pub verdict_of : Trim → Option ℤ → Verdict
 verdict_of trim None = Within
-verdict_of trim (Some time) = cond (is_past trim.end time) After (cond (is_early trim.begin time) Before Within)
+verdict_of trim (Some time) =
+    cond (is_past trim.end time) After (cond (is_early trim.begin time) Before Within)

@@ -17,7 +17,8 @@ civil_at zone time = time +ℤ nanos_of_seconds (offset_at zone time)
 -- clock counts: the earlier instant in a fold, the offset before the gap in a gap (own).
 abbrev pub instant_in : TimeZone → DateTime → Option ℤ
 instant_in zone civil =
-    let time = instant_of civil (compatible_offset (ambiguous_at zone civil)) in if fits time then Some time else None
+    let time = instant_of civil (compatible_offset (ambiguous_at zone civil)) in
+    if fits time then Some time else None
 
 -- UTC, or a POSIX rule
 abbrev pub IsUtcOrRule : TimeZone → Type 0

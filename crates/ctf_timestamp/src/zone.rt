@@ -48,7 +48,8 @@ impl Model for Zone {
 
     ghost inverse = { λ zone. record { rule = rule_of zone } };
 
-    ghost inverse_ok = { λ zone _. ap (λ (rule : Option Rule). record { rule = rule }) (rule_back zone.rule) };
+    ghost inverse_ok = { λ zone _.
+        ap (λ (rule : Option Rule). record { rule = rule }) (rule_back zone.rule) };
 }
 
 impl Zone {
