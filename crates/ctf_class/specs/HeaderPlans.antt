@@ -39,8 +39,8 @@ pub record IsFirstChoice (tag : Route) (choices : List Choice) (choice : Choice)
   pub others : List Choice
   pub is : choices ≡ choice ∷ others
 
--- a class is a variant, of which the first choice is this option, where the innermost structure's first member has a
--- number from the first to the last of these
+-- a class is a variant on the first member of the innermost structure, and its first choice is this option, for the
+-- numbers from `low` to `high` (own)
 pub record IsFirstOption (variant : Class) (option : Member) (low high : ℕ) : Type 0 where
   pub route : Route
   pub choices : List Choice
