@@ -43,13 +43,20 @@ placed_seen s = (s.scope, known s.shape)
 
 -- what is known after some declarations
 abbrev pub walked : DeclaredSoFar → Walked
-walked c = record { own = names_in c.names; nodes = c.nodes; rows = map (map placed_seen) c.rows.items }
+walked c = record {
+  own = names_in c.names;
+  nodes = c.nodes;
+  rows = map (map placed_seen) c.rows.items;
+}
 
 -- of the declarations before: whether one is a trace, which ids the streams have, and which names the clocks
 pub record Remembers (earlier : DeclaredOnce) (before : List Declaration) : Type 0 where
   pub traces : earlier.has_trace ≡ list_any is_trace before
-  pub streams : (id : ℕ) → contains nat_cmp earlier.streams id ≡ list_any (nat_eq id) (filter_map stream_id_of before)
-  pub clocks : (name : Word) → contains_by (λ k. slice_cmp nat_cmp name k.items) earlier.clocks ≡ list_any (λ c. same_word c.name name) (clocks_of before)
+  pub streams : (id : ℕ)
+      → contains nat_cmp earlier.streams id ≡ list_any (nat_eq id) (filter_map stream_id_of before)
+  pub clocks : (name : Word)
+      → contains_by (λ k. slice_cmp nat_cmp name k.items) earlier.clocks
+      ≡ list_any (λ c. same_word c.name name) (clocks_of before)
 
 -- the scopes of a block, by the names of the text before it
 abbrev pub row_told : Seen → BlockKind → List BlockEntry → Told (List Placed)

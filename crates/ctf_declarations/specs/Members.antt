@@ -10,7 +10,10 @@ use Rattle.ctf_meaning_steps.specs.Items.{item_told}
 -- the names of a body and its members, after an item
 abbrev pub member_told : Seen → Seen × List Field → Item → Told (Seen × List Field)
 member_told outer before i =
-    item_told outer before.0 i >>= λ made. unless (field_faults (fields_told i made.shape)) (Ok (made.own, before.1 ++ fields_told i made.shape))
+    item_told outer before.0 i
+    >>= λ made.
+    unless (field_faults (fields_told i made.shape))
+    (Ok (made.own, before.1 ++ fields_told i made.shape))
 
 -- the names of a block, after a declaration of names
 abbrev pub names_told : Seen → Seen → Item → Told Seen

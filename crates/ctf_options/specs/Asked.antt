@@ -43,7 +43,8 @@ integer_or_zero (Some text) = integer_in text
 -- the seconds and the nanoseconds that are added to each time
 abbrev pub shift_of : Option (List ℕ) → Option (List ℕ) → Option Shift
 shift_of seconds nanos = option_and_then (λ seconds.
-    option_map (λ nanos. record { seconds = seconds; nanos = nanos }) (integer_or_zero nanos)) (integer_or_zero seconds)
+    option_map (λ nanos. record { seconds = seconds; nanos = nanos }) (integer_or_zero nanos))
+    (integer_or_zero seconds)
 
 -- what is within brackets, where the text begins with one
 abbrev pub unbracketed : List ℕ → Option (List ℕ)
@@ -83,7 +84,8 @@ is_ordered (Some begin) (Some end) = int_le begin end
 -- the span between two ends
 abbrev pub IsSpan : TimeZone → Option (List ℕ) × Option (List ℕ) → Trim → Type 0
 IsSpan zone texts trim =
-    IsEnd zone texts.0 trim.begin × IsEnd zone texts.1 trim.end × (is_ordered trim.begin trim.end ≡ true)
+    IsEnd zone texts.0 trim.begin × IsEnd zone texts.1 trim.end
+    × (is_ordered trim.begin trim.end ≡ true)
 
 -- one of the ends is none, or they are in the wrong order
 abbrev pub IsNoSpan : TimeZone → Option (List ℕ) × Option (List ℕ) → Type 0
@@ -93,7 +95,8 @@ IsNoSpan zone texts = IsNoEnd zone texts.0 ⊎ IsNoEnd zone texts.1
 
 -- what begin, end and range ask for
 abbrev pub IsTrim : TimeZone → Option (List ℕ) → Option (List ℕ) → Option (List ℕ) → Trim → Type 0
-IsTrim zone begin end range trim = IsSomeAnd (ends_of begin end range) (λ texts. IsSpan zone texts trim)
+IsTrim zone begin end range trim =
+    IsSomeAnd (ends_of begin end range) (λ texts. IsSpan zone texts trim)
 
 -- they ask for nothing that there is
 abbrev pub IsNoTrim : TimeZone → Option (List ℕ) → Option (List ℕ) → Option (List ℕ) → Type 0

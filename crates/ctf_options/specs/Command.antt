@@ -64,11 +64,13 @@ faults words = fault_of bt_ctf words
 
 -- whether an option without a value is given
 abbrev pub is_flag : List ℕ → List Row → Bool
-is_flag name rows = option_map_or (λ value. bytes_eq value (codes "true")) (first_of name rows) false
+is_flag name rows =
+    option_map_or (λ value. bytes_eq value (codes "true")) (first_of name rows) false
 
 -- `--help`, or a word that begins with `-h`
 abbrev pub is_help : List ℕ → Bool
-is_help word = bytes_eq word (codes "--help") || (slice_index word 0 == 45 && slice_index word 1 == 104)
+is_help word =
+    bytes_eq word (codes "--help") || (slice_index word 0 == 45 && slice_index word 1 == 104)
 
 -- the words after the program's name ask for help
 abbrev pub asks_help : List (List ℕ) → Bool
@@ -96,7 +98,8 @@ pub record AreOptions (rows : List Row) (options : Options) : Type 0 where
   pub delta : options.style.delta ≡ not (is_flag (codes "no-delta") rows)
   pub trim : IsTrim options.style.zone (first_of (codes "begin") rows) (first_of (codes "end") rows)
       (first_of (codes "timerange") rows) options.trim
-  pub shift : shift_of (first_of (codes "clock-offset") rows) (first_of (codes "clock-offset-ns") rows)
+  pub shift : shift_of (first_of (codes "clock-offset") rows)
+      (first_of (codes "clock-offset-ns") rows)
       ≡ Some options.shift
 
 -- the matches give no options
@@ -107,7 +110,8 @@ AreRefused rows = AreNoDirs rows
     (is_flag (codes "clock-seconds") rows) ≡ None)
     ⊎ (((zone : TimeZone) × IsZoneOf rows zone × IsNoTrim zone (first_of (codes "begin") rows)
     (first_of (codes "end") rows) (first_of (codes "timerange") rows))
-    ⊎ (shift_of (first_of (codes "clock-offset") rows) (first_of (codes "clock-offset-ns") rows) ≡ None))))
+    ⊎ (shift_of (first_of (codes "clock-offset") rows) (first_of (codes "clock-offset-ns") rows)
+    ≡ None))))
 
 -- clap refuses the words in this way, which is no call for help: where clap takes them for one, none of them is
 abbrev pub IsNoHelp : ErrorKind → List (List ℕ) → Type 0

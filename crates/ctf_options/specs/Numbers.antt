@@ -18,7 +18,9 @@ is_digits text = nat_lt 0 (length text) && all_ascii_digits text
 
 -- the number of 64 bits that decimal digits write
 abbrev pub number_in : List ℕ → Option ℕ
-number_in text = if is_digits text && nat_lt (digits_value 10 text) (2 ^ 64) then Some (digits_value 10 text) else None
+number_in text =
+    if is_digits text && nat_lt (digits_value 10 text) (2 ^ 64) then Some (digits_value 10 text)
+    else None
 
 -- the number of 64 bits that just so many decimal digits write
 abbrev pub number_of : ℕ → List ℕ → Option ℕ
@@ -27,7 +29,8 @@ number_of count text = if length text == count then number_in text else None
 -- a number and its sign, where 64 bits hold it in two's complement
 abbrev pub signed : Bool → ℕ → Option ℤ
 signed is_negative n =
-    let number = if is_negative then neg_ℤ (pos n) else pos n in if fits number then Some number else None
+    let number = if is_negative then neg_ℤ (pos n) else pos n in
+    if fits number then Some number else None
 
 -- the text after a minus that may come first
 abbrev pub magnitude : List ℕ → List ℕ

@@ -14,7 +14,9 @@ use Rattle.ctf_options.specs.Numbers.{halves, number_in, number_of, signed, magn
 -- the nanoseconds that 1 to 9 digits after a dot write
 abbrev pub fraction_in : List ℕ → Option ℕ
 fraction_in digits =
-    if nat_le (length digits) 9 then option_map (λ n. n * 10 ^ (9 - length digits)) (number_in digits) else None
+    if nat_le (length digits) 9 then
+    option_map (λ n. n * 10 ^ (9 - length digits)) (number_in digits)
+    else None
 
 abbrev pub with_fraction : List ℕ → Option (List ℕ × List ℕ) → Option (List ℕ × ℕ)
 with_fraction text None = Some (text, 0)
@@ -36,7 +38,8 @@ seconds_in text = option_and_then (signed (starts_with_minus text)) (nanos_in (m
 -- month and day, MM-DD
 abbrev pub month_in : ℕ → List ℕ × List ℕ → Option Day
 month_in year parts = option_and_then (λ month.
-    option_map (λ day. record { year = year; month = month; day = day }) (number_of 2 parts.1)) (number_of 2 parts.0)
+    option_map (λ day. record { year = year; month = month; day = day }) (number_of 2 parts.1))
+    (number_of 2 parts.0)
 
 -- YYYY-MM-DD
 abbrev pub day_in : List ℕ → Option Day
@@ -51,8 +54,10 @@ second_in hour minute text = option_and_then (λ parts.
 
 abbrev pub minute_in : ℕ → List ℕ → Option (List ℕ × List ℕ) → Option Clock
 minute_in hour text None =
-    option_map (λ minute. record { hour = hour; minute = minute; second = 0; nanos = 0 }) (number_of 2 text)
-minute_in hour text (Some parts) = option_and_then (λ minute. second_in hour minute parts.1) (number_of 2 parts.0)
+    option_map (λ minute. record { hour = hour; minute = minute; second = 0; nanos = 0 })
+    (number_of 2 text)
+minute_in hour text (Some parts) =
+    option_and_then (λ minute. second_in hour minute parts.1) (number_of 2 parts.0)
 
 -- hh:mm, hh:mm:ss or hh:mm:ss.F
 abbrev pub clock_in : List ℕ → Option Clock
@@ -72,11 +77,13 @@ IsCivil civil = IsDate (pos civil.0.year) (pos civil.0.month) (pos civil.0.day)
 -- jiff's civil time has these parts
 abbrev pub HasParts : Day × Clock → DateTime → Type 0
 HasParts civil time = IsYmd (pos civil.0.year) (pos civil.0.month) (pos civil.0.day) time.date
-    × IsHms (pos civil.1.hour) (pos civil.1.minute) (pos civil.1.second) (pos civil.1.nanos) time.time
+    × IsHms (pos civil.1.hour) (pos civil.1.minute) (pos civil.1.second) (pos civil.1.nanos)
+    time.time
 
 -- the instant of these parts in a zone
 abbrev pub IsInstant : TimeZone → ℤ → Day × Clock → Type 0
-IsInstant zone instant civil = (time : DateTime) × HasParts civil time × (instant_in zone time ≡ Some instant)
+IsInstant zone instant civil =
+    (time : DateTime) × HasParts civil time × (instant_in zone time ≡ Some instant)
 
 -- no such civil time, or its instant has more than 64 bits
 abbrev pub HasNoInstant : TimeZone → Day × Clock → Type 0
@@ -85,7 +92,8 @@ HasNoInstant zone civil =
 
 -- the text names the instant, in nanoseconds since the epoch: in seconds, or by a civil time in the zone
 abbrev pub Names : TimeZone → List ℕ → ℤ → Type 0
-Names zone text instant = (seconds_in text ≡ Some instant) ⊎ IsSomeAnd (civil_in text) (IsInstant zone instant)
+Names zone text instant =
+    (seconds_in text ≡ Some instant) ⊎ IsSomeAnd (civil_in text) (IsInstant zone instant)
 
 -- the text names no instant
 abbrev pub NamesNone : TimeZone → List ℕ → Type 0
