@@ -94,6 +94,7 @@ impl Buffer {
     }
 
     /// Takes bytes of a source until there are `target`, or it ends.
+    #[inline(always)]
     pub(crate) fn fill<S: Source>(
         &mut self,
         source: &mut S,
@@ -117,6 +118,7 @@ impl Buffer {
 
     /// Takes some bytes of a source, so that there are at most `target`. It answers how the source ends, where that
     /// gave none.
+    #[inline(always)]
     fn take_some<S: Source>(
         &mut self,
         source: &mut S,
@@ -147,6 +149,7 @@ impl Buffer {
 }
 
 /// Takes bytes of a source after the first ones, up to `end` at most, and answers how many.
+#[inline(always)]
 fn take_after<S: Source>(
     source: &mut S,
     bytes: &mut [u8],
@@ -174,6 +177,7 @@ fn take_after<S: Source>(
 
 /// Makes room for some bytes after the first ones, and for the padding: up to `target` where that is near, else for as
 /// many as came, `FIRST` at least.
+#[inline(always)]
 fn grow(bytes: &mut Vec<u8>, filled: usize, target: usize) -> Result<(), StreamFault>
     requires few { filled < target }
     requires there { filled ≤ length bytes.old.items }
@@ -189,6 +193,24 @@ fn grow(bytes: &mut Vec<u8>, filled: usize, target: usize) -> Result<(), StreamF
     if filled + PADDING < bytes.len() {
         return Ok(());
     }
+    resize(bytes, filled, target)
+}
+
+/// Makes this room. Mostly it is there, so this is kept out of the way.
+#[cold]
+#[inline(never)]
+fn resize(bytes: &mut Vec<u8>, filled: usize, target: usize) -> Result<(), StreamFault>
+    requires few { filled < target }
+    requires there { filled ≤ length bytes.old.items }
+    ensures first { take filled bytes.new.items ≡ take filled bytes.old.items }
+    ensures there { filled ≤ length bytes.new.items }
+    ensures room { OnOk result (filled + PADDING < length bytes.new.items) }
+    ensures near { target ≤ filled + 65536 →
+        length bytes.new.items ≤ max (length bytes.old.items) (target + PADDING) }
+    ensures far { filled + 65536 < target → length bytes.new.items ≤
+        max (length bytes.old.items) (filled + max filled 4096 + PADDING) }
+    ensures refused { IfErr result (λ fault. fault ≡ NoMemory) }
+{
     let left = target - filled;
     let more = if left <= NEAR {
         left

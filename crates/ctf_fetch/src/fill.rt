@@ -13,6 +13,7 @@ use ctf_bits::Source;
 use ctf_packet::{LONGEST_PACKET, StreamFault, cut_short};
 
 /// Takes the bytes of a packet up to a bit that its header or context reaches.
+#[inline(never)]
 pub(crate) fn fill_front<S: Source>(
     intake: &mut Intake<'_, S>,
     bits: u128,
@@ -38,6 +39,7 @@ pub(crate) fn fill_front<S: Source>(
 }
 
 /// Takes the bytes of a packet up to a bit that its header or context reaches at least, as far as its stream has them.
+#[inline(never)]
 pub(crate) fn fill_ahead<S: Source>(intake: &mut Intake<'_, S>, end: u64) -> Result<(), StreamFault>
     requires end { end ≤ longest }
     requires few { length intake.old.buffer.now ≤ longest_bytes }

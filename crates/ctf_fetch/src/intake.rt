@@ -32,6 +32,7 @@ impl<'s, S: Source> Intake<'s, S> {
     }
 
     /// Takes bytes of the source until there are `target`, or it ends.
+    #[inline(always)]
     pub(crate) fn fill(&mut self, target: usize) -> Result<Filled, StreamFault>
         requires { length self.old.buffer.now ≤ target }
         ensures keeps { Keeps S.Source self.old self.new }

@@ -11,4 +11,4 @@ mod packet_start;
 mod scope;
 
 pub use buffer::Buffer;
-pub use packet_start::PacketStart;
+pub use packet_start::{PacketScratch, PacketStart};

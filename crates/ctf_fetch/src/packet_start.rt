@@ -1,7 +1,8 @@
 //! Packets out of a source.
 
 ghost use Rattle.std.specs.Prelude.{◌≡◌, ◌+◌, ◌*◌, ◌/◌, ◌^◌, ◌≤◌, ◌<◌, [], ◌++◌, min, max, length, take, Some, None, true, IsTrue, ◌⊎◌, Err, IfOk, IfErr, IfSome, OnOk};
-ghost use Rattle.ctf_decode.specs.Known.{nothing_known};
+ghost use Rattle.ctf_class.specs.declared.route.Scope.TheVariants.{EventContext, EventFields};
+ghost use Rattle.ctf_decode.specs.Known.{nothing_known, without_value};
 ghost use Rattle.ctf_packet.specs.Classes.{trace_form};
 ghost use Rattle.ctf_packet.specs.Packets.{open_at, are_possible};
 ghost use Rattle.ctf_packet.specs.Items.{from_bytes};
@@ -52,6 +53,14 @@ pub struct PacketStart<'a> {
     ghost bounded: { least ≤ longest_bytes },
 }
 
+/// Memory of the values of a packet's header and context, which those of the next packet are decoded into. What the
+/// values in it are means nothing.
+#[derive(Drop)]
+pub struct PacketScratch {
+    header: Value,
+    context: Value,
+}
+
 /// A packet whose header and context were decoded.
 #[derive(Clone, Copy)]
 pub(crate) struct Opening<'a> {
@@ -77,6 +86,7 @@ fn fill_whole<S: Source>(intake: &mut Intake<'_, S>, count: usize) -> Result<(),
 }
 
 /// Takes all bytes that are left, if a packet can have as many, and answers how the stream ends.
+#[inline(never)]
 fn fill_rest<S: Source>(intake: &mut Intake<'_, S>) -> Result<Ending, StreamFault>
     requires { length intake.old.buffer.now ≤ longest_bytes }
     ensures keeps { Keeps S.Source intake.old intake.new }
@@ -91,6 +101,16 @@ fn fill_rest<S: Source>(intake: &mut Intake<'_, S>) -> Result<Ending, StreamFaul
         Filled::Ended(ending) => {
             intake.buffer.fit();
             Ok(ending)
+        }
+    }
+}
+
+impl PacketScratch {
+    /// Scratch without memory. None is allocated.
+    pub fn new() -> PacketScratch {
+        PacketScratch {
+            header: Value::Unsigned(0),
+            context: Value::Unsigned(0),
         }
     }
 }
@@ -128,7 +148,7 @@ impl<'a> PacketStart<'a> {
     }
 
     /// The packet that begins here, out of a source (CTF 1.8.3, section 5); its bytes are in `buffer` then, and the
-    /// values of its header and context in `scopes`. `None` where the stream ends here.
+    /// values of its header and context in `scopes`. `None` where the stream ends here. The memory of `scratch` is used.
     ///
     /// It takes the bytes that each header and context ask for, one at least, then those that this header and this
     /// context ask for, then the rest of the packet: 2^28 bytes at the most, and one more of a stream whose rest is
@@ -142,6 +162,7 @@ impl<'a> PacketStart<'a> {
         source: &mut S,
         buffer: &mut Buffer,
         scopes: &mut Scopes,
+        scratch: &mut PacketScratch,
     ) -> Result<Option<OpenPacket<'a>>, StreamFault>
         requires at { self.now.at ≤ 2 ^ 61 }
         requires empty { buffer.old ≡ [] }
@@ -170,7 +191,7 @@ impl<'a> PacketStart<'a> {
         if self.at > LONGEST_STREAM {
             return Err(StreamFault::StreamTooLong);
         }
-        match self.open(alloc, &mut intake, scopes) {
+        match self.open(alloc, &mut intake, scopes, scratch) {
             Ok(packet) => Ok(Some(packet)),
             Err(fault) => Err(fault),
         }
@@ -212,6 +233,7 @@ impl<'a> PacketStart<'a> {
         alloc: Global,
         intake: &mut Intake<'_, S>,
         scopes: &mut Scopes,
+        scratch: &mut PacketScratch,
     ) -> Result<OpenPacket<'a>, StreamFault>
         requires at { self.now.at ≤ 2 ^ 60 }
         requires some { 0 < length intake.old.buffer.now }
@@ -226,7 +248,7 @@ impl<'a> PacketStart<'a> {
         ensures alone { OnOk result (packet_values (values_of scopes.new) ≡ values_of scopes.new) }
         ensures few { length intake.new.buffer.now ≤ longest_bytes + 1 }
     {
-        let opening = self.begin(alloc, intake, scopes)?;
+        let opening = self.begin(alloc, intake, scopes, scratch)?;
         match fill_sizes(intake, opening) {
             Err(fault) => Err(fault),
             Ok(sizes) => {
@@ -248,6 +270,7 @@ impl<'a> PacketStart<'a> {
         alloc: Global,
         intake: &mut Intake<'_, S>,
         scopes: &mut Scopes,
+        scratch: &mut PacketScratch,
     ) -> Result<Opening<'a>, StreamFault>
         requires some { 0 < length intake.old.buffer.now }
         requires few { length intake.old.buffer.now ≤ max 1 self.now.least }
@@ -269,7 +292,7 @@ impl<'a> PacketStart<'a> {
         ensures some { 0 < length intake.new.buffer.now }
         ensures few { length intake.new.buffer.now ≤ longest_bytes }
     {
-        let mut scratch = forget(scopes);
+        forget(scopes, scratch);
         let header = NextScope {
             class: self.trace.packet_header(),
             scope: Scope::PacketHeader,
@@ -296,26 +319,27 @@ impl<'a> PacketStart<'a> {
     }
 }
 
-/// Values of the packet before, whose memory the header and the context of the next one are decoded into. What the
-/// values are means nothing.
-#[derive(Drop)]
-struct PacketScratch {
-    header: Value,
-    context: Value,
-}
-
-/// Removes all values from the scopes. It gives those of the packet's header and context, for their memory.
-fn forget(scopes: &mut Scopes) -> PacketScratch
+/// Removes all values from the scopes. `scratch` gets those of the packet's header and context, for their memory.
+fn forget(scopes: &mut Scopes, scratch: &mut PacketScratch)
     ensures { scopes.new ≡ nothing_known }
 {
-    let mut header = Value::Unsigned(0);
-    let mut context = Value::Unsigned(0);
-    scopes.leave(Scope::PacketHeader, &mut header);
-    scopes.leave(Scope::PacketContext, &mut context);
+    scopes.leave(Scope::PacketHeader, &mut scratch.header);
+    scopes.leave(Scope::PacketContext, &mut scratch.context);
+    if scopes.get(Scope::EventContext).is_some() || scopes.get(Scope::EventFields).is_some() {
+        drop_body(scopes);
+    }
+    scopes.leave_record();
+}
+
+/// Gives back the memory of the values of an event record. They are there where it was not written as a text, so this
+/// is kept out of the way.
+#[cold]
+#[inline(never)]
+fn drop_body(scopes: &mut Scopes)
+    ensures { scopes.new ≡ without_value (without_value scopes.old EventContext) EventFields }
+{
     scopes.take(Scope::EventContext);
     scopes.take(Scope::EventFields);
-    scopes.leave_record();
-    PacketScratch { header, context }
 }
 
 /// Takes the remaining bytes of a packet with this opening, and gives the packet's sizes.

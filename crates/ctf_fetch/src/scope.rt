@@ -33,6 +33,7 @@ pub(crate) struct NextScope<'a> {
 /// it then.
 ///
 /// An error is its fault: F1, F5, F8, F11 or F13; or `NoMemory`.
+#[inline(always)]
 pub(crate) fn scope_on_demand<S: Source>(
     next: &NextScope<'_>,
     intake: &mut Intake<'_, S>,
@@ -56,7 +57,7 @@ pub(crate) fn scope_on_demand<S: Source>(
 {
     match next.class {
         None => {
-            scopes.take(next.scope);
+            scopes.leave(next.scope, spare);
             Ok(next.end)
         }
         Some(class) => match scope_at_hand(class, next, intake.buffer, spare, scopes) {
@@ -109,6 +110,7 @@ fn scope_at_hand(
 /// Decodes the value of this class into its scope, and gives the bit at which it ends. Where it is known how many bits
 /// the value takes at least, these are asked for at once; where it takes no more, as a structure of integers, it is
 /// decoded into the memory of `spare`.
+#[inline(never)]
 fn class_on_demand<S: Source>(
     class: &Class,
     next: &NextScope<'_>,
@@ -140,20 +142,22 @@ fn class_on_demand<S: Source>(
         spent: scopes.spent(),
     };
     let Some(least) = structure_end(class, &place) else {
-        return parts_on_demand(class, next, intake, scopes);
+        return parts_on_demand(class, next, intake, spare, scopes);
     };
     fill_ahead(intake, least)?;
     match scope_at_hand(class, next, intake.buffer, spare, scopes) {
         Some(end) => Ok(end),
-        None => parts_on_demand(class, next, intake, scopes),
+        None => parts_on_demand(class, next, intake, spare, scopes),
     }
 }
 
-/// Decodes the value of this class into its scope part by part, and gives the bit at which it ends.
+/// Decodes the value of this class into its scope part by part, and gives the bit at which it ends. The memory of
+/// `spare` is given back, since the parts take their own.
 fn parts_on_demand<S: Source>(
     class: &Class,
     next: &NextScope<'_>,
     intake: &mut Intake<'_, S>,
+    spare: &mut Value,
     scopes: &mut Scopes,
 ) -> Result<u64, StreamFault>
     requires class { next.now.class ≡ Some class }
@@ -172,6 +176,7 @@ fn parts_on_demand<S: Source>(
         (intake.new.buffer.now ++ S.left intake.new.source.now) scopes.old in
         IsTrue (S.tells intake.old.source.now) → IfErr result (OrNoMemory (FailsAs found)) }
 {
+    *spare = Value::Unsigned(0);
     let place = Place {
         alloc: next.alloc,
         scopes: &*scopes,

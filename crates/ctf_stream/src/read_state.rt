@@ -17,7 +17,7 @@ use crate::packet::{Front, Packet, PacketInput};
 use ctf_bits::Source;
 use ctf_class::{HasId, Scope};
 use ctf_decode::Scopes;
-use ctf_fetch::{Buffer, PacketStart};
+use ctf_fetch::{Buffer, PacketScratch, PacketStart};
 use ctf_packet::{OpenPacket, Reached, Scratch, StreamFault};
 use ctf_record_text::LineBuffer;
 use std::alloc::Global;
@@ -34,6 +34,8 @@ pub(crate) struct ReadState<'a> {
     pub(crate) scopes: Scopes,
     /// Memory for the next event records.
     pub(crate) scratch: Scratch,
+    /// Memory for the next packet's header and context.
+    pub(crate) packet_scratch: PacketScratch,
     /// Whether event records are read as texts, where they can.
     pub(crate) writes: bool,
     /// The text of the current event record, if it was read as that, and what the lines of the packet share.
@@ -57,6 +59,7 @@ impl<'a> ReadState<'a> {
             buffer: Buffer::new(alloc),
             scopes: Scopes::new(),
             scratch: Scratch::new(alloc),
+            packet_scratch: PacketScratch::new(),
             writes: false,
             line: LineBuffer::new(alloc),
             taken: cut.at,
@@ -77,6 +80,7 @@ impl<'a> ReadState<'a> {
         self.buffer = Buffer::new(alloc);
         self.scopes = Scopes::new();
         self.scratch = Scratch::new(alloc);
+        self.packet_scratch = PacketScratch::new();
         self.line = LineBuffer::new(alloc);
     }
 
@@ -117,7 +121,7 @@ impl<'a> ReadState<'a> {
     /// The next item, out of a source, where `next_written` gave none `by_class`. `None` where the stream ends.
     ///
     /// An error is the fault of the stream after the items before, or `NoMemory`.
-    #[inline(never)]
+    #[inline(always)]
     pub(crate) fn advance<S: Source>(
         &mut self,
         alloc: Global,
@@ -192,9 +196,13 @@ impl<'a> ReadState<'a> {
         ensures near { self.new.taken ≤ self.old.taken + longest_bytes + 1 }
         ensures most { OnErr result (self.new.taken ≤ most_taken) }
     {
-        let fetched = self
-            .cut
-            .fetch(alloc, source, &mut self.buffer, &mut self.scopes);
+        let fetched = self.cut.fetch(
+            alloc,
+            source,
+            &mut self.buffer,
+            &mut self.scopes,
+            &mut self.packet_scratch,
+        );
         self.taken += self.buffer.len() as u64;
         match fetched {
             Err(fault) => Err(fault),
@@ -303,7 +311,7 @@ impl<'a> ReadState<'a> {
     }
 
     /// Goes past the packet at hand.
-    #[inline(never)]
+    #[inline(always)]
     fn leave(&mut self, reached: Reached)
         ensures packet { self.new.packet ≡ None }
         ensures trace { self.new.cut.trace ≡ self.old.cut.trace }

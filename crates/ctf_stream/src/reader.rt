@@ -3,6 +3,7 @@
 ghost use Rattle.std.specs.Prelude.{◌≡◌, true, false, ◌+◌, ◌<◌, ◌≤◌, ◌⊎◌, IsTrue, IfSome, length};
 ghost use Rattle.ctf_packet.specs.Classes.{trace_form};
 ghost use Rattle.ctf_packet.specs.Items.{run_of};
+ghost use Rattle.ctf_stream.specs.declared.reader.Head.TheVariants.{Ended, Fault};
 ghost use Rattle.ctf_stream.specs.Shown.{ShowsValues, Tells, IsMade, IsMadeTold, IsAsked};
 ghost use Rattle.ctf_stream.specs.Reader.{start, fault_ahead, coming, rest_of, OrRefused, IsFetched, IsLast, IsOnLine, IsAllTaken, RoomTaken};
 ghost use Rattle.ctf_stream.specs.Owned.{Gives, GivesAhead, GivesOf, GivesRoom, KeepsAfter, ahead_after};
@@ -174,11 +175,11 @@ impl<'a, S: Source + Drop> StreamReader<'a, S> {
             Ok(Some(front)) => self.head = Head::Item(front),
             Ok(None) => {
                 self.read_state.release(self.alloc);
-                self.head = Head::Ended;
+                self.head = ended();
             }
             Err(fault) => {
                 self.read_state.release(self.alloc);
-                self.head = Head::Fault(fault);
+                self.head = stopped(fault);
             }
         }
     }
@@ -335,4 +336,22 @@ impl<'a, S: Source + Drop> StreamReader<'a, S> {
     {
         self.name.as_str()
     }
+}
+
+/// The end of a stream. Large values that are seldom made are made in a call, so that no room is cleared for them.
+#[cold]
+#[inline(never)]
+fn ended<'a>() -> Head<'a>
+    ensures { result ≡ Ended }
+{
+    Head::Ended
+}
+
+/// The fault of a stream.
+#[cold]
+#[inline(never)]
+fn stopped<'a>(fault: StreamFault) -> Head<'a>
+    ensures { result ≡ Fault fault }
+{
+    Head::Fault(fault)
 }

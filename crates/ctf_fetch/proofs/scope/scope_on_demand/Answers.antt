@@ -8,7 +8,7 @@ use Rattle.ctf_fetch.proofs.scope.scope_on_demand.Goals as goal
 pub returns-in-None-clause-puts : goal.returns-in-None-clause-puts
 returns-in-None-clause-puts g c = λ more.
     let next = c.args.next.now in
-    at_none (form_of next.class) (front (c.args.intake.now.buffer.now ++ more) (values_of c.args.scopes.now)) next.scope c.args.scopes.now c.take.new.self next.end (ap form_of c.in-None.is) c.take.ensures.rest
+    at_none (form_of next.class) (front (c.args.intake.now.buffer.now ++ more) (values_of c.args.scopes.now)) next.scope c.args.scopes.now c.leave.new.self next.end (ap form_of c.in-None.is) c.leave.ensures
 
 pub returns-in-None-scope_at_hand-clause-puts : goal.returns-in-None-scope_at_hand-clause-puts
 returns-in-None-scope_at_hand-clause-puts g c = λ more. rw c.in-None-scope_at_hand.ensures.none at (c.class_on_demand.ensures.puts more)

@@ -19,9 +19,9 @@ returns-in_err-end-clause-faulty g c = λ tells.
     let fault = c.in_err-end.field-0.0 in
     let all = c.scope_on_demand.new.intake.buffer.now ++ g.S.Source.left c.scope_on_demand.new.intake.source.now in
     let ending = g.S.Source.ending c.args.intake.now.source.now in
-    let told : OrNoMemory (λ f. scope_at (fault_in_front ending) trace.packet_header (packets.front all no_values) 0 0 ≡ Err f) fault = rw (c.forget-scratch.ensures, c.packet_header.ensures) at (c.in_err-end.ensures.faulty tells) in
+    let told : OrNoMemory (λ f. scope_at (fault_in_front ending) trace.packet_header (packets.front all no_values) 0 0 ≡ Err f) fault = rw (c.forget.ensures, c.packet_header.ensures) at (c.in_err-end.ensures.faulty tells) in
     let e : c.from_residual.result ≡ Err fault = search rules in
-    subst (λ r. IfErr r (OrNoMemory (λ f. open_at trace ending cut.reached cut.at all ≡ Err f))) (sym e) (header_short trace ending cut.reached cut.at all c.forget-scratch.new.scopes fault told)
+    subst (λ r. IfErr r (OrNoMemory (λ f. open_at trace ending cut.reached cut.at all ≡ Err f))) (sym e) (header_short trace ending cut.reached cut.at all c.forget.new.scopes fault told)
 
 pub returns-in_err-stream-clause-faulty : goal.returns-in_err-stream-clause-faulty
 returns-in_err-stream-clause-faulty g c = λ tells.
@@ -32,7 +32,7 @@ returns-in_err-stream-clause-faulty g c = λ tells.
     let left = g.S.Source.left c.scope_on_demand.new.intake.source.now in
     let known = c.scope_on_demand.new.scopes in
     let ending = g.S.Source.ending c.args.intake.now.source.now in
-    let header : beginning.Header trace cut.reached (have ++ []) c.in_ok-end.end known = rw (c.forget-scratch.ensures, c.packet_header.ensures) at (c.in_ok-end.ensures.puts []) in
+    let header : beginning.Header trace cut.reached (have ++ []) c.in_ok-end.end known = rw (c.forget.ensures, c.packet_header.ensures) at (c.in_ok-end.ensures.puts []) in
     let here = subst (λ b. beginning.Header trace cut.reached b c.in_ok-end.end known) (append-nil have) header in
     let checked : packets.stream_checked trace cut.reached (values_of known).packet_header ≡ Err fault = rw (c.as_ref-reached.ensures.value, c.get.ensures) at (c.in_err-stream.ensures cut.shift) in
     let e : c.from_residual-in_err-stream.result ≡ Err fault = search rules in
@@ -50,7 +50,7 @@ returns-in_err-first-clause-faulty g c = λ tells.
     let known = c.scope_on_demand.new.scopes in
     let end = c.in_ok-end.end in
     let ending = g.S.Source.ending c.args.intake.now.source.now in
-    let header : beginning.Header trace cut.reached (have ++ (drop (length have) later ++ left)) end known = rw (c.forget-scratch.ensures, c.packet_header.ensures) at (c.in_ok-end.ensures.puts (drop (length have) later ++ left)) in
+    let header : beginning.Header trace cut.reached (have ++ (drop (length have) later ++ left)) end known = rw (c.forget.ensures, c.packet_header.ensures) at (c.in_ok-end.ensures.puts (drop (length have) later ++ left)) in
     let here = subst (λ b. beginning.Header trace cut.reached b end known) (sym (grown_more have later left c.scope_on_demand-2.ensures.keeps.bytes.first)) header in
     let checked : packets.stream_checked trace cut.reached (values_of known).packet_header ≡ Ok s = rw (c.as_ref-reached.ensures.value, c.get.ensures) at (c.in_ok-stream.ensures cut.shift) in
     let asked : OrNoMemory (λ f. scope_at (fault_in_front (g.S.Source.ending c.scope_on_demand.new.intake.source.now)) s.packet_context (packets.front (later ++ left) (values_of known)) end known.spent ≡ Err f) fault = rw c.packet_context.ensures at (c.in_err-first.ensures.faulty (c.scope_on_demand.ensures.keeps.bytes.tells tells)) in
@@ -69,7 +69,7 @@ returns-in_err-begun-clause-faulty g c = λ tells.
     let after = c.scope_on_demand-2.new.scopes in
     let end = c.in_ok-end.end in
     let first = c.in_ok-first.first in
-    let header : beginning.Header trace cut.reached (have ++ drop (length have) later) end known = rw (c.forget-scratch.ensures, c.packet_header.ensures) at (c.in_ok-end.ensures.puts (drop (length have) later)) in
+    let header : beginning.Header trace cut.reached (have ++ drop (length have) later) end known = rw (c.forget.ensures, c.packet_header.ensures) at (c.in_ok-end.ensures.puts (drop (length have) later)) in
     let here = subst (λ b. beginning.Header trace cut.reached b end known) (sym (grown_all have later c.scope_on_demand-2.ensures.keeps.bytes.first)) header in
     let checked : packets.stream_checked trace cut.reached (values_of known).packet_header ≡ Ok s = rw (c.as_ref-reached.ensures.value, c.get.ensures) at (c.in_ok-stream.ensures cut.shift) in
     let put_there : beginning.Context trace cut.reached (later ++ []) s end known first after = rw c.packet_context.ensures at (c.in_ok-first.ensures.puts []) in
@@ -93,7 +93,7 @@ returns-in-Rest-clause-asks g c =
     let after = c.scope_on_demand-2.new.scopes in
     let end = c.in_ok-end.end in
     let first = c.in_ok-first.first in
-    let header : beginning.Header trace cut.reached (have ++ drop (length have) later) end known = rw (c.forget-scratch.ensures, c.packet_header.ensures) at (c.in_ok-end.ensures.puts (drop (length have) later)) in
+    let header : beginning.Header trace cut.reached (have ++ drop (length have) later) end known = rw (c.forget.ensures, c.packet_header.ensures) at (c.in_ok-end.ensures.puts (drop (length have) later)) in
     let here = subst (λ b. beginning.Header trace cut.reached b end known) (sym (grown_all have later c.scope_on_demand-2.ensures.keeps.bytes.first)) header in
     let checked : packets.stream_checked trace cut.reached (values_of known).packet_header ≡ Ok s = rw (c.as_ref-reached.ensures.value, c.get.ensures) at (c.in_ok-stream.ensures cut.shift) in
     let put_there : beginning.Context trace cut.reached (later ++ []) s end known first after = rw c.packet_context.ensures at (c.in_ok-first.ensures.puts []) in
@@ -101,8 +101,8 @@ returns-in-Rest-clause-asks g c =
     let asks = beginning.to_sized trace cut.reached later end first known after here s checked context in
     asks ∙ (rw c.get-2.ensures at (c.in_ok-begun.ensures.judged cut.shift (values_of after))) ∙ ap (front.want_of cut.shift (values_of after)) c.in-Rest.is
 
-pub returns-clause-asks : goal.returns-clause-asks
-returns-clause-asks g c =
+pub returns-in-Whole-clause-asks : goal.returns-in-Whole-clause-asks
+returns-in-Whole-clause-asks g c =
     let cut = c.args.self.now in
     let trace = trace_form cut.shift cut.trace.now in
     let s = stream_form cut.shift c.in_ok-stream.stream.now in
@@ -112,7 +112,7 @@ returns-clause-asks g c =
     let after = c.scope_on_demand-2.new.scopes in
     let end = c.in_ok-end.end in
     let first = c.in_ok-first.first in
-    let header : beginning.Header trace cut.reached (have ++ drop (length have) later) end known = rw (c.forget-scratch.ensures, c.packet_header.ensures) at (c.in_ok-end.ensures.puts (drop (length have) later)) in
+    let header : beginning.Header trace cut.reached (have ++ drop (length have) later) end known = rw (c.forget.ensures, c.packet_header.ensures) at (c.in_ok-end.ensures.puts (drop (length have) later)) in
     let here = subst (λ b. beginning.Header trace cut.reached b end known) (sym (grown_all have later c.scope_on_demand-2.ensures.keeps.bytes.first)) header in
     let checked : packets.stream_checked trace cut.reached (values_of known).packet_header ≡ Ok s = rw (c.as_ref-reached.ensures.value, c.get.ensures) at (c.in_ok-stream.ensures cut.shift) in
     let put_there : beginning.Context trace cut.reached (later ++ []) s end known first after = rw c.packet_context.ensures at (c.in_ok-first.ensures.puts []) in
@@ -120,8 +120,8 @@ returns-clause-asks g c =
     let asks = beginning.to_sized trace cut.reached later end first known after here s checked context in
     asks ∙ (rw c.get-2.ensures at (c.in_ok-begun.ensures.judged cut.shift (values_of after))) ∙ ap (front.want_of cut.shift (values_of after)) c.in-Whole.is
 
-pub returns-clause-fits : goal.returns-clause-fits
-returns-clause-fits g c =
+pub returns-in-Whole-clause-fits : goal.returns-in-Whole-clause-fits
+returns-in-Whole-clause-fits g c =
     let cut = c.args.self.now in
     let trace = trace_form cut.shift cut.trace.now in
     let s = stream_form cut.shift c.in_ok-stream.stream.now in
@@ -131,7 +131,7 @@ returns-clause-fits g c =
     let after = c.scope_on_demand-2.new.scopes in
     let end = c.in_ok-end.end in
     let first = c.in_ok-first.first in
-    let header : beginning.Header trace cut.reached (have ++ drop (length have) later) end known = rw (c.forget-scratch.ensures, c.packet_header.ensures) at (c.in_ok-end.ensures.puts (drop (length have) later)) in
+    let header : beginning.Header trace cut.reached (have ++ drop (length have) later) end known = rw (c.forget.ensures, c.packet_header.ensures) at (c.in_ok-end.ensures.puts (drop (length have) later)) in
     let here = subst (λ b. beginning.Header trace cut.reached b end known) (sym (grown_all have later c.scope_on_demand-2.ensures.keeps.bytes.first)) header in
     let checked : packets.stream_checked trace cut.reached (values_of known).packet_header ≡ Ok s = rw (c.as_ref-reached.ensures.value, c.get.ensures) at (c.in_ok-stream.ensures cut.shift) in
     let put_there : beginning.Context trace cut.reached (later ++ []) s end known first after = rw c.packet_context.ensures at (c.in_ok-first.ensures.puts []) in
