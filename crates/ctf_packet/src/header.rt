@@ -13,7 +13,7 @@ ghost use Rattle.ctf_packet.specs.Gives.{Exactly};
 use crate::fault::StreamFault;
 use crate::field::Field;
 use crate::reached::Reached;
-use crate::roles::{field_at_top, field_of_role, number_in};
+use crate::roles::{field_at_top, fields_of_roles, number_in};
 use ctf_class::{Class, HasId, Kind, Length, Role, StreamClass, TraceClass};
 use ctf_decode::{Value, elements_in};
 
@@ -33,13 +33,14 @@ pub fn stream_checked<'a>(
         (packets.stream_checked (trace_form shift trace.now) (option_copied reached.entry)
         (option_map val (option_copied header.entry))) }
 {
-    if !is_magic(field_of_role(trace.header_front(), header, Role::Magic)) {
+    let told = fields_of_roles(trace.header_front(), header, Role::Magic, Role::StreamId);
+    if !is_magic(told.0) {
         return Err(StreamFault::WrongMagic);
     }
     if !is_of_trace(trace, header) {
         return Err(StreamFault::OtherTrace);
     }
-    match stream_of(trace, reached, header) {
+    match stream_of(trace, reached, number_in(told.1)) {
         Some(stream) => Ok(stream),
         None => Err(StreamFault::UnknownStream),
     }
@@ -157,17 +158,16 @@ fn octet(value: &Value) -> u64
     }
 }
 
-/// The stream class that a header names, or the only one; none where the packets before are of another.
+/// The stream class of a number, or the only one; none where the packets before are of another.
 fn stream_of<'a>(
     trace: &'a TraceClass,
     reached: Option<&Reached>,
-    header: Option<&Value>,
+    number: Option<u64>,
 ) -> Option<&'a StreamClass>
     ensures { (shift : Shift) → option_map (stream_form shift) (option_copied result) ≡
-        packets.stream_of (trace_form shift trace.now) (option_copied reached.entry)
-        (option_map val (option_copied header.entry)) }
+        option_and_then (packets.same_stream (option_copied reached.entry))
+        (packets.stream_named (map (stream_form shift) trace.now.streams) number) }
 {
-    let number = number_in(field_of_role(trace.header_front(), header, Role::StreamId));
     match stream_named(trace, number) {
         None => None,
         Some(stream) => same_stream(reached, stream),

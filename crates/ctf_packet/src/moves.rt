@@ -30,11 +30,53 @@ pub fn moment_after(
         advanced_by timeline.now clock (moved.moved (form class.now) (val value.now)) }
 {
     let mut told = IdAndClock { id: None, clock };
-    if tell_scope(timeline, class, value, &mut told) {
+    if set_by_scope(timeline, class, value, &mut told) {
         Some(told.clock)
     } else {
         None
     }
+}
+
+/// Sets the clock by the integers of a scope, of which no `id` is asked for. Mostly it is a structure.
+fn set_by_scope(timeline: &Timeline, class: &Class, value: &Value, told: &mut IdAndClock) -> bool
+    ensures { Moves timeline.now (value_moves class.now value.now) told.old result told.new }
+{
+    if let Kind::Structure { members } = &class.kind {
+        return set_by_members(timeline, members.as_slice(), members_in(value), told);
+    }
+    tell(timeline, class, value, told)
+}
+
+/// Sets the clock by the integers of members, of which no `id` is asked for.
+#[inline(always)]
+fn set_by_members(
+    timeline: &Timeline,
+    members: &[Member],
+    values: &[Value],
+    told: &mut IdAndClock,
+) -> bool
+    ensures { Moves timeline.now (member_moves members.now values.now) told.old result told.new }
+{
+    for (i, member) in members.iter().enumerate() {
+        if i >= values.len() {
+            return true;
+        }
+        if !set_by_member(timeline, &member.class, &values[i], told) {
+            return false;
+        }
+    }
+    true
+}
+
+/// Sets the clock by the integers of one member. Mostly it is an integer that does not set it.
+#[inline(always)]
+fn set_by_member(timeline: &Timeline, class: &Class, value: &Value, told: &mut IdAndClock) -> bool
+    ensures { Moves timeline.now (value_moves class.now value.now) told.old result told.new }
+{
+    if let Kind::Integer(integer) = &class.kind {
+        return set_by(timeline, integer, value, told);
+    }
+    tell(timeline, class, value, told)
 }
 
 /// Sets the clock by the integers of a value that set it, in the order in which they were decoded, and keeps the last

@@ -12,7 +12,7 @@ use crate::clock::{clock_after, clock_before, clock_until, discarded_since, lost
 use crate::fault::StreamFault;
 use crate::packet_place::PacketPlace;
 use crate::reached::Reached;
-use crate::roles::{field_of_role, number_of};
+use crate::roles::{field_of_role, fields_of_roles, number_of};
 use crate::sizes::{LONGEST_PACKET, Sizes};
 use ctf_class::{Role, StreamClass};
 use ctf_clock::{Moment, Shift, Timeline};
@@ -108,11 +108,10 @@ pub fn packet_of_sizes<'a>(
     let clock = clock_after(timeline.as_ref(), before, class, context)?;
     let front = stream.context_front();
     let end = field_of_role(front, context, Role::TimestampEnd);
-    let number = field_of_role(front, context, Role::SequenceNumber);
-    let count = field_of_role(front, context, Role::EventsDiscarded);
+    let counts = fields_of_roles(front, context, Role::SequenceNumber, Role::EventsDiscarded);
     let until = clock_until(timeline.as_ref(), clock, end);
-    let sequence = number_of(&number);
-    let discarded = number_of(&count);
+    let sequence = number_of(&counts.0);
+    let discarded = number_of(&counts.1);
     Ok(OpenPacket {
         stream,
         timeline,
@@ -123,8 +122,8 @@ pub fn packet_of_sizes<'a>(
         before,
         clock,
         until,
-        lost: lost_since(number_before(reached), number),
-        dropped: discarded_since(discarded_before(reached), count),
+        lost: lost_since(number_before(reached), counts.0),
+        dropped: discarded_since(discarded_before(reached), counts.1),
         discarded,
         number: sequence,
     })

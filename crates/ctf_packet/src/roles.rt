@@ -1,6 +1,6 @@
 //! The fields of a packet's header and context that say something of the packet.
 
-ghost use Rattle.std.specs.Prelude.{◌≡◌, ℕ, List, map, option_map, option_copied};
+ghost use Rattle.std.specs.Prelude.{◌≡◌, ℕ, List, Some, map, option_map, option_and_then, option_copied};
 ghost use Rattle.ctf_class.specs.Fronts.{place_named};
 ghost use Rattle.ctf_class.specs.RoleNames.{role_name};
 ghost use Rattle.ctf_decode.specs.Values.{vals_of};
@@ -21,6 +21,79 @@ pub fn field_of_role(class: Option<&FrontClass>, value: Option<&Value>, role: Ro
         (option_map val (option_copied value.entry)) }
 {
     match field_at_top(class, value, role) {
+        None => None,
+        Some((class, value)) => unsigned_field(class, value),
+    }
+}
+
+/// The unsigned integers of two roles at the top of a scope, each as `field_of_role` gives it. The scope is looked at
+/// once.
+#[tactic(auto, unfolding(crate::specs::Roles::role))]
+#[inline(always)]
+pub fn fields_of_roles(
+    class: Option<&FrontClass>,
+    value: Option<&Value>,
+    first: Role,
+    second: Role,
+) -> (Option<Field>, Option<Field>)
+    ensures first { result.0 ≡ roles.role (role_name first)
+        (option_map form (option_copied class.entry)) (option_map val (option_copied value.entry)) }
+    ensures second { result.1 ≡ roles.role (role_name second)
+        (option_map form (option_copied class.entry)) (option_map val (option_copied value.entry)) }
+{
+    match class {
+        None => (None, None),
+        Some(class) => match value {
+            None => (None, None),
+            Some(value) => fields_in(class, value, first, second),
+        },
+    }
+}
+
+/// The unsigned integers of two roles of a structure.
+#[tactic(auto, unfolding(crate::specs::Roles::role))]
+#[inline(always)]
+fn fields_in(
+    class: &FrontClass,
+    value: &Value,
+    first: Role,
+    second: Role,
+) -> (Option<Field>, Option<Field>)
+    ensures first { result.0 ≡ roles.role (role_name first) (Some (form class.now))
+        (Some (val value.now)) }
+    ensures second { result.1 ≡ roles.role (role_name second) (Some (form class.now))
+        (Some (val value.now)) }
+{
+    match &class.class().kind {
+        Kind::Structure { members } => {
+            let members = members.as_slice();
+            let values = members_in(value);
+            let first = unsigned_at(members, values, class.place(first));
+            let second = unsigned_at(members, values, class.place(second));
+            (first, second)
+        }
+        Kind::Integer(_) => (None, None),
+        Kind::Enumeration { container, labels } => (None, None),
+        Kind::String => (None, None),
+        Kind::Variant {
+            tag,
+            choices,
+            options,
+        } => (None, None),
+        Kind::Array { length, element } => (None, None),
+        Kind::Text { length } => (None, None),
+    }
+}
+
+/// The number of the member at an index, if one is given and it is an unsigned integer.
+#[inline(always)]
+fn unsigned_at(members: &[Member], values: &[Value], place: Option<usize>) -> Option<Field>
+    ensures { (name : List ℕ) → place ≡ place_named name members.now →
+        result ≡ option_and_then (λ f. roles.unsigned_field f.0 f.1)
+        (roles.member_named name (parts_of (map member_part members.now))
+        (vals_of (map val values.now))) }
+{
+    match member_at(members, values, place) {
         None => None,
         Some((class, value)) => unsigned_field(class, value),
     }

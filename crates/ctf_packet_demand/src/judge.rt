@@ -11,7 +11,7 @@ ghost use Rattle.ctf_packet_demand.specs.Gives.{begun_of, Judged, EndsAt};
 use crate::want::{Begun, Want};
 use ctf_class::Role;
 use ctf_decode::Value;
-use ctf_packet::{StreamFault, field_of_role, number_in, told_sizes};
+use ctf_packet::{StreamFault, fields_of_roles, number_in, told_sizes};
 
 /// What a packet asks for whose context has this value (CTF 1.8.3, section 5.2).
 ///
@@ -28,8 +28,9 @@ pub fn judge_sizes<'a>(begun: Begun<'a>, context: Option<&Value>) -> Result<Want
     ensures first { IfOk result (EndsAt begun.entry.first) }
 {
     let front = begun.stream.context_front();
-    let packet = number_in(field_of_role(front, context, Role::PacketSize));
-    let content = number_in(field_of_role(front, context, Role::ContentSize));
+    let sizes = fields_of_roles(front, context, Role::PacketSize, Role::ContentSize);
+    let packet = number_in(sizes.0);
+    let content = number_in(sizes.1);
     match told_sizes(packet, content, begun.first) {
         Err(fault) => Err(fault),
         Ok(None) => Ok(Want::Rest(begun)),

@@ -175,11 +175,11 @@ impl<'a, S: Source + Drop> StreamReader<'a, S> {
             Ok(Some(front)) => self.head = Head::Item(front),
             Ok(None) => {
                 self.read_state.release(self.alloc);
-                self.head = ended();
+                end(&mut self.head);
             }
             Err(fault) => {
                 self.read_state.release(self.alloc);
-                self.head = stopped(fault);
+                stop(&mut self.head, fault);
             }
         }
     }
@@ -338,20 +338,20 @@ impl<'a, S: Source + Drop> StreamReader<'a, S> {
     }
 }
 
-/// The end of a stream. Large values that are seldom made are made in a call, so that no room is cleared for them.
+/// Gives the end of a stream next. It is made in a call, so that no room is cleared for a large value that is seldom made.
 #[cold]
 #[inline(never)]
-fn ended<'a>() -> Head<'a>
-    ensures { result ≡ Ended }
+fn end(head: &mut Head<'_>)
+    ensures { head.new ≡ Ended }
 {
-    Head::Ended
+    *head = Head::Ended;
 }
 
-/// The fault of a stream.
+/// Gives the fault of a stream next.
 #[cold]
 #[inline(never)]
-fn stopped<'a>(fault: StreamFault) -> Head<'a>
-    ensures { result ≡ Fault fault }
+fn stop(head: &mut Head<'_>, fault: StreamFault)
+    ensures { head.new ≡ Fault fault }
 {
-    Head::Fault(fault)
+    *head = Head::Fault(fault);
 }
