@@ -268,7 +268,26 @@ impl<'d, 'a, R: Files> Source for DiskStream<'d, 'a, R> {
 
     ghost ending = { λ _. Failed };
 
+    #[inline(always)]
     fn take(&mut self, buf: &mut [u8]) -> Result<usize, SourceFault> {
+        // Mostly some bytes are held, which takes no call.
+        if let StreamFile::Kept(kept) = &mut self.file {
+            let count = kept.ahead.give_held(buf);
+            if count > 0 {
+                return Ok(count);
+            }
+        }
+        self.take_next(buf)
+    }
+}
+
+impl<'d, 'a, R: Files> DiskStream<'d, 'a, R> {
+    /// Reads the next bytes.
+    #[inline(never)]
+    fn take_next(&mut self, buf: &mut [u8]) -> Result<usize, SourceFault>
+        requires { 0 < length buf.old }
+        ensures { IfOk result (λ count. count ≤ length buf.new) }
+    {
         let disk: &'d Disk<'a, R> = self.disk;
         match &mut self.file {
             StreamFile::Kept(kept) => given(kept.read(disk.share(), buf)),

@@ -60,6 +60,17 @@ impl ReadAhead {
         self.read_next(reader, most, buf)
     }
 
+    /// Gives the first of the bytes that are held, and answers how many: 0 where none is.
+    #[inline(always)]
+    pub(crate) fn give_held(&mut self, buf: &mut [u8]) -> usize
+        requires { 0 < length buf.old }
+        ensures bound { result ≤ length buf.new }
+        ensures bytes { self.old.held.bytes ≡ take result buf.new ++ self.new.held.bytes }
+        ensures none { result ≡ 0 → self.old.held.bytes ≡ [] }
+    {
+        give(&mut self.held, buf)
+    }
+
     /// Gives the next bytes of a reader, where nothing is held. Up to `most` bytes after them may be held.
     #[inline(never)]
     fn read_next<R: Read>(

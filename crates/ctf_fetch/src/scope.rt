@@ -110,6 +110,7 @@ fn scope_at_hand(
 /// Decodes the value of this class into its scope, and gives the bit at which it ends. Where it is known how many bits
 /// the value takes at least, these are asked for at once; where it takes no more, as a structure of integers, it is
 /// decoded into the memory of `spare`.
+#[cold]
 #[inline(never)]
 fn class_on_demand<S: Source>(
     class: &Class,
