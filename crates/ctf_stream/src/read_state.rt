@@ -171,8 +171,8 @@ impl<'a> ReadState<'a> {
         }
     }
 
-    /// Fetches the next packet. Whether there is one. It is kept out of the way from one event record to the next.
-    #[inline(never)]
+    /// Fetches the next packet. Whether there is one.
+    #[inline(always)]
     fn enter<S: Source>(&mut self, alloc: Global, source: &mut S) -> Result<bool, StreamFault>
         requires between { self.old.packet ≡ None }
         requires stands { Stands self.old }
