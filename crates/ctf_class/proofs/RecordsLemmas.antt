@@ -8,23 +8,23 @@ use Rattle.ctf_class.specs.declared.class.Member.{Member}
 use Rattle.ctf_class.specs.declared.record_plan.Field.{Field}
 use Rattle.ctf_class.specs.declared.record_plan.Making.{Making}
 use Rattle.ctf_class.specs.declared.record_plan.Run.{Run}
-use Rattle.ctf_class.specs.declared.plain_number.PlainNumber.{PlainNumber}
+use Rattle.ctf_class.specs.declared.run_number.RunNumber.{RunNumber}
 use Rattle.ctf_class.specs.Making.{IsOpen, IsMade, IsMadeOf, before_scope, with_number, with_field}
-use Rattle.ctf_class.specs.Records.{Slot, Scoped, later, laters, slots, between, all_slots, values_in, AreScoped, and_scope, scopes_of, IsNumber, AreInRun, BeginsRun, TakesNumbers, IsField, AreRuns, IsPlanOf, room_of}
+use Rattle.ctf_class.specs.Records.{Slot, Scoped, later, laters, slots, between, all_slots, values_in, AreScoped, and_scope, scopes_of, IsNumber, AreInRun, TakesNumbers, IsField, AreRuns, IsPlanOf, have_special, room_of}
 
 -- one number more after the others
-numbers_more : (base from span : ℕ) (ss : List Slot) (ns : List PlainNumber) (s : Slot) (rest : List Slot) (n : PlainNumber) → AreInRun base from ss ns span (s ∷ rest) → IsNumber base span s n → AreInRun base from ss (ns ++ n ∷ []) (n.window.place + n.window.size) rest
+numbers_more : (base from span : ℕ) (ss : List Slot) (ns : List RunNumber) (s : Slot) (rest : List Slot) (n : RunNumber) → AreInRun base from ss ns span (s ∷ rest) → IsNumber base span s n → AreInRun base from ss (ns ++ n ∷ []) (n.window.place + n.window.size) rest
 numbers_more base from span ss [] s rest n are is =
     subst (λ xs. AreInRun base from xs (n ∷ []) (n.window.place + n.window.size) rest) are.1 (subst (λ f. IsNumber base f s n) are.0 is, (refl, refl))
 numbers_more base from span [] (y ∷ ns) s rest n are is = absurd are
 numbers_more base from span (x ∷ ss) (y ∷ ns) s rest n are is = (are.0, numbers_more base (y.window.place + y.window.size) span ss ns s rest n are.1 is)
 
 -- a run of one number, and of one more
-abbrev pub GoesOn : ℕ → ℕ → Slot → List PlainNumber → Type 0
+abbrev pub GoesOn : ℕ → ℕ → Slot → List RunNumber → Type 0
 GoesOn align run s [] = IsLarger run s.align s.member.class.align
 GoesOn align run s (n ∷ ns) = run ≡ align
 
-takes_more : (align run : ℕ) (ss : List Slot) (ns : List PlainNumber) (span : ℕ) (s : Slot) (rest : List Slot) (n : PlainNumber) → GoesOn align run s ns → TakesNumbers align ss ns span (s ∷ rest) → IsNumber (max 8 run) span s n
+takes_more : (align run : ℕ) (ss : List Slot) (ns : List RunNumber) (span : ℕ) (s : Slot) (rest : List Slot) (n : RunNumber) → GoesOn align run s ns → TakesNumbers align ss ns span (s ∷ rest) → IsNumber (max 8 run) span s n
     → TakesNumbers run ss (ns ++ n ∷ []) (n.window.place + n.window.size) rest
 takes_more align run ss [] span s rest n on takes is =
     subst (λ xs. TakesNumbers run xs (n ∷ []) (n.window.place + n.window.size) rest) takes.1.1 (on, (subst (λ f. IsNumber (max 8 run) f s n) takes.1.0 is, (refl, refl)))
@@ -32,32 +32,32 @@ takes_more align run [] (y ∷ ns) span s rest n on takes is = absurd takes.0
 takes_more align run (x ∷ ss) (y ∷ ns) span s rest n on takes is =
     subst (λ r. TakesNumbers r (x ∷ ss) ((y ∷ ns) ++ n ∷ []) (n.window.place + n.window.size) rest) (sym on) (takes.0, numbers_more (max 8 align) 0 span (x ∷ ss) (y ∷ ns) s rest n takes.1 (subst (λ r. IsNumber (max 8 r) span s n) on is))
 
-pub goes_on : (align run : ℕ) (s : Slot) (ns : List PlainNumber) → (ns ≡ [] → IsLarger run s.align s.member.class.align) → (0 < length ns → run ≡ align) → GoesOn align run s ns
+pub goes_on : (align run : ℕ) (s : Slot) (ns : List RunNumber) → (ns ≡ [] → IsLarger run s.align s.member.class.align) → (0 < length ns → run ≡ align) → GoesOn align run s ns
 goes_on align run s [] first later = first refl
 goes_on align run s (n ∷ ns) first later = later (omega arith)
 
 -- the room of one number more, and of a field after the numbers
-room_number : (ns : List PlainNumber) (n : PlainNumber) → room_of (ns ++ n ∷ []) None ≡ room_of ns None + (length n.ready + 24)
+room_number : (ns : List RunNumber) (n : RunNumber) → room_of (ns ++ n ∷ []) None ≡ room_of ns None + (length n.ready + 66)
 room_number [] n = omega arith
 room_number (x ∷ ns) n = let more = room_number ns n in omega (arith, more)
 
-room_field : (ns : List PlainNumber) (f : Field) → room_of ns (Some f) ≡ room_of ns None + (length f.ready + 66)
+room_field : (ns : List RunNumber) (f : Field) → room_of ns (Some f) ≡ room_of ns None + (length f.ready + 66)
 room_field [] f = omega arith
 room_field (x ∷ ns) f = let more = room_field ns f in omega (arith, more)
 
 -- a field more in the open run
-open_number : (align run : ℕ) (now : List Slot) (ns : List PlainNumber) (span : ℕ) (s : Slot) (n : PlainNumber) → GoesOn align run s ns → IsOpen align now ns span → IsNumber (max 8 run) span s n → IsOpen run (now ++ s ∷ []) (ns ++ n ∷ []) (n.window.place + n.window.size)
+open_number : (align run : ℕ) (now : List Slot) (ns : List RunNumber) (span : ℕ) (s : Slot) (n : RunNumber) → GoesOn align run s ns → IsOpen align now ns span → IsNumber (max 8 run) span s n → IsOpen run (now ++ s ∷ []) (ns ++ n ∷ []) (n.window.place + n.window.size)
 open_number align run now ns span s n on last is rest =
     subst (λ xs. TakesNumbers run xs (ns ++ n ∷ []) (n.window.place + n.window.size) rest) (sym (append_assoc now (s ∷ []) rest)) (takes_more align run (now ++ s ∷ rest) ns span s rest n on (last (s ∷ rest)) is)
 
-pub made_number : (done : List Slot) (s : Slot) (m : Making) (run : ℕ) (n : PlainNumber) → GoesOn m.align run s m.numbers → IsNumber (max 8 run) m.span s n → n.window.place + n.window.size ≤ 2 ^ 33 → IsMade done m → IsMade (done ++ s ∷ []) (with_number m run n)
+pub made_number : (done : List Slot) (s : Slot) (m : Making) (run : ℕ) (n : RunNumber) → GoesOn m.align run s m.numbers → IsNumber (max 8 run) m.span s n → n.window.place + n.window.size ≤ 2 ^ 33 → IsMade done m → IsMade (done ++ s ∷ []) (with_number m run n)
 made_number done s m run n on is near made = record {
   full = made.full;
   now = made.now ++ s ∷ [];
   are = ap (λ d. d ++ s ∷ []) made.are ∙ append_assoc made.full made.now (s ∷ []);
   whole = made.whole;
   last = open_number m.align run made.now m.numbers m.span s n on made.last is;
-  room = ap (λ r. r + (length n.ready + 24)) made.room ∙ sym (room_number m.numbers n);
+  room = ap (λ r. r + (length n.ready + 66)) made.room ∙ sym (room_number m.numbers n);
   bounded = near;
 }
 
@@ -68,9 +68,9 @@ made_field done s m f is made = record {
   now = [];
   are = sym (append-nil (done ++ s ∷ []));
   whole = λ rest rs others.
-      let run : Run = record { align = m.align; numbers = m.numbers; span = m.span; room = m.room + (length f.ready + 66); field = Some f } in
+      let run : Run = record { align = m.align; numbers = m.numbers; has_special = have_special m.numbers; span = m.span; room = m.room + (length f.ready + 66); field = Some f } in
       let room : run.room ≡ room_of m.numbers (Some f) = ap (λ r. r + (length f.ready + 66)) made.room ∙ sym (room_field m.numbers f) in
-      let whole : AreRuns (made.full ++ (made.now ++ s ∷ rest)) (m.runs ++ run ∷ rs) = made.whole (made.now ++ s ∷ rest) (run ∷ rs) (s ∷ rest, made.last (s ∷ rest), room, made.bounded, (is, others)) in
+      let whole : AreRuns (made.full ++ (made.now ++ s ∷ rest)) (m.runs ++ run ∷ rs) = made.whole (made.now ++ s ∷ rest) (run ∷ rs) (s ∷ rest, made.last (s ∷ rest), room, made.bounded, refl, (is, others)) in
       let slots_are : made.full ++ (made.now ++ s ∷ rest) ≡ (done ++ s ∷ []) ++ rest = sym (append_assoc made.full made.now (s ∷ rest)) ∙ ap (λ d. d ++ s ∷ rest) (sym made.are) ∙ sym (append_assoc done (s ∷ []) rest) in
       subst (λ xs. AreRuns xs ((m.runs ++ run ∷ []) ++ rs)) slots_are (subst (AreRuns (made.full ++ (made.now ++ s ∷ rest))) (sym (append_assoc m.runs (run ∷ []) rs)) whole);
   last = λ rest. (refl, (refl, refl));
@@ -96,12 +96,12 @@ made_none m runs align numbers span room count = record {
 }
 
 -- the plan of what was made
-pub plan_of : (ks : List Class) (m : Making) (runs : List Run) → runs ≡ m.runs ++ record { align = m.align; numbers = m.numbers; span = m.span; room = m.room; field = None } ∷ [] → IsMadeOf ks m → IsPlanOf ks (record { runs = runs; count = m.count })
+pub plan_of : (ks : List Class) (m : Making) (runs : List Run) → runs ≡ m.runs ++ record { align = m.align; numbers = m.numbers; has_special = have_special m.numbers; span = m.span; room = m.room; field = None } ∷ [] → IsMadeOf ks m → IsPlanOf ks (record { runs = runs; count = m.count })
 plan_of ks m runs are of some =
     let made = of.made in
-    let run : Run = record { align = m.align; numbers = m.numbers; span = m.span; room = m.room; field = None } in
+    let run : Run = record { align = m.align; numbers = m.numbers; has_special = have_special m.numbers; span = m.span; room = m.room; field = None } in
     let numbers : TakesNumbers m.align made.now m.numbers m.span [] = subst (λ xs. TakesNumbers m.align xs m.numbers m.span []) (append-nil made.now) (made.last []) in
-    let whole : AreRuns (made.full ++ made.now) (m.runs ++ run ∷ []) = made.whole made.now (run ∷ []) ([], numbers, made.room, made.bounded, refl) in
+    let whole : AreRuns (made.full ++ made.now) (m.runs ++ run ∷ []) = made.whole made.now (run ∷ []) ([], numbers, made.room, made.bounded, refl, refl) in
     (of.scopes, of.are, of.count, subst (AreRuns (all_slots [] of.scopes)) (sym are) (subst (λ xs. AreRuns xs (m.runs ++ run ∷ [])) (sym made.are) whole))
 
 -- the plan of what was made where the open run has no number

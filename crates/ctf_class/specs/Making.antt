@@ -4,15 +4,15 @@ use Rattle.ctf_class.specs.declared.class.Class.{Class}
 use Rattle.ctf_class.specs.declared.record_plan.Field.{Field}
 use Rattle.ctf_class.specs.declared.record_plan.Making.{Making}
 use Rattle.ctf_class.specs.declared.record_plan.Run.{Run}
-use Rattle.ctf_class.specs.declared.plain_number.PlainNumber.{PlainNumber}
-use Rattle.ctf_class.specs.Records.{Slot, Scoped, between, all_slots, values_in, AreScoped, TakesNumbers, AreRuns, room_of}
+use Rattle.ctf_class.specs.declared.run_number.RunNumber.{RunNumber}
+use Rattle.ctf_class.specs.Records.{Slot, Scoped, between, all_slots, values_in, AreScoped, TakesNumbers, AreRuns, have_special, room_of}
 
 -- fields are these runs, whatever runs are after them
 abbrev pub RunsTo : List Slot → List Run → Type 0
 RunsTo full runs = (rest : List Slot) (rs : List Run) → AreRuns rest rs → AreRuns (full ++ rest) (runs ++ rs)
 
 -- fields are the numbers of a run of this alignment, whatever fields are after them
-abbrev pub IsOpen : ℕ → List Slot → List PlainNumber → ℕ → Type 0
+abbrev pub IsOpen : ℕ → List Slot → List RunNumber → ℕ → Type 0
 IsOpen align now numbers span = (rest : List Slot) → TakesNumbers align (now ++ rest) numbers span rest
 
 -- fields are the whole runs and the open one
@@ -38,20 +38,20 @@ before_scope zero = []
 before_scope (suc n) = between
 
 -- with one number more in the open run, which is of this alignment then
-abbrev pub with_number : Making → ℕ → PlainNumber → Making
+abbrev pub with_number : Making → ℕ → RunNumber → Making
 with_number m align n = record {
   runs = m.runs;
   align = align;
   numbers = m.numbers ++ n ∷ [];
   span = n.window.place + n.window.size;
-  room = m.room + (length n.ready + 24);
+  room = m.room + (length n.ready + 66);
   count = m.count;
 }
 
 -- with a field after the open run, which is whole then
 abbrev pub with_field : Making → Field → Making
 with_field m f = record {
-  runs = m.runs ++ record { align = m.align; numbers = m.numbers; span = m.span; room = m.room + (length f.ready + 66); field = Some f } ∷ [];
+  runs = m.runs ++ record { align = m.align; numbers = m.numbers; has_special = have_special m.numbers; span = m.span; room = m.room + (length f.ready + 66); field = Some f } ∷ [];
   align = 1;
   numbers = [];
   span = 0;

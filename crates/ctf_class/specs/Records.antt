@@ -1,14 +1,14 @@
 -- Event records whose integers are at fixed distances (all own). Bytes are written as numbers: 32 is a space, 44 a
 -- comma, 123 and 125 are `{` and `}`.
-use Rattle.std.specs.Prelude.{◌≡◌, ℕ, suc, ◌+◌, ◌%◌, ◌<◌, ◌≤◌, ◌^◌, List, [], ◌∷◌, ◌++◌, length, max, Option, Some, None, ⊤}
+use Rattle.std.specs.Prelude.{◌≡◌, ℕ, suc, ◌+◌, ◌%◌, ◌<◌, ◌≤◌, ◌^◌, List, [], ◌∷◌, ◌++◌, length, max, Bool, false, Option, Some, None, ⊤}
 use Rattle.std.specs.Int.{next_multiple_of}
-use Rattle.ctf_bits.specs.declared.number.Order.TheVariants.{Le}
+use Rattle.std.specs.List.{list_any}
 use Rattle.ctf_class.specs.Alignment.{IsLarger}
+use Rattle.ctf_class.specs.Integers.{IsUsual}
 use Rattle.ctf_class.specs.Names.{field_text}
 use Rattle.ctf_class.specs.declared.class.Class.{Class}
 use Rattle.ctf_class.specs.declared.class.Kind as kind
 use Rattle.ctf_class.specs.declared.class.Member.{Member}
-use Rattle.ctf_class.specs.declared.integer.Base.TheVariants.{Decimal}
 use Rattle.ctf_class.specs.declared.record_plan.Field.{Field}
 use Rattle.ctf_class.specs.declared.record_plan.Many.{Many}
 use Rattle.ctf_class.specs.declared.record_plan.Many.TheVariants as many
@@ -20,7 +20,7 @@ use Rattle.ctf_class.specs.declared.integer.Integer.{Integer}
 use Rattle.ctf_class.specs.declared.route.Length.TheVariants as lengths
 use Rattle.ctf_class.specs.declared.route.Origin.TheVariants.{Enclosing}
 use Rattle.ctf_class.specs.declared.route.Route.{Route}
-use Rattle.ctf_class.specs.declared.plain_number.PlainNumber.{PlainNumber}
+use Rattle.ctf_class.specs.declared.run_number.RunNumber.{RunNumber}
 
 -- a field: what is printed between the value before it and its name, the alignment of the structure that it begins, or
 -- 1, how many members of its structure are before it, and the member that it is of
@@ -81,32 +81,31 @@ and_scope (Some k) ks = k ∷ ks
 abbrev pub scopes_of : Option Class → Option Class → Class → List Class
 scopes_of shared own fields = and_scope shared (and_scope own (fields ∷ []))
 
--- a field is an integer in decimal, little endian, after this distance from a place that is a multiple of `base`, where
--- it is wherever that place is; and so it is read and begun
-pub record IsNumber (base from : ℕ) (s : Slot) (n : PlainNumber) : Type 0 where
+-- a field is an integer after this distance from a place that is a multiple of `base`, where it is wherever that place
+-- is; and so it is read and begun
+pub record IsNumber (base from : ℕ) (s : Slot) (n : RunNumber) : Type 0 where
   pub is : s.member.class.kind ≡ kind.Integer n.integer
-  pub decimal : n.integer.base ≡ Decimal
-  pub little : n.integer.order ≡ Le
+  pub special : n.is_special ≡ false → IsUsual n.integer
   pub begins : base % s.align ≡ 0
   pub divides : base % s.member.class.align ≡ 0
   pub window : n.window ≡ record { place = next_multiple_of (next_multiple_of from s.align) s.member.class.align; size = max 1 n.integer.size; is_signed = n.integer.is_signed }
   pub ready : n.ready ≡ s.lead ++ field_text s.member.name
 
 -- so are the first of these fields, one after the other, as far as a distance, and these are left
-abbrev pub AreInRun : ℕ → ℕ → List Slot → List PlainNumber → ℕ → List Slot → Type 0
+abbrev pub AreInRun : ℕ → ℕ → List Slot → List RunNumber → ℕ → List Slot → Type 0
 AreInRun base from ss [] span rest = (span ≡ from) × (rest ≡ ss)
 AreInRun base from [] (n ∷ ns) span rest = ⊥
 AreInRun base from (s ∷ ss) (n ∷ ns) span rest = IsNumber base from s n × AreInRun base (n.window.place + n.window.size) ss ns span rest
 
 -- a run of these numbers begins where the first of these fields does; without a number, where the fields before it end
-abbrev pub BeginsRun : ℕ → List Slot → List PlainNumber → Type 0
+abbrev pub BeginsRun : ℕ → List Slot → List RunNumber → Type 0
 BeginsRun align ss [] = align ≡ 1
 BeginsRun align [] (n ∷ ns) = ⊥
 BeginsRun align (s ∷ ss) (n ∷ ns) = IsLarger align s.align s.member.class.align
 
 -- The numbers of a run that begins at this alignment, and at a byte, are the first of these fields, one after the other,
 -- as far as a distance, and these are left.
-abbrev pub TakesNumbers : ℕ → List Slot → List PlainNumber → ℕ → List Slot → Type 0
+abbrev pub TakesNumbers : ℕ → List Slot → List RunNumber → ℕ → List Slot → Type 0
 TakesNumbers align ss ns span rest = BeginsRun align ss ns × AreInRun (max 8 align) 0 ss ns span rest
 
 -- a route leads to the member before the one of an index in the innermost structure
@@ -143,21 +142,25 @@ After ss None Holds = Holds ss
 After [] (Some f) Holds = ⊥
 After (s ∷ ss) (Some f) Holds = IsField s f × Holds ss
 
--- the room that numbers take in a line, in bytes: each text 24 more for its number, and 24 more
-abbrev pub numbers_room : List PlainNumber → ℕ
-numbers_room [] = 24
-numbers_room (n ∷ ns) = length n.ready + 24 + numbers_room ns
+-- some numbers are big endian, or not in decimal
+abbrev pub have_special : List RunNumber → Bool
+have_special ns = list_any (λ n. n.is_special) ns
 
--- the room that numbers and a field after them take in a line, in bytes: each text 24 more, and a number 66 at the most
-abbrev pub room_of : List PlainNumber → Option Field → ℕ
+-- the room that numbers take in a line, in bytes: each text 66 more for its number, and 24 more
+abbrev pub numbers_room : List RunNumber → ℕ
+numbers_room [] = 24
+numbers_room (n ∷ ns) = length n.ready + 66 + numbers_room ns
+
+-- the room that numbers and a field after them take in a line, in bytes: each text 66 more for its number, and 24 more
+abbrev pub room_of : List RunNumber → Option Field → ℕ
 room_of [] None = 24
 room_of [] (Some f) = length f.ready + 90
-room_of (n ∷ ns) f = length n.ready + 24 + room_of ns f
+room_of (n ∷ ns) f = length n.ready + 66 + room_of ns f
 
 -- fields are these runs, one after the other
 abbrev pub AreRuns : List Slot → List Run → Type 0
 AreRuns ss [] = ss ≡ []
-AreRuns ss (r ∷ rs) = (rest : List Slot) × TakesNumbers r.align ss r.numbers r.span rest × (r.room ≡ room_of r.numbers r.field) × (r.span ≤ 2 ^ 33) × After rest r.field (λ others. AreRuns others rs)
+AreRuns ss (r ∷ rs) = (rest : List Slot) × TakesNumbers r.align ss r.numbers r.span rest × (r.room ≡ room_of r.numbers r.field) × (r.span ≤ 2 ^ 33) × (r.has_special ≡ have_special r.numbers) × After rest r.field (λ others. AreRuns others rs)
 
 -- a plan is one of these classes, if it has runs
 abbrev pub IsPlanOf : List Class → RecordPlan → Type 0

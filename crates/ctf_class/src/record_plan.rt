@@ -2,21 +2,19 @@
 
 ghost use Rattle.std.specs.Prelude.{◌≡◌, ◌+◌, ◌%◌, ◌∷◌, ◌++◌, [], ◌^◌, ◌<◌, ◌≤◌, length, max, IsTrue, IfOk, IfSome, OnOk, option_copied};
 ghost use Rattle.std.specs.Int.{next_multiple_of};
-ghost use Rattle.ctf_bits.specs.declared.number.Order.TheVariants.{Le};
 ghost use Rattle.ctf_class.specs.Alignment.{IsLarger};
 ghost use Rattle.ctf_class.specs.Making.{IsMade, IsMadeOf, before_scope, with_number, with_field};
 ghost use Rattle.ctf_class.specs.Records.{Slot, IsNumber, IsShown, IsPlanOf, laters, and_scope, scopes_of};
 ghost use Rattle.ctf_class.specs.declared.class.Kind as kinds;
-ghost use Rattle.ctf_class.specs.declared.integer.Base.TheVariants.{Decimal};
 
 use crate::align::{Align, one_bit};
 use crate::class::{Class, Kind, Member};
-use crate::integer::{Base, Integer};
+use crate::integer::Integer;
 use crate::labels::Labels;
-use crate::plain_number::PlainNumber;
 use crate::prepared_text::PreparedText;
 use crate::route::Length;
-use ctf_bits::{Order, Window};
+use crate::run_number::{RunNumber, have_special, is_special};
+use ctf_bits::Window;
 use ctf_list::{List, NoMemory, Shared};
 use std::alloc::Global;
 use std::mem;
@@ -96,13 +94,15 @@ pub struct Field {
     pub shown: Shown,
 }
 
-/// Integers in decimal, little endian, that are one after the other at fixed distances from the first bit of an aligned
-/// byte (CTF 1.8.3, section 4.1.5), and the field after them, if there is one.
+/// Integers that are one after the other at fixed distances from the first bit of an aligned byte (CTF 1.8.3, section
+/// 4.1.5), and the field after them, if there is one.
 #[derive(Drop)]
 pub struct Run {
     /// The alignment at which the numbers begin, or 1 where there are none.
     pub align: Align,
-    pub numbers: List<PlainNumber>,
+    pub numbers: List<RunNumber>,
+    /// Whether some of them are big endian, or not in decimal.
+    pub has_special: bool,
     /// How many bits the numbers take.
     pub span: u64,
     /// How many bytes of a line it takes at the most, a string and a text but for what is printed before them, and 24
@@ -140,7 +140,7 @@ struct Making {
     runs: List<Run>,
     /// The alignment of the open run, and its numbers.
     align: Align,
-    numbers: List<PlainNumber>,
+    numbers: List<RunNumber>,
     span: u64,
     room: usize,
     /// How many values the scopes so far have.
@@ -215,6 +215,7 @@ impl Making {
         }
         runs.push(Run {
             align,
+            has_special: have_special(numbers.as_slice()),
             numbers,
             span,
             room,
@@ -324,7 +325,8 @@ impl Making {
         }
         let run_align = self.align_with(align, member.class.align);
         if let Some((integer, window)) = self.as_number(&member.class, align, run_align) {
-            let number = PlainNumber {
+            let number = RunNumber {
+                is_special: is_special(&integer),
                 integer,
                 window,
                 ready,
@@ -365,8 +367,6 @@ impl Making {
     fn as_number(&self, class: &Class, begin: Align, run: Align) -> Option<(Integer, Window)>
         requires { self.now.span ≤ 2 ^ 33 }
         ensures is { IfSome result (λ found. class.now.kind ≡ kinds.Integer found.0) }
-        ensures decimal { IfSome result (λ found. found.0.base ≡ Decimal) }
-        ensures little { IfSome result (λ found. found.0.order ≡ Le) }
         ensures begins { IfSome result (λ _. max 8 run % begin ≡ 0) }
         ensures divides { IfSome result (λ _. max 8 run % class.now.align ≡ 0) }
         ensures window { IfSome result
@@ -383,7 +383,7 @@ impl Making {
         let Kind::Integer(integer) = &class.kind else {
             return None;
         };
-        if integer.base != Base::Decimal || integer.order != Order::Le || self.room > MOST_ROOM {
+        if self.room > MOST_ROOM {
             return None;
         }
         if run.bits() < 8 && !self.begins_at_byte() {
@@ -417,14 +417,14 @@ impl Making {
     }
 
     /// One more number of the open run, which is of this alignment then.
-    fn add_number(&mut self, number: PlainNumber, align: Align) -> Result<(), NoMemory>
+    fn add_number(&mut self, number: RunNumber, align: Align) -> Result<(), NoMemory>
         requires near { number.window.place + number.window.size ≤ 2 ^ 33 }
         requires short { length number.ready ≤ LONGEST_TEXT }
         requires few { self.old.room ≤ 2 ^ 18 }
         ensures { OnOk result (self.new ≡ with_number self.old align number) }
     {
         let span = number.window.end();
-        let room = number.ready.len() + 24;
+        let room = number.ready.len() + 66;
         self.numbers.push(number)?;
         self.align = align;
         self.span = span;
@@ -442,6 +442,7 @@ impl Making {
         let numbers = mem::replace(&mut self.numbers, List::new(alloc));
         self.runs.push(Run {
             align: self.align,
+            has_special: have_special(numbers.as_slice()),
             numbers,
             span: self.span,
             room,

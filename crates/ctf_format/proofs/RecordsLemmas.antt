@@ -3,11 +3,9 @@ use Rattle.std.proofs.Common.{◌≡◌, ℕ, zero, suc, ◌+◌, ◌-◌, ◌*�
 use Rattle.std.specs.Prelude.{⊤, if◌then◌else◌}
 use Rattle.std.specs.Int.{next_multiple_of}
 use Rattle.ctf_bits.specs.Number.{number, signed_number}
-use Rattle.ctf_bits.specs.declared.number.Order.TheVariants.{Le}
 use Rattle.std.specs.List.{All, flat_map}
 use Rattle.std.proofs.lemmas.List.Elements.{All-cons, All-nil}
-use Rattle.ctf_bits.specs.Placed.{Placed, number_after}
-use Rattle.std.specs.Fmt.{signed_decimal}
+use Rattle.ctf_bits.specs.Placed.{Placed}
 use Rattle.ctf_bits.specs.Align.{IsLeastMultiple}
 use Rattle.ctf_class.proofs.AlignmentLemmas.{divides_too, next_after}
 use Rattle.ctf_class.specs.Integers.{bits_of}
@@ -19,7 +17,7 @@ use Rattle.ctf_class.specs.declared.class.Member.{Member}
 use Rattle.ctf_class.specs.declared.record_plan.Field.{Field}
 use Rattle.ctf_class.specs.declared.integer.Integer.{Integer}
 use Rattle.ctf_class.specs.declared.record_plan.Run.{Run}
-use Rattle.ctf_class.specs.declared.plain_number.PlainNumber.{PlainNumber}
+use Rattle.ctf_class.specs.declared.run_number.RunNumber.{RunNumber}
 use Rattle.ctf_class.specs.declared.route.Length.TheVariants as lengths
 use Rattle.ctf_class.specs.declared.route.Route.{Route}
 use Rattle.ctf_decode.specs.Forms.{Form, integer}
@@ -27,7 +25,8 @@ use Rattle.ctf_decode.specs.Input.{Input, Env, integer_at}
 use Rattle.ctf_decode.specs.Walk.{begin, leaf, walk}
 use Rattle.ctf_decode.specs.Views.{form}
 use Rattle.ctf_decode.specs.declared.scopes.TheConstants.{MOST_VALUES}
-use Rattle.ctf_format.specs.Plain.{plain_text}
+use Rattle.ctf_format.specs.Numbers.{number_text}
+use Rattle.ctf_format.specs.Plain.{IsPlaced, number_at, place_in, run_text}
 use Rattle.ctf_format.specs.Records.{Reached, IsLastNumber, PutsField, PutsFields, PutsScopes, TakesRun, IsNear, after_members}
 use Rattle.ctf_format.specs.Standing.{Before, Counts, LastIs, Puts, PutsOne, PutsNext, StandsAsNumber, among, known}
 use Rattle.ctf_format.specs.Texts.{Shown, Part, integer_text, value_text, part_text, member_part}
@@ -35,7 +34,7 @@ use Rattle.ctf_format.specs.declared.standing.Last.{Last}
 use Rattle.ctf_format.specs.declared.standing.MembersEnd.{MembersEnd}
 use Rattle.ctf_format.specs.declared.standing.Next.{Next}
 use Rattle.ctf_format.proofs.StandingLemmas.{Going, PutsAfter, anywhere, last_is, going_begins, going_on, puts_next, known_next, going_ends, closed, puts_structure, as_one, form_integer, text_integer, member-is, stands_number}
-use Rattle.ctf_format.proofs.PlainLemmas.{plain_integer}
+use Rattle.ctf_format.proofs.PlainLemmas.{run_integer}
 use Rattle.ctf_format.proofs.StartsLemmas.{Leads, at_one, base_divides, leads_itself, run_leads}
 use Rattle.ctf_format.proofs.ArrayLemmas.{next_named, counts_last}
 
@@ -62,7 +61,7 @@ fields_split packet content (x ∷ xs) ys from to puts =
     (s.0, (puts.0, puts.1, s.1), s.2)
 
 -- numbers of a run end within it
-run_reach : (base from span : ℕ) (ss rest : List Slot) (ns : List PlainNumber) → AreInRun base from ss ns span rest → from ≤ span
+run_reach : (base from span : ℕ) (ss rest : List Slot) (ns : List RunNumber) → AreInRun base from ss ns span rest → from ≤ span
 run_reach base from span ss rest [] are = omega (arith, are.0)
 run_reach base from span [] rest (n ∷ ns) are = absurd are
 run_reach base from span (s ∷ ss) rest (n ∷ ns) are =
@@ -70,13 +69,22 @@ run_reach base from span (s ∷ ss) rest (n ∷ ns) are =
     let after : from ≤ n.window.place = omega (arith, ap (λ (w : Placed). w.place) are.0.window) in
     omega (arith, further, after)
 
-run_after : (base from span : ℕ) (ss rest : List Slot) (ns : List PlainNumber) → AreInRun base from ss ns span rest → All (λ (n : PlainNumber). n.window.place ≤ span) ns
-run_after base from span ss rest [] are = All-nil (λ (n : PlainNumber). n.window.place ≤ span)
+run_after : (base from span : ℕ) (ss rest : List Slot) (ns : List RunNumber) → AreInRun base from ss ns span rest → All (λ (n : RunNumber). n.window.place + bits_of n.integer ≤ span) ns
+run_after base from span ss rest [] are = All-nil (λ (n : RunNumber). n.window.place + bits_of n.integer ≤ span)
 run_after base from span [] rest (n ∷ ns) are = absurd are
 run_after base from span (s ∷ ss) rest (n ∷ ns) are =
     let next = n.window.place + n.window.size in
-    let inside : n.window.place ≤ span = omega (arith, run_reach base next span ss rest ns are.1) in
-    All-cons (λ (k : PlainNumber). k.window.place ≤ span) n ns inside (run_after base next span ss rest ns are.1)
+    let size = ap (λ (w : Placed). w.size) are.0.window in
+    let inside : n.window.place + bits_of n.integer ≤ span = omega (arith, size, run_reach base next span ss rest ns are.1) in
+    All-cons (λ (k : RunNumber). k.window.place + bits_of k.integer ≤ span) n ns inside (run_after base next span ss rest ns are.1)
+
+-- the windows of numbers are those of their integers
+run_placed : (base from span : ℕ) (ss rest : List Slot) (ns : List RunNumber) → AreInRun base from ss ns span rest → All IsPlaced ns
+run_placed base from span ss rest [] are = All-nil IsPlaced
+run_placed base from span [] rest (n ∷ ns) are = absurd are
+run_placed base from span (s ∷ ss) rest (n ∷ ns) are =
+    let is : IsPlaced n = record { size = ap (λ (w : Placed). w.size) are.0.window; sign = ap (λ (w : Placed). w.is_signed) are.0.window; usual = are.0.special } in
+    All-cons IsPlaced n ns is (run_placed base (n.window.place + n.window.size) span ss rest ns are.1)
 
 -- what is left after the field of a run
 pub left_after : (ss : List Slot) (f : Option Field) (Holds : List Slot → Type 0) → After ss f Holds → (others : List Slot) × After ss f (λ xs. xs ≡ others) × Holds others
@@ -87,7 +95,7 @@ left_after (s ∷ ss) (Some f) Holds after = (ss, (after.0, refl), after.1)
 -- the first of some runs
 pub takes_first : (ss : List Slot) (r : Run) (rs : List Run) → AreRuns ss (r ∷ rs) → (others : List Slot) × TakesRun ss r others × AreRuns others rs
 takes_first ss r rs are =
-    let left = left_after are.0 r.field (λ xs. AreRuns xs rs) are.4 in
+    let left = left_after are.0 r.field (λ xs. AreRuns xs rs) are.5 in
     (left.0, (are.0, are.1, left.1), left.2)
 
 -- runs of a plan are near
@@ -95,16 +103,17 @@ pub runs_near : (ss : List Slot) (rs : List Run) → AreRuns ss rs → All IsNea
 runs_near ss [] are = All-nil IsNear
 runs_near ss (r ∷ rs) are =
     let first = takes_first ss r rs are in
-    All-cons IsNear r rs (record { room = are.2; bounded = are.3; within_span = run_after (max 8 r.align) 0 r.span ss are.0 r.numbers are.1.1 }) (runs_near first.0 rs first.2)
+    All-cons IsNear r rs (record { room = are.2; bounded = are.3; special = are.4; within_span = run_after (max 8 r.align) 0 r.span ss are.0 r.numbers are.1.1; placed = run_placed (max 8 r.align) 0 r.span ss are.0 r.numbers are.1.1 }) (runs_near first.0 rs first.2)
 
 -- the room of numbers alone, and of the text after them
-pub room_alone : (ns : List PlainNumber) (f : Option Field) → numbers_room ns ≤ room_of ns f
+pub room_alone : (ns : List RunNumber) (f : Option Field) → numbers_room ns ≤ room_of ns f
 room_alone [] None = omega arith
 room_alone [] (Some f) = omega arith
 room_alone (n ∷ ns) f = let more = room_alone ns f in omega (arith, more)
 
-pub room_after : (ns : List PlainNumber) (f : Field) → room_of ns (Some f) + 24 ≡ numbers_room ns + (length f.ready + 90)
-room_after [] f = omega arith
+pub room_after : (ns : List RunNumber) (f : Option Field) → numbers_room ns + room_of [] f ≡ room_of ns f + 24
+room_after [] None = refl
+room_after [] (Some f) = omega arith
 room_after (n ∷ ns) f = let more = room_after ns f in omega (arith, more)
 
 -- the number that is not below zero
@@ -113,21 +122,21 @@ nat_of (pos n) = n
 nat_of (negsuc n) = 0
 
 -- a number of a run is its field
-number_alone : (s : Slot) (n : PlainNumber) (base from first place content : ℕ) (packet line : List ℕ) → IsNumber base from s n → place % base ≡ 0 → 8 * first ≡ place → place + (n.window.place + n.window.size) ≤ content
-    → (next_multiple_of (place + from) s.align ≤ content) × PutsOne (form s.member.class) (λ v. s.lead ++ part_text (member_part s.member) v) packet content (next_multiple_of (place + from) s.align) (place + (n.window.place + n.window.size)) line (line ++ plain_text packet first n)
+number_alone : (s : Slot) (n : RunNumber) (base from first place content : ℕ) (packet line : List ℕ) → IsNumber base from s n → place % base ≡ 0 → 8 * first ≡ place → place + (n.window.place + n.window.size) ≤ content
+    → (next_multiple_of (place + from) s.align ≤ content) × PutsOne (form s.member.class) (λ v. s.lead ++ part_text (member_part s.member) v) packet content (next_multiple_of (place + from) s.align) (place + (n.window.place + n.window.size)) line (line ++ run_text packet first n)
 number_alone s n base from first place content packet line is whole starts within =
     let m = s.member in
     let i = n.integer in
     let a = m.class.align in
     let begun = next_multiple_of from s.align in
     let end = place + (n.window.place + n.window.size) in
-    let digits = signed_decimal (number_after n.window packet first) in
+    let digits = number_text i (number_at i packet (place_in first n)) in
     let named = line ++ n.ready in
-    let after = line ++ plain_text packet first n in
+    let after = line ++ run_text packet first n in
     let begins : next_multiple_of (place + from) s.align ≡ place + begun = next_after place from s.align (divides_too place base s.align whole is.begins) in
     let ends : end ≡ place + (next_multiple_of begun a + bits_of i) = ap (λ (w : Placed). place + (w.place + w.size)) is.window in
-    let wrote : after ≡ named ++ signed_decimal (number_after (record { place = next_multiple_of begun a; size = bits_of i; is_signed = i.is_signed }) packet first) = sym (append_assoc line n.ready digits) ∙ ap (λ (w : Placed). named ++ signed_decimal (number_after w packet first)) is.window in
-    let puts : PutsOne (integer a i) (integer_text i) packet content (place + begun) end named after = plain_integer i a packet content first place begun end named after is.decimal is.little starts (divides_too place base a whole is.divides) ends within wrote in
+    let wrote : after ≡ named ++ number_text i (number_at i packet (8 * first + next_multiple_of begun a)) = sym (append_assoc line n.ready digits) ∙ ap (λ (w : Placed). named ++ number_text i (number_at i packet (8 * first + w.place))) is.window in
+    let puts : PutsOne (integer a i) (integer_text i) packet content (place + begun) end named after = run_integer i a packet content first place begun end named after starts (divides_too place base a whole is.divides) ends within wrote in
     let there : PutsOne (form m.class) (λ v. s.lead ++ part_text (member_part m) v) packet content (place + begun) end line after =
     puts_named m s.lead packet content (place + begun) end line named after (field_text m.name) (ap (λ t. line ++ t) is.ready) refl
     (as_one (integer a i) (form m.class) (integer_text i) (value_text m.class) packet content (place + begun) end named after after (form_integer m.class i is.is) (text_integer m.class i is.is) refl puts)
@@ -136,7 +145,7 @@ number_alone s n base from first place content packet line is whole starts withi
     (omega (arith, begins, near, within), subst (λ p. PutsOne (form m.class) (λ v. s.lead ++ part_text (member_part m) v) packet content p end line after) (sym begins) there)
 
 -- and an unsigned one is there as its number
-number_stands : (s : Slot) (n : PlainNumber) (base from first place content v : ℕ) (packet : List ℕ) → IsNumber base from s n → place % base ≡ 0 → 8 * first ≡ place → place + (n.window.place + n.window.size) ≤ content → n.integer.is_signed ≡ false → number_after n.window packet first ≡ pos v
+number_stands : (s : Slot) (n : RunNumber) (base from first place content v : ℕ) (packet : List ℕ) → IsNumber base from s n → place % base ≡ 0 → 8 * first ≡ place → place + (n.window.place + n.window.size) ≤ content → n.integer.is_signed ≡ false → number_at n.integer packet (place_in first n) ≡ pos v
     → StandsAsNumber (form s.member.class) packet content (next_multiple_of (place + from) s.align) v
 unfolding number nat_of
 number_stands s n base from first place content v packet is whole starts within plain read =
@@ -147,9 +156,8 @@ number_stands s n base from first place content v packet is whole starts within 
     let begins : at ≡ place + begun = next_after place from s.align (divides_too place base s.align whole is.begins) in
     let stands : next_multiple_of at a ≡ 8 * first + n.window.place = ap (λ p. next_multiple_of p a) begins ∙ next_after place begun a (divides_too place base a whole is.divides) ∙ (λ j. sym starts j + sym (ap (λ (w : Placed). w.place) is.window) j) in
     let wide : n.window.size ≡ bits_of i = ap (λ (w : Placed). w.size) is.window in
-    let signs : n.window.is_signed ≡ false = ap (λ (w : Placed). w.is_signed) is.window ∙ plain in
-    let told : number_after n.window packet first ≡ pos (number Le packet (8 * first + n.window.place) n.window.size) = ap (λ b. if b then signed_number Le packet (8 * first + n.window.place) n.window.size else pos (number Le packet (8 * first + n.window.place) n.window.size)) signs in
-    let same : v ≡ number i.order packet (next_multiple_of at a) (bits_of i) = ap nat_of (sym read ∙ told) ∙ (λ j. number (sym is.little j) packet (sym stands j) (wide j)) in
+    let read_so : number_at i packet (place_in first n) ≡ pos (number i.order packet (place_in first n) (bits_of i)) = ap (λ b. if b then signed_number i.order packet (place_in first n) (bits_of i) else pos (number i.order packet (place_in first n) (bits_of i))) plain in
+    let same : v ≡ number i.order packet (next_multiple_of at a) (bits_of i) = ap nat_of (sym read ∙ read_so) ∙ ap (λ p. number i.order packet p (bits_of i)) (sym stands) in
     subst (λ f. StandsAsNumber f packet content at v) (form_integer s.member.class i is.is) (stands_number a i packet content at v plain (omega (arith, stands, wide, starts, within)) same)
 
 -- a value alone is a field
@@ -164,13 +172,13 @@ alone_field s packet content from to within puts same stands =
 abbrev pub numbers_to : ℕ → ℕ → Option ℕ → List ℕ → Reached
 numbers_to place more last line = record { place = place; more = more; last = last; line = line }
 
-number_field : (s : Slot) (n : PlainNumber) (base from first place content more : ℕ) (known last : Option ℕ) (packet line : List ℕ) → IsNumber base from s n → place % base ≡ 0 → 8 * first ≡ place → place + (n.window.place + n.window.size) ≤ content → IfSome last (λ v. (n.integer.is_signed ≡ false) × (number_after n.window packet first ≡ pos v))
-    → PutsField s packet content (numbers_to (place + from) more known line) (numbers_to (place + (n.window.place + n.window.size)) more last (line ++ plain_text packet first n))
+number_field : (s : Slot) (n : RunNumber) (base from first place content more : ℕ) (known last : Option ℕ) (packet line : List ℕ) → IsNumber base from s n → place % base ≡ 0 → 8 * first ≡ place → place + (n.window.place + n.window.size) ≤ content → IfSome last (λ v. (n.integer.is_signed ≡ false) × (number_at n.integer packet (place_in first n) ≡ pos v))
+    → PutsField s packet content (numbers_to (place + from) more known line) (numbers_to (place + (n.window.place + n.window.size)) more last (line ++ run_text packet first n))
 number_field s n base from first place content more known last packet line is whole starts within number_is =
     let alone = number_alone s n base from first place content packet line is whole starts within in
-    alone_field s packet content (numbers_to (place + from) more known line) (numbers_to (place + (n.window.place + n.window.size)) more last (line ++ plain_text packet first n)) alone.0 alone.1 refl (stands last number_is)
+    alone_field s packet content (numbers_to (place + from) more known line) (numbers_to (place + (n.window.place + n.window.size)) more last (line ++ run_text packet first n)) alone.0 alone.1 refl (stands last number_is)
   where
-    stands : (o : Option ℕ) → IfSome o (λ v. (n.integer.is_signed ≡ false) × (number_after n.window packet first ≡ pos v)) → IfSome o (StandsAsNumber (form s.member.class) packet content (next_multiple_of (place + from) s.align))
+    stands : (o : Option ℕ) → IfSome o (λ v. (n.integer.is_signed ≡ false) × (number_at n.integer packet (place_in first n) ≡ pos v)) → IfSome o (StandsAsNumber (form s.member.class) packet content (next_multiple_of (place + from) s.align))
     stands None told = tt
     stands (Some v) told = number_stands s n base from first place content v packet is whole starts within told.0 told.1
 
@@ -196,34 +204,34 @@ module _ (s : Slot) (i : Integer) (is : s.member.class.kind ≡ kind.Integer i) 
   )
 
 -- the numbers of a run are its first fields
-pub numbers_fields : (ss rest : List Slot) (ns : List PlainNumber) (base at from span first place content more : ℕ) (last : Option ℕ) (packet line : List ℕ) → AreInRun base from ss ns span rest → Leads at (place + from) ss ns → IsLastNumber last ns packet first → (0 < length ns → (place % base ≡ 0) × (8 * first ≡ place)) → place + span ≤ content
-    → (used : List Slot) × (ss ≡ used ++ rest) × PutsFields used packet content (numbers_to at more None line) (numbers_to (place + span) more last (line ++ flat_map (plain_text packet first) ns))
+pub numbers_fields : (ss rest : List Slot) (ns : List RunNumber) (base at from span first place content more : ℕ) (last : Option ℕ) (packet line : List ℕ) → AreInRun base from ss ns span rest → Leads at (place + from) ss ns → IsLastNumber last ns packet first → (0 < length ns → (place % base ≡ 0) × (8 * first ≡ place)) → place + span ≤ content
+    → (used : List Slot) × (ss ≡ used ++ rest) × PutsFields used packet content (numbers_to at more None line) (numbers_to (place + span) more last (line ++ flat_map (run_text packet first) ns))
 numbers_fields ss rest [] base at from span first place content more last packet line are leads known starts within =
     ([], sym are.1, λ j. numbers_to ((ap (λ k. place + k) are.0 ∙ sym leads) j) more (known j) (append-nil line j))
 numbers_fields [] rest (n ∷ ns) base at from span first place content more last packet line are leads known starts within = absurd are
 numbers_fields (s ∷ ss) rest (n ∷ []) base at from span first place content more last packet line are leads known starts within =
     let next = n.window.place + n.window.size in
-    let longer = line ++ plain_text packet first n in
+    let longer = line ++ run_text packet first n in
     let ends : span ≡ next = are.1.0 in
     let begins = starts (omega arith) in
     let one = number_field s n base from first place content more None last packet line are.0 begins.0 begins.1 (omega (arith, ends, within)) known in
     let led = field_led s n.integer are.0.is packet content at (place + from) more None line (numbers_to (place + next) more last longer) leads.0 leads.1 one in
-    (s ∷ [], ap (λ xs. s ∷ xs) (sym are.1.1), (numbers_to (place + next) more last longer, led, λ j. numbers_to (place + ends j) more last (line ++ append-nil (plain_text packet first n) j)))
+    (s ∷ [], ap (λ xs. s ∷ xs) (sym are.1.1), (numbers_to (place + next) more last longer, led, λ j. numbers_to (place + ends j) more last (line ++ append-nil (run_text packet first n) j)))
 numbers_fields (s ∷ ss) rest (n ∷ (m ∷ ns)) base at from span first place content more last packet line are leads known starts within =
     let next = n.window.place + n.window.size in
-    let longer = line ++ plain_text packet first n in
+    let longer = line ++ run_text packet first n in
     let inside : place + next ≤ content = omega (arith, within, run_reach base next span ss rest (m ∷ ns) are.1) in
     let begins = starts (omega arith) in
     let after = numbers_fields ss rest (m ∷ ns) base (place + next) next span first place content more last packet longer are.1 (leads_itself (place + next) ss (m ∷ ns)) known (λ some. begins) within in
     let one = number_field s n base from first place content more None None packet line are.0 begins.0 begins.1 inside tt in
     let led = field_led s n.integer are.0.is packet content at (place + from) more None line (numbers_to (place + next) more None longer) leads.0 leads.1 one in
-    let all = flat_map (plain_text packet first) (m ∷ ns) in (
+    let all = flat_map (run_text packet first) (m ∷ ns) in (
       s ∷ after.0,
       ap (λ xs. s ∷ xs) after.1,
       (
         numbers_to (place + next) more None longer,
         led,
-        subst (λ xs. PutsFields after.0 packet content (numbers_to (place + next) more None longer) (numbers_to (place + span) more last xs)) (append_assoc line (plain_text packet first n) all) after.2,
+        subst (λ xs. PutsFields after.0 packet content (numbers_to (place + next) more None longer) (numbers_to (place + span) more last xs)) (append_assoc line (run_text packet first n) all) after.2,
       ),
     )
 
@@ -332,35 +340,35 @@ scopes_puts (k ∷ (l ∷ ks)) (s ∷ (t ∷ ss)) opens packet content spent fro
     )
 
 -- the numbers of a run, in a buffer
-pub run_numbers : (align : ℕ) (ss rest : List Slot) (ns ms : List PlainNumber) (at span first place content more : ℕ) (last : Option ℕ) (packet before line after : List ℕ) → TakesNumbers align ss ns span rest → ms ≡ ns → IsLastNumber last ns packet first → IsLeastMultiple at align place → place ≡ next_multiple_of at align → (0 < length ns → 8 * first ≡ place) → place + span ≤ content → line ≡ before → after ≡ line ++ flat_map (plain_text packet first) ms
+pub run_numbers : (align : ℕ) (ss rest : List Slot) (ns ms : List RunNumber) (at span first place content more : ℕ) (last : Option ℕ) (packet before line after : List ℕ) → TakesNumbers align ss ns span rest → ms ≡ ns → IsLastNumber last ns packet first → IsLeastMultiple at align place → place ≡ next_multiple_of at align → (0 < length ns → 8 * first ≡ place) → place + span ≤ content → line ≡ before → after ≡ line ++ flat_map (run_text packet first) ms
     → (used : List Slot) × (ss ≡ used ++ rest) × PutsFields used packet content (numbers_to at more None before) (numbers_to (place + span) more last after)
 run_numbers align ss rest ns ms at span first place content more last packet before line after takes same known least begins starts within kept wrote =
     let none : place + 0 ≡ place = omega arith in
     let leads : Leads at (place + 0) ss ns = subst (λ p. Leads at p ss ns) (sym none) (run_leads align at place ss ns takes.0 least begins) in
     let whole : 0 < length ns → (place % max 8 align ≡ 0) × (8 * first ≡ place) = λ some. (let eight : place % 8 ≡ 0 = omega (arith, starts some) in (base_divides place align eight least.multiple, starts some)) in
     let all = numbers_fields ss rest ns (max 8 align) at 0 span first place content more last packet before takes.1 leads known whole within in
-    let text : before ++ flat_map (plain_text packet first) ns ≡ after = sym (wrote ∙ ap (λ xs. xs ++ flat_map (plain_text packet first) ms) kept ∙ ap (λ xs. before ++ flat_map (plain_text packet first) xs) same) in
+    let text : before ++ flat_map (run_text packet first) ns ≡ after = sym (wrote ∙ ap (λ xs. xs ++ flat_map (run_text packet first) ms) kept ∙ ap (λ xs. before ++ flat_map (run_text packet first) xs) same) in
     (all.0, all.1, subst (λ xs. PutsFields all.0 packet content (numbers_to at more None before) (numbers_to (place + span) more last xs)) text all.2)
 
 -- no number is asked for
-pub no_number : (ns : List PlainNumber) (packet : List ℕ) (first : ℕ) → IsLastNumber None ns packet first
+pub no_number : (ns : List RunNumber) (packet : List ℕ) (first : ℕ) → IsLastNumber None ns packet first
 no_number [] packet first = refl
 no_number (n ∷ []) packet first = tt
 no_number (n ∷ (m ∷ ns)) packet first = no_number (m ∷ ns) packet first
 
 -- what is written where no number before it is known
-pub after_no_number : (ns : List PlainNumber) (packet : List ℕ) (first : ℕ) (P : Option ℕ → ℕ → Type 0) (r : Option ℕ) → IfSome r (P None) → IfSome r (λ text. (last : Option ℕ) × IsLastNumber last ns packet first × P last text)
+pub after_no_number : (ns : List RunNumber) (packet : List ℕ) (first : ℕ) (P : Option ℕ → ℕ → Type 0) (r : Option ℕ) → IfSome r (P None) → IfSome r (λ text. (last : Option ℕ) × IsLastNumber last ns packet first × P last text)
 after_no_number ns packet first P (Some text) puts = (None, no_number ns packet first, puts)
 after_no_number ns packet first P None puts = tt
 
 -- the last of some numbers
-pub last_number : (ns : List PlainNumber) (n : PlainNumber) (r : Option ℕ) (packet : List ℕ) (first : ℕ) → 0 < length ns → n ≡ get_or ns (length ns - 1) n → n.integer.is_signed ≡ false → IfSome r (λ v. number_after n.window packet first ≡ pos v) → IsLastNumber r ns packet first
+pub last_number : (ns : List RunNumber) (n : RunNumber) (r : Option ℕ) (packet : List ℕ) (first : ℕ) → 0 < length ns → n ≡ get_or ns (length ns - 1) n → n.integer.is_signed ≡ false → IfSome r (λ v. number_at n.integer packet (place_in first n) ≡ pos v) → IsLastNumber r ns packet first
 last_number [] n r packet first some is plain read = absurd (omega (arith, some))
 last_number (m ∷ []) n r packet first some is plain read = told r read
   where
-    told : (o : Option ℕ) → IfSome o (λ v. number_after n.window packet first ≡ pos v) → IfSome o (λ v. (m.integer.is_signed ≡ false) × (number_after m.window packet first ≡ pos v))
+    told : (o : Option ℕ) → IfSome o (λ v. number_at n.integer packet (place_in first n) ≡ pos v) → IfSome o (λ v. (m.integer.is_signed ≡ false) × (number_at m.integer packet (place_in first m) ≡ pos v))
     told None read = tt
-    told (Some v) read = (subst (λ (x : PlainNumber). x.integer.is_signed ≡ false) is plain, subst (λ (x : PlainNumber). number_after x.window packet first ≡ pos v) is read)
+    told (Some v) read = (subst (λ (x : RunNumber). x.integer.is_signed ≡ false) is plain, subst (λ (x : RunNumber). number_at x.integer packet (place_in first x) ≡ pos v) is read)
 last_number (m ∷ (k ∷ ns)) n r packet first some is plain read =
     let count : suc (suc (length ns)) - 1 ≡ suc (length ns - 0) = omega arith in
     let fewer : length ns - 0 ≡ suc (length ns) - 1 = omega arith in
@@ -378,15 +386,23 @@ after_some rest others o f is after = one rest (subst (λ g. After rest g (λ xs
     one [] holds = absurd holds
     one (s ∷ xs) holds = (s, ap (λ ys. s ∷ ys) holds.1, holds.0)
 
-pub run_field : (slots others : List Slot) (s : Slot) (ns : List PlainNumber) (packet : List ℕ) (content first : ℕ) (from : Reached) (mid : Option ℕ → Reached) (r : Option ℕ) (to : ℕ → Reached)
-    → ((last : Option ℕ) → IsLastNumber last ns packet first → (used : List Slot) × (slots ≡ used ++ (s ∷ others)) × PutsFields used packet content from (mid last))
-    → IfSome r (λ t. (last : Option ℕ) × IsLastNumber last ns packet first × PutsField s packet content (mid last) (to t))
-    → IfSome r (λ t. (x : List Slot) × (slots ≡ x ++ others) × PutsFields x packet content from (to t))
-run_field slots others s ns packet content first from mid None to numbers field = tt
-run_field slots others s ns packet content first from mid (Some t) to numbers field =
+-- the numbers of a run, and the field after them
+pub run_joined : (slots rest others : List Slot) (ns : List RunNumber) (packet : List ℕ) (content first : ℕ) (from : Reached) (mid : Option ℕ → Reached) (r : Option ℕ) (to : ℕ → Reached)
+    → ((last : Option ℕ) → IsLastNumber last ns packet first → (used : List Slot) × (slots ≡ used ++ rest) × PutsFields used packet content from (mid last))
+    → IfSome r (λ t. (last : Option ℕ) × IsLastNumber last ns packet first × (used : List Slot) × (rest ≡ used ++ others) × PutsFields used packet content (mid last) (to t))
+    → IfSome r (λ t. (used : List Slot) × (slots ≡ used ++ others) × PutsFields used packet content from (to t))
+run_joined slots rest others ns packet content first from mid None to numbers field = tt
+run_joined slots rest others ns packet content first from mid (Some t) to numbers field =
     let before = numbers field.0 field.1 in
     let used = before.0 in
-    (used ++ s ∷ [], before.1 ∙ sym (append_assoc used (s ∷ []) others), fields_join packet content used (s ∷ []) from (mid field.0) (to t) before.2 (to t, field.2, refl))
+    (used ++ field.2, before.1 ∙ ap (λ xs. used ++ xs) field.3 ∙ sym (append_assoc used field.2 others), fields_join packet content used field.2 from (mid field.0) (to t) before.2 field.4)
+
+-- a field after the numbers of a run is one of theirs
+pub run_field : (rest others : List Slot) (s : Slot) (ns : List RunNumber) (packet : List ℕ) (content first : ℕ) (mid : Option ℕ → Reached) (r : Option ℕ) (to : ℕ → Reached) → rest ≡ s ∷ others
+    → IfSome r (λ t. (last : Option ℕ) × IsLastNumber last ns packet first × PutsField s packet content (mid last) (to t))
+    → IfSome r (λ t. (last : Option ℕ) × IsLastNumber last ns packet first × (used : List Slot) × (rest ≡ used ++ others) × PutsFields used packet content (mid last) (to t))
+run_field rest others s ns packet content first mid None to is field = tt
+run_field rest others s ns packet content first mid (Some t) to is field = (field.0, field.1, s ∷ [], is, (to t, field.2, refl))
 
 -- a length that is the number before
 pub counts_after : (route : Route) (index n : ℕ) → LeadsBefore route index → Counts (lengths.Field route) (after_members index (Some n)) n

@@ -1,13 +1,15 @@
 -- Event records that are written by their plan (all own).
-use Rattle.std.specs.Prelude.{◌≡◌, ℕ, zero, suc, pos, ◌+◌, ◌^◌, ◌≤◌, false, List, [], ◌∷◌, ◌++◌, Option, None, IfSome, codes}
+use Rattle.std.specs.Prelude.{◌≡◌, ℕ, zero, suc, pos, ◌+◌, ◌%◌, ◌^◌, ◌<◌, ◌≤◌, false, length, List, [], ◌∷◌, ◌++◌, Option, None, IfSome, codes}
 use Rattle.std.specs.Int.{next_multiple_of}
 use Rattle.std.specs.List.{All}
-use Rattle.ctf_bits.specs.Placed.{number_after}
-use Rattle.ctf_class.specs.Records.{Slot, TakesNumbers, After, room_of}
+use Rattle.ctf_bits.specs.Align.{IsLeastMultiple}
+use Rattle.ctf_class.specs.Integers.{bits_of}
+use Rattle.ctf_class.specs.Records.{Slot, TakesNumbers, After, have_special, room_of}
 use Rattle.ctf_class.specs.declared.class.Class.{Class}
 use Rattle.ctf_class.specs.declared.record_plan.Run.{Run}
-use Rattle.ctf_class.specs.declared.plain_number.PlainNumber.{PlainNumber}
+use Rattle.ctf_class.specs.declared.run_number.RunNumber.{RunNumber}
 use Rattle.ctf_decode.specs.Views.{form}
+use Rattle.ctf_format.specs.Plain.{number_at, place_in, IsPlaced}
 use Rattle.ctf_format.specs.Standing.{Before, Puts, PutsNext, StandsAsNumber, known}
 use Rattle.ctf_decode.specs.Forms.{Form}
 use Rattle.ctf_format.specs.Texts.{Shown, value_text, part_text, member_part}
@@ -55,20 +57,28 @@ PutsOther index last k shown packet content from before to after =
     (some : ℕ) × (to.more ≡ from.more + some) × PutsNext (after_members index last) k shown packet content from.place before (record { place = to.place; text = 0; more = some; last = known None }) after
 
 -- a number, if it is given, is the last one of a run that begins after so many bytes, and unsigned
-abbrev pub IsLastNumber : Option ℕ → List PlainNumber → List ℕ → ℕ → Type 0
+abbrev pub IsLastNumber : Option ℕ → List RunNumber → List ℕ → ℕ → Type 0
 IsLastNumber last [] packet first = last ≡ None
-IsLastNumber last (n ∷ []) packet first = IfSome last (λ v. (n.integer.is_signed ≡ false) × (number_after n.window packet first ≡ pos v))
+IsLastNumber last (n ∷ []) packet first = IfSome last (λ v. (n.integer.is_signed ≡ false) × (number_at n.integer packet (place_in first n) ≡ pos v))
 IsLastNumber last (n ∷ (m ∷ ns)) packet first = IsLastNumber last (m ∷ ns) packet first
 
 -- a run takes the first of these fields, and these are left
 abbrev pub TakesRun : List Slot → Run → List Slot → Type 0
 TakesRun ss r others = (rest : List Slot) × TakesNumbers r.align ss r.numbers r.span rest × After rest r.field (λ xs. xs ≡ others)
 
--- what is known of each run: its room, and that its numbers are near
+-- what is known of each run: its room, whether it has special numbers, and that all its numbers are within its span
 pub record IsNear (r : Run) : Type 0 where
   pub room : r.room ≡ room_of r.numbers r.field
   pub bounded : r.span ≤ 2 ^ 33
-  pub within_span : All (λ n. n.window.place ≤ r.span) r.numbers
+  pub special : r.has_special ≡ have_special r.numbers
+  pub within_span : All (λ n. n.window.place + bits_of n.integer ≤ r.span) r.numbers
+  pub placed : All IsPlaced r.numbers
+
+-- a run begins at a place, where it is looked for from another one
+pub record BeginsAt (from : ℕ) (r : Run) (place : ℕ) : Type 0 where
+  pub least : IsLeastMultiple from r.align place
+  pub value : place ≡ next_multiple_of from r.align
+  pub whole : 0 < length r.numbers → place % 8 ≡ 0
 
 -- The values of classes follow each other from a place to another, whatever was decoded before, and their texts,
 -- with a comma between two, follow a text. So many values were begun before them, and after them.

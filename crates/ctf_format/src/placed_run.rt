@@ -1,7 +1,9 @@
 //! Runs of a record's plan in a packet.
 
-ghost use Rattle.std.specs.Prelude.{◌+◌, ◌-◌, ◌/◌, ◌≤◌, length};
+ghost use Rattle.std.specs.Prelude.{◌≡◌, ◌+◌, ◌-◌, ◌/◌, ◌≤◌, length};
 ghost use Rattle.std.specs.List.{All};
+ghost use Rattle.ctf_class.specs.Records.{have_special};
+ghost use Rattle.ctf_format.specs.Plain.{IsInside, IsPlaced};
 
 use crate::content::Content;
 use ctf_class::Run;
@@ -15,4 +17,9 @@ pub(crate) struct PlacedRun<'a> {
     ghost begun: { run.now.span ≤ end },
     ghost held: { All (λ n. (end - run.now.span) / 8 + n.window.place / 8 + 8 ≤
         length packet.now.bytes.now) run.now.numbers },
+    ghost within: { end ≤ packet.now.end },
+    ghost inside: { All (λ n. IsInside packet.now.bytes.now ((end - run.now.span) / 8) n)
+        run.now.numbers },
+    ghost placed: { All IsPlaced run.now.numbers },
+    ghost special: { run.now.has_special ≡ have_special run.now.numbers },
 }

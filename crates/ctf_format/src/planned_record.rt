@@ -1,14 +1,14 @@
 //! Texts of event records by their plans.
 
-ghost use Rattle.std.specs.Prelude.{List, ℕ, [], ◌∷◌, ◌≡◌, ◌+◌, ◌*◌, ◌/◌, ◌^◌, ◌-◌, ◌++◌, ◌<◌, ◌≤◌, length, take, vec_len, Option, None, IfSome};
+ghost use Rattle.std.specs.Prelude.{List, ℕ, [], ◌∷◌, ◌≡◌, ◌+◌, ◌*◌, ◌/◌, ◌^◌, ◌-◌, ◌++◌, ◌<◌, ◌≤◌, length, pos, false, take, vec_len, Option, None, IfSome};
 ghost use Rattle.std.specs.List.{All, flat_map};
-ghost use Rattle.ctf_class.specs.Records.{Slot, AreIntegers, AreRuns, IsField, IsPlanOf, numbers_room};
+ghost use Rattle.ctf_class.specs.Records.{After, Slot, AreIntegers, AreRuns, IsField, IsPlanOf, numbers_room, room_of};
 ghost use Rattle.ctf_class.specs.declared.class.Class.{Class};
 ghost use Rattle.ctf_class.specs.declared.class.Member.{Member};
 ghost use Rattle.ctf_class.specs.declared.record_plan.Many.TheVariants.{One};
 ghost use Rattle.ctf_decode.specs.Views.{form};
-ghost use Rattle.ctf_format.specs.Plain.{plain_text};
-ghost use Rattle.ctf_format.specs.Records.{IsNear, IsLastNumber, PutsField, PutsFields, PutsOther, PutsScopes, TakesRun, after_number, reached};
+ghost use Rattle.ctf_format.specs.Plain.{IsInside, number_at, place_in, run_text};
+ghost use Rattle.ctf_format.specs.Records.{BeginsAt, IsNear, IsLastNumber, PutsField, PutsFields, PutsOther, PutsScopes, TakesRun, after_number, reached};
 ghost use Rattle.ctf_format.specs.Texts as texts;
 
 use crate::array::put_integers;
@@ -16,12 +16,13 @@ use crate::content::Content;
 use crate::leaf::put_enumeration;
 use crate::mark::put_end;
 use crate::placed_run::PlacedRun;
-use crate::plain_number::put_numbers;
 use crate::room::with_room;
+use crate::run_number::{put_plain_numbers, put_special_numbers};
 use crate::standing::{
     AlignedInteger, Position, Standing, put_fixed_text, put_integer, put_string,
 };
-use ctf_class::{Field, Integers, Many, PlainNumber, PreparedText, RecordPlan, Run, Shown};
+use ctf_bits::uint_within;
+use ctf_class::{Field, Integers, Many, PreparedText, RecordPlan, Run, RunNumber, Shown};
 use ctf_decode::MOST_VALUES;
 
 /// How far fields came.
@@ -146,37 +147,121 @@ fn put_run(
     if with_room(run.room, buffer, at).is_err() {
         return None;
     }
-    let first = (begin / 8) as usize;
-    let text = put_run_numbers(run.numbers.as_slice(), packet.bytes, first, buffer, at);
-    reach.place = begin + run.span;
-    match &run.field {
-        None => Some(text),
-        Some(field) => {
-            let end = reach.place;
-            let placed = PlacedRun { run, packet, end };
-            put_field(field, placed, reach, buffer, text)
-        }
+    let end = begin + run.span;
+    let placed = PlacedRun { run, packet, end };
+    if run.has_special {
+        // A copy, so that other runs do not go through memory.
+        let mut to = *reach;
+        let text = put_special_run(placed, &mut to, buffer, at)?;
+        *reach = to;
+        return Some(text);
     }
+    put_placed_run(placed, reach, buffer, at)
 }
 
-/// Writes the numbers of a run that begins after so many bytes at an index of a buffer that has room, and gives the
-/// index after them.
-#[inline(always)]
-fn put_run_numbers(
-    numbers: &[PlainNumber],
-    bytes: &[u8],
-    first: usize,
+/// Writes the fields of a run with numbers that are big endian or not in decimal, and gives the index after them;
+/// `reach` says how far they came then. It is out of the way of other runs.
+#[inline(never)]
+fn put_special_run(
+    placed: PlacedRun<'_>,
+    reach: &mut Reach,
     buffer: &mut Vec<u8>,
     at: usize,
-) -> usize
-    requires room { at + numbers_room numbers.now ≤ vec_len buffer.old }
-    requires held { All (λ n. first + n.window.place / 8 + 8 ≤ length bytes.now) numbers.now }
-    ensures text { take result buffer.new.items ≡
-        take at buffer.old.items ++ flat_map (plain_text bytes.now first) numbers.now }
-    ensures near { result + 24 ≤ at + numbers_room numbers.now }
+) -> Option<usize>
+    requires near { IsNear placed.run.now }
+    requires begins { BeginsAt reach.old.place placed.run.now (placed.end - placed.run.now.span) }
+    requires few { reach.old.more ≤ MOST_VALUES }
+    requires room { at + placed.run.now.room ≤ vec_len buffer.old }
+    ensures puts { let packet = placed.entry.packet.now in
+        (slots others : List Slot) → TakesRun slots placed.entry.run.now others →
+        IfSome result (λ text. (used : List Slot) × (slots ≡ used ++ others) ×
+        PutsFields used packet.bytes.now packet.end
+        (reached reach.old (take at buffer.old.items))
+        (reached reach.new (take text buffer.new.items))) }
+    ensures within { IfSome result (λ _. reach.new.place ≤ placed.entry.packet.now.end) }
+    ensures few { IfSome result (λ _. reach.new.more ≤ MOST_VALUES) }
+    ensures held { IfSome result (λ text. text ≤ vec_len buffer.new) }
+{
+    put_placed_run(placed, reach, buffer, at)
+}
+
+/// Writes the fields of a run whose numbers are within the content, and gives the index after them; `reach` says how
+/// far they came then.
+#[inline(always)]
+fn put_placed_run(
+    placed: PlacedRun<'_>,
+    reach: &mut Reach,
+    buffer: &mut Vec<u8>,
+    at: usize,
+) -> Option<usize>
+    requires near { IsNear placed.run.now }
+    requires begins { BeginsAt reach.old.place placed.run.now (placed.end - placed.run.now.span) }
+    requires few { reach.old.more ≤ MOST_VALUES }
+    requires room { at + placed.run.now.room ≤ vec_len buffer.old }
+    ensures puts { let packet = placed.entry.packet.now in
+        (slots others : List Slot) → TakesRun slots placed.entry.run.now others →
+        IfSome result (λ text. (used : List Slot) × (slots ≡ used ++ others) ×
+        PutsFields used packet.bytes.now packet.end
+        (reached reach.old (take at buffer.old.items))
+        (reached reach.new (take text buffer.new.items))) }
+    ensures within { IfSome result (λ _. reach.new.place ≤ placed.entry.packet.now.end) }
+    ensures few { IfSome result (λ _. reach.new.more ≤ MOST_VALUES) }
+    ensures held { IfSome result (λ text. text ≤ vec_len buffer.new) }
+{
+    let text = put_run_numbers(placed, buffer, at);
+    put_run_field(placed, reach, buffer, text)
+}
+
+/// Writes the numbers of a run at an index of a buffer that has room, and gives the index after them.
+#[inline(always)]
+fn put_run_numbers(placed: PlacedRun<'_>, buffer: &mut Vec<u8>, at: usize) -> usize
+    requires room { at + numbers_room placed.run.now.numbers ≤ vec_len buffer.old }
+    ensures text { let run = placed.entry.run.now in
+        let first = (placed.entry.end - run.span) / 8 in
+        take result buffer.new.items ≡ take at buffer.old.items ++
+        flat_map (run_text placed.entry.packet.now.bytes.now first) run.numbers }
+    ensures near { result + 24 ≤ at + numbers_room placed.entry.run.now.numbers }
     ensures length { vec_len buffer.new ≡ vec_len buffer.old }
 {
-    put_numbers(numbers, bytes, first, buffer.as_mut_slice(), at)
+    let run = placed.run;
+    let first = ((placed.end - run.span) / 8) as usize;
+    let numbers = run.numbers.as_slice();
+    let bytes = placed.packet.bytes;
+    if run.has_special {
+        return put_special_numbers(numbers, bytes, first, buffer.as_mut_slice(), at);
+    }
+    put_plain_numbers(numbers, bytes, first, buffer.as_mut_slice(), at)
+}
+
+/// Writes the field after the numbers of a run, if there is one, and gives the index after it; `reach` says how far it
+/// came then.
+#[inline(always)]
+fn put_run_field(
+    placed: PlacedRun<'_>,
+    reach: &mut Reach,
+    buffer: &mut Vec<u8>,
+    at: usize,
+) -> Option<usize>
+    requires few { reach.old.more ≤ MOST_VALUES }
+    requires room { at + room_of [] placed.run.now.field ≤ vec_len buffer.old }
+    ensures puts { let packet = placed.entry.packet.now in let run = placed.entry.run.now in
+        (slots others : List Slot) → After slots run.field (λ xs. xs ≡ others) →
+        IfSome result (λ text. (last : Option ℕ) ×
+        IsLastNumber last run.numbers packet.bytes.now ((placed.entry.end - run.span) / 8) ×
+        (used : List Slot) × (slots ≡ used ++ others) ×
+        PutsFields used packet.bytes.now packet.end
+        (after_number (record reach.old { place = placed.entry.end }) last
+        (take at buffer.old.items))
+        (reached reach.new (take text buffer.new.items))) }
+    ensures within { IfSome result (λ _. reach.new.place ≤ placed.entry.packet.now.end) }
+    ensures few { IfSome result (λ _. reach.new.more ≤ MOST_VALUES) }
+    ensures held { IfSome result (λ text. text ≤ vec_len buffer.new) }
+{
+    reach.place = placed.end;
+    match &placed.run.field {
+        None => Some(at),
+        Some(field) => put_field(field, placed, reach, buffer, at),
+    }
 }
 
 /// Writes a text at an index of a buffer that has room for it and for 24 bytes more, and gives the index after it.
@@ -398,5 +483,20 @@ fn last_number(placed: PlacedRun<'_>) -> Option<u64>
     if last.integer.is_signed {
         return None;
     }
+    if last.is_special {
+        return Some(unsigned_number(last, placed.packet.bytes, first));
+    }
     last.window.number(placed.packet.bytes, first)
+}
+
+/// The number of an unsigned integer of a run that begins after so many bytes, of any byte order.
+#[inline(never)]
+fn unsigned_number(number: &RunNumber, bytes: &[u8], first: usize) -> u64
+    requires inside { IsInside bytes.now first number.now }
+    requires unsigned { number.now.integer.is_signed ≡ false }
+    ensures { number_at number.now.integer bytes.now (place_in first number.now) ≡ pos result }
+{
+    let place = 8 * first as u64 + number.window.place();
+    let integer = &number.integer;
+    uint_within(bytes, place, integer.size.bits(), integer.order)
 }

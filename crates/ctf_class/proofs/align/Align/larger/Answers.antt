@@ -1,4 +1,4 @@
-use Rattle.std.proofs.Common.{ℕ, subst, arith}
+use Rattle.std.proofs.Common.{subst, arith}
 use Rattle.ctf_class.specs.Alignment.{IsAlignment}
 use Rattle.ctf_class.proofs.AlignmentLemmas.{one_is_larger, other_is_larger}
 use Rattle.ctf_class.proofs.align.Align.larger.Goals as goal

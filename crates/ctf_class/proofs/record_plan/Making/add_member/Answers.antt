@@ -2,20 +2,19 @@ use Rattle.std.proofs.Common.{◌++◌, ◌∷◌, [], IfSome, max, refl, sym, s
 use Rattle.ctf_class.specs.Making.{IsMade}
 use Rattle.ctf_class.specs.Records.{Slot, IsNumber, IsShown, IsField}
 use Rattle.ctf_class.specs.declared.record_plan.Field.{Field}
-use Rattle.ctf_class.specs.declared.plain_number.PlainNumber.{PlainNumber}
+use Rattle.ctf_class.specs.declared.run_number.RunNumber.{RunNumber}
 use Rattle.ctf_class.proofs.RecordsLemmas.{goes_on, made_number, made_field}
 use Rattle.ctf_class.proofs.record_plan.Making.add_member.Goals as goal
 
 pub returns-in-Some-clause-made : goal.returns-in-Some-clause-made
 returns-in-Some-clause-made c = λ _ done made.
     let s : Slot = record { lead = c.args.next.now.lead.now; align = c.args.next.now.align; index = c.args.next.now.index; member = c.args.next.now.member.now } in
-    let n : PlainNumber = record { integer = c.in-Some.integer; window = c.in-Some.window; ready = c.in_ok-ready.ready } in
+    let n : RunNumber = record { integer = c.in-Some.integer; window = c.in-Some.window; is_special = c.is_special.result; ready = c.in_ok-ready.ready } in
     let run = c.align_with-run_align.result in
     let on = goes_on c.args.self.now.align run s c.args.self.now.numbers c.align_with-run_align.ensures.first c.align_with-run_align.ensures.later in
     let is : IsNumber (max 8 run) c.args.self.now.span s n = record {
       is = search rules;
-      decimal = search rules;
-      little = search rules;
+      special = search rules;
       begins = search rules;
       divides = search rules;
       window = search rules;

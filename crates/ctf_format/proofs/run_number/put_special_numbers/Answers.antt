@@ -2,10 +2,10 @@ use Rattle.std.proofs.Common.{◌+◌, drop, ap, arith}
 use Rattle.ctf_class.specs.Records.{numbers_room}
 use Rattle.ctf_format.proofs.NamesLemmas.{here}
 use Rattle.ctf_format.proofs.PlainLemmas.{room_some}
-use Rattle.ctf_format.proofs.plain_number.put_numbers.Goals as goal
+use Rattle.ctf_format.proofs.run_number.put_special_numbers.Goals as goal
 
-pub put_number-text-requires-clause-room : goal.put_number-text-requires-clause-room
-put_number-text-requires-clause-room c =
+pub put_any_number-text-requires-clause-room : goal.put_any_number-text-requires-clause-room
+put_any_number-text-requires-clause-room c =
     let ns = c.args.numbers.now in
     let k = c.loop-number.number-index in
     let left = ap numbers_room (here ns k c.number-item.result c.loop-number-test.true c.number-item.is) in

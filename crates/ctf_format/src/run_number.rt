@@ -1,0 +1,117 @@
+//! Texts of integers at fixed distances.
+
+ghost use Rattle.std.specs.Prelude.{◌≡◌, ◌+◌, ◌/◌, ◌++◌, ◌≤◌, length, take, false, true};
+ghost use Rattle.std.specs.Fmt.{signed_decimal};
+ghost use Rattle.std.specs.List.{All, flat_map};
+ghost use Rattle.ctf_bits.specs.Placed.{number_after};
+ghost use Rattle.ctf_class.specs.Records.{have_special, numbers_room};
+ghost use Rattle.ctf_format.specs.Plain.{IsInside, IsPlaced, run_text};
+
+use crate::decimal::{put_signed_short, put_unsigned};
+use crate::standing::put_integer_at;
+use ctf_bits::Window;
+use ctf_class::RunNumber;
+
+/// Writes numbers of a run that begins after so many bytes at an index of a line, and gives the index after them. All
+/// are in decimal and little endian.
+#[inline(always)]
+pub(crate) fn put_plain_numbers(
+    numbers: &[RunNumber],
+    bytes: &[u8],
+    first: usize,
+    line: &mut [u8],
+    at: usize,
+) -> usize
+    requires room { at + numbers_room numbers.now ≤ length line.old }
+    requires held { All (λ n. first + n.window.place / 8 + 8 ≤ length bytes.now) numbers.now }
+    requires placed { All IsPlaced numbers.now }
+    requires plain { have_special numbers.now ≡ false }
+    ensures text { take result line.new ≡
+        take at line.old ++ flat_map (run_text bytes.now first) numbers.now }
+    ensures near { result + 24 ≤ at + numbers_room numbers.now }
+{
+    let mut text = at;
+    for number in numbers {
+        text = put_number(number, bytes, first, line, text);
+    }
+    text
+}
+
+/// Writes numbers of a run that begins after so many bytes at an index of a line, and gives the index after them. They
+/// are of any base and byte order.
+pub(crate) fn put_special_numbers(
+    numbers: &[RunNumber],
+    bytes: &[u8],
+    first: usize,
+    line: &mut [u8],
+    at: usize,
+) -> usize
+    requires room { at + numbers_room numbers.now ≤ length line.old }
+    requires held { All (λ n. first + n.window.place / 8 + 8 ≤ length bytes.now) numbers.now }
+    requires inside { All (λ n. IsInside bytes.now first n) numbers.now }
+    requires placed { All IsPlaced numbers.now }
+    ensures text { take result line.new ≡
+        take at line.old ++ flat_map (run_text bytes.now first) numbers.now }
+    ensures near { result + 24 ≤ at + numbers_room numbers.now }
+{
+    let mut text = at;
+    for number in numbers {
+        text = put_any_number(number, bytes, first, line, text);
+    }
+    text
+}
+
+/// Writes a number in decimal, little endian. Mostly it is not below zero.
+#[inline(always)]
+fn put_number(number: &RunNumber, bytes: &[u8], first: usize, line: &mut [u8], at: usize) -> usize
+    requires room { at + length number.now.ready + 48 ≤ length line.old }
+    requires held { first + number.now.window.place / 8 + 8 ≤ length bytes.now }
+    requires placed { IsPlaced number.now }
+    requires plain { number.now.is_special ≡ false }
+    ensures text { take result line.new ≡ take at line.old ++ run_text bytes.now first number.now }
+    ensures near { result ≤ at + length number.now.ready + 24 }
+{
+    let begin = number.ready.put(line, at);
+    match number.window.number(bytes, first) {
+        Some(value) => put_unsigned(value, line, begin),
+        None => put_below_zero(&number.window, bytes, first, line, begin),
+    }
+}
+
+/// Writes a number that is below zero.
+#[cold]
+#[inline(never)]
+fn put_below_zero(window: &Window, bytes: &[u8], first: usize, line: &mut [u8], at: usize) -> usize
+    requires signed { window.now.is_signed ≡ true }
+    requires room { at + 21 ≤ length line.old }
+    requires held { first + window.now.place / 8 + 8 ≤ length bytes.now }
+    ensures text { take result line.new ≡
+        take at line.old ++ signed_decimal (number_after window.now bytes.now first) }
+    ensures near { result ≤ at + 21 }
+{
+    put_signed_short(window.signed(bytes, first), line, at)
+}
+
+/// Writes a number of any base and byte order.
+#[inline(always)]
+fn put_any_number(
+    number: &RunNumber,
+    bytes: &[u8],
+    first: usize,
+    line: &mut [u8],
+    at: usize,
+) -> usize
+    requires room { at + length number.now.ready + 90 ≤ length line.old }
+    requires held { first + number.now.window.place / 8 + 8 ≤ length bytes.now }
+    requires inside { IsInside bytes.now first number.now }
+    requires placed { IsPlaced number.now }
+    ensures text { take result line.new ≡ take at line.old ++ run_text bytes.now first number.now }
+    ensures near { result ≤ at + length number.now.ready + 66 }
+{
+    if !number.is_special {
+        return put_number(number, bytes, first, line, at);
+    }
+    let begin = number.ready.put(line, at);
+    let place = 8 * first as u64 + number.window.place();
+    put_integer_at(&number.integer, bytes, place, line, begin)
+}
