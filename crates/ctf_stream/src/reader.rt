@@ -338,7 +338,8 @@ impl<'a, S: Source + Drop> StreamReader<'a, S> {
     }
 }
 
-/// Gives the end of a stream next. It is made in a call, so that no room is cleared for a large value that is seldom made.
+/// Gives the end of a stream next. It is put there in a call, so that no room is cleared for a large value that is
+/// seldom made.
 #[cold]
 #[inline(never)]
 fn end(head: &mut Head<'_>)
