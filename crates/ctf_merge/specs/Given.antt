@@ -13,9 +13,13 @@ use Rattle.ctf_merge.specs.declared.fault.MergeFault.TheVariants.{Stream}
 -- The first item that was to come is given, and the rest is to come; or nothing was to come; or the fault was, or an
 -- allocation failed for the item, and then nothing comes.
 abbrev pub Gives : Merged → Merged → Result (Option OwnedItem) MergeFault → Type 0
-Gives old new (Ok (Some x)) = (number : ℕ) × (end : ℕ) × (length : ℕ) × (rest : Merged) × (old ≡ then (record { number = number; item = item_of x end length }) rest) × MergedOrRefused rest new
+Gives old new (Ok (Some x)) =
+    (number : ℕ) × (end : ℕ) × (length : ℕ) × (rest : Merged)
+    × (old ≡ then (record { number = number; item = item_of x end length }) rest)
+    × MergedOrRefused rest new
 Gives old new (Ok None) = (old ≡ ends None) × (new ≡ ends None)
-Gives old new (Err f) = ((old ≡ ends (Some f)) ⊎ ((old.items ≢ []) × IsRefusal f)) × (new ≡ ends None)
+Gives old new (Err f) =
+    ((old ≡ ends (Some f)) ⊎ ((old.items ≢ []) × IsRefusal f)) × (new ≡ ends None)
 
 -- this is the item that comes next, of the trace class or with the name of its stream
 pub record IsGiven (m : Merge) (x : OwnedItem) : Type 0 where
@@ -28,7 +32,8 @@ pub record IsGiven (m : Merge) (x : OwnedItem) : Type 0 where
 
 -- the current item of a reader is given, unless an allocation failed
 abbrev pub GivesFront : reader.Peeked → Result (Option OwnedItem) StreamFault → Type 0
-GivesFront ahead (Ok (Some x)) = (end : ℕ) × (length : ℕ) × (ahead ≡ reader.item (item_of x end length))
+GivesFront ahead (Ok (Some x)) =
+    (end : ℕ) × (length : ℕ) × (ahead ≡ reader.item (item_of x end length))
 GivesFront ahead (Ok None) = ⊥
 GivesFront ahead (Err f) = f ≡ faults.NoMemory
 

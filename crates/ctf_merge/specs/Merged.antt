@@ -35,7 +35,9 @@ run_at (suc i) (r ∷ rs) = run_at i rs
 
 -- of two items at one time that of the lower stream comes first, and no item comes after a later one
 abbrev pub IsPlacedBefore : Placed → Placed → Type 0
-IsPlacedBefore x y = NotBefore (time_of x.item) (time_of y.item) × (is_before (time_of x.item) (time_of y.item) ≡ false → x.number ≤ y.number)
+IsPlacedBefore x y =
+    NotBefore (time_of x.item) (time_of y.item)
+    × (is_before (time_of x.item) (time_of y.item) ≡ false → x.number ≤ y.number)
 
 -- by time, none first, and then by stream
 abbrev pub InOrder : List Placed → Type 0
@@ -51,13 +53,17 @@ pub record IsMerged (runs : List (Run Classes)) (all : List Placed) : Type 0 whe
 -- least of them being reported; else up to the last item of a faulty stream, after which each other faulty stream has
 -- an item still.
 pub data IsCut (runs : List (Run Classes)) (all : List Placed) : Merged → Type 0 where
-  whole : ((i : ℕ) → (run_at i runs).fault ≡ None) → IsCut runs all (record { items = all; fault = None })
+  whole : ((i : ℕ) → (run_at i runs).fault ≡ None)
+      → IsCut runs all (record { items = all; fault = None })
   at_once : (i : ℕ) (f : StreamFault) → (run_at i runs).fault ≡ Some f → (run_at i runs).items ≡ []
-      → ((j : ℕ) (g : StreamFault) → j < i → (run_at j runs).fault ≡ Some g → (run_at j runs).items ≡ [] → ⊥)
+      → ((j : ℕ) (g : StreamFault) → j < i → (run_at j runs).fault ≡ Some g
+      → (run_at j runs).items ≡ [] → ⊥)
       → IsCut runs all (record { items = []; fault = Some (Stream i f) })
-  after : (first rest : List Placed) (last : Placed) (f : StreamFault) → all ≡ first ++ last ∷ rest → (run_at last.number runs).fault ≡ Some f
+  after : (first rest : List Placed) (last : Placed) (f : StreamFault) → all ≡ first ++ last ∷ rest
+      → (run_at last.number runs).fault ≡ Some f
       → of_stream last.number rest ≡ []
-      → ((j : ℕ) (g : StreamFault) → (run_at j runs).fault ≡ Some g → (j ≡ last.number) ⊎ (of_stream j rest ≡ [] → ⊥))
+      → ((j : ℕ) (g : StreamFault) → (run_at j runs).fault ≡ Some g
+      → (j ≡ last.number) ⊎ (of_stream j rest ≡ [] → ⊥))
       → IsCut runs all (record { items = first ++ last ∷ []; fault = Some (Stream last.number f) })
 
 -- ---- what it is, one item after the other
@@ -134,7 +140,8 @@ merged_from nothing rest = ends None
 -- `fuel` bounds the number of items
 abbrev pub merged_by : ℕ → List (Run Classes) → Merged
 merged_by zero runs = merged_from (first_of (map head_of runs)) (λ i. ends None)
-merged_by (suc fuel) runs = merged_from (first_of (map head_of runs)) (λ i. merged_by fuel (advance i runs))
+merged_by (suc fuel) runs =
+    merged_from (first_of (map head_of runs)) (λ i. merged_by fuel (advance i runs))
 
 -- the items of all streams up to the cut, and the fault at it
 unfoldable pub merged : List (Run Classes) → Merged

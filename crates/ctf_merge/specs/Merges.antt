@@ -82,7 +82,9 @@ IsRefusal NoMemory = Unit {0}
 
 -- this list, or none of it where an allocation failed
 abbrev pub MergedOrRefused : Merged → Merged → Type 0
-MergedOrRefused m actual = (actual ≡ m) ⊎ ((actual.items ≡ []) × ((f : MergeFault) × (actual.fault ≡ Some f) × IsRefusal f))
+MergedOrRefused m actual =
+    (actual ≡ m)
+    ⊎ ((actual.items ≡ []) × ((f : MergeFault) × (actual.fault ≡ Some f) × IsRefusal f))
 
 -- What was current is gone past: an item, or the fault, after which nothing comes.
 pub record GoesOn (old new : Merged) : Type 0 where
@@ -149,7 +151,8 @@ pub record IsNext (m : Merge) (number : ℕ) : Type 0 where
   pub ahead : front.ahead ≡ reader.item next
   pub first : first_now m ≡ item number next
   pub least : EachNotBefore (time_of next) m.readers
-  pub coming : EachTells m.readers → coming_of m ≡ then (record { number = number; item = next }) rest
+  pub coming : EachTells m.readers
+      → coming_of m ≡ then (record { number = number; item = next }) rest
 
 -- an item that is left took room
 abbrev pub RoomLeft : First → ℕ → ℕ → Type 0

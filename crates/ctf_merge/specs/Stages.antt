@@ -29,6 +29,7 @@ Stands stages.Going heads turns = LinedUp heads turns
 Stands (stages.Broken number fault) heads turns = first_of heads ≡ broken number fault
 Stands stages.Over heads turns = Unit {0}
 
-pub record IsStanding (readers : List Reader) (turns : List (Option Turn)) (stage : Stage) : Type 0 where
+pub record IsStanding (readers : List Reader) (turns : List (Option Turn)) (stage : Stage)
+    : Type 0 where
   pub fetched : EachFetched readers
   pub stands : Stands stage (map (λ r. r.ahead) readers) turns

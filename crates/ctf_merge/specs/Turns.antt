@@ -24,7 +24,9 @@ abbrev pub turn_cmp : Turn → Turn → Ordering
 turn_cmp x y = ordering_then (option_cmp int_cmp x.time y.time) (nat_cmp x.number y.number)
 
 pub turns_total : IsTotalOrder turn_cmp
-turns_total = then_total (on_total (λ (t : Turn). t.time) (options_total int_cmp_total)) (on_total (λ (t : Turn). t.number) nat_cmp_total)
+turns_total =
+    then_total (on_total (λ (t : Turn). t.time) (options_total int_cmp_total))
+    (on_total (λ (t : Turn). t.number) nat_cmp_total)
 
 -- the turn of a stream, where it has a current item
 abbrev pub turn_at : ℕ → Peeked → Option Turn

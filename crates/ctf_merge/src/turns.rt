@@ -37,7 +37,8 @@ impl Model for TournamentTree {
 
     ghost view = { λ t. map turn_in (drop t.leaves t.nodes.items) };
 
-    ghost invariant = { λ t. IsTree t.leaves t.nodes.items × AreNodes 0 (drop t.leaves t.nodes.items) };
+    ghost invariant = { λ t. IsTree t.leaves t.nodes.items
+        × AreNodes 0 (drop t.leaves t.nodes.items) };
 }
 
 impl TournamentTree {
