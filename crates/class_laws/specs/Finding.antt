@@ -32,7 +32,9 @@ abbrev mutual
   pub FindsInMembers : Parts → Input → Env → List Val → Type 0
   FindsInMembers no_parts c env done = Unit {0}
   FindsInMembers (part name k ps) c env done =
-      FindsAll k c (done ∷ env) × ((p : ℕ) (v : Val) (q : ℕ) → Stands k c (done ∷ env) p v q → FindsInMembers ps c env (done ++ v ∷ []))
+      FindsAll k c (done ∷ env)
+      × ((p : ℕ) (v : Val) (q : ℕ) → Stands k c (done ∷ env) p v q
+      → FindsInMembers ps c env (done ++ v ∷ []))
 
   pub FindsInOptions : Parts → Input → Env → Type 0
   FindsInOptions no_parts c env = Unit {0}

@@ -31,7 +31,12 @@ pub record Sides : Type 0 where
   pub err : Side
 
 abbrev pub side_of : {S : Type 0} → (S → List ℕ) → (S → Bool) → (S → ℕ) → (S → ℕ) → S → Side
-side_of accepted settled failures refusals s = record { accepted = accepted s; settled = settled s; failures = failures s; refusals = refusals s }
+side_of accepted settled failures refusals s = record {
+  accepted = accepted s;
+  settled = settled s;
+  failures = failures s;
+  refusals = refusals s;
+}
 
 -- a sink that holds nothing back, as that of the messages
 abbrev pub plain_side_of : {S : Type 0} → (S → List ℕ) → (S → ℕ) → (S → ℕ) → S → Side
@@ -47,7 +52,12 @@ written old new = record {
 }
 
 abbrev pub counts_of : Sides → Counts
-counts_of s = record { out_failures = s.out.failures; out_refusals = s.out.refusals; err_failures = s.err.failures; err_refusals = s.err.refusals }
+counts_of s = record {
+  out_failures = s.out.failures;
+  out_refusals = s.out.refusals;
+  err_failures = s.err.failures;
+  err_refusals = s.err.refusals;
+}
 
 -- ---- a text to one sink
 
@@ -90,16 +100,20 @@ pub record Says (text : List ℕ) (old new : Side) : Type 0 where
 -- What the log holds back is passed on, which changes how the program ends only where the log fails or runs out of
 -- memory. After a failed write nothing more is passed on.
 pub data Settles (old new : Side) : Outcome → Outcome → Type 0 where
-  settled : (outcome : Outcome) → (outcome ≡ WriteFailed → ⊥) → IsTrue new.settled → new.accepted ≡ old.accepted → Counted Done old new → Settles old new outcome outcome
-  failed : (outcome : Outcome) → (outcome ≡ WriteFailed → ⊥) → new.accepted ≡ old.accepted → Counted WriteFailed old new → Settles old new outcome WriteFailed
-  refused : (outcome : Outcome) → (outcome ≡ WriteFailed → ⊥) → new.accepted ≡ old.accepted → Counted NoMemory old new → Settles old new outcome NoMemory
+  settled : (outcome : Outcome) → (outcome ≡ WriteFailed → ⊥) → IsTrue new.settled
+      → new.accepted ≡ old.accepted → Counted Done old new → Settles old new outcome outcome
+  failed : (outcome : Outcome) → (outcome ≡ WriteFailed → ⊥) → new.accepted ≡ old.accepted
+      → Counted WriteFailed old new → Settles old new outcome WriteFailed
+  refused : (outcome : Outcome) → (outcome ≡ WriteFailed → ⊥) → new.accepted ≡ old.accepted
+      → Counted NoMemory old new → Settles old new outcome NoMemory
   left : new ≡ old → Settles old new WriteFailed WriteFailed
 
 -- ---- the program
 
 -- A run over the traces, in which nothing of the log is held back after the line of a fault, nor where the messages
 -- failed or ran out of memory; then the log is settled; then the line of how that ended is written.
-pub record Prints (traces : List Trace) (options : Options) (old new : Sides) (status : ℕ) : Type 0 where
+pub record Prints (traces : List Trace) (options : Options) (old new : Sides) (status : ℕ)
+    : Type 0 where
   pub between : Sides
   pub outcome : Outcome
   pub told : Outcome
@@ -130,14 +144,18 @@ pub record Refuses (line : List ℕ) (old new : Sides) (status : ℕ) : Type 0 w
 -- How the program ends for options: the traces in the folders are printed; or the line of the first path that can't be
 -- read is, or that of out of memory.
 pub data EndsFor (options : Options) (files : Files) (old new : Sides) (status : ℕ) : Type 0 where
-  printed : (traces : List Trace) → AreTraces files options.dirs traces → Prints traces options old new status → EndsFor options files old new status
-  blocked : (path : List ℕ) → AreBlocked files options.dirs path → Refuses (path_line path) old new status → EndsFor options files old new status
+  printed : (traces : List Trace) → AreTraces files options.dirs traces
+      → Prints traces options old new status → EndsFor options files old new status
+  blocked : (path : List ℕ) → AreBlocked files options.dirs path
+      → Refuses (path_line path) old new status → EndsFor options files old new status
   starved : Refuses (outcome_text NoMemory) old new status → EndsFor options files old new status
 
 -- How the program ends for words: as for the options that they give; or with the usage line, where they ask for help;
 -- or with the line of bad words, or of out of memory.
 pub data Ends (words : List (List ℕ)) (files : Files) (old new : Sides) (status : ℕ) : Type 0 where
-  asked : (options : Options) → GivesOptions words options → EndsFor options files old new status → Ends words files old new status
+  asked : (options : Options) → GivesOptions words options → EndsFor options files old new status
+      → Ends words files old new status
   helped : IsRefusal words usages.Help → Helps old new status → Ends words files old new status
-  bad : IsRefusal words usages.Bad → Refuses (usage_text usages.Bad) old new status → Ends words files old new status
+  bad : IsRefusal words usages.Bad → Refuses (usage_text usages.Bad) old new status
+      → Ends words files old new status
   spent : Refuses (usage_text usages.NoMemory) old new status → Ends words files old new status

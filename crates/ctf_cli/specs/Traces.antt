@@ -42,16 +42,20 @@ stream_if name None = []
 stream_if name (Some given) = record { name = name; given = given } ∷ []
 
 -- what is at the path of a name, and then the streams after it; or the first path that can't be opened
-abbrev pub stream_then : List ℕ → List ℕ → Found → Result (List Stream) (List ℕ) → Result (List Stream) (List ℕ)
+abbrev pub stream_then : List ℕ → List ℕ → Found → Result (List Stream) (List ℕ)
+    → Result (List Stream) (List ℕ)
 stream_then path name closed rest = Err path
 stream_then path name nothing rest = rest
-stream_then path name (stream given) (Ok streams) = Ok (record { name = name; given = given } ∷ streams)
+stream_then path name (stream given) (Ok streams) =
+    Ok (record { name = name; given = given } ∷ streams)
 stream_then path name (stream given) (Err later) = Err later
 
 -- the streams among the files of these names in a folder, in their order; or the first path that can't be opened
 abbrev pub streams_in : Files → List ℕ → List (List ℕ) → Result (List Stream) (List ℕ)
 streams_in files dir [] = Ok []
-streams_in files dir (name ∷ names) = stream_then (path_join dir name) name (files.found (path_join dir name)) (streams_in files dir names)
+streams_in files dir (name ∷ names) =
+    stream_then (path_join dir name) name (files.found (path_join dir name))
+    (streams_in files dir names)
 
 -- ---- a trace
 
@@ -70,8 +74,11 @@ pub record IsTrace (files : Files) (dir : List ℕ) (trace : Trace) : Type 0 whe
 -- the first path of a folder that can't be read: the folder, then its metadata, then its streams in their order
 pub data IsBlocked (files : Files) (dir : List ℕ) : List ℕ → Type 0 where
   at_folder : names_in files dir ≡ None → IsBlocked files dir dir
-  at_metadata : (listed : List (List ℕ)) → names_in files dir ≡ Some listed → files.bytes (metadata_path dir) ≡ None → IsBlocked files dir (metadata_path dir)
-  at_stream : (listed names : List (List ℕ)) (bytes path : List ℕ) → names_in files dir ≡ Some listed → AreStreamNames listed names → files.bytes (metadata_path dir) ≡ Some bytes
+  at_metadata : (listed : List (List ℕ)) → names_in files dir ≡ Some listed
+      → files.bytes (metadata_path dir) ≡ None → IsBlocked files dir (metadata_path dir)
+  at_stream : (listed names : List (List ℕ)) (bytes path : List ℕ)
+      → names_in files dir ≡ Some listed → AreStreamNames listed names
+      → files.bytes (metadata_path dir) ≡ Some bytes
       → streams_in files dir names ≡ Err path → IsBlocked files dir path
 
 -- ---- several traces

@@ -26,7 +26,10 @@ impl Model for Held {
 
     ghost Value = { Holding };
 
-    ghost view = { λ held. record { bytes = drop held.begin (take held.end held.room.items); room = vec_len held.room - held.end } };
+    ghost view = { λ held. record {
+      bytes = drop held.begin (take held.end held.room.items);
+      room = vec_len held.room - held.end;
+    } };
 
     ghost invariant = { λ held. (held.begin ≤ held.end) × (held.end ≤ vec_len held.room) };
 }

@@ -7,4 +7,7 @@ use Rattle.ctf_load.specs.Loading.{Describes, IsBroken}
 
 -- Metadata denotes a trace class, or has a fault, which is not out of memory.
 abbrev pub ClassOrFault : Type 0
-ClassOrFault = (bytes : List ℕ) → ((trace : TraceClass) × Describes bytes trace) ⊎ ((fault : LoadFault) × IsBroken bytes fault × (is_refusal fault ≡ false))
+ClassOrFault =
+    (bytes : List ℕ)
+    → ((trace : TraceClass) × Describes bytes trace)
+    ⊎ ((fault : LoadFault) × IsBroken bytes fault × (is_refusal fault ≡ false))

@@ -31,12 +31,20 @@ Spelled bytes tree = (text : List ℕ) × ((tokens : List Token) × HasTree byte
 
 -- the trace class that metadata denotes
 abbrev pub Describes : List ℕ → TraceClass → Type 0
-Describes bytes trace = (text : List ℕ) × ((tokens : List Token) × ((tree : Tree) × HasTree bytes text tokens tree × Denotes tree trace))
+Describes bytes trace =
+    (text : List ℕ)
+    × ((tokens : List Token)
+    × ((tree : Tree) × HasTree bytes text tokens tree × Denotes tree trace))
 
 -- A fault of metadata: of its packets, or of its text, where that is known; of its tokens; or of what its tree means.
 abbrev pub IsBroken : List ℕ → LoadFault → Type 0
 IsBroken bytes (faults.Metadata fault) = MetaRefused bytes fault
-IsBroken bytes (faults.Text fault) = (text : List ℕ) × MetaText bytes text × TokensRefused text fault
-IsBroken bytes (faults.Syntax fault) = (text : List ℕ) × ((tokens : List Token) × HasTokens bytes text tokens × IsCause fault tokens)
+IsBroken bytes (faults.Text fault) =
+    (text : List ℕ) × MetaText bytes text × TokensRefused text fault
+IsBroken bytes (faults.Syntax fault) =
+    (text : List ℕ) × ((tokens : List Token) × HasTokens bytes text tokens × IsCause fault tokens)
 IsBroken bytes (faults.Meaning fault) =
-    (text : List ℕ) × ((tokens : List Token) × ((tree : Tree) × HasTree bytes text tokens tree × ((fault ≡ resolve.NoMemory) ⊎ Faulty tree fault)))
+    (text : List ℕ)
+    × ((tokens : List Token)
+    × ((tree : Tree) × HasTree bytes text tokens tree
+    × ((fault ≡ resolve.NoMemory) ⊎ Faulty tree fault)))

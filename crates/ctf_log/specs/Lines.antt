@@ -18,7 +18,8 @@ event_line style last e = stamp_part style e.clock last ++ (event_text e ++ newl
 
 -- since when and until when
 abbrev pub interval : Style → Option Moment → Option Moment → List ℕ
-interval style (Some from) (Some to) = codes " between [" ++ (stamp style from ++ (codes "] and [" ++ (stamp style to ++ codes "]")))
+interval style (Some from) (Some to) =
+    codes " between [" ++ (stamp style from ++ (codes "] and [" ++ (stamp style to ++ codes "]")))
 interval style (Some from) None = []
 interval style None to = []
 
@@ -32,12 +33,14 @@ stream_text name = codes " in stream \"" ++ (escaped name ++ codes "\"\n")
 
 -- the message about what a tracer did not write before a packet of a stream
 abbrev pub gap_line : List ℕ → List ℕ → Style → List ℕ → Gap → List ℕ
-gap_line verb noun style name gap = count_text verb noun gap.count ++ (interval style gap.from gap.to ++ stream_text name)
+gap_line verb noun style name gap =
+    count_text verb noun gap.count ++ (interval style gap.from gap.to ++ stream_text name)
 
 -- the line of an item of a stream of this name
 abbrev pub line_of : Style → Option ℤ → List ℕ → Item Classes → List ℕ
 line_of style last name (event e) = event_line style last e
-line_of style last name (discarded gap) = gap_line (codes "discarded ") (codes " events") style name gap
+line_of style last name (discarded gap) =
+    gap_line (codes "discarded ") (codes " events") style name gap
 line_of style last name (lost gap) = gap_line (codes "lost ") (codes " packets") style name gap
 
 -- what was printed: the style, and the text of the last line

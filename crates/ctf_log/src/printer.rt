@@ -36,7 +36,10 @@ impl Model for Printer {
 
     ghost Value = { Printed };
 
-    ghost view = { λ printer. record { style = printer.stamper; text = take printer.end printer.line.items } };
+    ghost view = { λ printer. record {
+      style = printer.stamper;
+      text = take printer.end printer.line.items;
+    } };
 
     ghost invariant = { λ printer. printer.end ≤ length printer.line.items };
 }

@@ -13,7 +13,8 @@ use Rattle.ctf_run.specs.declared.trace.Trace.{Trace}
 
 -- why metadata have no class, as the fault of trace 0
 abbrev pub IsLoadFault : List ℕ → RunFault → Type 0
-IsLoadFault metadata (Metadata number fault) = (number ≡ 0) × IsBroken metadata fault × (is_refusal fault ≡ false)
+IsLoadFault metadata (Metadata number fault) =
+    (number ≡ 0) × IsBroken metadata fault × (is_refusal fault ≡ false)
 IsLoadFault metadata (Stream number fault) = ⊥
 IsLoadFault metadata NoMemory = Unit {0}
 
@@ -22,7 +23,8 @@ abbrev pub HaveClasses : {S : Type 0} → List (Trace S) → List TraceClass →
 HaveClasses traces classes = AllZip (λ t class. Describes t.metadata.items class) traces classes
 
 -- the trace of this number has this fault, and those before it have classes
-pub record IsFirstFault {S : Type 0} (traces : List (Trace S)) (number : ℕ) (fault : LoadFault) : Type 0 where
+pub record IsFirstFault {S : Type 0} (traces : List (Trace S)) (number : ℕ) (fault : LoadFault)
+    : Type 0 where
   pub trace : Trace S
   pub at : slice_get traces number ≡ Some trace
   pub classes : List TraceClass

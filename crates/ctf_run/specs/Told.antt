@@ -10,14 +10,21 @@ use Rattle.ctf_run.specs.declared.trace.Trace.{Trace}
 
 -- the name of the trace of a number, where there are several
 abbrev pub name_at : {S : Type 0} → List (Trace S) → ℕ → Option (List ℕ)
-name_at traces number = cond (nat_lt 1 (length traces)) (option_map (λ t. string_bytes t.name) (slice_get traces number)) None
+name_at traces number =
+    cond (nat_lt 1 (length traces))
+    (option_map (λ t. string_bytes t.name) (slice_get traces number)) None
 
 abbrev pub fault_texts : {S : Type 0} → List (Trace S) → ℕ → LoadFault → Texts
-fault_texts traces number fault = record { output = []; messages = metadata_line fault (name_at traces number) }
+fault_texts traces number fault = record {
+  output = [];
+  messages = metadata_line fault (name_at traces number);
+}
 
 -- the line of the fault was written, or a first part of it
 abbrev pub TellsFault : {S : Type 0} → List (Trace S) → ℕ → LoadFault → Outcome → Written → Type 0
 TellsFault traces number fault outcomes.Done w = ⊥
-TellsFault traces number fault (outcomes.Fault f) w = (f ≡ faults.Metadata number fault) × Writes w (fault_texts traces number fault)
-TellsFault traces number fault outcomes.WriteFailed w = WritesParts w (fault_texts traces number fault)
+TellsFault traces number fault (outcomes.Fault f) w =
+    (f ≡ faults.Metadata number fault) × Writes w (fault_texts traces number fault)
+TellsFault traces number fault outcomes.WriteFailed w =
+    WritesParts w (fault_texts traces number fault)
 TellsFault traces number fault outcomes.NoMemory w = WritesParts w (fault_texts traces number fault)

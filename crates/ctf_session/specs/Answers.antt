@@ -54,11 +54,15 @@ some_after setting (x ∷ xs) = cond (is_after (verdict setting x)) true (some_a
 -- those that are neither after the end nor before the beginning
 abbrev pub within : Setting → List Placed → List Placed
 within setting [] = []
-within setting (x ∷ xs) = cond (is_within (verdict setting x)) (x ∷ within setting xs) (within setting xs)
+within setting (x ∷ xs) =
+    cond (is_within (verdict setting x)) (x ∷ within setting xs) (within setting xs)
 
 -- Items after the end go; if any went, there is no fault. Then items before the beginning go.
 abbrev pub trimmed : Setting → Merged → Merged
-trimmed setting m = record { items = within setting m.items; fault = cond (some_after setting m.items) None m.fault }
+trimmed setting m = record {
+  items = within setting m.items;
+  fault = cond (some_after setting m.items) None m.fault;
+}
 
 -- ---- what is written for them
 
@@ -70,7 +74,8 @@ by_kind (lost g) text = record { output = []; messages = text }
 
 -- the text of an item, where an event record at a time was printed before, or none
 abbrev pub text_of : Setting → Option ℤ → Placed → Texts
-text_of setting last x = by_kind x.item (line_of setting.style last (get_or setting.names x.number []) x.item)
+text_of setting last x =
+    by_kind x.item (line_of setting.style last (get_or setting.names x.number []) x.item)
 
 abbrev pub or_last : Option ℤ → Option ℤ → Option ℤ
 or_last last None = last
@@ -91,7 +96,10 @@ fault_line fault name = stream_line fault name
 
 abbrev pub fault_texts : Setting → Option MergeFault → Texts
 fault_texts setting None = no_texts
-fault_texts setting (Some (Stream number fault)) = record { output = []; messages = fault_line fault (get_or setting.names number []) }
+fault_texts setting (Some (Stream number fault)) = record {
+  output = [];
+  messages = fault_line fault (get_or setting.names number []);
+}
 fault_texts setting (Some NoMemory) = no_texts
 
 -- the fault of a run, with the number of its trace
@@ -112,7 +120,8 @@ fault_pieces setting (Some fault) = fault_texts setting (Some fault) ∷ []
 -- the line or the message of each item, in their order, then the fault's line, if there is a fault
 abbrev pub pieces_of : Setting → Option ℤ → List Placed → Option MergeFault → List Texts
 pieces_of setting last [] fault = fault_pieces setting fault
-pieces_of setting last (x ∷ xs) fault = text_of setting last x ∷ pieces_of setting (last_after last x.item) xs fault
+pieces_of setting last (x ∷ xs) fault =
+    text_of setting last x ∷ pieces_of setting (last_after last x.item) xs fault
 
 pub record Answer : Type 0 where
   -- what is written, in the pieces in which it goes out: each to one of the sinks
@@ -124,7 +133,10 @@ abbrev pub texts : Answer → Texts
 texts a = joined a.pieces
 
 abbrev pub answer_by : Setting → Option ℤ → Merged → Answer
-answer_by setting last m = record { pieces = pieces_of setting last m.items m.fault; outcome = outcome_of setting m.fault }
+answer_by setting last m = record {
+  pieces = pieces_of setting last m.items m.fault;
+  outcome = outcome_of setting m.fault;
+}
 
 -- What is written and answered for items up to the cut, and the fault at it, where an event record at a time was
 -- printed before, or none.

@@ -30,12 +30,18 @@ pub record Input : Type 0 where
 
 module _ {S : Type 0} (given : S → Given) where
   abbrev pub input_of : ℕ → TraceClass → String Global × S → Input
-  input_of trace class stream = record { trace = trace; class = class; name = string_bytes stream.0; given = given stream.1 }
+  input_of trace class stream = record {
+    trace = trace;
+    class = class;
+    name = string_bytes stream.0;
+    given = given stream.1;
+  }
 
   -- the streams of traces that are numbered from a number on, in the order of the traces
   abbrev pub inputs_from : ℕ → List (Streams S) → List Input
   inputs_from trace [] = []
-  inputs_from trace (t ∷ ts) = map (input_of trace t.class.now) t.streams.items ++ inputs_from (suc trace) ts
+  inputs_from trace (t ∷ ts) =
+      map (input_of trace t.class.now) t.streams.items ++ inputs_from (suc trace) ts
 
 -- what the bytes of a stream mean
 abbrev pub run_in : Shift → Input → Run Classes

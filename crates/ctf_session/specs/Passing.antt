@@ -33,11 +33,14 @@ without (x ∷ xs) runs = without xs (advance x.number runs)
 -- From these readers come those, each by one reader that goes past its item, while no allocation fails.
 abbrev pub Pass : List Placed → List Reader → List Reader → Type 0
 Pass [] old new = new ≡ old
-Pass (x ∷ xs) old new = (next : List Reader) × (it : LeavesOne x.number old next) × (it.left ≡ x.item) × (coming it.after ≡ rest_of it.before) × Pass xs next new
+Pass (x ∷ xs) old new =
+    (next : List Reader) × (it : LeavesOne x.number old next) × (it.left ≡ x.item)
+    × (coming it.after ≡ rest_of it.before) × Pass xs next new
 
 -- From these readers come those, each by one reader that goes past its item, none that is after the end of what is
 -- asked for.
 pub data PassesWithin (setting : Setting) (old : List Reader) : List Reader → Type 0 where
   still : PassesWithin setting old old
-  passed : (now new : List Reader) (x : Placed) → PassesWithin setting old now → (it : LeavesOne x.number now new) → it.left ≡ x.item
+  passed : (now new : List Reader) (x : Placed) → PassesWithin setting old now
+      → (it : LeavesOne x.number now new) → it.left ≡ x.item
       → is_after (verdict setting x) ≡ false → PassesWithin setting old new

@@ -36,6 +36,10 @@ stop_in (Err stop) = Some stop
 -- A fault's line was written, or a first part of it; out of memory has none.
 abbrev pub TellsFault : Setting → ℕ → StreamFault → Outcome → Written → Type 0
 TellsFault setting number fault outcomes.Done w = ⊥
-TellsFault setting number fault (outcomes.Fault f) w = (f ≡ fault_of setting (Stream number fault)) × Writes w (fault_texts setting (Some (Stream number fault)))
-TellsFault setting number fault outcomes.WriteFailed w = WritesParts w (fault_texts setting (Some (Stream number fault)))
-TellsFault setting number fault outcomes.NoMemory w = WritesParts w (fault_texts setting (Some (Stream number fault)))
+TellsFault setting number fault (outcomes.Fault f) w =
+    (f ≡ fault_of setting (Stream number fault))
+    × Writes w (fault_texts setting (Some (Stream number fault)))
+TellsFault setting number fault outcomes.WriteFailed w =
+    WritesParts w (fault_texts setting (Some (Stream number fault)))
+TellsFault setting number fault outcomes.NoMemory w =
+    WritesParts w (fault_texts setting (Some (Stream number fault)))

@@ -126,7 +126,8 @@ RoomAfter (steps.Ended o) old new = new ≡ old
 pub record LeavesFirst (coming : Merged) (old new : List Reader) : Type 0 where
   pub number : ℕ
   pub leaves : LeavesOne number old new
-  pub first : EachTells old → (rest : Merged) × (coming ≡ then (record { number = number; item = leaves.left }) rest)
+  pub first : EachTells old
+      → (rest : Merged) × (coming ≡ then (record { number = number; item = leaves.left }) rest)
 
 -- a step that went has gone past the first item; one that ended took nothing from a source
 abbrev pub ReadersAfter : Step → Merged → List Reader → List Reader → Type 0
@@ -147,10 +148,15 @@ pub record Counts : Type 0 where
   pub err_refusals : ℕ
 
 abbrev pub FailedOnce : Counts → Counts → Type 0
-FailedOnce old new = (new ≡ record old { out_failures = one_more old.out_failures }) ⊎ (new ≡ record old { err_failures = one_more old.err_failures })
+FailedOnce old new =
+    (new ≡ record old { out_failures = one_more old.out_failures })
+    ⊎ (new ≡ record old { err_failures = one_more old.err_failures })
 
 abbrev pub RefusedAtMostOnce : Counts → Counts → Type 0
-RefusedAtMostOnce old new = (new ≡ old) ⊎ ((new ≡ record old { out_refusals = one_more old.out_refusals }) ⊎ (new ≡ record old { err_refusals = one_more old.err_refusals }))
+RefusedAtMostOnce old new =
+    (new ≡ old)
+    ⊎ ((new ≡ record old { out_refusals = one_more old.out_refusals })
+    ⊎ (new ≡ record old { err_refusals = one_more old.err_refusals }))
 
 -- no sink failed and none ran out of memory, but the one that stopped the call, once
 abbrev pub CountsAfter : Outcome → Counts → Counts → Type 0
@@ -164,7 +170,8 @@ CountsAfterStep steps.Went old new = new ≡ old
 CountsAfterStep (steps.Ended o) old new = CountsAfter o old new
 
 -- the counts of two sinks, by the sinks themselves
-module _ {O E : Type 0} (out_failures out_refusals : O → ℕ) (err_failures err_refusals : E → ℕ) where
+module _ {O E : Type 0} (out_failures out_refusals : O → ℕ)
+    (err_failures err_refusals : E → ℕ) where
   abbrev pub counts_by : O → E → Counts
   counts_by out err = record {
     out_failures = out_failures out;
@@ -188,7 +195,8 @@ SettledByStep (steps.Ended o) settled = SettledBy o settled
 
 -- the messages failed no more often, nor ran out of memory
 abbrev pub SameForMessages : Counts → Counts → Type 0
-SameForMessages old new = (new.err_failures ≡ old.err_failures) × (new.err_refusals ≡ old.err_refusals)
+SameForMessages old new =
+    (new.err_failures ≡ old.err_failures) × (new.err_refusals ≡ old.err_refusals)
 
 -- ---- out of memory is no fault
 

@@ -57,7 +57,10 @@ pub record WritesParts (w : Written) (texts : Texts) : Type 0 where
 
 -- what was written after these texts
 abbrev pub after_texts : Texts → Written → Written
-after_texts texts w = record w { old_output = w.old_output ++ texts.output; old_messages = w.old_messages ++ texts.messages }
+after_texts texts w = record w {
+  old_output = w.old_output ++ texts.output;
+  old_messages = w.old_messages ++ texts.messages;
+}
 
 -- no message was written, or nothing of the log is held back
 abbrev pub SaysSettled : Written → Type 0

@@ -58,7 +58,12 @@ impl<'a, S: Source + Drop> Model for Session<'a, S> {
 
     ghost view = { λ s. record {
       readers = s.merge.readers;
-      setting = record { trim = s.trim; style = s.printer.style; traces = s.traces.items; names = names_of s.merge.readers };
+      setting = record {
+        trim = s.trim;
+        style = s.printer.style;
+        traces = s.traces.items;
+        names = names_of s.merge.readers;
+      };
       coming = left_by (ended_by s.ended) (coming_of s.merge);
       last = s.last;
       ended = ended_by s.ended;

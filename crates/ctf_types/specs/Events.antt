@@ -30,6 +30,7 @@ module _ (text : List Declaration) where
       pub fields : scope_class text order home EventFields ≡ Some (Some e.fields)
 
 -- what the declaration of this number gives
-pub record IsRow (text : List Declaration) (order : Order) (p : ℕ × Declaration) (row : Linked) : Type 0 where
+pub record IsRow (text : List Declaration) (order : Order) (p : ℕ × Declaration) (row : Linked)
+    : Type 0 where
   pub linked : IsLinked text order p row
   pub below : IsBelow (length (streams text)) row

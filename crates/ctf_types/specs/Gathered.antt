@@ -56,14 +56,18 @@ module _ (text : List Declaration) (order : Order) where
   -- the stream class of a stream, without its events
   pub record IsHead (s : Stream) (h : StreamHead) : Type 0 where
     pub id : h.id ≡ s.id
-    pub packet_context : scope_class text order (home_of_stream text s.block) PacketContext ≡ Some h.packet_context
-    pub event_header : scope_class text order (home_of_stream text s.block) EventHeader ≡ Some h.event_header
-    pub event_context : scope_class text order (home_of_stream text s.block) StreamEventContext ≡ Some h.event_context
+    pub packet_context : scope_class text order (home_of_stream text s.block) PacketContext
+        ≡ Some h.packet_context
+    pub event_header : scope_class text order (home_of_stream text s.block) EventHeader
+        ≡ Some h.event_header
+    pub event_context : scope_class text order (home_of_stream text s.block) StreamEventContext
+        ≡ Some h.event_context
     pub clock : h.clock ≡ first (clocks_moved text s.block)
     pub several : h.has_several ≡ has_other (clocks_moved text s.block)
 
   -- the event class of an event block, and its stream
-  pub record IsEventAt (k : ℕ) (entries : List BlockEntry) (place : ℕ) (e : EventClass) : Type 0 where
+  pub record IsEventAt (k : ℕ) (entries : List BlockEntry) (place : ℕ) (e : EventClass)
+      : Type 0 where
     pub s : Stream
     pub stream : stream_of text entries ≡ Some s
     pub stands : slice_get (streams text) place ≡ Some s
@@ -72,10 +76,15 @@ module _ (text : List Declaration) (order : Order) where
   abbrev pub Gives : ℕ × Declaration → Linked → Type 0
   Gives (k, d) (linked.Trace header) =
       (entries : List BlockEntry) × (trace_entries d ≡ Some entries)
-      × (scope_class text order (record { trace = Some k; stream = None; event = None }) PacketHeader ≡ Some header)
+      × (scope_class text order (record { trace = Some k; stream = None; event = None })
+      PacketHeader
+      ≡ Some header)
   Gives (k, d) (linked.Stream head) = (s : Stream) × (stream_by (k, d) ≡ Some s) × IsHead s head
-  Gives (k, d) (linked.Event place e) = (entries : List BlockEntry) × (d ≡ Block Event entries) × IsEventAt k entries place e
-  Gives (k, d) linked.Other = (trace_entries d ≡ None) × (stream_by (k, d) ≡ None) × ((entries : List BlockEntry) → d ≡ Block Event entries → ⊥)
+  Gives (k, d) (linked.Event place e) =
+      (entries : List BlockEntry) × (d ≡ Block Event entries) × IsEventAt k entries place e
+  Gives (k, d) linked.Other =
+      (trace_entries d ≡ None) × (stream_by (k, d) ≡ None)
+      × ((entries : List BlockEntry) → d ≡ Block Event entries → ⊥)
 
   -- what a declaration without link faults gives
   pub record IsLinked (p : ℕ × Declaration) (l : Linked) : Type 0 where

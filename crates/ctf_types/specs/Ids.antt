@@ -13,4 +13,6 @@ has ids stream id = contains nat_cmp ids.keys (stream * 2 ^ 64 + id)
 
 -- the ids are those of the events among the first declarations
 abbrev pub AreIds : List Declaration → ℕ → Ids → Type 0
-AreIds text number ids = (stream id : ℕ) → id < 2 ^ 64 → has ids stream id ≡ list_any (is_event text stream id) (take number text)
+AreIds text number ids =
+    (stream id : ℕ) → id < 2 ^ 64
+    → has ids stream id ≡ list_any (is_event text stream id) (take number text)

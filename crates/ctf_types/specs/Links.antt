@@ -22,7 +22,9 @@ module _ (text : List Declaration) (order : Order) where
   -- the class of the packet header by the trace block of this number
   pub record IsHeader (k : ℕ) (c : Option Class) : Type 0 where
     pub clean : scope_links text (record { trace = Some k; stream = None; event = None }) Trace ≡ []
-    pub made : scope_class text order (record { trace = Some k; stream = None; event = None }) PacketHeader ≡ Some c
+    pub made : scope_class text order (record { trace = Some k; stream = None; event = None })
+        PacketHeader
+        ≡ Some c
 
   -- the stream class of this id by the stream block of this number
   pub record HasHead (k : ℕ) (id : ℕ) (h : StreamHead) : Type 0 where

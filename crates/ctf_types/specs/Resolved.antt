@@ -17,7 +17,14 @@ use Rattle.ctf_types.specs.Whole.{HasNoOwn, IsTraceOf}
 
 -- the head of a stream without a block
 abbrev pub plain_head : StreamHead
-plain_head = record { id = 0; packet_context = None; event_header = None; event_context = None; clock = None; has_several = false }
+plain_head = record {
+  id = 0;
+  packet_context = None;
+  event_header = None;
+  event_context = None;
+  clock = None;
+  has_several = false;
+}
 
 abbrev pub or_plain_head : List StreamHead → List StreamHead
 or_plain_head [] = plain_head ∷ []
@@ -35,7 +42,8 @@ Resolves text (Ok t) = (faults text ≡ []) × (class_of_text text ≡ Some t)
 Resolves text (Err fault) = (fault ≡ NoMemory) ⊎ Contains (faults text) fault
 
 -- all parts of a text without faults of declarations are there
-pub record IsFinished (text : List Declaration) (trace : Option TraceAt) (host : Option Word) (parts : TraceParts) : Type 0 where
+pub record IsFinished (text : List Declaration) (trace : Option TraceAt) (host : Option Word)
+    (parts : TraceParts) : Type 0 where
   pub own : HasNoOwn text
   pub traced : IsTraceOf text trace
   pub hosted : host ≡ host_of text

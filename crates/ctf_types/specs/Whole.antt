@@ -33,13 +33,15 @@ stream_at stream = record { block = stream.block; id = stream.id }
 -- a trace block with its settings, or another declaration
 abbrev pub IsTraceBlock : Declaration → Option TraceSettings → Type 0
 IsTraceBlock d None = trace_entries d ≡ None
-IsTraceBlock d (Some trace) = (entries : List BlockEntry) × (trace_entries d ≡ Some entries) × IsTrace entries trace
+IsTraceBlock d (Some trace) =
+    (entries : List BlockEntry) × (trace_entries d ≡ Some entries) × IsTrace entries trace
 
 -- the first trace block of a text, where there is one
 abbrev pub IsTraceOf : List Declaration → Option TraceAt → Type 0
 IsTraceOf text None = trace_of text ≡ None
 IsTraceOf text (Some trace) = (entries : List BlockEntry) ×
-    (trace_of text ≡ Some trace.number) × (first (filter_map trace_entries text) ≡ Some entries) × IsTrace entries trace.settings
+    (trace_of text ≡ Some trace.number) × (first (filter_map trace_entries text) ≡ Some entries)
+    × IsTrace entries trace.settings
 
 -- each stream keeps its place
 abbrev pub PlacedFrom : ℕ → List StreamAt → Type 0
