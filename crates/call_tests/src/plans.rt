@@ -6,7 +6,7 @@
 
 use crate::classes::members_of;
 use crate::row::Row;
-use ctf_class::{Class, RecordPlan, Run};
+use ctf_class::{Class, PlannedRun, RecordPlan};
 
 /// Puts what comes of a row of a class.
 pub fn put_row(row: &mut Row<'_>) {
@@ -49,7 +49,7 @@ pub fn put_runs(row: &mut Row<'_>, plan: &RecordPlan) {
     }
 }
 
-fn put_run(row: &mut Row<'_>, run: &Run) {
+fn put_run(row: &mut Row<'_>, run: &PlannedRun) {
     row.put_number(b", ", run.span as i128);
     row.put(b" bits");
     if run.field.is_some() {

@@ -4,7 +4,7 @@
 //! - `packets BYTES` is the text of metadata, or the fault of its packets.
 
 use crate::row::{Row, unquote};
-use tsdl_text::{Kind, MetaFault, Token, metadata_text, tokens};
+use tsdl_text::{MetaFault, Token, TokenKind, metadata_text, tokens};
 
 /// Puts the lines of what comes of a row of texts.
 pub fn put_row(row: &mut Row<'_>) {
@@ -34,13 +34,13 @@ fn put_token(row: &mut Row<'_>, token: &Token<'_>) {
     row.put_number(b"", token.start as i128);
     row.put_number(b" ", token.line.number() as i128);
     match token.kind {
-        Kind::Identifier => {
+        TokenKind::Identifier => {
             row.put(b" name ");
             row.put(token.text);
         }
-        Kind::Constant(number) => row.put_number(b" constant ", number as i128),
-        Kind::String => put_string(row, token),
-        Kind::Symbol(symbol) => {
+        TokenKind::Constant(number) => row.put_number(b" constant ", number as i128),
+        TokenKind::String => put_string(row, token),
+        TokenKind::Symbol(symbol) => {
             row.put(b" symbol ");
             row.put(symbol.spelling());
         }

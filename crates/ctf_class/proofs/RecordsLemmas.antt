@@ -5,26 +5,26 @@ use Rattle.ctf_class.specs.Alignment.{IsLarger}
 use Rattle.ctf_class.specs.declared.class.Class.{Class}
 use Rattle.ctf_class.specs.declared.class.Kind as kind
 use Rattle.ctf_class.specs.declared.class.Member.{Member}
-use Rattle.ctf_class.specs.declared.record_plan.Field.{Field}
-use Rattle.ctf_class.specs.declared.record_plan.Making.{Making}
-use Rattle.ctf_class.specs.declared.record_plan.Run.{Run}
-use Rattle.ctf_class.specs.declared.run_number.RunNumber.{RunNumber}
+use Rattle.ctf_class.specs.declared.record_plan.PlannedField.{PlannedField}
+use Rattle.ctf_class.specs.declared.record_plan.PlanBuilder.{PlanBuilder}
+use Rattle.ctf_class.specs.declared.record_plan.PlannedRun.{PlannedRun}
+use Rattle.ctf_class.specs.declared.planned_number.PlannedNumber.{PlannedNumber}
 use Rattle.ctf_class.specs.Making.{IsOpen, IsMade, IsMadeOf, before_scope, with_number, with_field}
 use Rattle.ctf_class.specs.Records.{Slot, Scoped, later, laters, slots, between, all_slots, values_in, AreScoped, and_scope, scopes_of, IsNumber, AreInRun, TakesNumbers, IsField, AreRuns, IsPlanOf, have_special, room_of}
 
 -- one number more after the others
-numbers_more : (base from span : ℕ) (ss : List Slot) (ns : List RunNumber) (s : Slot) (rest : List Slot) (n : RunNumber) → AreInRun base from ss ns span (s ∷ rest) → IsNumber base span s n → AreInRun base from ss (ns ++ n ∷ []) (n.window.place + n.window.size) rest
+numbers_more : (base from span : ℕ) (ss : List Slot) (ns : List PlannedNumber) (s : Slot) (rest : List Slot) (n : PlannedNumber) → AreInRun base from ss ns span (s ∷ rest) → IsNumber base span s n → AreInRun base from ss (ns ++ n ∷ []) (n.window.place + n.window.size) rest
 numbers_more base from span ss [] s rest n are is =
     subst (λ xs. AreInRun base from xs (n ∷ []) (n.window.place + n.window.size) rest) are.1 (subst (λ f. IsNumber base f s n) are.0 is, (refl, refl))
 numbers_more base from span [] (y ∷ ns) s rest n are is = absurd are
 numbers_more base from span (x ∷ ss) (y ∷ ns) s rest n are is = (are.0, numbers_more base (y.window.place + y.window.size) span ss ns s rest n are.1 is)
 
 -- a run of one number, and of one more
-abbrev pub GoesOn : ℕ → ℕ → Slot → List RunNumber → Type 0
+abbrev pub GoesOn : ℕ → ℕ → Slot → List PlannedNumber → Type 0
 GoesOn align run s [] = IsLarger run s.align s.member.class.align
 GoesOn align run s (n ∷ ns) = run ≡ align
 
-takes_more : (align run : ℕ) (ss : List Slot) (ns : List RunNumber) (span : ℕ) (s : Slot) (rest : List Slot) (n : RunNumber) → GoesOn align run s ns → TakesNumbers align ss ns span (s ∷ rest) → IsNumber (max 8 run) span s n
+takes_more : (align run : ℕ) (ss : List Slot) (ns : List PlannedNumber) (span : ℕ) (s : Slot) (rest : List Slot) (n : PlannedNumber) → GoesOn align run s ns → TakesNumbers align ss ns span (s ∷ rest) → IsNumber (max 8 run) span s n
     → TakesNumbers run ss (ns ++ n ∷ []) (n.window.place + n.window.size) rest
 takes_more align run ss [] span s rest n on takes is =
     subst (λ xs. TakesNumbers run xs (n ∷ []) (n.window.place + n.window.size) rest) takes.1.1 (on, (subst (λ f. IsNumber (max 8 run) f s n) takes.1.0 is, (refl, refl)))
@@ -32,25 +32,25 @@ takes_more align run [] (y ∷ ns) span s rest n on takes is = absurd takes.0
 takes_more align run (x ∷ ss) (y ∷ ns) span s rest n on takes is =
     subst (λ r. TakesNumbers r (x ∷ ss) ((y ∷ ns) ++ n ∷ []) (n.window.place + n.window.size) rest) (sym on) (takes.0, numbers_more (max 8 align) 0 span (x ∷ ss) (y ∷ ns) s rest n takes.1 (subst (λ r. IsNumber (max 8 r) span s n) on is))
 
-pub goes_on : (align run : ℕ) (s : Slot) (ns : List RunNumber) → (ns ≡ [] → IsLarger run s.align s.member.class.align) → (0 < length ns → run ≡ align) → GoesOn align run s ns
+pub goes_on : (align run : ℕ) (s : Slot) (ns : List PlannedNumber) → (ns ≡ [] → IsLarger run s.align s.member.class.align) → (0 < length ns → run ≡ align) → GoesOn align run s ns
 goes_on align run s [] first later = first refl
 goes_on align run s (n ∷ ns) first later = later (omega arith)
 
 -- the room of one number more, and of a field after the numbers
-room_number : (ns : List RunNumber) (n : RunNumber) → room_of (ns ++ n ∷ []) None ≡ room_of ns None + (length n.ready + 66)
+room_number : (ns : List PlannedNumber) (n : PlannedNumber) → room_of (ns ++ n ∷ []) None ≡ room_of ns None + (length n.ready + 66)
 room_number [] n = omega arith
 room_number (x ∷ ns) n = let more = room_number ns n in omega (arith, more)
 
-room_field : (ns : List RunNumber) (f : Field) → room_of ns (Some f) ≡ room_of ns None + (length f.ready + 66)
+room_field : (ns : List PlannedNumber) (f : PlannedField) → room_of ns (Some f) ≡ room_of ns None + (length f.ready + 66)
 room_field [] f = omega arith
 room_field (x ∷ ns) f = let more = room_field ns f in omega (arith, more)
 
 -- a field more in the open run
-open_number : (align run : ℕ) (now : List Slot) (ns : List RunNumber) (span : ℕ) (s : Slot) (n : RunNumber) → GoesOn align run s ns → IsOpen align now ns span → IsNumber (max 8 run) span s n → IsOpen run (now ++ s ∷ []) (ns ++ n ∷ []) (n.window.place + n.window.size)
+open_number : (align run : ℕ) (now : List Slot) (ns : List PlannedNumber) (span : ℕ) (s : Slot) (n : PlannedNumber) → GoesOn align run s ns → IsOpen align now ns span → IsNumber (max 8 run) span s n → IsOpen run (now ++ s ∷ []) (ns ++ n ∷ []) (n.window.place + n.window.size)
 open_number align run now ns span s n on last is rest =
     subst (λ xs. TakesNumbers run xs (ns ++ n ∷ []) (n.window.place + n.window.size) rest) (sym (append_assoc now (s ∷ []) rest)) (takes_more align run (now ++ s ∷ rest) ns span s rest n on (last (s ∷ rest)) is)
 
-pub made_number : (done : List Slot) (s : Slot) (m : Making) (run : ℕ) (n : RunNumber) → GoesOn m.align run s m.numbers → IsNumber (max 8 run) m.span s n → n.window.place + n.window.size ≤ 2 ^ 33 → IsMade done m → IsMade (done ++ s ∷ []) (with_number m run n)
+pub made_number : (done : List Slot) (s : Slot) (m : PlanBuilder) (run : ℕ) (n : PlannedNumber) → GoesOn m.align run s m.numbers → IsNumber (max 8 run) m.span s n → n.window.place + n.window.size ≤ 2 ^ 33 → IsMade done m → IsMade (done ++ s ∷ []) (with_number m run n)
 made_number done s m run n on is near made = record {
   full = made.full;
   now = made.now ++ s ∷ [];
@@ -62,13 +62,13 @@ made_number done s m run n on is near made = record {
 }
 
 -- the open run with a field after it
-pub made_field : (done : List Slot) (s : Slot) (m : Making) (f : Field) → IsField s f → IsMade done m → IsMade (done ++ s ∷ []) (with_field m f)
+pub made_field : (done : List Slot) (s : Slot) (m : PlanBuilder) (f : PlannedField) → IsField s f → IsMade done m → IsMade (done ++ s ∷ []) (with_field m f)
 made_field done s m f is made = record {
   full = done ++ s ∷ [];
   now = [];
   are = sym (append-nil (done ++ s ∷ []));
   whole = λ rest rs others.
-      let run : Run = record { align = m.align; numbers = m.numbers; has_special = have_special m.numbers; span = m.span; room = m.room + (length f.ready + 66); field = Some f } in
+      let run : PlannedRun = record { align = m.align; numbers = m.numbers; has_special = have_special m.numbers; span = m.span; room = m.room + (length f.ready + 66); field = Some f } in
       let room : run.room ≡ room_of m.numbers (Some f) = ap (λ r. r + (length f.ready + 66)) made.room ∙ sym (room_field m.numbers f) in
       let whole : AreRuns (made.full ++ (made.now ++ s ∷ rest)) (m.runs ++ run ∷ rs) = made.whole (made.now ++ s ∷ rest) (run ∷ rs) (s ∷ rest, made.last (s ∷ rest), room, made.bounded, refl, (is, others)) in
       let slots_are : made.full ++ (made.now ++ s ∷ rest) ≡ (done ++ s ∷ []) ++ rest = sym (append_assoc made.full made.now (s ∷ rest)) ∙ ap (λ d. d ++ s ∷ rest) (sym made.are) ∙ sym (append_assoc done (s ∷ []) rest) in
@@ -79,7 +79,7 @@ made_field done s m f is made = record {
 }
 
 -- nothing yet
-pub made_none : (m : Making) → m.runs ≡ [] → m.align ≡ 1 → m.numbers ≡ [] → m.span ≡ 0 → m.room ≡ 24 → m.count ≡ 0 → IsMadeOf [] m
+pub made_none : (m : PlanBuilder) → m.runs ≡ [] → m.align ≡ 1 → m.numbers ≡ [] → m.span ≡ 0 → m.room ≡ 24 → m.count ≡ 0 → IsMadeOf [] m
 made_none m runs align numbers span room count = record {
   scopes = [];
   are = tt;
@@ -96,16 +96,16 @@ made_none m runs align numbers span room count = record {
 }
 
 -- the plan of what was made
-pub plan_of : (ks : List Class) (m : Making) (runs : List Run) → runs ≡ m.runs ++ record { align = m.align; numbers = m.numbers; has_special = have_special m.numbers; span = m.span; room = m.room; field = None } ∷ [] → IsMadeOf ks m → IsPlanOf ks (record { runs = runs; count = m.count })
+pub plan_of : (ks : List Class) (m : PlanBuilder) (runs : List PlannedRun) → runs ≡ m.runs ++ record { align = m.align; numbers = m.numbers; has_special = have_special m.numbers; span = m.span; room = m.room; field = None } ∷ [] → IsMadeOf ks m → IsPlanOf ks (record { runs = runs; count = m.count })
 plan_of ks m runs are of some =
     let made = of.made in
-    let run : Run = record { align = m.align; numbers = m.numbers; has_special = have_special m.numbers; span = m.span; room = m.room; field = None } in
+    let run : PlannedRun = record { align = m.align; numbers = m.numbers; has_special = have_special m.numbers; span = m.span; room = m.room; field = None } in
     let numbers : TakesNumbers m.align made.now m.numbers m.span [] = subst (λ xs. TakesNumbers m.align xs m.numbers m.span []) (append-nil made.now) (made.last []) in
     let whole : AreRuns (made.full ++ made.now) (m.runs ++ run ∷ []) = made.whole made.now (run ∷ []) ([], numbers, made.room, made.bounded, refl, refl) in
     (of.scopes, of.are, of.count, subst (AreRuns (all_slots [] of.scopes)) (sym are) (subst (λ xs. AreRuns xs (m.runs ++ run ∷ [])) (sym made.are) whole))
 
 -- the plan of what was made where the open run has no number
-pub plan_of_whole : (ks : List Class) (m : Making) → m.numbers ≡ [] → IsMadeOf ks m → IsPlanOf ks (record { runs = m.runs; count = m.count })
+pub plan_of_whole : (ks : List Class) (m : PlanBuilder) → m.numbers ≡ [] → IsMadeOf ks m → IsPlanOf ks (record { runs = m.runs; count = m.count })
 plan_of_whole ks m none of some =
     let made = of.made in
     let left : TakesNumbers m.align (made.now ++ []) [] m.span [] = subst (λ ns. TakesNumbers m.align (made.now ++ []) ns m.span []) none (made.last []) in
@@ -147,7 +147,7 @@ scoped_more (j ∷ ks) [] k s are one = absurd are
 scoped_more (j ∷ ks) (x ∷ ss) k s are one = (are.0, are.1, are.2, scoped_more ks ss k s are.3 one)
 
 -- the count has no part in the runs
-made_counted : (done : List Slot) (m n : Making) → n ≡ record { runs = m.runs; align = m.align; numbers = m.numbers; span = m.span; room = m.room; count = n.count } → IsMade done m → IsMade done n
+made_counted : (done : List Slot) (m n : PlanBuilder) → n ≡ record { runs = m.runs; align = m.align; numbers = m.numbers; span = m.span; room = m.room; count = n.count } → IsMade done m → IsMade done n
 made_counted done m n is made = subst (IsMade done) (sym is) (record { full = made.full; now = made.now; are = made.are; whole = made.whole; last = made.last; room = made.room; bounded = made.bounded })
 
 -- one member more
@@ -163,7 +163,7 @@ laters_on ms i m within is =
     ap (laters 1) (take_more ms i m within ∙ ap (λ x. take i ms ++ x ∷ []) (sym is)) ∙ laters_more 1 (take i ms) m ∙ ap (λ k. laters 1 (take i ms) ++ later k m ∷ []) count
 
 -- the first field of a scope, and then the later ones
-pub made_scope : (ks : List Class) (k : Class) (x : Member) (xs : List Member) (lead : List ℕ) (old first others new : Making) → k.kind ≡ kind.Structure (x ∷ xs) → lead ≡ before_scope old.count ++ (123 ∷ 32 ∷ [])
+pub made_scope : (ks : List Class) (k : Class) (x : Member) (xs : List Member) (lead : List ℕ) (old first others new : PlanBuilder) → k.kind ≡ kind.Structure (x ∷ xs) → lead ≡ before_scope old.count ++ (123 ∷ 32 ∷ [])
     → ((done : List Slot) → IsMade done old → IsMade (done ++ record { lead = lead; align = k.align; index = 0; member = x } ∷ []) first)
     → ((done : List Slot) → IsMade done first → IsMade (done ++ laters 1 xs) others)
     → new ≡ record { runs = others.runs; align = others.align; numbers = others.numbers; span = others.span; room = others.room; count = new.count } → new.count ≡ old.count + (length xs + 2) → IsMadeOf ks old → IsMadeOf (ks ++ k ∷ []) new

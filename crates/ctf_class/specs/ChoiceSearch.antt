@@ -1,7 +1,7 @@
 -- How the choices of a variant are kept.
 use Rattle.std.specs.Prelude.{List, take}
-use Rattle.ctf_class.specs.declared.choices.Kept.{Kept}
-use Rattle.ctf_class.specs.declared.choices.Kept.TheVariants as kept
+use Rattle.ctf_class.specs.declared.choices.KeptChoices.{KeptChoices}
+use Rattle.ctf_class.specs.declared.choices.KeptChoices.TheVariants as kept
 use Rattle.ctf_class.specs.declared.choices.Named.{Named}
 use Rattle.ctf_class.specs.declared.span.Choice.{Choice}
 use Rattle.ctf_class.specs.Choices.{choices_by}
@@ -10,6 +10,6 @@ use Rattle.ctf_class.specs.Choices.{choices_by}
 abbrev pub choices_named : Named → List Choice
 choices_named named = choices_by (take named.count named.names) named.labels
 
-abbrev pub choices_kept : Kept → List Choice
+abbrev pub choices_kept : KeptChoices → List Choice
 choices_kept (kept.Listed choices) = choices
 choices_kept (kept.Named named) = choices_named named

@@ -9,18 +9,18 @@ use Rattle.ctf_class.specs.Names.{field_text}
 use Rattle.ctf_class.specs.declared.class.Class.{Class}
 use Rattle.ctf_class.specs.declared.class.Kind as kind
 use Rattle.ctf_class.specs.declared.class.Member.{Member}
-use Rattle.ctf_class.specs.declared.record_plan.Field.{Field}
+use Rattle.ctf_class.specs.declared.record_plan.PlannedField.{PlannedField}
 use Rattle.ctf_class.specs.declared.record_plan.Many.{Many}
 use Rattle.ctf_class.specs.declared.record_plan.Many.TheVariants as many
 use Rattle.ctf_class.specs.declared.record_plan.RecordPlan.{RecordPlan}
-use Rattle.ctf_class.specs.declared.record_plan.Run.{Run}
+use Rattle.ctf_class.specs.declared.record_plan.PlannedRun.{PlannedRun}
 use Rattle.ctf_class.specs.declared.record_plan.Shown.{Shown}
 use Rattle.ctf_class.specs.declared.record_plan.Shown.TheVariants as shown
 use Rattle.ctf_class.specs.declared.integer.Integer.{Integer}
 use Rattle.ctf_class.specs.declared.route.Length.TheVariants as lengths
 use Rattle.ctf_class.specs.declared.route.Origin.TheVariants.{Enclosing}
 use Rattle.ctf_class.specs.declared.route.Route.{Route}
-use Rattle.ctf_class.specs.declared.run_number.RunNumber.{RunNumber}
+use Rattle.ctf_class.specs.declared.planned_number.PlannedNumber.{PlannedNumber}
 
 -- a field: what is printed between the value before it and its name, the alignment of the structure that it begins, or
 -- 1, how many members of its structure are before it, and the member that it is of
@@ -83,7 +83,7 @@ scopes_of shared own fields = and_scope shared (and_scope own (fields ∷ []))
 
 -- a field is an integer after this distance from a place that is a multiple of `base`, where it is wherever that place
 -- is; and so it is read and begun
-pub record IsNumber (base from : ℕ) (s : Slot) (n : RunNumber) : Type 0 where
+pub record IsNumber (base from : ℕ) (s : Slot) (n : PlannedNumber) : Type 0 where
   pub is : s.member.class.kind ≡ kind.Integer n.integer
   pub special : n.is_special ≡ false → IsUsual n.integer
   pub begins : base % s.align ≡ 0
@@ -92,20 +92,20 @@ pub record IsNumber (base from : ℕ) (s : Slot) (n : RunNumber) : Type 0 where
   pub ready : n.ready ≡ s.lead ++ field_text s.member.name
 
 -- so are the first of these fields, one after the other, as far as a distance, and these are left
-abbrev pub AreInRun : ℕ → ℕ → List Slot → List RunNumber → ℕ → List Slot → Type 0
+abbrev pub AreInRun : ℕ → ℕ → List Slot → List PlannedNumber → ℕ → List Slot → Type 0
 AreInRun base from ss [] span rest = (span ≡ from) × (rest ≡ ss)
 AreInRun base from [] (n ∷ ns) span rest = ⊥
 AreInRun base from (s ∷ ss) (n ∷ ns) span rest = IsNumber base from s n × AreInRun base (n.window.place + n.window.size) ss ns span rest
 
 -- a run of these numbers begins where the first of these fields does; without a number, where the fields before it end
-abbrev pub BeginsRun : ℕ → List Slot → List RunNumber → Type 0
+abbrev pub BeginsRun : ℕ → List Slot → List PlannedNumber → Type 0
 BeginsRun align ss [] = align ≡ 1
 BeginsRun align [] (n ∷ ns) = ⊥
 BeginsRun align (s ∷ ss) (n ∷ ns) = IsLarger align s.align s.member.class.align
 
 -- The numbers of a run that begins at this alignment, and at a byte, are the first of these fields, one after the other,
 -- as far as a distance, and these are left.
-abbrev pub TakesNumbers : ℕ → List Slot → List RunNumber → ℕ → List Slot → Type 0
+abbrev pub TakesNumbers : ℕ → List Slot → List PlannedNumber → ℕ → List Slot → Type 0
 TakesNumbers align ss ns span rest = BeginsRun align ss ns × AreInRun (max 8 align) 0 ss ns span rest
 
 -- a route leads to the member before the one of an index in the innermost structure
@@ -131,34 +131,34 @@ IsShown index m (shown.Integers are) = AreIntegers index m are.integer are.align
 IsShown index m (shown.Labelled is) = (m.class.kind ≡ kind.Enumeration is.container is.labels) × (is.align ≡ m.class.align)
 
 -- a field is shown so
-pub record IsField (s : Slot) (f : Field) : Type 0 where
+pub record IsField (s : Slot) (f : PlannedField) : Type 0 where
   pub align : f.align ≡ s.align
   pub ready : f.ready ≡ s.lead ++ field_text s.member.name
   pub shown : IsShown s.index s.member f.shown
 
 -- the first of these fields is this one, if one is given, and this holds of the others
-abbrev pub After : List Slot → Option Field → (List Slot → Type 0) → Type 0
+abbrev pub After : List Slot → Option PlannedField → (List Slot → Type 0) → Type 0
 After ss None Holds = Holds ss
 After [] (Some f) Holds = ⊥
 After (s ∷ ss) (Some f) Holds = IsField s f × Holds ss
 
 -- some numbers are big endian, or not in decimal
-abbrev pub have_special : List RunNumber → Bool
+abbrev pub have_special : List PlannedNumber → Bool
 have_special ns = list_any (λ n. n.is_special) ns
 
 -- the room that numbers take in a line, in bytes: each text 66 more for its number, and 24 more
-abbrev pub numbers_room : List RunNumber → ℕ
+abbrev pub numbers_room : List PlannedNumber → ℕ
 numbers_room [] = 24
 numbers_room (n ∷ ns) = length n.ready + 66 + numbers_room ns
 
 -- the room that numbers and a field after them take in a line, in bytes: each text 66 more for its number, and 24 more
-abbrev pub room_of : List RunNumber → Option Field → ℕ
+abbrev pub room_of : List PlannedNumber → Option PlannedField → ℕ
 room_of [] None = 24
 room_of [] (Some f) = length f.ready + 90
 room_of (n ∷ ns) f = length n.ready + 66 + room_of ns f
 
 -- fields are these runs, one after the other
-abbrev pub AreRuns : List Slot → List Run → Type 0
+abbrev pub AreRuns : List Slot → List PlannedRun → Type 0
 AreRuns ss [] = ss ≡ []
 AreRuns ss (r ∷ rs) = (rest : List Slot) × TakesNumbers r.align ss r.numbers r.span rest × (r.room ≡ room_of r.numbers r.field) × (r.span ≤ 2 ^ 33) × (r.has_special ≡ have_special r.numbers) × After rest r.field (λ others. AreRuns others rs)
 

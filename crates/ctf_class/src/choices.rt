@@ -20,7 +20,7 @@ struct Named {
 
 /// How choices are kept.
 #[derive(Drop)]
-enum Kept {
+enum KeptChoices {
     Listed(List<Choice>),
     /// By what makes them, which classes of one declaration share.
     Named(Named),
@@ -33,7 +33,7 @@ enum Kept {
 /// since each class of a field has room for the largest.
 #[derive(Drop)]
 pub struct Choices {
-    kept: Boxed<Kept>,
+    kept: Boxed<KeptChoices>,
 }
 
 impl Model for Choices {
@@ -61,7 +61,7 @@ impl Choices {
             names,
             count,
         };
-        let kept = Boxed::new(alloc, Kept::of(alloc, named)?)?;
+        let kept = Boxed::new(alloc, KeptChoices::of(alloc, named)?)?;
         Ok(Choices { kept })
     }
 
@@ -72,8 +72,8 @@ impl Choices {
         ensures { result ≡ choosing.chosen self.now number }
     {
         match self.kept.get() {
-            Kept::Listed(choices) => first_option(choices.as_slice(), number),
-            Kept::Named(named) => named.look_up(number),
+            KeptChoices::Listed(choices) => first_option(choices.as_slice(), number),
+            KeptChoices::Named(named) => named.look_up(number),
         }
     }
 
@@ -82,8 +82,8 @@ impl Choices {
         ensures { result ≡ slice_get self.now 0 }
     {
         match self.kept.get() {
-            Kept::Listed(choices) => choices.as_slice().first().copied(),
-            Kept::Named(named) => named.first(),
+            KeptChoices::Listed(choices) => choices.as_slice().first().copied(),
+            KeptChoices::Named(named) => named.first(),
         }
     }
 
@@ -92,23 +92,23 @@ impl Choices {
         ensures { IfOk result (λ choices. choices ≡ self.now) }
     {
         match self.kept.get() {
-            Kept::Listed(choices) => Ok(List::from_slice(alloc, choices.as_slice())?),
-            Kept::Named(named) => named.to_list(alloc),
+            KeptChoices::Listed(choices) => Ok(List::from_slice(alloc, choices.as_slice())?),
+            KeptChoices::Named(named) => named.to_list(alloc),
         }
     }
 }
 
-impl Kept {
+impl KeptChoices {
     ghost use Rattle.ctf_class.specs.ChoiceSearch.{choices_named, choices_kept};
 
     /// How choices are kept: as a list where there are at most `2 * count + 1` labels.
-    fn of(alloc: Global, named: Named) -> Result<Kept, NoMemory>
+    fn of(alloc: Global, named: Named) -> Result<KeptChoices, NoMemory>
         ensures { IfOk result (λ kept. choices_kept kept ≡ choices_named named) }
     {
         if named.labels.get().as_slice().len() / 2 > named.count {
-            return Ok(Kept::Named(named));
+            return Ok(KeptChoices::Named(named));
         }
-        Ok(Kept::Listed(named.to_list(alloc)?))
+        Ok(KeptChoices::Listed(named.to_list(alloc)?))
     }
 }
 

@@ -42,7 +42,7 @@ pub struct HeaderPlan {
 
 /// An unsigned integer, and its alignment.
 #[derive(Clone, Copy)]
-struct AlignedInteger {
+struct HeaderInteger {
     align: Align,
     integer: Integer,
 }
@@ -169,7 +169,7 @@ fn tag_of(member: &Member) -> Option<Integer>
 }
 
 /// The only member of a structure, if it is an unsigned integer that sets the clock and is not named `id`.
-fn stamp_of(class: &Class) -> Option<AlignedInteger>
+fn stamp_of(class: &Class) -> Option<HeaderInteger>
     ensures { IfSome result (λ stamp. IsStampOf class.now stamp.align stamp.integer) }
 {
     let Kind::Structure { members } = &class.kind else {
@@ -184,7 +184,7 @@ fn stamp_of(class: &Class) -> Option<AlignedInteger>
     if integer.is_signed || !integer.is_moving || is_id(stamp.name.as_slice()) {
         return None;
     }
-    Some(AlignedInteger {
+    Some(HeaderInteger {
         align: stamp.class.align,
         integer: *integer,
     })

@@ -11,9 +11,9 @@ use crate::align::{Align, one_bit};
 use crate::class::{Class, Kind, Member};
 use crate::integer::Integer;
 use crate::labels::Labels;
+use crate::planned_number::{PlannedNumber, have_special, is_special};
 use crate::prepared_text::PreparedText;
 use crate::route::Length;
-use crate::run_number::{RunNumber, have_special, is_special};
 use ctf_bits::Window;
 use ctf_list::{List, NoMemory, Shared};
 use std::alloc::Global;
@@ -86,7 +86,7 @@ pub enum Many {
 
 /// A field after the numbers of a run.
 #[derive(Drop)]
-pub struct Field {
+pub struct PlannedField {
     /// What is printed before its value.
     pub ready: PreparedText,
     /// The alignment of the structure that it begins, or 1.
@@ -97,10 +97,10 @@ pub struct Field {
 /// Integers that are one after the other at fixed distances from the first bit of an aligned byte (CTF 1.8.3, section
 /// 4.1.5), and the field after them, if there is one.
 #[derive(Drop)]
-pub struct Run {
+pub struct PlannedRun {
     /// The alignment at which the numbers begin, or 1 where there are none.
     pub align: Align,
-    pub numbers: List<RunNumber>,
+    pub numbers: List<PlannedNumber>,
     /// Whether some of them are big endian, or not in decimal.
     pub has_special: bool,
     /// How many bits the numbers take.
@@ -108,7 +108,7 @@ pub struct Run {
     /// How many bytes of a line it takes at the most, a string and a text but for what is printed before them, and 24
     /// more.
     pub room: usize,
-    pub field: Option<Field>,
+    pub field: Option<PlannedField>,
 }
 
 /// The fields of an event record's scopes after its header (CTF 1.8.3, section 6), one after the other, if all of them
@@ -116,7 +116,7 @@ pub struct Run {
 /// field before; else nothing.
 #[derive(Drop)]
 pub struct RecordPlan {
-    pub runs: List<Run>,
+    pub runs: List<PlannedRun>,
     /// How many values these scopes have, without the elements of arrays.
     pub count: u64,
 }
@@ -135,12 +135,12 @@ struct ScopeMember<'a> {
 
 /// A plan on its way.
 #[derive(Drop)]
-struct Making {
+struct PlanBuilder {
     /// The runs that are whole.
-    runs: List<Run>,
+    runs: List<PlannedRun>,
     /// The alignment of the open run, and its numbers.
     align: Align,
-    numbers: List<RunNumber>,
+    numbers: List<PlannedNumber>,
     span: u64,
     room: usize,
     /// How many values the scopes so far have.
@@ -160,7 +160,7 @@ impl RecordPlan {
             (scopes_of (option_copied stream_context.entry)
             (option_copied event_context.entry) fields.now)) }
     {
-        let mut making = Making::new(alloc);
+        let mut making = PlanBuilder::new(alloc);
         if making.add_optional(alloc, stream_context)?
             && making.add_optional(alloc, event_context)?
             && making.add_scope(alloc, fields)?
@@ -181,14 +181,14 @@ impl RecordPlan {
     }
 }
 
-impl Making {
+impl PlanBuilder {
     /// A plan of no scopes.
-    fn new(alloc: Global) -> Making
+    fn new(alloc: Global) -> PlanBuilder
         ensures made { IsMadeOf [] result }
         ensures few { result.room ≤ 2 ^ 18 }
         ensures near { result.span ≤ 2 ^ 33 }
     {
-        Making {
+        PlanBuilder {
             runs: List::new(alloc),
             align: one_bit(),
             numbers: List::new(alloc),
@@ -202,7 +202,7 @@ impl Making {
     fn finish(self) -> Result<RecordPlan, NoMemory>
         ensures { IfOk result (λ plan. (ks : List Class) → IsMadeOf ks self → IsPlanOf ks plan) }
     {
-        let Making {
+        let PlanBuilder {
             mut runs,
             align,
             numbers,
@@ -213,7 +213,7 @@ impl Making {
         if numbers.is_empty() && !runs.is_empty() {
             return Ok(RecordPlan { runs, count });
         }
-        runs.push(Run {
+        runs.push(PlannedRun {
             align,
             has_special: have_special(numbers.as_slice()),
             numbers,
@@ -325,7 +325,7 @@ impl Making {
         }
         let run_align = self.align_with(align, member.class.align);
         if let Some((integer, window)) = self.as_number(&member.class, align, run_align) {
-            let number = RunNumber {
+            let number = PlannedNumber {
                 is_special: is_special(&integer),
                 integer,
                 window,
@@ -340,7 +340,7 @@ impl Making {
         };
         self.add_field(
             alloc,
-            Field {
+            PlannedField {
                 ready,
                 align,
                 shown,
@@ -407,7 +407,7 @@ impl Making {
         let runs = self.runs.as_slice();
         match runs.last() {
             Some(
-                Run {
+                PlannedRun {
                     field: Some(field),
                     ..
                 },
@@ -417,7 +417,7 @@ impl Making {
     }
 
     /// One more number of the open run, which is of this alignment then.
-    fn add_number(&mut self, number: RunNumber, align: Align) -> Result<(), NoMemory>
+    fn add_number(&mut self, number: PlannedNumber, align: Align) -> Result<(), NoMemory>
         requires near { number.window.place + number.window.size ≤ 2 ^ 33 }
         requires short { length number.ready ≤ LONGEST_TEXT }
         requires few { self.old.room ≤ 2 ^ 18 }
@@ -433,14 +433,14 @@ impl Making {
     }
 
     /// A field after the open run, which is whole then.
-    fn add_field(&mut self, alloc: Global, field: Field) -> Result<(), NoMemory>
+    fn add_field(&mut self, alloc: Global, field: PlannedField) -> Result<(), NoMemory>
         requires short { length field.ready ≤ LONGEST_TEXT }
         requires few { self.old.room ≤ 2 ^ 18 }
         ensures { OnOk result (self.new ≡ with_field self.old field) }
     {
         let room = self.room + (field.ready.len() + 66);
         let numbers = mem::replace(&mut self.numbers, List::new(alloc));
-        self.runs.push(Run {
+        self.runs.push(PlannedRun {
             align: self.align,
             has_special: have_special(numbers.as_slice()),
             numbers,

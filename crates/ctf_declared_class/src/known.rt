@@ -33,7 +33,7 @@ pub struct Known {
 
 /// A member of a structure or an option of a variant, which is to be made.
 #[derive(Drop)]
-pub struct Field {
+pub struct KnownField {
     pub name: List<u8>,
     pub known: Known,
 }
@@ -101,7 +101,11 @@ impl Known {
 
     /// A structure whose alignment is the largest of `least` and its members' (CTF 1.8.3, section
     /// 4.2.1). It has no two members of one name.
-    pub fn structure(alloc: Global, least: Align, fields: Vec<Field>) -> Result<Known, ResolveFault>
+    pub fn structure(
+        alloc: Global,
+        least: Align,
+        fields: Vec<KnownField>,
+    ) -> Result<Known, ResolveFault>
         ensures { let all = map field fields.items in
             Follows (compound_told all (plain.struct (largest least all) (members_from all))) known
             result }
@@ -117,7 +121,7 @@ impl Known {
     pub fn variant(
         alloc: Global,
         tag: Option<Path>,
-        fields: Vec<Field>,
+        fields: Vec<KnownField>,
     ) -> Result<Known, ResolveFault>
         ensures { let all = map field fields.items in
             Follows (compound_told all (plain.variant tag (members_from all))) known result }

@@ -9,5 +9,5 @@ mod parts;
 mod shape;
 
 pub use copy::{copied_path, copy_integer};
-pub use known::{Field, Known};
+pub use known::{Known, KnownField};
 pub use shape::{Members, Shape};

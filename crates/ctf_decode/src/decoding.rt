@@ -10,7 +10,7 @@ ghost use Rattle.ctf_decode.specs.Gives.{Told};
 ghost use Rattle.ctf_decode.specs.Decoding.{Decodes};
 
 use crate::fault::DecodeFault;
-use crate::place::{Around, Cursor, Frame, Packet, Reached, Stopped};
+use crate::place::{Around, Cursor, DecodeProgress, Frame, Packet, Stopped};
 use crate::scopes::{MOST_VALUES, Scopes};
 use crate::value::Value;
 use crate::walk::{scope_into, value_into};
@@ -40,7 +40,7 @@ pub fn decode_into(
     packet: &Packet<'_>,
     start: u64,
     value: &mut Value,
-) -> Result<Reached, DecodeFault>
+) -> Result<DecodeProgress, DecodeFault>
     requires start { start ≤ packet.now.content }
     ensures value { IfOk result
         (λ r. Stands (form class.now) (input packet.now) [] start (val value.new) r.end) }
@@ -63,7 +63,7 @@ pub fn decode_into(
         fault: DecodeFault::NoMemory,
     };
     match scope_into(class, &around, &mut at, value) {
-        Ok(()) => Ok(Reached {
+        Ok(()) => Ok(DecodeProgress {
             end: at.end,
             spent: at.spent,
         }),
@@ -120,7 +120,7 @@ pub fn decode_within(
     class: &Class,
     packet: &Packet<'_>,
     frame: &Frame<'_>,
-    at: Reached,
+    at: DecodeProgress,
 ) -> Result<Decoded, DecodeFault>
     requires start { at.end ≤ packet.now.content }
     ensures decodes { let found = walk (form class.now) (input packet.now)

@@ -27,7 +27,7 @@ pub use ids::{last_id, named_id};
 pub use laws::{needs_so_much, one_stands, stands_in_whole};
 pub use moves::{moving, moving_into};
 pub use parts::{choice_in, elements_in, members_in};
-pub use place::{Frame, Packet, Reached};
+pub use place::{DecodeProgress, Frame, Packet};
 pub use scopes::{MOST_VALUES, Scopes};
 pub use text::{before_zero, bytes_at, bytes_from, zero_in};
 pub use value::Value;

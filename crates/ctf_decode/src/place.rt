@@ -40,7 +40,7 @@ pub struct Around<'a> {
 
 /// How far decoding has come.
 #[derive(Clone, Copy, PartialEq, Eq)]
-pub struct Reached {
+pub struct DecodeProgress {
     /// The place where the last value ends, in bits from the packet's first one.
     pub end: u64,
     /// How many values were begun so far.

@@ -26,10 +26,10 @@ use Rattle.ctf_packet.specs.declared.fault.StreamFault.{StreamFault}
 use Rattle.ctf_packet.specs.declared.fault.StreamFault.TheVariants as faults
 use Rattle.ctf_fetch.specs.Fetching.{OrNoMemory}
 use Rattle.ctf_fetch.specs.Demand.{there, input_at, found_at, members_at, elements_at, option_in, options_at, Failed, FailsToOpen, IsOpened}
-use Rattle.ctf_fetch.specs.declared.demand.Place.{Place}
+use Rattle.ctf_fetch.specs.declared.demand.ValuePlace.{ValuePlace}
 use Rattle.ctf_fetch.proofs.Parts.{grown_more, found_more, failed_then, member_ok, element_ok, element_fails, opens_at}
 
-module _ (place : Place) (ms : List Member) where
+module _ (place : ValuePlace) (ms : List Member) where
   -- the members of a structure from an index on, and all of them
   abbrev pub members_from : ℕ → List ℕ → List Val → ℕ → ℕ → Step (List Val)
   members_from i bytes done p s = walk_members (parts_of (map member_part (drop i ms))) (input_at place bytes) (env place.frame.now) done p s
@@ -59,7 +59,7 @@ module _ (place : Place) (ms : List Member) where
       let whole = ap members_all (sym (append-nil bytes)) ∙ sym (left []) ∙ ap (λ b. members_from i b (map val values) p s) (append-nil bytes) ∙ ended in
       ap (λ r. and_then r as_group) whole ∙ ap (λ v. Ok (v, p, s)) (sym (val-Group values))
 
-module _ (place : Place) (element : Class) (count : ℕ) where
+module _ (place : ValuePlace) (element : Class) (count : ℕ) where
   abbrev elements_from : ℕ → List ℕ → List Val → ℕ → ℕ → Step (List Val)
   elements_from n bytes done p s = repeat (walk (form element) (input_at place bytes) (env place.frame.now)) n done p s
 
@@ -96,7 +96,7 @@ module _ (place : Place) (element : Class) (count : ℕ) where
       let whole = ap elements_all (sym (append-nil bytes)) ∙ sym (left []) ∙ ap (λ b. elements_from n b (map val values) p s) (append-nil bytes) ∙ ended in
       ap (λ r. and_then r as_list) whole ∙ ap (λ v. Ok (v, p, s)) (sym (val-List values))
 
-module _ (place : Place) (options : List Member) (chosen : Option ℕ) (i : ℕ) (is : chosen ≡ Some i) (few : place.spent < MOST_VALUES) where
+module _ (place : ValuePlace) (options : List Member) (chosen : Option ℕ) (i : ℕ) (is : chosen ≡ Some i) (few : place.spent < MOST_VALUES) where
   -- the option that was chosen is what is looked for
   option_is : (bytes : List ℕ) → options_at options chosen place bytes ≡ option_in options i place bytes
   option_is bytes =
@@ -120,7 +120,7 @@ module _ (place : Place) (options : List Member) (chosen : Option ℕ) (i : ℕ)
         option_is bytes ∙ choice_ok (input_at place bytes) (env place.frame.now) options i m within here place.end (place.spent + 1) (val v) q t found
         ∙ ap (λ x. Ok (x, q, t)) (ap (λ x. choice i (val x)) (sym boxed) ∙ sym (val-Choice i inner))
 
-module _ (class : Class) (place : Place) where
+module _ (class : Class) (place : ValuePlace) where
   -- a structure that is opened, or that is not
   structure_is : (ms : List Member) (bytes : List ℕ) → class.kind ≡ kind.Structure ms
       → found_at class place bytes ≡ begin (input_at place bytes) place.spent (open_at (input_at place bytes) (next_multiple_of place.end class.align) (and_then (walk_members (parts_of (map member_part ms)) (input_at place bytes) (env place.frame.now) [] (next_multiple_of place.end class.align) (place.spent + 1)) as_group))
@@ -132,7 +132,7 @@ module _ (class : Class) (place : Place) where
   structure_fails ms ending bytes fault is (inl refused) = inl refused
   structure_fails ms ending bytes fault is (inr fails) = inr (subst (λ r. Failed ending r fault) (sym (structure_is ms bytes is)) (fails _))
 
-  pub structure_found : (ms : List Member) (inner : Place) (bytes : List ℕ) → class.kind ≡ kind.Structure ms → IsOpened place (next_multiple_of place.end class.align) inner
+  pub structure_found : (ms : List Member) (inner : ValuePlace) (bytes : List ℕ) → class.kind ≡ kind.Structure ms → IsOpened place (next_multiple_of place.end class.align) inner
       → inner.end ≤ min (8 * length bytes) longest → found_at class place bytes ≡ members_at ms inner bytes
   structure_found ms inner bytes is opened within =
       let b = next_multiple_of place.end class.align in
@@ -158,7 +158,7 @@ module _ (class : Class) (place : Place) where
   array_fails many element count ending bytes fault is counted (inr fails) =
       inr (subst (λ r. Failed ending r fault) (sym (array_is many element count bytes is counted)) (fails _))
 
-  pub array_found : (many : Length) (element : Class) (count : ℕ) (inner : Place) (bytes : List ℕ) → class.kind ≡ kind.Array many element → count ≡ length_of many (earlier place.scopes.now) (env place.frame.now)
+  pub array_found : (many : Length) (element : Class) (count : ℕ) (inner : ValuePlace) (bytes : List ℕ) → class.kind ≡ kind.Array many element → count ≡ length_of many (earlier place.scopes.now) (env place.frame.now)
       → IsOpened place (next_multiple_of place.end element.align) inner → inner.end ≤ min (8 * length bytes) longest → found_at class place bytes ≡ elements_at element count inner bytes
   array_found many element count inner bytes is counted opened within =
       let b = next_multiple_of place.end element.align in

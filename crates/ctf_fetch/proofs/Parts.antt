@@ -31,7 +31,7 @@ use Rattle.ctf_packet_demand.proofs.Needing.{walk_needs}
 use Rattle.ctf_fetch.specs.Fetching.{longest_bytes, OrNoMemory}
 use Rattle.ctf_fetch.specs.Openings.{TakesMore}
 use Rattle.ctf_fetch.specs.Demand.{there, input_at, found_at, text_at, IsFound, EndsNear, Failed, FailsToOpen}
-use Rattle.ctf_fetch.specs.declared.demand.Place.{Place}
+use Rattle.ctf_fetch.specs.declared.demand.ValuePlace.{ValuePlace}
 
 -- bytes that begin with these
 pub grown_all : (before after : List ℕ) → take (length before) after ≡ before → after ≡ before ++ drop (length before) after
@@ -162,7 +162,7 @@ opens_at c b s parts few there_is =
     ap (λ t. cond t (open_at c b parts) (Err too_many)) (lt-ltb s c.limit few) ∙ ap (λ t. cond t (Err (past b)) parts) (le-ltb c.content b there_is)
 
 -- the bytes up to an opening did not come
-pub open_short : (ending : Ending) (place : Place) (b : ℕ) (bytes left : List ℕ) (fault : StreamFault) → place.spent < MOST_VALUES
+pub open_short : (ending : Ending) (place : ValuePlace) (b : ℕ) (bytes left : List ℕ) (fault : StreamFault) → place.spent < MOST_VALUES
     → TakesMore ending b bytes left (Err fault) → OrNoMemory (FailsToOpen ending place b (bytes ++ left)) fault
 open_short ending place b bytes left fault few takes = elim takes [
   | inl refused ↦ inl refused
@@ -177,14 +177,14 @@ none_zero xs none =
     subst (λ j. cond (nat_lt j (length xs)) (Some j) None ≡ None) (sym q) (ap (λ t. cond t (Some (length xs)) None) (le-ltb (length xs) (length xs) (omega arith)))
 
 -- a string of which no zero byte came yet asks for one byte more
-abbrev pub first_bit : Place → ℕ
+abbrev pub first_bit : ValuePlace → ℕ
 first_bit place = next_multiple_of place.end 8
 
 -- the bytes of the string that came, up to an index
-abbrev pub NoZero : Place → List ℕ → ℕ → Type 0
+abbrev pub NoZero : ValuePlace → List ℕ → ℕ → Type 0
 NoZero place bytes n = (k : ℕ) → first_bit place / 8 ≤ k → k < n → nat_eq (get_or bytes k 0) 0 ≡ false
 
-module _ (place : Place) (bytes : List ℕ) (n : ℕ) where
+module _ (place : ValuePlace) (bytes : List ℕ) (n : ℕ) where
   pub text_asks : length bytes ≤ longest_bytes → length bytes ≤ n → first_bit place / 8 ≤ n → n ≤ max (length bytes) (first_bit place / 8) → NoZero place bytes n → text_at place bytes ≡ Err (past (8 * (n + 1)))
   unfolding string_at
   text_asks few all after within none =
@@ -204,12 +204,12 @@ module _ (place : Place) (bytes : List ℕ) (n : ℕ) where
       ap (string_end b place.spent xs) (none_zero xs each) ∙ ap (λ e. Err (past e)) ends
 
 -- a string that was begun is what the function on lists looks for
-pub text_walk : (a : ℕ) (place : Place) (bytes : List ℕ) (e : Env) → place.spent < MOST_VALUES → walk (string a) (input_at place bytes) e place.end place.spent ≡ text_at place bytes
+pub text_walk : (a : ℕ) (place : ValuePlace) (bytes : List ℕ) (e : Env) → place.spent < MOST_VALUES → walk (string a) (input_at place bytes) e place.end place.spent ≡ text_at place bytes
 text_walk a place bytes e few =
     ap (λ t. cond t (text_at place bytes) (Err too_many)) (lt-ltb place.spent MOST_VALUES few)
 
 -- the class of a string, of which a value was begun
-pub found_text : (class : Class) (place : Place) (bytes : List ℕ) → class.kind ≡ String → place.spent < MOST_VALUES → found_at class place bytes ≡ text_at place bytes
+pub found_text : (class : Class) (place : ValuePlace) (bytes : List ℕ) → class.kind ≡ String → place.spent < MOST_VALUES → found_at class place bytes ≡ text_at place bytes
 found_text class place bytes is few =
     let whole = form-is class ∙ ap (λ k. shape k class.align) is ∙ shape-String class.align in
     ap (λ k. walk k (input_at place bytes) (env place.frame.now) place.end place.spent) whole ∙ text_walk class.align place bytes (env place.frame.now) few
@@ -218,7 +218,7 @@ pub not_zero : (n byte : ℕ) → byte ≡ n → (byte ≡ 0 → ⊥) → nat_eq
 not_zero n byte is some = ne_eqb n 0 (λ h. some (is ∙ h))
 
 -- one byte more that is not zero
-pub none_more : (place : Place) (bytes later : List ℕ) (n : ℕ) → NoZero place bytes n → take (length bytes) later ≡ bytes → n ≤ max (length bytes) (first_bit place / 8)
+pub none_more : (place : ValuePlace) (bytes later : List ℕ) (n : ℕ) → NoZero place bytes n → take (length bytes) later ≡ bytes → n ≤ max (length bytes) (first_bit place / 8)
     → nat_eq (get_or later n 0) 0 ≡ false → NoZero place later (n + 1)
 none_more place bytes later n none first within last k after below = elim (test k n) [
   | inl t ↦
@@ -228,7 +228,7 @@ none_more place bytes later n none first within last k after below = elim (test 
   | inr t ↦ (let is : n ≡ k = omega (arith, t.1, below) in subst (λ j. nat_eq (get_or later j 0) 0 ≡ false) is last)
 ]
 
-module _ (place : Place) (few : place.spent < MOST_VALUES) where
+module _ (place : ValuePlace) (few : place.spent < MOST_VALUES) where
   same : (bytes : List ℕ) → at (string 8) [] place.scopes.now place.end place.spent bytes ≡ text_at place bytes
   same bytes = text_walk 8 place bytes [] few
 
@@ -248,7 +248,7 @@ module _ (place : Place) (few : place.spent < MOST_VALUES) where
       (fails_short (string 8) [] place.scopes.now place.end place.spent ending bytes later left e fault (same bytes ∙ asks) first takes)
 
 -- a string that was looked at once its bytes came
-pub string_near : (class : Class) (place : Place) (before : ℕ) (came all : List ℕ) (r : Result Decoded StreamFault) → class.kind ≡ String → place.spent < MOST_VALUES
+pub string_near : (class : Class) (place : ValuePlace) (before : ℕ) (came all : List ℕ) (r : Result Decoded StreamFault) → class.kind ≡ String → place.spent < MOST_VALUES
     → EndsNear place before came → take (length came) all ≡ came → IfOk r (IsFound (found_at class place all)) → IfOk r (λ d. 8 * length all ≤ max (8 * length came) (d.end + 7))
     → IfOk r (λ d. 8 * length all ≤ max (8 * before) (d.end + 7))
 string_near class place before came all (Ok d) is few near first found close =

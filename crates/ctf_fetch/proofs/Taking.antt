@@ -20,7 +20,7 @@ use Rattle.ctf_decode.specs.Laws.{Is}
 use Rattle.ctf_decode.proofs.Sound.{walk_is}
 use Rattle.ctf_decode.proofs.Views.{form-is, part-is, shape-Integer, shape-Enumeration, shape-Structure, shape-Array, shape-Text}
 use Rattle.ctf_fetch.specs.Demand.{input_at, TakesAtLeast, MembersTake, ElementsTake, TakesAt, EndsAtLeast}
-use Rattle.ctf_fetch.specs.declared.demand.Place.{Place}
+use Rattle.ctf_fetch.specs.declared.demand.ValuePlace.{ValuePlace}
 
 -- the members from one on take what it takes, and what those after it take
 pub member_more : (ms : List Member) (i : ℕ) (m : Member) → i < length ms → get_or ms i m ≡ m → (k n : ℕ) → TakesAtLeast m.class k → MembersTake (drop (i + 1) ms) n → MembersTake (drop i ms) (k + n)
@@ -96,7 +96,7 @@ module _ (class : Class) where
       omega (arith, all)
 
   -- it ends so far after its begin
-  pub structure_ends : (place : Place) (ms : List Member) (n end : ℕ) → class.kind ≡ kind.Structure ms → MembersTake ms n → end ≡ next_multiple_of place.end class.align + n → EndsAtLeast class place end
+  pub structure_ends : (place : ValuePlace) (ms : List Member) (n end : ℕ) → class.kind ≡ kind.Structure ms → MembersTake ms n → end ≡ next_multiple_of place.end class.align + n → EndsAtLeast class place end
   structure_ends place ms n end is each at bytes x found =
       let c = input_at place bytes in
       let e = env place.frame.now in
@@ -119,7 +119,7 @@ module _ (class : Class) where
   pub array_takes : (element : Class) (count n : ℕ) → class.kind ≡ kind.Array (Fixed count) element → ElementsTake element count n → TakesAtLeast class n
   array_takes element count n is each c e p v q stands = row_of (Fixed count) element count n is each c e p v q refl stands
 
-  pub array_takes_at : (place : Place) (many : Length) (element : Class) (count n : ℕ) → class.kind ≡ kind.Array many element → count ≡ length_of many (earlier place.scopes.now) (env place.frame.now)
+  pub array_takes_at : (place : ValuePlace) (many : Length) (element : Class) (count n : ℕ) → class.kind ≡ kind.Array many element → count ≡ length_of many (earlier place.scopes.now) (env place.frame.now)
       → ElementsTake element count n → TakesAt class place n
   array_takes_at place many element count n is counted each bytes v q stands =
       row_of many element count n is each (input_at place bytes) (env place.frame.now) place.end v q counted stands
@@ -131,11 +131,11 @@ module _ (class : Class) where
       let ends = leaf.ends in
       omega (arith, ends, few)
 
-  pub takes_at : (place : Place) (n : ℕ) → TakesAtLeast class n → TakesAt class place n
+  pub takes_at : (place : ValuePlace) (n : ℕ) → TakesAtLeast class n → TakesAt class place n
   takes_at place n takes bytes v q stands = takes (input_at place bytes) (env place.frame.now) place.end v q stands
 
   -- a value that is found ends so
-  pub ends_at_least : (place : Place) (n end : ℕ) → TakesAt class place n → end ≡ place.end + n → EndsAtLeast class place end
+  pub ends_at_least : (place : ValuePlace) (n end : ℕ) → TakesAt class place n → end ≡ place.end + n → EndsAtLeast class place end
   ends_at_least place n end takes is bytes x found =
       let c = input_at place bytes in
       let e = env place.frame.now in

@@ -21,45 +21,45 @@ use Rattle.ctf_packet.specs.Packets.{stream_named}
 use Rattle.ctf_packet.specs.Scopes.{Stood, longest, fault_in_front}
 use Rattle.ctf_packet.specs.declared.fault.StreamFault.{StreamFault}
 use Rattle.ctf_packet_demand.specs.Wants.{asked_at}
-use Rattle.ctf_fetch.specs.declared.demand.Place.{Place}
+use Rattle.ctf_fetch.specs.declared.demand.ValuePlace.{ValuePlace}
 
 -- the first bytes of a packet, as far as one may reach, and the values of the scopes before
 abbrev pub there : List ℕ → Known → Input
 there bytes known = input_in bytes (min (8 * length bytes) longest) known
 
-abbrev pub input_at : Place → List ℕ → Input
+abbrev pub input_at : ValuePlace → List ℕ → Input
 input_at place bytes = there bytes place.scopes.now
 
 -- what the function on lists finds at a place in these bytes: of a class
-abbrev pub found_at : Class → Place → List ℕ → Step Val
+abbrev pub found_at : Class → ValuePlace → List ℕ → Step Val
 found_at class place bytes = walk (form class) (input_at place bytes) (env place.frame.now) place.end place.spent
 
 -- of the members of a structure that was opened
-abbrev pub members_at : List Member → Place → List ℕ → Step Val
+abbrev pub members_at : List Member → ValuePlace → List ℕ → Step Val
 members_at members place bytes =
     and_then (walk_members (parts_of (map member_part members)) (input_at place bytes) (env place.frame.now) [] place.end place.spent) as_group
 
 -- of so many elements of an array that was opened
-abbrev pub elements_at : Class → ℕ → Place → List ℕ → Step Val
+abbrev pub elements_at : Class → ℕ → ValuePlace → List ℕ → Step Val
 elements_at element count place bytes =
     and_then (repeat (walk (form element) (input_at place bytes) (env place.frame.now)) count [] place.end place.spent) as_list
 
 -- of the options of a variant, of which one was chosen or none
-abbrev pub option_in : List Member → ℕ → Place → List ℕ → Step Val
+abbrev pub option_in : List Member → ℕ → ValuePlace → List ℕ → Step Val
 option_in options i place bytes =
     and_then (walk_option (parts_of (map member_part options)) i (input_at place bytes) (env place.frame.now) place.end (place.spent + 1)) (as_choice i)
 
-abbrev pub options_at : List Member → Option ℕ → Place → List ℕ → Step Val
+abbrev pub options_at : List Member → Option ℕ → ValuePlace → List ℕ → Step Val
 options_at options chosen place bytes =
     begin (input_at place bytes) place.spent (with_option chosen (λ i. option_in options i place bytes))
 
 -- of a string, of which a value was begun
-abbrev pub text_at : Place → List ℕ → Step Val
+abbrev pub text_at : ValuePlace → List ℕ → Step Val
 text_at place bytes = string_at (input_at place bytes) (next_multiple_of place.end 8) place.spent
 
 -- whatever follows them, a string that is there ends in the last of these bytes or after them, but for so many that
 -- were there before
-abbrev pub EndsNear : Place → ℕ → List ℕ → Type 0
+abbrev pub EndsNear : ValuePlace → ℕ → List ℕ → Type 0
 EndsNear place before bytes =
     (more : List ℕ) (x : Val × ℕ × ℕ) → text_at place (bytes ++ more) ≡ Ok x → 8 * length bytes ≤ max (8 * before) (x.1 + 7)
 
@@ -72,7 +72,7 @@ abbrev pub Failed : {A : Type 0} → Ending → Step A → StreamFault → Type 
 Failed ending step fault = (f : Fault) × (step ≡ Err f) × (fault ≡ fault_in_front ending f)
 
 -- a place after the opening of a structure or an array, which is at a bit
-pub record IsOpened (place : Place) (b : ℕ) (inner : Place) : Type 0 where
+pub record IsOpened (place : ValuePlace) (b : ℕ) (inner : ValuePlace) : Type 0 where
   pub begun : place.spent < MOST_VALUES
   pub end : inner.end ≡ b
   pub spent : inner.spent ≡ place.spent + 1
@@ -80,7 +80,7 @@ pub record IsOpened (place : Place) (b : ℕ) (inner : Place) : Type 0 where
   pub frame : inner.frame.now ≡ place.frame.now
 
 -- the fault of what would be opened at a bit, whatever its parts are
-abbrev pub FailsToOpen : Ending → Place → ℕ → List ℕ → StreamFault → Type 0
+abbrev pub FailsToOpen : Ending → ValuePlace → ℕ → List ℕ → StreamFault → Type 0
 FailsToOpen ending place b bytes fault =
     (parts : Step Val) → Failed ending (begin (input_at place bytes) place.spent (open_at (input_at place bytes) b parts)) fault
 
@@ -118,12 +118,12 @@ FrontTakes trace bytes =
     → asked_at {C = Classes} stream.packet_context d x.end t ≡ Ok y → 8 * bytes ≤ y.end
 
 -- whatever bytes are there, a value of this class at a place takes so many bits at least
-abbrev pub TakesAt : Class → Place → ℕ → Type 0
+abbrev pub TakesAt : Class → ValuePlace → ℕ → Type 0
 TakesAt class place n =
     (bytes : List ℕ) (v : Val) (q : ℕ)
     → Stands (form class) (input_at place bytes) (env place.frame.now) place.end v q → place.end + n ≤ q
 
 -- and ends at this bit at least
-abbrev pub EndsAtLeast : Class → Place → ℕ → Type 0
+abbrev pub EndsAtLeast : Class → ValuePlace → ℕ → Type 0
 EndsAtLeast class place end =
     (bytes : List ℕ) (x : Val × ℕ × ℕ) → found_at class place bytes ≡ Ok x → end ≤ x.1

@@ -21,7 +21,7 @@ use std::alloc::Global;
 /// Where a value is decoded: the values of the scopes before, the members of the structures around it, the bit
 /// at which the value before ends, and how many values were begun so far.
 #[derive(Drop)]
-pub(crate) struct Place<'a> {
+pub(crate) struct ValuePlace<'a> {
     pub(crate) alloc: Global,
     pub(crate) scopes: &'a Scopes,
     pub(crate) frame: &'a Frame<'a>,
@@ -35,7 +35,7 @@ pub(crate) struct Place<'a> {
 #[cycle(demand)]
 pub(crate) fn value_on_demand<S: Source>(
     class: &Class,
-    place: &Place<'_>,
+    place: &ValuePlace<'_>,
     intake: &mut Intake<'_, S>,
 ) -> Result<Decoded, StreamFault>
     requires start { place.now.end ≤ min (8 * length intake.old.buffer.now) longest }
@@ -85,7 +85,7 @@ pub(crate) fn value_on_demand<S: Source>(
 #[cycle(demand)]
 fn members_on_demand<S: Source>(
     members: &[Member],
-    place: &Place<'_>,
+    place: &ValuePlace<'_>,
     intake: &mut Intake<'_, S>,
 ) -> Result<Decoded, StreamFault>
     requires start { place.now.end ≤ min (8 * length intake.old.buffer.now) longest }
@@ -107,7 +107,7 @@ fn members_on_demand<S: Source>(
     let mut spent = place.spent;
     for member in members {
         let frame = Frame::Within(values.as_slice(), place.frame);
-        let inner = Place {
+        let inner = ValuePlace {
             alloc: place.alloc,
             scopes: place.scopes,
             frame: &frame,
@@ -130,7 +130,7 @@ fn members_on_demand<S: Source>(
 fn elements_on_demand<S: Source>(
     element: &Class,
     count: u64,
-    place: &Place<'_>,
+    place: &ValuePlace<'_>,
     intake: &mut Intake<'_, S>,
 ) -> Result<Decoded, StreamFault>
     requires start { place.now.end ≤ min (8 * length intake.old.buffer.now) longest }
@@ -152,7 +152,7 @@ fn elements_on_demand<S: Source>(
     let mut end = place.end;
     let mut spent = place.spent;
     for _more in 0..count {
-        let inner = Place {
+        let inner = ValuePlace {
             alloc: place.alloc,
             scopes: place.scopes,
             frame: place.frame,
@@ -175,7 +175,7 @@ fn elements_on_demand<S: Source>(
 fn option_on_demand<S: Source>(
     options: &[Member],
     chosen: Option<usize>,
-    place: &Place<'_>,
+    place: &ValuePlace<'_>,
     intake: &mut Intake<'_, S>,
 ) -> Result<Decoded, StreamFault>
     requires start { place.now.end ≤ min (8 * length intake.old.buffer.now) longest }
@@ -202,7 +202,7 @@ fn option_on_demand<S: Source>(
     if i >= options.len() {
         return Err(StreamFault::NoOption);
     }
-    let inner = Place {
+    let inner = ValuePlace {
         alloc: place.alloc,
         scopes: place.scopes,
         frame: place.frame,

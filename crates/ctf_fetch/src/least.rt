@@ -6,7 +6,7 @@ ghost use Rattle.ctf_packet.specs.Scopes.{longest};
 ghost use Rattle.ctf_fetch.specs.Demand.{TakesAtLeast, MembersTake, ElementsTake, TakesAt, EndsAtLeast, ScopeTakes, ContextTakes, FrontTakes};
 ghost use Rattle.ctf_fetch.specs.Fetching.{longest_bytes};
 
-use crate::demand::Place;
+use crate::demand::ValuePlace;
 use ctf_class::{Align, Class, Kind, Length, Member, TraceClass, Width};
 use ctf_decode::length_at;
 use ctf_packet::LONGEST_PACKET;
@@ -59,7 +59,7 @@ fn bits_of_scope(class: Option<&Class>) -> u64
 /// `None` where its size depends on values in the packet, as that of a string, a variant, or an array in a structure
 /// whose length is in a field; where a part of it is not of whole bytes, or may not begin at each of them, since its
 /// end would be further away; where its parts lie deeper than `DEEPEST`; and where no packet is so long.
-pub(crate) fn least_end(class: &Class, place: &Place<'_>) -> Option<u64>
+pub(crate) fn least_end(class: &Class, place: &ValuePlace<'_>) -> Option<u64>
     requires { place.now.end ≤ longest }
     ensures least { IfSome result (EndsAtLeast class.now place.now) }
     ensures bounded { IfSome result (λ end. end ≤ longest) }
@@ -77,7 +77,7 @@ pub(crate) fn least_end(class: &Class, place: &Place<'_>) -> Option<u64>
 ///
 /// `None` where the class is no structure, where its size depends on values in the packet, where its parts lie deeper
 /// than `DEEPEST`, and where no packet is so long.
-pub(crate) fn structure_end(class: &Class, place: &Place<'_>) -> Option<u64>
+pub(crate) fn structure_end(class: &Class, place: &ValuePlace<'_>) -> Option<u64>
     requires { place.now.end ≤ longest }
     ensures least { IfSome result (EndsAtLeast class.now place.now) }
     ensures bounded { IfSome result (λ end. end ≤ longest) }
@@ -125,7 +125,7 @@ fn are_packed(members: &[Member]) -> bool {
 }
 
 /// How many bits a value at a place takes at least. An array's length may be in a field.
-fn least_bits_at(class: &Class, place: &Place<'_>) -> Option<u64>
+fn least_bits_at(class: &Class, place: &ValuePlace<'_>) -> Option<u64>
     ensures least { IfSome result (TakesAt class.now place.now) }
     ensures bounded { IfSome result (λ bits. bits ≤ longest) }
 {

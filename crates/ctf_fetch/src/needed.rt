@@ -10,12 +10,12 @@ ghost use Rattle.ctf_fetch.specs.Demand.{found_at, text_at, IsFound, Failed, IsO
 ghost use Rattle.ctf_fetch.specs.Fetching.{longest_bytes, OrNoMemory};
 ghost use Rattle.ctf_fetch.specs.Keeping.{Keeps};
 
-use crate::demand::Place;
+use crate::demand::ValuePlace;
 use crate::fill::{fill_ahead, fill_front};
 use crate::intake::Intake;
 use ctf_bits::{Source, up};
 use ctf_class::{Align, Class};
-use ctf_decode::{DecodeFault, Decoded, MOST_VALUES, Packet, Reached, decode_within};
+use ctf_decode::{DecodeFault, DecodeProgress, Decoded, MOST_VALUES, Packet, decode_within};
 use ctf_packet::{StreamFault, front_content};
 
 /// The place after the opening of a structure or an array, which begins at a multiple of `align`.
@@ -23,9 +23,9 @@ use ctf_packet::{StreamFault, front_content};
 /// An error is F1, F5, F11 or F13; or `NoMemory`.
 pub(crate) fn opening_end<'a, S: Source>(
     align: Align,
-    place: &Place<'a>,
+    place: &ValuePlace<'a>,
     intake: &mut Intake<'_, S>,
-) -> Result<Place<'a>, StreamFault>
+) -> Result<ValuePlace<'a>, StreamFault>
     requires start { place.now.end ≤ min (8 * length intake.old.buffer.now) longest }
     requires few { length intake.old.buffer.now ≤ longest_bytes }
     ensures keeps { Keeps S.Source intake.old intake.new }
@@ -49,7 +49,7 @@ pub(crate) fn opening_end<'a, S: Source>(
     if end > front_content(intake.as_slice()) {
         fill_front(intake, u128::from(end))?;
     }
-    Ok(Place {
+    Ok(ValuePlace {
         alloc: place.alloc,
         scopes: place.scopes,
         frame: place.frame,
@@ -61,7 +61,7 @@ pub(crate) fn opening_end<'a, S: Source>(
 /// The value of a class that has no parts: what it needs is known once it is looked for, but of a string.
 pub(crate) fn leaf_on_demand<S: Source>(
     class: &Class,
-    place: &Place<'_>,
+    place: &ValuePlace<'_>,
     intake: &mut Intake<'_, S>,
 ) -> Result<Decoded, StreamFault>
     requires start { place.now.end ≤ min (8 * length intake.old.buffer.now) longest }
@@ -93,7 +93,7 @@ pub(crate) fn leaf_on_demand<S: Source>(
 pub(crate) fn whole_on_demand<S: Source>(
     class: &Class,
     end: u64,
-    place: &Place<'_>,
+    place: &ValuePlace<'_>,
     intake: &mut Intake<'_, S>,
 ) -> Result<Decoded, StreamFault>
     requires start { place.now.end ≤ min (8 * length intake.old.buffer.now) longest }
@@ -117,7 +117,7 @@ pub(crate) fn whole_on_demand<S: Source>(
 }
 
 /// The value of a class at a place in these bytes.
-fn decode_at(class: &Class, place: &Place<'_>, bytes: &[u8]) -> Result<Decoded, DecodeFault>
+fn decode_at(class: &Class, place: &ValuePlace<'_>, bytes: &[u8]) -> Result<Decoded, DecodeFault>
     requires { place.now.end ≤ min (8 * length bytes.now) longest }
     ensures decodes { Decodes result (found_at class.now place.now bytes.now) }
     ensures within { IfOk result (λ d. d.end ≤ min (8 * length bytes.now) longest) }
@@ -127,7 +127,7 @@ fn decode_at(class: &Class, place: &Place<'_>, bytes: &[u8]) -> Result<Decoded, 
         content: front_content(bytes),
         scopes: place.scopes,
     };
-    let at = Reached {
+    let at = DecodeProgress {
         end: place.end,
         spent: place.spent,
     };
@@ -137,7 +137,7 @@ fn decode_at(class: &Class, place: &Place<'_>, bytes: &[u8]) -> Result<Decoded, 
 /// The value of a string: its bytes are taken up to the first zero byte, and looked at once.
 pub(crate) fn string_on_demand<S: Source>(
     class: &Class,
-    place: &Place<'_>,
+    place: &ValuePlace<'_>,
     intake: &mut Intake<'_, S>,
 ) -> Result<Decoded, StreamFault>
     requires start { place.now.end ≤ min (8 * length intake.old.buffer.now) longest }
@@ -163,7 +163,10 @@ pub(crate) fn string_on_demand<S: Source>(
 }
 
 /// Takes bytes until one of a string at a place is zero.
-fn take_text<S: Source>(place: &Place<'_>, intake: &mut Intake<'_, S>) -> Result<(), StreamFault>
+fn take_text<S: Source>(
+    place: &ValuePlace<'_>,
+    intake: &mut Intake<'_, S>,
+) -> Result<(), StreamFault>
     requires begun { place.now.spent < MOST_VALUES }
     requires start { place.now.end ≤ min (8 * length intake.old.buffer.now) longest }
     requires few { length intake.old.buffer.now ≤ longest_bytes }
@@ -186,7 +189,7 @@ fn take_text<S: Source>(place: &Place<'_>, intake: &mut Intake<'_, S>) -> Result
 /// The byte at an index of the packet, up to which no byte of a string at a place is zero. It is taken where it is not
 /// there.
 fn text_byte<S: Source>(
-    place: &Place<'_>,
+    place: &ValuePlace<'_>,
     next: usize,
     intake: &mut Intake<'_, S>,
 ) -> Result<u8, StreamFault>

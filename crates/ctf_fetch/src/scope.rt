@@ -9,7 +9,7 @@ ghost use Rattle.ctf_fetch.specs.Fetching.{longest_bytes, OrNoMemory};
 ghost use Rattle.ctf_fetch.specs.Keeping.{Keeps};
 
 use crate::buffer::Buffer;
-use crate::demand::{Place, value_on_demand};
+use crate::demand::{ValuePlace, value_on_demand};
 use crate::fill::fill_ahead;
 use crate::intake::Intake;
 use crate::least::structure_end;
@@ -135,7 +135,7 @@ fn class_on_demand<S: Source>(
         (intake.new.buffer.now ++ S.left intake.new.source.now) scopes.old in
         IsTrue (S.tells intake.old.source.now) → IfErr result (OrNoMemory (FailsAs found)) }
 {
-    let place = Place {
+    let place = ValuePlace {
         alloc: next.alloc,
         scopes: &*scopes,
         frame: &Frame::Top,
@@ -178,7 +178,7 @@ fn parts_on_demand<S: Source>(
         IsTrue (S.tells intake.old.source.now) → IfErr result (OrNoMemory (FailsAs found)) }
 {
     *spare = Value::Unsigned(0);
-    let place = Place {
+    let place = ValuePlace {
         alloc: next.alloc,
         scopes: &*scopes,
         frame: &Frame::Top,

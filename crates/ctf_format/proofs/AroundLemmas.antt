@@ -24,10 +24,10 @@ use Rattle.ctf_decode.specs.Walk.{and_then, as_list, begin, open_at, repeat, wal
 use Rattle.ctf_format.specs.Around.{Agrees, ChoosesIn, CountsIn, Finds, Keeps, MembersAre, PutsIn, ScopeIs, ScopesAre, Sees, SharesPacket, Sight, WritesIn, known_in, packet_of, sight}
 use Rattle.ctf_format.specs.Standing.{Before, Counts, ValueIs, Writes}
 use Rattle.ctf_format.specs.Texts.{Shown}
-use Rattle.ctf_format.specs.declared.around.Around as around
-use Rattle.ctf_format.specs.declared.around.Around.{Around}
-use Rattle.ctf_format.specs.declared.around.Around.TheVariants as arounds
-use Rattle.ctf_format.specs.declared.around.Members.{Members}
+use Rattle.ctf_format.specs.declared.around.OuterMembers as around
+use Rattle.ctf_format.specs.declared.around.OuterMembers.{OuterMembers}
+use Rattle.ctf_format.specs.declared.around.OuterMembers.TheVariants as arounds
+use Rattle.ctf_format.specs.declared.around.MemberNumbers.{MemberNumbers}
 use Rattle.ctf_format.specs.declared.around.ScopeInput.{ScopeInput}
 use Rattle.ctf_format.specs.declared.around.Seen.{Seen}
 use Rattle.ctf_format.specs.declared.standing.Last.{Last}
@@ -47,14 +47,14 @@ earlier_member (w ∷ vs) v zero within = refl
 earlier_member (w ∷ vs) v (suc j) within = earlier_member vs v j (omega (arith, within))
 
 -- no members
-pub none_are : (m : Members) → m.count ≡ 0 → MembersAre m []
+pub none_are : (m : MemberNumbers) → m.count ≡ 0 → MembersAre m []
 none_are m none = (sym none, λ j within near. absurd (omega (arith, none, within)))
 
 last_or_earlier : (j n count : ℕ) → count ≡ n + 1 → j < count → (j ≡ n) ⊎ (j < n)
 last_or_earlier j n count counted within = grind (arith, counted, within)
 
 -- one member more
-pub one_more : (m : Members) (count : ℕ) (last : Last) (vs : List Val) (v : Val) → count ≡ length vs + 1 → length m.numbers ≡ 8 → ValueIs last v → MembersAre m vs
+pub one_more : (m : MemberNumbers) (count : ℕ) (last : Last) (vs : List Val) (v : Val) → count ≡ length vs + 1 → length m.numbers ≡ 8 → ValueIs last v → MembersAre m vs
     → MembersAre (record { count = count; numbers = set m.numbers (length vs % 8) last }) (vs ++ v ∷ [])
 one_more m count last vs v counted eight is are = (length-append vs (v ∷ []) ∙ sym counted, finds)
   where
@@ -154,7 +154,7 @@ pub counted_array : (a : ℕ) (k : Form) (many : Length) (n : ℕ) (c : Input) (
 counted_array a k many n c e p s is =
     let b = next_multiple_of p (align_of k) in ap (λ m. begin c s (open_at c b (and_then (repeat (walk k c e) m [] b (s + 1)) as_list))) is
 
-sight-Within : (members : Bor Members) (outer : Bor Around) → sight (arounds.Within members outer) ≡ record { input = (sight outer.now).input; frames = members.now ∷ (sight outer.now).frames }
+sight-Within : (members : Bor MemberNumbers) (outer : Bor OuterMembers) → sight (arounds.Within members outer) ≡ record { input = (sight outer.now).input; frames = members.now ∷ (sight outer.now).frames }
 sight-Within members outer = search (rules, around.the_lemmas)
 
 sight-Scopes : (input : Bor ScopeInput) → sight (arounds.Scopes input) ≡ record { input = input.now; frames = [] }
@@ -165,16 +165,16 @@ pub agrees_top : (input : Bor ScopeInput) (earlier : Scope → Option Val) (env 
 agrees_top input earlier env are = subst (λ s. Agrees s earlier env) (sym (sight-Scopes input)) (are, tt)
 
 -- A structure among what is seen has its members, and what is around it, around its own members.
-pub agrees_within : (seen : Seen) (members : Bor Members) (outer : Bor Around) → members.now ≡ seen.members.now → outer.now ≡ seen.around.now → (earlier : Scope → Option Val) (env : Env) → Sees seen earlier env → Agrees (sight (arounds.Within members outer)) earlier env
+pub agrees_within : (seen : Seen) (members : Bor MemberNumbers) (outer : Bor OuterMembers) → members.now ≡ seen.members.now → outer.now ≡ seen.around.now → (earlier : Scope → Option Val) (env : Env) → Sees seen earlier env → Agrees (sight (arounds.Within members outer)) earlier env
 agrees_within seen members outer same around earlier [] sees = absurd sees
 agrees_within seen members outer same around earlier (vs ∷ env) sees =
     let inner : Agrees (record { input = (sight outer.now).input; frames = members.now ∷ (sight outer.now).frames }) earlier (vs ∷ env) =
-    subst (λ (a : Around). Agrees (record { input = (sight a).input; frames = members.now ∷ (sight a).frames }) earlier (vs ∷ env)) (sym around)
+    subst (λ (a : OuterMembers). Agrees (record { input = (sight a).input; frames = members.now ∷ (sight a).frames }) earlier (vs ∷ env)) (sym around)
     (subst (λ m. Agrees (record { input = (sight seen.around.now).input; frames = m ∷ (sight seen.around.now).frames }) earlier (vs ∷ env)) (sym same) (sees.1.0, (sees.0, sees.1.1))) in
     subst (λ s. Agrees s earlier (vs ∷ env)) (sym (sight-Within members outer)) inner
 
 -- What is found among the members further out is found where one structure lies between.
-by_env : (s : Sight) (m : Members) (out index : ℕ) (l : Last) (env : Env) (earlier : Scope → Option Val) → (out ≡ 0 → ⊥) → ((env : Env) → Agrees s earlier env → Finds l (option_and_then (λ (vs : List Val). slice_get vs index) (slice_get env (out - 1))))
+by_env : (s : Sight) (m : MemberNumbers) (out index : ℕ) (l : Last) (env : Env) (earlier : Scope → Option Val) → (out ≡ 0 → ⊥) → ((env : Env) → Agrees s earlier env → Finds l (option_and_then (λ (vs : List Val). slice_get vs index) (slice_get env (out - 1))))
     → Agrees (record { input = s.input; frames = m ∷ s.frames }) earlier env → Finds l (option_and_then (λ (vs : List Val). slice_get vs index) (slice_get env out))
 by_env s m zero index l env earlier some finds agrees = absurd (some refl)
 by_env s m (suc n) index l [] earlier some finds agrees = absurd agrees.1
@@ -183,13 +183,13 @@ by_env s m (suc n) index l (vs ∷ env) earlier some finds agrees =
     subst (λ k. Finds l (option_and_then (λ (ws : List Val). slice_get ws index) (slice_get env k))) one (finds env (agrees.0, agrees.1.1))
 
 -- What is found further out is found around the structure.
-pub further_out : (members : Bor Members) (outer : Bor Around) (out index : ℕ) (l : Last) → (out ≡ 0 → ⊥)
+pub further_out : (members : Bor MemberNumbers) (outer : Bor OuterMembers) (out index : ℕ) (l : Last) → (out ≡ 0 → ⊥)
     → ((earlier : Scope → Option Val) (env : Env) → Agrees (sight outer.now) earlier env → Finds l (option_and_then (λ (vs : List Val). slice_get vs index) (slice_get env (out - 1))))
     → (earlier : Scope → Option Val) (env : Env) → Agrees (sight (arounds.Within members outer)) earlier env → Finds l (option_and_then (λ (vs : List Val). slice_get vs index) (slice_get env out))
 further_out members outer out index l some finds earlier env agrees = by_env (sight outer.now) members.now out index l env earlier some (finds earlier) (subst (λ s. Agrees s earlier env) (sight-Within members outer) agrees)
 
 -- What is found in the innermost structure is found there.
-pub here_around : (members : Bor Members) (outer : Bor Around) (out index : ℕ) (l : Last) → out ≡ 0 → ((member : ℕ → Option Val) → Keeps members.now member → Finds l (member index))
+pub here_around : (members : Bor MemberNumbers) (outer : Bor OuterMembers) (out index : ℕ) (l : Last) → out ≡ 0 → ((member : ℕ → Option Val) → Keeps members.now member → Finds l (member index))
     → (earlier : Scope → Option Val) (env : Env) → Agrees (sight (arounds.Within members outer)) earlier env → Finds l (option_and_then (λ (vs : List Val). slice_get vs index) (slice_get env out))
 here_around members outer out index l none finds earlier env agrees = first env (subst (λ s. Agrees s earlier env) (sight-Within members outer) agrees)
   where
@@ -241,9 +241,9 @@ nth_is [] i = refl
 nth_is (v ∷ vs) zero = refl
 nth_is (v ∷ vs) (suc i) = nth_is vs i
 
-pub scope_is : (m : Members) (vs : List Val) → MembersAre m vs → ScopeIs m (Some (group (vals_of vs)))
+pub scope_is : (m : MemberNumbers) (vs : List Val) → MembersAre m vs → ScopeIs m (Some (group (vals_of vs)))
 scope_is m vs are j within near = subst (Finds (get_or m.numbers (j % 8) lasts.Unknown)) (sym (nth_is vs j)) (are.1 j within near)
 
 -- Of no members nothing is known.
-pub none_known : (m : Members) (value : Option Val) → MembersAre m [] → ScopeIs m value
+pub none_known : (m : MemberNumbers) (value : Option Val) → MembersAre m [] → ScopeIs m value
 none_known m value are j within near = absurd (omega (arith, are.0, within))

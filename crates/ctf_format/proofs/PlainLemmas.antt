@@ -10,7 +10,7 @@ use Rattle.ctf_class.proofs.AlignmentLemmas.{next_after}
 use Rattle.ctf_class.specs.Integers.{bits_of}
 use Rattle.ctf_class.specs.Records.{have_special, numbers_room}
 use Rattle.ctf_class.specs.declared.integer.Integer.{Integer}
-use Rattle.ctf_class.specs.declared.run_number.RunNumber.{RunNumber}
+use Rattle.ctf_class.specs.declared.planned_number.PlannedNumber.{PlannedNumber}
 use Rattle.ctf_decode.specs.Forms.{integer}
 use Rattle.ctf_format.specs.Numbers.{in_base, number_text}
 use Rattle.ctf_format.specs.Plain.{IsPlaced, number_at, place_in, run_text}
@@ -19,20 +19,20 @@ use Rattle.ctf_format.specs.Texts.{integer_text}
 use Rattle.ctf_format.proofs.StandingLemmas.{puts_signed, puts_unsigned}
 
 -- a number that is not special is what its window reads
-pub plain_number : (n : RunNumber) → IsPlaced n → n.is_special ≡ false → (packet : List ℕ) (first : ℕ) → number_after n.window packet first ≡ number_at n.integer packet (place_in first n)
+pub plain_number : (n : PlannedNumber) → IsPlaced n → n.is_special ≡ false → (packet : List ℕ) (first : ℕ) → number_after n.window packet first ≡ number_at n.integer packet (place_in first n)
 plain_number n is plain packet first =
     let usual = is.usual plain in
     λ j. if is.sign j then signed_number (sym usual.1 j) packet (place_in first n) (is.size j) else pos (number (sym usual.1 j) packet (place_in first n) (is.size j))
 
 -- and is shown in decimal
-pub plain_text : (n : RunNumber) → IsPlaced n → n.is_special ≡ false → (packet : List ℕ) (first : ℕ) → n.ready ++ signed_decimal (number_after n.window packet first) ≡ run_text packet first n
+pub plain_text : (n : PlannedNumber) → IsPlaced n → n.is_special ≡ false → (packet : List ℕ) (first : ℕ) → n.ready ++ signed_decimal (number_after n.window packet first) ≡ run_text packet first n
 plain_text n is plain packet first =
     ap (λ z. n.ready ++ signed_decimal z) (plain_number n is plain packet first) ∙ ap (λ b. n.ready ++ in_base b n.integer.size (number_at n.integer packet (place_in first n))) (sym (is.usual plain).0)
 
 -- none of some numbers is special
-pub none_special : (ns : List RunNumber) (k : ℕ) (n : RunNumber) → have_special ns ≡ false → k < length ns → n ≡ get_or ns k n → n.is_special ≡ false
+pub none_special : (ns : List PlannedNumber) (k : ℕ) (n : PlannedNumber) → have_special ns ≡ false → k < length ns → n ≡ get_or ns k n → n.is_special ≡ false
 none_special [] k n none within is = absurd (omega (arith, within))
-none_special (x ∷ ns) zero n none within is = ap (λ (y : RunNumber). y.is_special) is ∙ first x.is_special none
+none_special (x ∷ ns) zero n none within is = ap (λ (y : PlannedNumber). y.is_special) is ∙ first x.is_special none
   where
     first : (b : Bool) → b || have_special ns ≡ false → b ≡ false
     first true none = none
@@ -61,6 +61,6 @@ module _ (i : Integer) (a : ℕ) (packet : List ℕ) (content first place from e
   run_integer = by_sign i.is_signed refl wrote
 
 -- the room of numbers is 24 bytes and more
-pub room_some : (ns : List RunNumber) → 24 ≤ numbers_room ns
+pub room_some : (ns : List PlannedNumber) → 24 ≤ numbers_room ns
 room_some [] = omega arith
 room_some (n ∷ ns) = let more = room_some ns in omega (arith, more)

@@ -14,10 +14,10 @@ use Rattle.ctf_class.specs.Records.{Slot, Scoped, laters, slots_of, slots, betwe
 use Rattle.ctf_class.specs.declared.class.Class.{Class}
 use Rattle.ctf_class.specs.declared.class.Kind as kind
 use Rattle.ctf_class.specs.declared.class.Member.{Member}
-use Rattle.ctf_class.specs.declared.record_plan.Field.{Field}
+use Rattle.ctf_class.specs.declared.record_plan.PlannedField.{PlannedField}
 use Rattle.ctf_class.specs.declared.integer.Integer.{Integer}
-use Rattle.ctf_class.specs.declared.record_plan.Run.{Run}
-use Rattle.ctf_class.specs.declared.run_number.RunNumber.{RunNumber}
+use Rattle.ctf_class.specs.declared.record_plan.PlannedRun.{PlannedRun}
+use Rattle.ctf_class.specs.declared.planned_number.PlannedNumber.{PlannedNumber}
 use Rattle.ctf_class.specs.declared.route.Length.TheVariants as lengths
 use Rattle.ctf_class.specs.declared.route.Route.{Route}
 use Rattle.ctf_decode.specs.Forms.{Form, integer}
@@ -61,7 +61,7 @@ fields_split packet content (x ∷ xs) ys from to puts =
     (s.0, (puts.0, puts.1, s.1), s.2)
 
 -- numbers of a run end within it
-run_reach : (base from span : ℕ) (ss rest : List Slot) (ns : List RunNumber) → AreInRun base from ss ns span rest → from ≤ span
+run_reach : (base from span : ℕ) (ss rest : List Slot) (ns : List PlannedNumber) → AreInRun base from ss ns span rest → from ≤ span
 run_reach base from span ss rest [] are = omega (arith, are.0)
 run_reach base from span [] rest (n ∷ ns) are = absurd are
 run_reach base from span (s ∷ ss) rest (n ∷ ns) are =
@@ -69,17 +69,17 @@ run_reach base from span (s ∷ ss) rest (n ∷ ns) are =
     let after : from ≤ n.window.place = omega (arith, ap (λ (w : Placed). w.place) are.0.window) in
     omega (arith, further, after)
 
-run_after : (base from span : ℕ) (ss rest : List Slot) (ns : List RunNumber) → AreInRun base from ss ns span rest → All (λ (n : RunNumber). n.window.place + bits_of n.integer ≤ span) ns
-run_after base from span ss rest [] are = All-nil (λ (n : RunNumber). n.window.place + bits_of n.integer ≤ span)
+run_after : (base from span : ℕ) (ss rest : List Slot) (ns : List PlannedNumber) → AreInRun base from ss ns span rest → All (λ (n : PlannedNumber). n.window.place + bits_of n.integer ≤ span) ns
+run_after base from span ss rest [] are = All-nil (λ (n : PlannedNumber). n.window.place + bits_of n.integer ≤ span)
 run_after base from span [] rest (n ∷ ns) are = absurd are
 run_after base from span (s ∷ ss) rest (n ∷ ns) are =
     let next = n.window.place + n.window.size in
     let size = ap (λ (w : Placed). w.size) are.0.window in
     let inside : n.window.place + bits_of n.integer ≤ span = omega (arith, size, run_reach base next span ss rest ns are.1) in
-    All-cons (λ (k : RunNumber). k.window.place + bits_of k.integer ≤ span) n ns inside (run_after base next span ss rest ns are.1)
+    All-cons (λ (k : PlannedNumber). k.window.place + bits_of k.integer ≤ span) n ns inside (run_after base next span ss rest ns are.1)
 
 -- the windows of numbers are those of their integers
-run_placed : (base from span : ℕ) (ss rest : List Slot) (ns : List RunNumber) → AreInRun base from ss ns span rest → All IsPlaced ns
+run_placed : (base from span : ℕ) (ss rest : List Slot) (ns : List PlannedNumber) → AreInRun base from ss ns span rest → All IsPlaced ns
 run_placed base from span ss rest [] are = All-nil IsPlaced
 run_placed base from span [] rest (n ∷ ns) are = absurd are
 run_placed base from span (s ∷ ss) rest (n ∷ ns) are =
@@ -87,31 +87,31 @@ run_placed base from span (s ∷ ss) rest (n ∷ ns) are =
     All-cons IsPlaced n ns is (run_placed base (n.window.place + n.window.size) span ss rest ns are.1)
 
 -- what is left after the field of a run
-pub left_after : (ss : List Slot) (f : Option Field) (Holds : List Slot → Type 0) → After ss f Holds → (others : List Slot) × After ss f (λ xs. xs ≡ others) × Holds others
+pub left_after : (ss : List Slot) (f : Option PlannedField) (Holds : List Slot → Type 0) → After ss f Holds → (others : List Slot) × After ss f (λ xs. xs ≡ others) × Holds others
 left_after ss None Holds after = (ss, refl, after)
 left_after [] (Some f) Holds after = absurd after
 left_after (s ∷ ss) (Some f) Holds after = (ss, (after.0, refl), after.1)
 
 -- the first of some runs
-pub takes_first : (ss : List Slot) (r : Run) (rs : List Run) → AreRuns ss (r ∷ rs) → (others : List Slot) × TakesRun ss r others × AreRuns others rs
+pub takes_first : (ss : List Slot) (r : PlannedRun) (rs : List PlannedRun) → AreRuns ss (r ∷ rs) → (others : List Slot) × TakesRun ss r others × AreRuns others rs
 takes_first ss r rs are =
     let left = left_after are.0 r.field (λ xs. AreRuns xs rs) are.5 in
     (left.0, (are.0, are.1, left.1), left.2)
 
 -- runs of a plan are near
-pub runs_near : (ss : List Slot) (rs : List Run) → AreRuns ss rs → All IsNear rs
+pub runs_near : (ss : List Slot) (rs : List PlannedRun) → AreRuns ss rs → All IsNear rs
 runs_near ss [] are = All-nil IsNear
 runs_near ss (r ∷ rs) are =
     let first = takes_first ss r rs are in
     All-cons IsNear r rs (record { room = are.2; bounded = are.3; special = are.4; within_span = run_after (max 8 r.align) 0 r.span ss are.0 r.numbers are.1.1; placed = run_placed (max 8 r.align) 0 r.span ss are.0 r.numbers are.1.1 }) (runs_near first.0 rs first.2)
 
 -- the room of numbers alone, and of the text after them
-pub room_alone : (ns : List RunNumber) (f : Option Field) → numbers_room ns ≤ room_of ns f
+pub room_alone : (ns : List PlannedNumber) (f : Option PlannedField) → numbers_room ns ≤ room_of ns f
 room_alone [] None = omega arith
 room_alone [] (Some f) = omega arith
 room_alone (n ∷ ns) f = let more = room_alone ns f in omega (arith, more)
 
-pub room_after : (ns : List RunNumber) (f : Option Field) → numbers_room ns + room_of [] f ≡ room_of ns f + 24
+pub room_after : (ns : List PlannedNumber) (f : Option PlannedField) → numbers_room ns + room_of [] f ≡ room_of ns f + 24
 room_after [] None = refl
 room_after [] (Some f) = omega arith
 room_after (n ∷ ns) f = let more = room_after ns f in omega (arith, more)
@@ -122,7 +122,7 @@ nat_of (pos n) = n
 nat_of (negsuc n) = 0
 
 -- a number of a run is its field
-number_alone : (s : Slot) (n : RunNumber) (base from first place content : ℕ) (packet line : List ℕ) → IsNumber base from s n → place % base ≡ 0 → 8 * first ≡ place → place + (n.window.place + n.window.size) ≤ content
+number_alone : (s : Slot) (n : PlannedNumber) (base from first place content : ℕ) (packet line : List ℕ) → IsNumber base from s n → place % base ≡ 0 → 8 * first ≡ place → place + (n.window.place + n.window.size) ≤ content
     → (next_multiple_of (place + from) s.align ≤ content) × PutsOne (form s.member.class) (λ v. s.lead ++ part_text (member_part s.member) v) packet content (next_multiple_of (place + from) s.align) (place + (n.window.place + n.window.size)) line (line ++ run_text packet first n)
 number_alone s n base from first place content packet line is whole starts within =
     let m = s.member in
@@ -145,7 +145,7 @@ number_alone s n base from first place content packet line is whole starts withi
     (omega (arith, begins, near, within), subst (λ p. PutsOne (form m.class) (λ v. s.lead ++ part_text (member_part m) v) packet content p end line after) (sym begins) there)
 
 -- and an unsigned one is there as its number
-number_stands : (s : Slot) (n : RunNumber) (base from first place content v : ℕ) (packet : List ℕ) → IsNumber base from s n → place % base ≡ 0 → 8 * first ≡ place → place + (n.window.place + n.window.size) ≤ content → n.integer.is_signed ≡ false → number_at n.integer packet (place_in first n) ≡ pos v
+number_stands : (s : Slot) (n : PlannedNumber) (base from first place content v : ℕ) (packet : List ℕ) → IsNumber base from s n → place % base ≡ 0 → 8 * first ≡ place → place + (n.window.place + n.window.size) ≤ content → n.integer.is_signed ≡ false → number_at n.integer packet (place_in first n) ≡ pos v
     → StandsAsNumber (form s.member.class) packet content (next_multiple_of (place + from) s.align) v
 unfolding number nat_of
 number_stands s n base from first place content v packet is whole starts within plain read =
@@ -172,7 +172,7 @@ alone_field s packet content from to within puts same stands =
 abbrev pub numbers_to : ℕ → ℕ → Option ℕ → List ℕ → Reached
 numbers_to place more last line = record { place = place; more = more; last = last; line = line }
 
-number_field : (s : Slot) (n : RunNumber) (base from first place content more : ℕ) (known last : Option ℕ) (packet line : List ℕ) → IsNumber base from s n → place % base ≡ 0 → 8 * first ≡ place → place + (n.window.place + n.window.size) ≤ content → IfSome last (λ v. (n.integer.is_signed ≡ false) × (number_at n.integer packet (place_in first n) ≡ pos v))
+number_field : (s : Slot) (n : PlannedNumber) (base from first place content more : ℕ) (known last : Option ℕ) (packet line : List ℕ) → IsNumber base from s n → place % base ≡ 0 → 8 * first ≡ place → place + (n.window.place + n.window.size) ≤ content → IfSome last (λ v. (n.integer.is_signed ≡ false) × (number_at n.integer packet (place_in first n) ≡ pos v))
     → PutsField s packet content (numbers_to (place + from) more known line) (numbers_to (place + (n.window.place + n.window.size)) more last (line ++ run_text packet first n))
 number_field s n base from first place content more known last packet line is whole starts within number_is =
     let alone = number_alone s n base from first place content packet line is whole starts within in
@@ -204,7 +204,7 @@ module _ (s : Slot) (i : Integer) (is : s.member.class.kind ≡ kind.Integer i) 
   )
 
 -- the numbers of a run are its first fields
-pub numbers_fields : (ss rest : List Slot) (ns : List RunNumber) (base at from span first place content more : ℕ) (last : Option ℕ) (packet line : List ℕ) → AreInRun base from ss ns span rest → Leads at (place + from) ss ns → IsLastNumber last ns packet first → (0 < length ns → (place % base ≡ 0) × (8 * first ≡ place)) → place + span ≤ content
+pub numbers_fields : (ss rest : List Slot) (ns : List PlannedNumber) (base at from span first place content more : ℕ) (last : Option ℕ) (packet line : List ℕ) → AreInRun base from ss ns span rest → Leads at (place + from) ss ns → IsLastNumber last ns packet first → (0 < length ns → (place % base ≡ 0) × (8 * first ≡ place)) → place + span ≤ content
     → (used : List Slot) × (ss ≡ used ++ rest) × PutsFields used packet content (numbers_to at more None line) (numbers_to (place + span) more last (line ++ flat_map (run_text packet first) ns))
 numbers_fields ss rest [] base at from span first place content more last packet line are leads known starts within =
     ([], sym are.1, λ j. numbers_to ((ap (λ k. place + k) are.0 ∙ sym leads) j) more (known j) (append-nil line j))
@@ -340,7 +340,7 @@ scopes_puts (k ∷ (l ∷ ks)) (s ∷ (t ∷ ss)) opens packet content spent fro
     )
 
 -- the numbers of a run, in a buffer
-pub run_numbers : (align : ℕ) (ss rest : List Slot) (ns ms : List RunNumber) (at span first place content more : ℕ) (last : Option ℕ) (packet before line after : List ℕ) → TakesNumbers align ss ns span rest → ms ≡ ns → IsLastNumber last ns packet first → IsLeastMultiple at align place → place ≡ next_multiple_of at align → (0 < length ns → 8 * first ≡ place) → place + span ≤ content → line ≡ before → after ≡ line ++ flat_map (run_text packet first) ms
+pub run_numbers : (align : ℕ) (ss rest : List Slot) (ns ms : List PlannedNumber) (at span first place content more : ℕ) (last : Option ℕ) (packet before line after : List ℕ) → TakesNumbers align ss ns span rest → ms ≡ ns → IsLastNumber last ns packet first → IsLeastMultiple at align place → place ≡ next_multiple_of at align → (0 < length ns → 8 * first ≡ place) → place + span ≤ content → line ≡ before → after ≡ line ++ flat_map (run_text packet first) ms
     → (used : List Slot) × (ss ≡ used ++ rest) × PutsFields used packet content (numbers_to at more None before) (numbers_to (place + span) more last after)
 run_numbers align ss rest ns ms at span first place content more last packet before line after takes same known least begins starts within kept wrote =
     let none : place + 0 ≡ place = omega arith in
@@ -351,35 +351,35 @@ run_numbers align ss rest ns ms at span first place content more last packet bef
     (all.0, all.1, subst (λ xs. PutsFields all.0 packet content (numbers_to at more None before) (numbers_to (place + span) more last xs)) text all.2)
 
 -- no number is asked for
-pub no_number : (ns : List RunNumber) (packet : List ℕ) (first : ℕ) → IsLastNumber None ns packet first
+pub no_number : (ns : List PlannedNumber) (packet : List ℕ) (first : ℕ) → IsLastNumber None ns packet first
 no_number [] packet first = refl
 no_number (n ∷ []) packet first = tt
 no_number (n ∷ (m ∷ ns)) packet first = no_number (m ∷ ns) packet first
 
 -- what is written where no number before it is known
-pub after_no_number : (ns : List RunNumber) (packet : List ℕ) (first : ℕ) (P : Option ℕ → ℕ → Type 0) (r : Option ℕ) → IfSome r (P None) → IfSome r (λ text. (last : Option ℕ) × IsLastNumber last ns packet first × P last text)
+pub after_no_number : (ns : List PlannedNumber) (packet : List ℕ) (first : ℕ) (P : Option ℕ → ℕ → Type 0) (r : Option ℕ) → IfSome r (P None) → IfSome r (λ text. (last : Option ℕ) × IsLastNumber last ns packet first × P last text)
 after_no_number ns packet first P (Some text) puts = (None, no_number ns packet first, puts)
 after_no_number ns packet first P None puts = tt
 
 -- the last of some numbers
-pub last_number : (ns : List RunNumber) (n : RunNumber) (r : Option ℕ) (packet : List ℕ) (first : ℕ) → 0 < length ns → n ≡ get_or ns (length ns - 1) n → n.integer.is_signed ≡ false → IfSome r (λ v. number_at n.integer packet (place_in first n) ≡ pos v) → IsLastNumber r ns packet first
+pub last_number : (ns : List PlannedNumber) (n : PlannedNumber) (r : Option ℕ) (packet : List ℕ) (first : ℕ) → 0 < length ns → n ≡ get_or ns (length ns - 1) n → n.integer.is_signed ≡ false → IfSome r (λ v. number_at n.integer packet (place_in first n) ≡ pos v) → IsLastNumber r ns packet first
 last_number [] n r packet first some is plain read = absurd (omega (arith, some))
 last_number (m ∷ []) n r packet first some is plain read = told r read
   where
     told : (o : Option ℕ) → IfSome o (λ v. number_at n.integer packet (place_in first n) ≡ pos v) → IfSome o (λ v. (m.integer.is_signed ≡ false) × (number_at m.integer packet (place_in first m) ≡ pos v))
     told None read = tt
-    told (Some v) read = (subst (λ (x : RunNumber). x.integer.is_signed ≡ false) is plain, subst (λ (x : RunNumber). number_at x.integer packet (place_in first x) ≡ pos v) is read)
+    told (Some v) read = (subst (λ (x : PlannedNumber). x.integer.is_signed ≡ false) is plain, subst (λ (x : PlannedNumber). number_at x.integer packet (place_in first x) ≡ pos v) is read)
 last_number (m ∷ (k ∷ ns)) n r packet first some is plain read =
     let count : suc (suc (length ns)) - 1 ≡ suc (length ns - 0) = omega arith in
     let fewer : length ns - 0 ≡ suc (length ns) - 1 = omega arith in
     last_number (k ∷ ns) n r packet first (omega arith) (is ∙ ap (λ i. get_or (m ∷ (k ∷ ns)) i n) count ∙ ap (λ i. get_or (k ∷ ns) i n) fewer) plain read
 
 -- no field after the numbers of a run
-pub after_none : (rest others : List Slot) (o : Option Field) → o ≡ None → After rest o (λ xs. xs ≡ others) → rest ≡ others
+pub after_none : (rest others : List Slot) (o : Option PlannedField) → o ≡ None → After rest o (λ xs. xs ≡ others) → rest ≡ others
 after_none rest others o is after = subst (λ f. After rest f (λ xs. xs ≡ others)) is after
 
 -- a field after the numbers of a run
-pub after_some : (rest others : List Slot) (o : Option Field) (f : Field) → o ≡ Some f → After rest o (λ xs. xs ≡ others) → (s : Slot) × (rest ≡ s ∷ others) × IsField s f
+pub after_some : (rest others : List Slot) (o : Option PlannedField) (f : PlannedField) → o ≡ Some f → After rest o (λ xs. xs ≡ others) → (s : Slot) × (rest ≡ s ∷ others) × IsField s f
 after_some rest others o f is after = one rest (subst (λ g. After rest g (λ xs. xs ≡ others)) is after)
   where
     one : (xs : List Slot) → After xs (Some f) (λ ys. ys ≡ others) → (s : Slot) × (xs ≡ s ∷ others) × IsField s f
@@ -387,7 +387,7 @@ after_some rest others o f is after = one rest (subst (λ g. After rest g (λ xs
     one (s ∷ xs) holds = (s, ap (λ ys. s ∷ ys) holds.1, holds.0)
 
 -- the numbers of a run, and the field after them
-pub run_joined : (slots rest others : List Slot) (ns : List RunNumber) (packet : List ℕ) (content first : ℕ) (from : Reached) (mid : Option ℕ → Reached) (r : Option ℕ) (to : ℕ → Reached)
+pub run_joined : (slots rest others : List Slot) (ns : List PlannedNumber) (packet : List ℕ) (content first : ℕ) (from : Reached) (mid : Option ℕ → Reached) (r : Option ℕ) (to : ℕ → Reached)
     → ((last : Option ℕ) → IsLastNumber last ns packet first → (used : List Slot) × (slots ≡ used ++ rest) × PutsFields used packet content from (mid last))
     → IfSome r (λ t. (last : Option ℕ) × IsLastNumber last ns packet first × (used : List Slot) × (rest ≡ used ++ others) × PutsFields used packet content (mid last) (to t))
     → IfSome r (λ t. (used : List Slot) × (slots ≡ used ++ others) × PutsFields used packet content from (to t))
@@ -398,7 +398,7 @@ run_joined slots rest others ns packet content first from mid (Some t) to number
     (used ++ field.2, before.1 ∙ ap (λ xs. used ++ xs) field.3 ∙ sym (append_assoc used field.2 others), fields_join packet content used field.2 from (mid field.0) (to t) before.2 field.4)
 
 -- a field after the numbers of a run is one of theirs
-pub run_field : (rest others : List Slot) (s : Slot) (ns : List RunNumber) (packet : List ℕ) (content first : ℕ) (mid : Option ℕ → Reached) (r : Option ℕ) (to : ℕ → Reached) → rest ≡ s ∷ others
+pub run_field : (rest others : List Slot) (s : Slot) (ns : List PlannedNumber) (packet : List ℕ) (content first : ℕ) (mid : Option ℕ → Reached) (r : Option ℕ) (to : ℕ → Reached) → rest ≡ s ∷ others
     → IfSome r (λ t. (last : Option ℕ) × IsLastNumber last ns packet first × PutsField s packet content (mid last) (to t))
     → IfSome r (λ t. (last : Option ℕ) × IsLastNumber last ns packet first × (used : List Slot) × (rest ≡ used ++ others) × PutsFields used packet content (mid last) (to t))
 run_field rest others s ns packet content first mid None to is field = tt
@@ -410,7 +410,7 @@ counts_after route zero n leads = absurd (omega (arith, leads.1.2))
 counts_after route (suc i) n leads = counts_last route (record { index = suc i; last = known (Some n) }) n leads refl
 
 -- what is printed before a value, and the value after it, are its field
-pub field_next : (s : Slot) (f : Field) (packet : List ℕ) (content begin place more some end : ℕ) (last : Option ℕ) (before line after : List ℕ) → IsField s f → begin ≡ next_multiple_of place f.align → begin ≤ content → line ≡ before ++ f.ready
+pub field_next : (s : Slot) (f : PlannedField) (packet : List ℕ) (content begin place more some end : ℕ) (last : Option ℕ) (before line after : List ℕ) → IsField s f → begin ≡ next_multiple_of place f.align → begin ≤ content → line ≡ before ++ f.ready
     → PutsNext (after_members s.index last) (form s.member.class) (value_text s.member.class) packet content begin line (record { place = end; text = 0; more = some; last = known None }) after
     → PutsField s packet content (numbers_to place more last before) (numbers_to end (more + some) None after)
 field_next s f packet content begin place more some end last before line after is begins within wrote puts =
@@ -421,7 +421,7 @@ field_next s f packet content begin place more some end last before line after i
     let there = next_named (after_members s.index last) m s.lead packet content begin before line to after (field_text m.name) (wrote ∙ ap (λ t. before ++ t) is.ready) refl puts in
     (omega (arith, at, within), some, refl, subst (λ p. PutsNext (after_members s.index last) (form m.class) shown packet content p before to after) at there, tt)
 
-pub field_alone : (s : Slot) (f : Field) (packet : List ℕ) (content begin place more end : ℕ) (last : Option ℕ) (before line after : List ℕ) → IsField s f → begin ≡ next_multiple_of place f.align → begin ≤ content → line ≡ before ++ f.ready
+pub field_alone : (s : Slot) (f : PlannedField) (packet : List ℕ) (content begin place more end : ℕ) (last : Option ℕ) (before line after : List ℕ) → IsField s f → begin ≡ next_multiple_of place f.align → begin ≤ content → line ≡ before ++ f.ready
     → PutsOne (form s.member.class) (value_text s.member.class) packet content begin end line after
     → PutsField s packet content (numbers_to place more last before) (numbers_to end more None after)
 field_alone s f packet content begin place more end last before line after is begins within wrote puts =

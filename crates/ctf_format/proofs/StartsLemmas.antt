@@ -9,7 +9,7 @@ use Rattle.ctf_bits.proofs.Aligns.{IsLeastMultiple-next}
 use Rattle.ctf_class.proofs.AlignmentLemmas.{divides_too}
 use Rattle.ctf_class.specs.Alignment.{IsLarger}
 use Rattle.ctf_class.specs.Records.{Slot, BeginsRun}
-use Rattle.ctf_class.specs.declared.run_number.RunNumber.{RunNumber}
+use Rattle.ctf_class.specs.declared.planned_number.PlannedNumber.{PlannedNumber}
 
 -- a multiple of an alignment is where it is
 pub multiple_stays : (p a : ℕ) → p % a ≡ 0 → next_multiple_of p a ≡ p
@@ -28,14 +28,14 @@ base_divides p a eight own = elim (cases_lt 8 a) [
 
 -- The first of these numbers is where it is, whether its field is looked for from one place or from another; without a
 -- number both places are the same.
-abbrev pub Leads : ℕ → ℕ → List Slot → List RunNumber → Type 0
+abbrev pub Leads : ℕ → ℕ → List Slot → List PlannedNumber → Type 0
 Leads at from ss [] = at ≡ from
 Leads at from [] (n ∷ ns) = ⊤
 Leads at from (s ∷ ss) (n ∷ ns) =
     (next_multiple_of at s.align ≤ next_multiple_of from s.align)
     × (next_multiple_of (next_multiple_of at s.align) s.member.class.align ≡ next_multiple_of (next_multiple_of from s.align) s.member.class.align)
 
-pub leads_itself : (p : ℕ) (ss : List Slot) (ns : List RunNumber) → Leads p p ss ns
+pub leads_itself : (p : ℕ) (ss : List Slot) (ns : List PlannedNumber) → Leads p p ss ns
 leads_itself p ss [] = refl
 leads_itself p [] (n ∷ ns) = tt
 leads_itself p (s ∷ ss) (n ∷ ns) = (omega arith, refl)
@@ -74,7 +74,7 @@ module _ (at align one other place : ℕ) (l : IsLarger align one other) (least 
   low_enough = let stays = multiple_stays place one of_one in let low = below in omega (arith, stays, low)
 
 -- a run begins where its first number does
-pub run_leads : (align at place : ℕ) (ss : List Slot) (ns : List RunNumber) → BeginsRun align ss ns → IsLeastMultiple at align place → place ≡ next_multiple_of at align → Leads at place ss ns
+pub run_leads : (align at place : ℕ) (ss : List Slot) (ns : List PlannedNumber) → BeginsRun align ss ns → IsLeastMultiple at align place → place ≡ next_multiple_of at align → Leads at place ss ns
 run_leads align at place ss [] begins least is = sym (is ∙ ap (next_multiple_of at) begins ∙ at_one at)
 run_leads align at place [] (n ∷ ns) begins least is = tt
 run_leads align at place (s ∷ ss) (n ∷ ns) begins least is =

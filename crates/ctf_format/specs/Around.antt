@@ -16,9 +16,9 @@ use Rattle.ctf_decode.specs.Walk.{walk, walk_members, repeat}
 use Rattle.ctf_decode.specs.declared.scopes.TheConstants.{MOST_VALUES}
 use Rattle.ctf_format.specs.Standing.{among, ValueIs}
 use Rattle.ctf_format.specs.Texts.{Shown, member_part, member_texts, element_texts}
-use Rattle.ctf_format.specs.declared.around.Around.{Around, fold-Around}
-use Rattle.ctf_format.specs.declared.around.Around.TheOpen.{Around-F}
-use Rattle.ctf_format.specs.declared.around.Members.{Members}
+use Rattle.ctf_format.specs.declared.around.OuterMembers.{OuterMembers, fold-OuterMembers}
+use Rattle.ctf_format.specs.declared.around.OuterMembers.TheOpen.{OuterMembers-F}
+use Rattle.ctf_format.specs.declared.around.MemberNumbers.{MemberNumbers}
 use Rattle.ctf_format.specs.declared.around.Outside.{Outside}
 use Rattle.ctf_format.specs.declared.around.Seen.{Seen}
 use Rattle.ctf_format.specs.declared.around.ScopeInput.{ScopeInput}
@@ -30,18 +30,18 @@ use Rattle.ctf_format.specs.declared.standing.Next.{Next}
 -- the scopes before, and the members before a value in the structures around it, the innermost first
 pub record Sight : Type 0 where
   pub input : ScopeInput
-  pub frames : List Members
+  pub frames : List MemberNumbers
 
-abbrev pub around_step : Around-F Sight → Sight
-around_step (Around-F.Scopes input) = record { input = input.now; frames = [] }
-around_step (Around-F.Within members outer) = record {
+abbrev pub around_step : OuterMembers-F Sight → Sight
+around_step (OuterMembers-F.Scopes input) = record { input = input.now; frames = [] }
+around_step (OuterMembers-F.Within members outer) = record {
   input = outer.now.input;
   frames = members.now ∷ outer.now.frames;
 }
 
 -- what is seen around a structure
-abbrev pub sight : Around → Sight
-sight = fold-Around Sight around_step
+abbrev pub sight : OuterMembers → Sight
+sight = fold-OuterMembers Sight around_step
 
 -- what a route finds is this number, as far as it is known
 abbrev pub Finds : Last → Option Val → Type 0
@@ -50,21 +50,21 @@ Finds (lasts.Unsigned n) found = found ≡ Some (unsigned n)
 Finds (lasts.Label z) found = found ≡ Some (label z)
 
 -- the last eight members have the numbers that are kept
-abbrev pub Keeps : Members → (ℕ → Option Val) → Type 0
+abbrev pub Keeps : MemberNumbers → (ℕ → Option Val) → Type 0
 Keeps m member =
     (j : ℕ) → j < m.count → m.count ≤ j + 8
     → Finds (get_or m.numbers (j % 8) lasts.Unknown) (member j)
 
 -- there are as many values as members, and the last eight have the numbers that are kept
-abbrev pub MembersAre : Members → List Val → Type 0
+abbrev pub MembersAre : MemberNumbers → List Val → Type 0
 MembersAre m vs = (length vs ≡ m.count) × Keeps m (slice_get vs)
 
 -- the value of a scope, if it has one, has members of the numbers that are kept
-abbrev pub ScopeIs : Members → Option Val → Type 0
+abbrev pub ScopeIs : MemberNumbers → Option Val → Type 0
 ScopeIs m value = Keeps m (λ j. option_and_then (down (j ∷ [])) value)
 
 -- the earlier members of structures are those that are known, as far as these go outwards
-abbrev pub FramesAre : List Members → Env → Type 0
+abbrev pub FramesAre : List MemberNumbers → Env → Type 0
 FramesAre [] env = ⊤
 FramesAre (m ∷ ms) [] = ⊥
 FramesAre (m ∷ ms) (vs ∷ env) = MembersAre m vs × FramesAre ms env
@@ -78,8 +78,8 @@ SharesPacket known earlier =
 -- what is known of the scopes before: the values of the packet, and members of the contexts of an event record
 pub record KnownScopes : Type 0 where
   pub packet : Known
-  pub stream_context : Members
-  pub event_context : Members
+  pub stream_context : MemberNumbers
+  pub event_context : MemberNumbers
 
 abbrev pub known_in : ScopeInput → KnownScopes
 known_in i = record {
@@ -116,7 +116,7 @@ ChoosesIn seen tag choices i =
 
 -- The value of a scope is there from a place to another, whatever was decoded before with so much known of it, and its
 -- text follows a text. Its members have the numbers that are kept. So many values were begun before it, and after it.
-abbrev pub PutsWith : KnownScopes → Members → Form → Shown → List ℕ → ℕ → ℕ → ℕ → ℕ → ℕ → List ℕ
+abbrev pub PutsWith : KnownScopes → MemberNumbers → Form → Shown → List ℕ → ℕ → ℕ → ℕ → ℕ → ℕ → List ℕ
     → List ℕ → Type 0
 PutsWith known members k shown packet content place spent end total before after =
     (earlier : Scope → Option Val) (env : Env) → ScopesAre known earlier
@@ -157,7 +157,7 @@ PutsMembers together Where Are ms packet content place before end after =
     × (after ≡ before ++ together (member_texts (map member_part ms) (vals_of vs))) × Are vs
 
 -- members, if they were written, are there, have the numbers that are kept, and their texts are after a line now
-abbrev pub WritesMembers : (List (List ℕ) → List ℕ) → Option MembersEnd → Outside → Members
+abbrev pub WritesMembers : (List (List ℕ) → List ℕ) → Option MembersEnd → Outside → MemberNumbers
     → List Member → ℕ → List ℕ → List ℕ → Type 0
 WritesMembers together result outside members ms place line items =
     IfSome result (λ end.

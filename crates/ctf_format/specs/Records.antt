@@ -6,8 +6,8 @@ use Rattle.ctf_bits.specs.Align.{IsLeastMultiple}
 use Rattle.ctf_class.specs.Integers.{bits_of}
 use Rattle.ctf_class.specs.Records.{Slot, TakesNumbers, After, have_special, room_of}
 use Rattle.ctf_class.specs.declared.class.Class.{Class}
-use Rattle.ctf_class.specs.declared.record_plan.Run.{Run}
-use Rattle.ctf_class.specs.declared.run_number.RunNumber.{RunNumber}
+use Rattle.ctf_class.specs.declared.record_plan.PlannedRun.{PlannedRun}
+use Rattle.ctf_class.specs.declared.planned_number.PlannedNumber.{PlannedNumber}
 use Rattle.ctf_decode.specs.Views.{form}
 use Rattle.ctf_format.specs.Plain.{number_at, place_in, IsPlaced}
 use Rattle.ctf_format.specs.Standing.{Before, Puts, PutsNext, StandsAsNumber, known}
@@ -57,17 +57,17 @@ PutsOther index last k shown packet content from before to after =
     (some : ℕ) × (to.more ≡ from.more + some) × PutsNext (after_members index last) k shown packet content from.place before (record { place = to.place; text = 0; more = some; last = known None }) after
 
 -- a number, if it is given, is the last one of a run that begins after so many bytes, and unsigned
-abbrev pub IsLastNumber : Option ℕ → List RunNumber → List ℕ → ℕ → Type 0
+abbrev pub IsLastNumber : Option ℕ → List PlannedNumber → List ℕ → ℕ → Type 0
 IsLastNumber last [] packet first = last ≡ None
 IsLastNumber last (n ∷ []) packet first = IfSome last (λ v. (n.integer.is_signed ≡ false) × (number_at n.integer packet (place_in first n) ≡ pos v))
 IsLastNumber last (n ∷ (m ∷ ns)) packet first = IsLastNumber last (m ∷ ns) packet first
 
 -- a run takes the first of these fields, and these are left
-abbrev pub TakesRun : List Slot → Run → List Slot → Type 0
+abbrev pub TakesRun : List Slot → PlannedRun → List Slot → Type 0
 TakesRun ss r others = (rest : List Slot) × TakesNumbers r.align ss r.numbers r.span rest × After rest r.field (λ xs. xs ≡ others)
 
 -- what is known of each run: its room, whether it has special numbers, and that all its numbers are within its span
-pub record IsNear (r : Run) : Type 0 where
+pub record IsNear (r : PlannedRun) : Type 0 where
   pub room : r.room ≡ room_of r.numbers r.field
   pub bounded : r.span ≤ 2 ^ 33
   pub special : r.has_special ≡ have_special r.numbers
@@ -75,7 +75,7 @@ pub record IsNear (r : Run) : Type 0 where
   pub placed : All IsPlaced r.numbers
 
 -- a run begins at a place, where it is looked for from another one
-pub record BeginsAt (from : ℕ) (r : Run) (place : ℕ) : Type 0 where
+pub record BeginsAt (from : ℕ) (r : PlannedRun) (place : ℕ) : Type 0 where
   pub least : IsLeastMultiple from r.align place
   pub value : place ≡ next_multiple_of from r.align
   pub whole : 0 < length r.numbers → place % 8 ≡ 0

@@ -23,7 +23,7 @@ const KEPT: usize = 8;
 /// Members of a structure, one after the other: how many there are, and the numbers of the last eight, each at its
 /// index modulo eight.
 #[derive(Clone, Copy)]
-pub struct Members {
+pub struct MemberNumbers {
     count: usize,
     numbers: [Last; KEPT],
 }
@@ -36,41 +36,41 @@ pub struct ScopeInput<'a> {
     /// The values of the packet's header and context are in these.
     pub scopes: &'a Scopes,
     /// The last members of the stream's context of event records.
-    pub stream_context: &'a Members,
+    pub stream_context: &'a MemberNumbers,
     /// The last members of the event's own context.
-    pub event_context: &'a Members,
+    pub event_context: &'a MemberNumbers,
 }
 
 /// What is around a structure.
 #[derive(Drop)]
-pub(crate) enum Around<'a> {
+pub(crate) enum OuterMembers<'a> {
     /// The scopes before.
     Scopes(&'a ScopeInput<'a>),
     /// Members of a structure, and what is around that.
-    Within(&'a Members, &'a Around<'a>),
+    Within(&'a MemberNumbers, &'a OuterMembers<'a>),
 }
 
 /// A packet, and what is around a structure in it.
 #[derive(Clone, Copy)]
 pub(crate) struct Outside<'a> {
     pub(crate) packet: &'a Content<'a>,
-    pub(crate) around: &'a Around<'a>,
+    pub(crate) around: &'a OuterMembers<'a>,
 }
 
 /// What is around a value in a packet: the members before it in its structure, and what is around that.
 #[derive(Clone, Copy)]
 pub(crate) struct Seen<'a> {
     pub(crate) packet: &'a Content<'a>,
-    pub(crate) members: &'a Members,
-    pub(crate) around: &'a Around<'a>,
+    pub(crate) members: &'a MemberNumbers,
+    pub(crate) around: &'a OuterMembers<'a>,
 }
 
-impl Members {
+impl MemberNumbers {
     /// The members before the first one: none.
-    pub fn none() -> Members
+    pub fn none() -> MemberNumbers
         ensures { MembersAre result [] }
     {
-        Members {
+        MemberNumbers {
             count: 0,
             numbers: [Last::Unknown; KEPT],
         }
@@ -190,14 +190,14 @@ fn only_step(steps: &[u32]) -> Option<usize>
 }
 
 /// The number of the member at an index of the structure that lies so many structures further out.
-fn number_around(around: &Around<'_>, out: u32, index: usize) -> Last
+fn number_around(around: &OuterMembers<'_>, out: u32, index: usize) -> Last
     ensures { (earlier : ClassScope → Option Val) (env : Env) →
         Agrees (sight around.now) earlier env →
         Finds result (option_and_then (λ vs. slice_get vs index) (slice_get env out)) }
 {
     match around {
-        Around::Scopes(_) => Last::Unknown,
-        Around::Within(members, outer) => {
+        OuterMembers::Scopes(_) => Last::Unknown,
+        OuterMembers::Within(members, outer) => {
             if out == 0 {
                 members.number(index)
             } else {
@@ -208,12 +208,12 @@ fn number_around(around: &Around<'_>, out: u32, index: usize) -> Last
 }
 
 /// What the scope is read from in which this is.
-fn input_of<'a>(around: &'a Around<'a>) -> &'a ScopeInput<'a>
+fn input_of<'a>(around: &'a OuterMembers<'a>) -> &'a ScopeInput<'a>
     ensures { result.now ≡ (sight around.now).input }
 {
     match around {
-        Around::Scopes(input) => input,
-        Around::Within(_, outer) => input_of(outer),
+        OuterMembers::Scopes(input) => input,
+        OuterMembers::Within(_, outer) => input_of(outer),
     }
 }
 

@@ -14,7 +14,7 @@ ghost use Rattle.ctf_format.specs.Rows.{row, enclosed};
 ghost use Rattle.ctf_format.specs.Standing.{array_text, structure_text, variant_text};
 ghost use Rattle.ctf_format.specs.Texts as texts;
 
-use crate::around::{Around, Members, Outside, ScopeInput, Seen, count_of, option_of};
+use crate::around::{MemberNumbers, OuterMembers, Outside, ScopeInput, Seen, count_of, option_of};
 use crate::array::{begin_at, put_integers};
 use crate::element::{ElementLead, put_index};
 use crate::leaf::{put_enumeration, put_one, put_string_value, put_text_value};
@@ -37,7 +37,7 @@ pub fn put_standing(
     class: &Class,
     input: &ScopeInput<'_>,
     from: Standing,
-    last: &mut Members,
+    last: &mut MemberNumbers,
     buffer: &mut Vec<u8>,
 ) -> Option<Standing>
     requires start { from.place ≤ input.now.content.now.end }
@@ -55,7 +55,7 @@ pub fn put_standing(
     let Kind::Structure { members } = &class.kind else {
         return None;
     };
-    let around = Around::Scopes(input);
+    let around = OuterMembers::Scopes(input);
     let outside = Outside {
         packet: input.content,
         around: &around,
@@ -85,7 +85,7 @@ pub fn put_standing(
 fn put_enclosed(
     members: &[Member],
     outside: &Outside<'_>,
-    before: &mut Members,
+    before: &mut MemberNumbers,
     from: Position,
     buffer: &mut Vec<u8>,
 ) -> Option<MembersEnd>
@@ -125,7 +125,7 @@ fn put_enclosed(
 fn put_members(
     members: &[Member],
     outside: &Outside<'_>,
-    before: &mut Members,
+    before: &mut MemberNumbers,
     from: Position,
     buffer: &mut Vec<u8>,
 ) -> Option<MembersEnd>
@@ -284,12 +284,12 @@ fn put_structure(
     ensures held { IfSome result (λ n. n.text ≤ vec_len buffer.new) }
     ensures few { IfSome result (λ n. n.more ≤ MOST_VALUES) }
 {
-    let around = Around::Within(&*seen.members, &*seen.around);
+    let around = OuterMembers::Within(&*seen.members, &*seen.around);
     let outside = Outside {
         packet: seen.packet,
         around: &around,
     };
-    let mut inner = Members::none();
+    let mut inner = MemberNumbers::none();
     let place = begin_at(align, seen.packet, from.place)?;
     let begin = Position {
         place,

@@ -6,12 +6,12 @@ ghost use Rattle.ctf_class.specs.Records.{have_special};
 ghost use Rattle.ctf_format.specs.Plain.{IsInside, IsPlaced};
 
 use crate::content::Content;
-use ctf_class::Run;
+use ctf_class::PlannedRun;
 
 /// A run of a packet, and where its numbers end, in bits from the packet's first one.
 #[derive(Clone, Copy)]
 pub(crate) struct PlacedRun<'a> {
-    pub(crate) run: &'a Run,
+    pub(crate) run: &'a PlannedRun,
     pub(crate) packet: &'a Content<'a>,
     pub(crate) end: u64,
     ghost begun: { run.now.span ≤ end },

@@ -16,13 +16,15 @@ use crate::content::Content;
 use crate::leaf::put_enumeration;
 use crate::mark::put_end;
 use crate::placed_run::PlacedRun;
+use crate::planned_number::{put_plain_numbers, put_special_numbers};
 use crate::room::with_room;
-use crate::run_number::{put_plain_numbers, put_special_numbers};
 use crate::standing::{
     AlignedInteger, Position, Standing, put_fixed_text, put_integer, put_string,
 };
 use ctf_bits::uint_within;
-use ctf_class::{Field, Integers, Many, PreparedText, RecordPlan, Run, RunNumber, Shown};
+use ctf_class::{
+    Integers, Many, PlannedField, PlannedNumber, PlannedRun, PreparedText, RecordPlan, Shown,
+};
 use ctf_decode::MOST_VALUES;
 
 /// How far fields came.
@@ -38,8 +40,8 @@ pub(crate) struct Reach {
 /// of such records: `from` has the place after the header, in bits from the packet's first one, how many values were
 /// begun before, and the index, in bytes. What is before the index is kept, and the buffer grows where it has no room.
 ///
-/// `None` where there is no plan, where the record has a fault, where fewer than eight bytes are after a run of it, and
-/// where an allocation fails; the buffer is then unspecified.
+/// `None` where there is no plan, where the record has a fault, where numbers of a run would begin within a byte or fewer
+/// than eight bytes are after them, and where an allocation fails; the buffer is then unspecified.
 #[inline(always)]
 pub fn put_planned_record(
     plan: &RecordPlan,
@@ -81,7 +83,7 @@ pub fn put_planned_record(
 /// Writes the fields of runs, and a brace, and gives the index after them; `reach` says how far they came then.
 #[inline(never)]
 fn put_runs(
-    runs: &[Run],
+    runs: &[PlannedRun],
     packet: &Content<'_>,
     reach: &mut Reach,
     buffer: &mut Vec<u8>,
@@ -117,7 +119,7 @@ fn put_runs(
 /// Writes the fields of a run, and gives the index after them; `reach` says how far they came then.
 #[inline(always)]
 fn put_run(
-    run: &Run,
+    run: &PlannedRun,
     packet: &Content<'_>,
     reach: &mut Reach,
     buffer: &mut Vec<u8>,
@@ -279,7 +281,7 @@ fn put_before(ready: &PreparedText, buffer: &mut Vec<u8>, at: usize) -> usize
 /// far the field came then.
 #[inline(always)]
 fn put_field(
-    field: &Field,
+    field: &PlannedField,
     placed: PlacedRun<'_>,
     reach: &mut Reach,
     buffer: &mut Vec<u8>,
@@ -491,7 +493,7 @@ fn last_number(placed: PlacedRun<'_>) -> Option<u64>
 
 /// The number of an unsigned integer of a run that begins after so many bytes, of any byte order.
 #[inline(never)]
-fn unsigned_number(number: &RunNumber, bytes: &[u8], first: usize) -> u64
+fn unsigned_number(number: &PlannedNumber, bytes: &[u8], first: usize) -> u64
     requires inside { IsInside bytes.now first number.now }
     requires unsigned { number.now.integer.is_signed ≡ false }
     ensures { number_at number.now.integer bytes.now (place_in first number.now) ≡ pos result }

@@ -21,7 +21,7 @@ use Rattle.tsdl_text.proofs.TextLaws.{lexes_or_not}
 use Rattle.tsdl_text.specs.Packets.{MetaText}
 use Rattle.tsdl_text.specs.Tokens.{Piece, Lexeme, lexeme, lexemes, Lexes, line_after}
 use Rattle.tsdl_text.specs.declared.fault.MetaFault.TheVariants as meta
-use Rattle.tsdl_text.specs.declared.token.Kind.{Kind}
+use Rattle.tsdl_text.specs.declared.token.TokenKind.{TokenKind}
 use Rattle.tsdl_text.specs.declared.token.Token.{Token}
 use Rattle.tsdl_tree.specs.declared.tree.Tree.{Tree}
 use Rattle.ctf_load.specs.Laws.{ClassOrFault}
@@ -42,7 +42,7 @@ same_lexemes (l ∷ ls) = ap (λ more. l ∷ more) (same_lexemes ls)
 abbrev FromOne : List Lexeme → Type 0
 FromOne ls = AllByRecursion (λ l. 1 ≤ l.line) ls
 
-with_piece : (front bytes : List ℕ) (kind : Option Kind) (more : List Lexeme) → FromOne more
+with_piece : (front bytes : List ℕ) (kind : Option TokenKind) (more : List Lexeme) → FromOne more
     → FromOne (option_to_list (option_map (λ k. record { kind = k; bytes = bytes; start = length front; line = line_after front }) kind) ++ more)
 with_piece front bytes None more h = h
 with_piece front bytes (Some kind) more h = (omega arith, h)

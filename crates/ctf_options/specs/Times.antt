@@ -8,7 +8,7 @@ use Rattle.jiff_core.specs.declared.civil.datetime.DateTime.{DateTime}
 use Rattle.jiff_tz.specs.declared.timezone.TimeZone.{TimeZone}
 use Rattle.ctf_timestamp.specs.Zones.{instant_in}
 use Rattle.ctf_options.specs.declared.civil.Day.{Day}
-use Rattle.ctf_options.specs.declared.civil.Clock.{Clock}
+use Rattle.ctf_options.specs.declared.civil.TimeOfDay.{TimeOfDay}
 use Rattle.ctf_options.specs.Numbers.{halves, number_in, number_of, signed, magnitude}
 
 -- the nanoseconds that 1 to 9 digits after a dot write
@@ -47,12 +47,12 @@ day_in text = option_and_then (λ parts. option_and_then (λ year.
     option_and_then (month_in year) (halves 45 parts.1)) (number_of 4 parts.0)) (halves 45 text)
 
 -- ss or ss.F
-abbrev pub second_in : ℕ → ℕ → List ℕ → Option Clock
+abbrev pub second_in : ℕ → ℕ → List ℕ → Option TimeOfDay
 second_in hour minute text = option_and_then (λ parts.
     option_map (λ second. record { hour = hour; minute = minute; second = second; nanos = parts.1 })
     (number_of 2 parts.0)) (dotted text)
 
-abbrev pub minute_in : ℕ → List ℕ → Option (List ℕ × List ℕ) → Option Clock
+abbrev pub minute_in : ℕ → List ℕ → Option (List ℕ × List ℕ) → Option TimeOfDay
 minute_in hour text None =
     option_map (λ minute. record { hour = hour; minute = minute; second = 0; nanos = 0 })
     (number_of 2 text)
@@ -60,33 +60,33 @@ minute_in hour text (Some parts) =
     option_and_then (λ minute. second_in hour minute parts.1) (number_of 2 parts.0)
 
 -- hh:mm, hh:mm:ss or hh:mm:ss.F
-abbrev pub clock_in : List ℕ → Option Clock
+abbrev pub clock_in : List ℕ → Option TimeOfDay
 clock_in text = option_and_then (λ parts. option_and_then (λ hour.
     minute_in hour parts.1 (halves 58 parts.1)) (number_of 2 parts.0)) (halves 58 text)
 
 -- a date and a time of day with a space between them
-abbrev pub civil_in : List ℕ → Option (Day × Clock)
+abbrev pub civil_in : List ℕ → Option (Day × TimeOfDay)
 civil_in text = option_and_then (λ parts. option_and_then (λ day.
     option_map (λ clock. (day, clock)) (clock_in parts.1)) (day_in parts.0)) (halves 32 text)
 
 -- the calendar has the date, and a clock shows the time of day
-abbrev pub IsCivil : Day × Clock → Type 0
+abbrev pub IsCivil : Day × TimeOfDay → Type 0
 IsCivil civil = IsDate (pos civil.0.year) (pos civil.0.month) (pos civil.0.day)
     × IsTime (pos civil.1.hour) (pos civil.1.minute) (pos civil.1.second) (pos civil.1.nanos)
 
 -- jiff's civil time has these parts
-abbrev pub HasParts : Day × Clock → DateTime → Type 0
+abbrev pub HasParts : Day × TimeOfDay → DateTime → Type 0
 HasParts civil time = IsYmd (pos civil.0.year) (pos civil.0.month) (pos civil.0.day) time.date
     × IsHms (pos civil.1.hour) (pos civil.1.minute) (pos civil.1.second) (pos civil.1.nanos)
     time.time
 
 -- the instant of these parts in a zone
-abbrev pub IsInstant : TimeZone → ℤ → Day × Clock → Type 0
+abbrev pub IsInstant : TimeZone → ℤ → Day × TimeOfDay → Type 0
 IsInstant zone instant civil =
     (time : DateTime) × HasParts civil time × (instant_in zone time ≡ Some instant)
 
 -- no such civil time, or its instant has more than 64 bits
-abbrev pub HasNoInstant : TimeZone → Day × Clock → Type 0
+abbrev pub HasNoInstant : TimeZone → Day × TimeOfDay → Type 0
 HasNoInstant zone civil =
     (IsCivil civil → ⊥) ⊎ ((time : DateTime) × HasParts civil time × (instant_in zone time ≡ None))
 

@@ -18,7 +18,7 @@ pub(crate) struct Day {
 
 /// The parts of a time of day, as they are written.
 #[derive(Clone, Copy)]
-pub(crate) struct Clock {
+pub(crate) struct TimeOfDay {
     pub(crate) hour: u8,
     pub(crate) minute: u8,
     pub(crate) second: u8,
@@ -49,7 +49,7 @@ fn read_day(text: &str) -> Option<Day>
 }
 
 /// `hh:mm`, `hh:mm:ss` or `hh:mm:ss.F`. Whether a clock shows the time is not looked at.
-fn read_clock(text: &str) -> Option<Clock>
+fn read_clock(text: &str) -> Option<TimeOfDay>
     ensures value { result ≡ times.clock_in text.now }
     ensures hour { IfSome result (λ clock. clock.hour < 100) }
     ensures minute { IfSome result (λ clock. clock.minute < 100) }
@@ -60,7 +60,7 @@ fn read_clock(text: &str) -> Option<Clock>
     let hour = two(hour)?;
     let Some((minute, rest)) = halves(rest, ':') else {
         let minute = two(rest)?;
-        return Some(Clock {
+        return Some(TimeOfDay {
             hour,
             minute,
             second: 0,
@@ -70,7 +70,7 @@ fn read_clock(text: &str) -> Option<Clock>
     let minute = two(minute)?;
     let (second, nanos) = split_at_dot(rest)?;
     let second = two(second)?;
-    Some(Clock {
+    Some(TimeOfDay {
         hour,
         minute,
         second,

@@ -10,7 +10,7 @@ use Rattle.ctf_clock.specs.Counting.{discarded_between, lost_between}
 use Rattle.ctf_decode.specs.Values.{Val}
 use Rattle.ctf_decode.specs.Forms.{Form}
 use Rattle.ctf_decode.specs.Input.{Input}
-use Rattle.ctf_packet.specs.declared.field.Field.{Field}
+use Rattle.ctf_packet.specs.declared.field.UnsignedField.{UnsignedField}
 use Rattle.ctf_packet.specs.declared.reached.Reached.{Reached}
 use Rattle.ctf_packet.specs.declared.sizes.Sizes.{Sizes}
 use Rattle.ctf_packet.specs.Moved.{moved}
@@ -127,7 +127,7 @@ or_else None other = other
 
 -- the clock at a packet's end, where the packet says it and that is none before its own time (CTF 1.8.3, section
 -- 5.2; what is refused is own)
-abbrev pub clock_until : Option Line → Option Moment → Option Field → Option Moment
+abbrev pub clock_until : Option Line → Option Moment → Option UnsignedField → Option Moment
 clock_until (Some line) (Some clock) (Some field) =
     or_else (advanced line clock field.width field.number) (Some clock)
 clock_until (Some line) (Some clock) None = Some clock
@@ -135,7 +135,7 @@ clock_until (Some line) None field = None
 clock_until None clock field = None
 
 -- a count since the packet before: none at the first packet
-abbrev pub since : (ℕ → ℕ → ℕ → Option ℕ) → Option ℕ → Option Field → Option ℕ
+abbrev pub since : (ℕ → ℕ → ℕ → Option ℕ) → Option ℕ → Option UnsignedField → Option ℕ
 since between (Some before) (Some field) = between field.width before field.number
 since between (Some before) None = None
 since between None field = None

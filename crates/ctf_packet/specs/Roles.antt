@@ -6,7 +6,7 @@ use Rattle.ctf_class.specs.declared.route.Length.TheVariants as lengths
 use Rattle.ctf_decode.specs.Values.{Val, Vals, no_vals, more_vals, unsigned}
 use Rattle.ctf_decode.specs.Forms.{Form, Parts, integer, structure, array, no_parts, part}
 use Rattle.ctf_decode.specs.Fields.{members_in, elements_in}
-use Rattle.ctf_packet.specs.declared.field.Field.{Field}
+use Rattle.ctf_packet.specs.declared.field.UnsignedField.{UnsignedField}
 
 -- the first member of a name
 abbrev pub member_named : List ℕ → Parts → Vals → Option (Form × Val)
@@ -25,18 +25,18 @@ field_at_top name (Some k) None = None
 field_at_top name None v = None
 
 -- an unsigned integer, with its width; a field of another class has no role (own)
-abbrev pub unsigned_field : Form → Val → Option Field
+abbrev pub unsigned_field : Form → Val → Option UnsignedField
 unsigned_field (integer a i) (unsigned n) = if i.is_signed then None else Some (record { width = i.size; number = n })
 unsigned_field _ _ = None
 
-unfoldable pub role : List ℕ → Option Form → Option Val → Option Field
+unfoldable pub role : List ℕ → Option Form → Option Val → Option UnsignedField
 role name k v = option_and_then (λ f. unsigned_field f.0 f.1) (field_at_top name k v)
 
-abbrev pub number_in : Option Field → Option ℕ
-number_in field = option_map (λ (f : Field). f.number) field
+abbrev pub number_in : Option UnsignedField → Option ℕ
+number_in field = option_map (λ (f : UnsignedField). f.number) field
 
 -- a magic number of 32 bits is 0xC1FC1FC1 (CTF 1.8.3, section 5.1)
-abbrev pub is_magic : Option Field → Bool
+abbrev pub is_magic : Option UnsignedField → Bool
 is_magic None = true
 is_magic (Some field) = not (field.width == 32) || field.number == 0xC1FC1FC1
 

@@ -6,7 +6,7 @@ ghost use Rattle.ctf_decode.specs.Views.{form, val};
 ghost use Rattle.ctf_packet.specs.Packets as packets;
 
 use crate::fault::StreamFault;
-use crate::field::Field;
+use crate::field::UnsignedField;
 use crate::moves::moment_after;
 use crate::reached::Reached;
 use ctf_class::Class;
@@ -85,7 +85,7 @@ fn set(
 pub fn clock_until(
     timeline: Option<&Timeline>,
     clock: Option<Moment>,
-    end: Option<Field>,
+    end: Option<UnsignedField>,
 ) -> Option<Moment>
     ensures { result ≡ packets.clock_until (option_copied timeline.entry) clock end }
 {
@@ -106,7 +106,7 @@ pub fn clock_until(
 
 /// How many packets were lost since one with a sequence number; `None` at the first packet, and where
 /// none was.
-pub fn lost_since(before: Option<u64>, number: Option<Field>) -> Option<u64>
+pub fn lost_since(before: Option<u64>, number: Option<UnsignedField>) -> Option<u64>
     ensures { result ≡ packets.since counting.lost_between before number }
 {
     match before {
@@ -120,7 +120,7 @@ pub fn lost_since(before: Option<u64>, number: Option<Field>) -> Option<u64>
 
 /// How many event records were discarded since a packet with a count; `None` at the first packet, and
 /// where none was.
-pub fn discarded_since(before: Option<u64>, count: Option<Field>) -> Option<u64>
+pub fn discarded_since(before: Option<u64>, count: Option<UnsignedField>) -> Option<u64>
     ensures { result ≡ packets.since counting.discarded_between before count }
 {
     match before {

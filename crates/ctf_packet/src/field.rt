@@ -4,7 +4,7 @@ use ctf_class::Width;
 
 /// An unsigned integer, with its width.
 #[derive(Clone, Copy)]
-pub struct Field {
+pub struct UnsignedField {
     pub width: Width,
     pub number: u64,
 }

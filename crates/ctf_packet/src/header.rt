@@ -11,7 +11,7 @@ ghost use Rattle.ctf_packet.specs.Packets as packets;
 ghost use Rattle.ctf_packet.specs.Gives.{Exactly};
 
 use crate::fault::StreamFault;
-use crate::field::Field;
+use crate::field::UnsignedField;
 use crate::reached::Reached;
 use crate::roles::{field_at_top, fields_of_roles, number_in};
 use ctf_class::{Class, HasId, Kind, Length, Role, StreamClass, TraceClass};
@@ -47,7 +47,7 @@ pub fn stream_checked<'a>(
 }
 
 /// Whether a magic number is the right one, if it is one.
-fn is_magic(field: Option<Field>) -> bool
+fn is_magic(field: Option<UnsignedField>) -> bool
     ensures { result ≡ roles.is_magic field }
 {
     match field {

@@ -20,7 +20,7 @@ mod told;
 
 pub use clock::{clock_after, clock_before, clock_until, discarded_since, lost_since};
 pub use fault::StreamFault;
-pub use field::Field;
+pub use field::UnsignedField;
 pub use header::stream_checked;
 pub use laws::{clock_goes_by_moving, packets_go_on, records_go_on, walk_finds_what_stands};
 pub use moves::{moment_after, moved_by_integer};

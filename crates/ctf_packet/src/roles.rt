@@ -9,14 +9,18 @@ ghost use Rattle.ctf_decode.specs.Forms.{parts_of};
 ghost use Rattle.ctf_decode.specs.Views.{form, member_part, val};
 ghost use Rattle.ctf_packet.specs.Roles as roles;
 
-use crate::field::Field;
+use crate::field::UnsignedField;
 use ctf_class::{Class, FrontClass, Integer, Kind, Member, Role};
 use ctf_decode::{Value, members_in};
 
 /// The unsigned integer of a role at the top of a scope; `None` where there is no field of its name, or
 /// one of another class.
 #[tactic(auto, unfolding(crate::specs::Roles::role))]
-pub fn field_of_role(class: Option<&FrontClass>, value: Option<&Value>, role: Role) -> Option<Field>
+pub fn field_of_role(
+    class: Option<&FrontClass>,
+    value: Option<&Value>,
+    role: Role,
+) -> Option<UnsignedField>
     ensures { result ≡ roles.role (role_name role) (option_map form (option_copied class.entry))
         (option_map val (option_copied value.entry)) }
 {
@@ -35,7 +39,7 @@ pub fn fields_of_roles(
     value: Option<&Value>,
     first: Role,
     second: Role,
-) -> (Option<Field>, Option<Field>)
+) -> (Option<UnsignedField>, Option<UnsignedField>)
     ensures first { result.0 ≡ roles.role (role_name first)
         (option_map form (option_copied class.entry)) (option_map val (option_copied value.entry)) }
     ensures second { result.1 ≡ roles.role (role_name second)
@@ -58,7 +62,7 @@ fn fields_in(
     value: &Value,
     first: Role,
     second: Role,
-) -> (Option<Field>, Option<Field>)
+) -> (Option<UnsignedField>, Option<UnsignedField>)
     ensures first { result.0 ≡ roles.role (role_name first) (Some (form class.now))
         (Some (val value.now)) }
     ensures second { result.1 ≡ roles.role (role_name second) (Some (form class.now))
@@ -87,7 +91,7 @@ fn fields_in(
 
 /// The number of the member at an index, if one is given and it is an unsigned integer.
 #[inline(always)]
-fn unsigned_at(members: &[Member], values: &[Value], place: Option<usize>) -> Option<Field>
+fn unsigned_at(members: &[Member], values: &[Value], place: Option<usize>) -> Option<UnsignedField>
     ensures { (name : List ℕ) → place ≡ place_named name members.now →
         result ≡ option_and_then (λ f. roles.unsigned_field f.0 f.1)
         (roles.member_named name (parts_of (map member_part members.now))
@@ -100,7 +104,7 @@ fn unsigned_at(members: &[Member], values: &[Value], place: Option<usize>) -> Op
 }
 
 /// The number of a field.
-pub fn number_in(field: Option<Field>) -> Option<u64>
+pub fn number_in(field: Option<UnsignedField>) -> Option<u64>
     ensures { result ≡ roles.number_in field }
 {
     match field {
@@ -110,7 +114,7 @@ pub fn number_in(field: Option<Field>) -> Option<u64>
 }
 
 /// The number of a field that is looked at again.
-pub(crate) fn number_of(field: &Option<Field>) -> Option<u64>
+pub(crate) fn number_of(field: &Option<UnsignedField>) -> Option<u64>
     ensures { result ≡ roles.number_in field.now }
 {
     match field {
@@ -184,7 +188,7 @@ fn member_at<'a>(
 }
 
 /// The number of an unsigned integer.
-fn unsigned_field(class: &Class, value: &Value) -> Option<Field>
+fn unsigned_field(class: &Class, value: &Value) -> Option<UnsignedField>
     ensures { result ≡ roles.unsigned_field (form class.now) (val value.now) }
 {
     match &class.kind {
@@ -203,7 +207,7 @@ fn unsigned_field(class: &Class, value: &Value) -> Option<Field>
 }
 
 /// The number of an integer that is unsigned.
-fn unsigned_integer(integer: &Integer, value: &Value) -> Option<Field>
+fn unsigned_integer(integer: &Integer, value: &Value) -> Option<UnsignedField>
     ensures { (align : ℕ) → result ≡ roles.unsigned_field (forms.integer align integer.now)
         (val value.now) }
 {
@@ -212,7 +216,7 @@ fn unsigned_integer(integer: &Integer, value: &Value) -> Option<Field>
             if integer.is_signed {
                 None
             } else {
-                Some(Field {
+                Some(UnsignedField {
                     width: integer.size,
                     number: *number,
                 })

@@ -6,9 +6,9 @@ use Rattle.ctf_meaning.specs.Paths as paths
 use Rattle.ctf_declared_class.specs.Views.{members}
 use Rattle.ctf_paths.specs.Names.{name_of}
 use Rattle.ctf_paths.specs.declared.spot.EarlierStructure.{EarlierStructure}
-use Rattle.ctf_paths.specs.declared.spot.Frame.{Frame}
-use Rattle.ctf_paths.specs.declared.spot.Around.{Around, fold-Around}
-use Rattle.ctf_paths.specs.declared.spot.Around.TheOpen.{Around-F}
+use Rattle.ctf_paths.specs.declared.spot.PathStructure.{PathStructure}
+use Rattle.ctf_paths.specs.declared.spot.OuterStructures.{OuterStructures, fold-OuterStructures}
+use Rattle.ctf_paths.specs.declared.spot.OuterStructures.TheOpen.{OuterStructures-F}
 use Rattle.ctf_paths.specs.declared.spot.Spot.{Spot}
 
 -- the structure of a scope before, which has no scope's name in its own
@@ -20,20 +20,20 @@ earlier_by e = record {
 }
 
 -- a structure with those of its members that are before a path
-abbrev pub frame_by : Frame → paths.Frame
+abbrev pub frame_by : PathStructure → paths.Frame
 frame_by f = record {
   scope = f.scope;
   name = name_of f.name;
   fields = take f.count (fields_in (members f.members.now));
 }
 
-abbrev pub around_step : Around-F (List paths.Frame) → List paths.Frame
-around_step Around-F.Outside = []
-around_step (Around-F.Inside frame outer) = frame_by frame ∷ outer.now
+abbrev pub around_step : OuterStructures-F (List paths.Frame) → List paths.Frame
+around_step OuterStructures-F.Outside = []
+around_step (OuterStructures-F.Inside frame outer) = frame_by frame ∷ outer.now
 
 -- the structures around a class
-abbrev pub frames_around : Around → List paths.Frame
-frames_around = fold-Around (List paths.Frame) around_step
+abbrev pub frames_around : OuterStructures → List paths.Frame
+frames_around = fold-OuterStructures (List paths.Frame) around_step
 
 abbrev pub spot_by : Spot → paths.Spot
 spot_by s = record {

@@ -11,7 +11,7 @@ ghost use Rattle.ctf_paths.specs.Spots.{frame_by, earlier_by, frames_around, spo
 ghost use Rattle.ctf_paths.specs.Finding.{class_named, further, down, enclosing, of_scopes, found_by, start_by};
 
 use crate::name::scope_named;
-use crate::spot::{Around, EarlierStructure, Frame, Spot};
+use crate::spot::{EarlierStructure, OuterStructures, PathStructure, Spot};
 use crate::trail::after_trail;
 use ctf_class::{Origin, Route, Scope};
 use ctf_declared_class::{Members, Shape};
@@ -30,7 +30,7 @@ pub struct Found<'a> {
 #[derive(Drop)]
 pub struct Start<'a> {
     pub origin: Origin,
-    pub frame: Frame<'a>,
+    pub frame: PathStructure<'a>,
 }
 
 /// A number of a route. One from 2^32 on is refused, since no memory holds so many.
@@ -138,7 +138,7 @@ fn found_after<'a>(
 fn found_in<'a>(
     alloc: Global,
     origin: Origin,
-    frame: &Frame<'a>,
+    frame: &PathStructure<'a>,
     words: &[Word],
 ) -> Result<Option<Found<'a>>, NoMemory>
     ensures { IfOk result (λ found. option_map found_by found ≡
@@ -175,7 +175,7 @@ fn found_below<'a>(
     scope: Scope,
     words: &[Word],
     origin: Origin,
-    frame: &Frame<'a>,
+    frame: &PathStructure<'a>,
 ) -> Result<Option<Found<'a>>, NoMemory>
     ensures { IfOk result (λ found. option_map found_by found ≡
         paths.found_below scope words.now (origin, frame_by frame.now)) }
@@ -194,7 +194,7 @@ fn below_around<'a>(
     alloc: Global,
     scope: Scope,
     words: &[Word],
-    around: &'a Around<'a>,
+    around: &'a OuterStructures<'a>,
     out: u32,
 ) -> Result<Option<Found<'a>>, NoMemory>
     ensures { IfOk result (λ found. option_map found_by found ≡
@@ -202,8 +202,8 @@ fn below_around<'a>(
         (enclosing out (frames_around around.now)))) }
 {
     match around {
-        Around::Outside => Ok(None),
-        Around::Inside(frame, outer) => {
+        OuterStructures::Outside => Ok(None),
+        OuterStructures::Inside(frame, outer) => {
             match found_below(alloc, scope, words, Origin::Enclosing(out), frame)? {
                 Some(found) => Ok(Some(found)),
                 None => below_around(alloc, scope, words, outer, outward(out)?),
@@ -234,7 +234,7 @@ fn below_before<'a>(
 }
 
 /// Whether a structure has an earlier member of the name with which a path begins.
-fn has_member(path: &[Word], frame: &Frame<'_>) -> bool
+fn has_member(path: &[Word], frame: &PathStructure<'_>) -> bool
     ensures { result ≡ paths.has_member path.now (frame_by frame.now) }
 {
     match path {
@@ -246,15 +246,15 @@ fn has_member(path: &[Word], frame: &Frame<'_>) -> bool
 /// The nearest structure around, from this one on, that has an earlier member of the name with which a path begins.
 fn start_around<'a>(
     path: &[Word],
-    around: &'a Around<'a>,
+    around: &'a OuterStructures<'a>,
     out: u32,
 ) -> Result<Option<Start<'a>>, NoMemory>
     ensures { IfOk result (λ start. option_map start_by start ≡
         find (λ p. paths.has_member path.now p.1) (enclosing out (frames_around around.now))) }
 {
     match around {
-        Around::Outside => Ok(None),
-        Around::Inside(frame, outer) => {
+        OuterStructures::Outside => Ok(None),
+        OuterStructures::Inside(frame, outer) => {
             if has_member(path, frame) {
                 Ok(Some(Start {
                     origin: Origin::Enclosing(out),

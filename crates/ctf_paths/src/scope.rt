@@ -12,7 +12,7 @@ ghost use Rattle.ctf_paths.specs.MovedClocks.{Tells};
 use crate::clocks::Clocks;
 use crate::link::{Linker, class_of};
 use crate::moved::{Moved, moved_in};
-use crate::spot::{Around, EarlierStructure, Spot};
+use crate::spot::{EarlierStructure, OuterStructures, Spot};
 use ctf_class::{Class, Scope};
 use ctf_declared_class::Shape;
 use ctf_meaning::ResolveFault;
@@ -30,7 +30,7 @@ pub fn scope_class(
     ensures { Follows (class_told linker.now.order linker.now.clocks.now.clocks.now
         (scope_spot scope (map earlier_by before.now)) (views.shape shape.now)) (λ c. c) result }
 {
-    let around = Around::Outside;
+    let around = OuterStructures::Outside;
     let spot = Spot::scope(scope, &around, before);
     class_of(linker, &spot, shape)
 }
@@ -48,7 +48,7 @@ pub fn scope_moved<'a>(
         Tells result (old ++ moved_clocks clocks.now.clocks.now
         (scope_spot scope (map earlier_by before.now)) (views.shape shape.now)) }
 {
-    let around = Around::Outside;
+    let around = OuterStructures::Outside;
     let spot = Spot::scope(scope, &around, before);
     moved_in(clocks, &spot, shape, moved)
 }

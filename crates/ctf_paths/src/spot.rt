@@ -19,7 +19,7 @@ pub struct EarlierStructure<'a> {
 
 /// A structure in which a path may begin.
 #[derive(Clone, Copy)]
-pub struct Frame<'a> {
+pub struct PathStructure<'a> {
     pub scope: Scope,
     /// Its name from the scope down.
     pub name: Trail<'a>,
@@ -30,16 +30,16 @@ pub struct Frame<'a> {
 
 /// The structures around a class, inner to outer.
 #[derive(Drop)]
-pub enum Around<'a> {
+pub enum OuterStructures<'a> {
     Outside,
-    Inside(Frame<'a>, &'a Around<'a>),
+    Inside(PathStructure<'a>, &'a OuterStructures<'a>),
 }
 
 /// Where a class is.
 #[derive(Drop)]
 pub struct Spot<'a> {
     pub scope: Scope,
-    pub around: &'a Around<'a>,
+    pub around: &'a OuterStructures<'a>,
     /// The structures of the scopes before, the nearest first.
     pub before: &'a [EarlierStructure<'a>],
     /// The name of the member that the class is.
@@ -52,10 +52,10 @@ pub struct Spot<'a> {
 
 impl<'a> EarlierStructure<'a> {
     /// The whole structure, in which a path may begin.
-    pub fn frame(&self) -> Frame<'a>
+    pub fn frame(&self) -> PathStructure<'a>
         ensures { frame_by result ≡ earlier_by self.now }
     {
-        Frame {
+        PathStructure {
             scope: self.scope,
             name: Trail::Scope,
             members: self.members,
@@ -64,14 +64,14 @@ impl<'a> EarlierStructure<'a> {
     }
 }
 
-impl<'a> Around<'a> {
+impl<'a> OuterStructures<'a> {
     /// Whether there is no structure around a class.
     pub fn is_outside(&self) -> bool
         ensures { result ≡ is_outermost (frames_around self.now) }
     {
         match self {
-            Around::Outside => true,
-            Around::Inside(_, _) => false,
+            OuterStructures::Outside => true,
+            OuterStructures::Inside(_, _) => false,
         }
     }
 }
@@ -80,7 +80,7 @@ impl<'a> Spot<'a> {
     /// The spot of a scope's own class.
     pub fn scope(
         scope: Scope,
-        around: &'a Around<'a>,
+        around: &'a OuterStructures<'a>,
         before: &'a [EarlierStructure<'a>],
     ) -> Spot<'a>
         requires { frames_around around.now ≡ [] }
@@ -111,22 +111,22 @@ impl<'a> Spot<'a> {
     }
 
     /// What is around a member of the structure here, after so many others.
-    pub fn around(&self, members: &'a Members, count: usize) -> Around<'a>
+    pub fn around(&self, members: &'a Members, count: usize) -> OuterStructures<'a>
         ensures { let s = spot_by self.now in
             frames_around result ≡
             frame_in s (take count (fields_in (views.members members.now))) ∷ s.around }
     {
-        let frame = Frame {
+        let frame = PathStructure {
             scope: self.scope,
             name: self.name,
             members,
             count,
         };
-        Around::Inside(frame, self.around)
+        OuterStructures::Inside(frame, self.around)
     }
 
     /// The spot of a member of the structure here, by what is around it.
-    pub fn member<'b>(&'b self, around: &'b Around<'b>, word: &'b [u8]) -> Spot<'b>
+    pub fn member<'b>(&'b self, around: &'b OuterStructures<'b>, word: &'b [u8]) -> Spot<'b>
         ensures { let s = spot_by self.now in
             (earlier : List Field) → frames_around around.now ≡ frame_in s earlier ∷ s.around →
             spot_by result ≡ at_member s earlier word.now }

@@ -28,7 +28,7 @@ use Rattle.ctf_decode.proofs.Pairs.{first_chooses}
 use Rattle.ctf_decode.proofs.Views.{form-is, shape-Enumeration}
 use Rattle.ctf_record_text.specs.Headers.{begun, Tells, TellsMember, TellsMembers, TellsNumber, StandsAsTag}
 use Rattle.ctf_record_text.specs.Planned.{begins_telling}
-use Rattle.ctf_record_text.specs.declared.header.Tag.{Tag}
+use Rattle.ctf_record_text.specs.declared.header.HeaderTag.{HeaderTag}
 use Rattle.ctf_record_text.specs.declared.header.Telling.{Telling}
 use Rattle.ctf_class.specs.HeaderPlans.{IsHeaderPlan, IsFirstChoice}
 use Rattle.ctf_class.specs.Integers.{bits_of}
@@ -76,7 +76,7 @@ tells_so line plan class packet content place clock next begin tag_end inner end
     let chose : Telling = record { id = Some z; clock = clock; place = tag_end; spent = 3 } in
     let opened : Telling = record { id = Some z; clock = clock; place = inner; spent = 4 } in
     let to : Telling = record { id = Some z; clock = next; place = end; spent = 5 } in
-    let read : Tag = record { number = z; place = tag_end } in
+    let read : HeaderTag = record { number = z; place = tag_end } in
     let at_is : at ≡ begun class.align from = λ k. record { id = None; clock = clock; place = (begins ∙ ap (next_multiple_of place) (sym is.align)) k; spent = 1 } in
     let opened_is : opened ≡ begun is.option.class.align chose = λ k. record { id = Some z; clock = clock; place = opens k; spent = 4 } in
     let stamp_begin = ap (next_multiple_of inner) is.of_stamp.aligned in

@@ -21,16 +21,16 @@ use Rattle.ctf_format.specs.Lines.{if_shown, scope_texts}
 use Rattle.ctf_format.specs.Records.{PutsScopes}
 use Rattle.ctf_format.specs.Standing.{among}
 use Rattle.ctf_format.specs.Texts.{value_text}
-use Rattle.ctf_format.specs.declared.around.Members.{Members}
+use Rattle.ctf_format.specs.declared.around.MemberNumbers.{MemberNumbers}
 use Rattle.ctf_format.specs.declared.standing.Standing.{Standing}
 use Rattle.ctf_format.proofs.AroundLemmas.{none_known}
 use Rattle.ctf_format.proofs.LinesLemmas.{followed, record_chain}
 
-pub puts_none : (known : KnownScopes) (members : Members) (bytes : List ℕ) (content : ℕ) (from : Standing) (before : List ℕ) → MembersAre members [] → PutsScope known members None bytes content from before from before
+pub puts_none : (known : KnownScopes) (members : MemberNumbers) (bytes : List ℕ) (content : ℕ) (from : Standing) (before : List ℕ) → MembersAre members [] → PutsScope known members None bytes content from before from before
 puts_none known members bytes content from before none values are =
     (record { value = None; end = from.place; spent = from.spent }, refl, refl, refl, sym (append-nil before), none_known members None none)
 
-pub puts_some : (known : KnownScopes) (members : Members) (k : Class) (bytes : List ℕ) (content : ℕ) (from to : Standing) (before text after : List ℕ) → PutsWith known members (form k) (value_text k) bytes content from.place from.spent to.place to.spent before text → after ≡ text ++ codes ", "
+pub puts_some : (known : KnownScopes) (members : MemberNumbers) (k : Class) (bytes : List ℕ) (content : ℕ) (from to : Standing) (before text after : List ℕ) → PutsWith known members (form k) (value_text k) bytes content from.place from.spent to.place to.spent before text → after ≡ text ++ codes ", "
     → PutsScope known members (Some k) bytes content from before to after
 puts_some known members k bytes content from to before text after puts added values are =
     let p = puts (value_in values) [] are in
@@ -85,7 +85,7 @@ module _ (known : Known) (stream : StreamClass) (event : EventClass) (part bytes
       (body, is, refl, refl, f.2 ∙ chain)
 
 -- The scopes after a header, where each knows the members of those before it.
-pub puts_body : (known : Known) (none nothing first_members second_members last : Members) (stream : StreamClass) (event : EventClass) (part bytes : List ℕ) (content : ℕ) (from shared own : Standing) (place spent : ℕ) (front first second text : List ℕ) → MembersAre none [] → MembersAre nothing [] → front ≡ heading_text event.heading ++ flat_map followed (if_shown part)
+pub puts_body : (known : Known) (none nothing first_members second_members last : MemberNumbers) (stream : StreamClass) (event : EventClass) (part bytes : List ℕ) (content : ℕ) (from shared own : Standing) (place spent : ℕ) (front first second text : List ℕ) → MembersAre none [] → MembersAre nothing [] → front ≡ heading_text event.heading ++ flat_map followed (if_shown part)
     → PutsScope (record { packet = known; stream_context = none; event_context = nothing }) first_members stream.event_context bytes content from front shared first
     → PutsScope (record { packet = known; stream_context = first_members; event_context = nothing }) second_members event.context bytes content shared first own second
     → PutsWith (record { packet = known; stream_context = first_members; event_context = second_members }) last (form event.fields) (value_text event.fields) bytes content own.place own.spent place spent second text

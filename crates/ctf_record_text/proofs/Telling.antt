@@ -35,7 +35,7 @@ use Rattle.ctf_decode.proofs.Only.{begin_in, open_in}
 use Rattle.ctf_decode.proofs.Steps.{choice_ok}
 use Rattle.ctf_decode.proofs.Views.{form-is, part-is, shape-Integer, shape-Enumeration, shape-Variant, shape-Structure}
 use Rattle.ctf_record_text.specs.Headers.{begun, set_by, Tells, TellsMember, TellsMembers, TellsNumber, StandsAsTag}
-use Rattle.ctf_record_text.specs.declared.header.Tag.{Tag}
+use Rattle.ctf_record_text.specs.declared.header.HeaderTag.{HeaderTag}
 use Rattle.ctf_record_text.specs.declared.header.Telling.{Telling}
 use Rattle.ctf_packet.specs.Moved.{moved, member_moved, option_moved}
 use Rattle.ctf_packet.proofs.Moving as moving
@@ -79,7 +79,7 @@ pub reads_unsigned : (i : Integer) (packet : List ℕ) (content b : ℕ) → i.i
 reads_unsigned i packet content b is earlier = ap (λ t. cond t (signed (signed_number i.order packet b (bits_of i))) (unsigned (number i.order packet b (bits_of i)))) is
 
 -- a tag of this number
-pub stands_tag : (align : ℕ) (i : Integer) (packet : List ℕ) (content place : ℕ) (tag : Tag) → next_multiple_of place align + bits_of i ≤ content → tag.place ≡ next_multiple_of place align + bits_of i
+pub stands_tag : (align : ℕ) (i : Integer) (packet : List ℕ) (content place : ℕ) (tag : HeaderTag) → next_multiple_of place align + bits_of i ≤ content → tag.place ≡ next_multiple_of place align + bits_of i
     → cond i.is_signed (signed_number i.order packet (next_multiple_of place align) (bits_of i)) (pos (number i.order packet (next_multiple_of place align) (bits_of i))) ≡ tag.number → StandsAsTag align i packet content place tag
 stands_tag align i packet content place tag within ends is earlier env spent few =
     let c = among packet content earlier in
@@ -180,7 +180,7 @@ no_more true = refl
 no_more false = refl
 
 -- a tag and what it chooses
-pub tells_pair : (line : Option Line) (tag other : Member) (i : Integer) (ls : List Label) (route : Route) (choices : List Choice) (options : List Member) (packet : List ℕ) (content : ℕ) (from at : Telling) (r : Option Telling) (read : Tag) (n : ℕ) (m : Member)
+pub tells_pair : (line : Option Line) (tag other : Member) (i : Integer) (ls : List Label) (route : Route) (choices : List Choice) (options : List Member) (packet : List ℕ) (content : ℕ) (from at : Telling) (r : Option Telling) (read : HeaderTag) (n : ℕ) (m : Member)
     → tag.class.kind ≡ kind.Enumeration i ls → other.class.kind ≡ kind.Variant route choices options → from.spent + 1 < MOST_VALUES → n < length options → m ≡ get_or options n m → StandsAsTag tag.class.align i packet content from.place read
     → FirstChooses route choices read.number n → at.id ≡ last_or from.id (named_id tag.name (form tag.class) (label read.number)) → at.clock ≡ from.clock → at.place ≡ read.place → at.spent ≡ from.spent + 2
     → IfSome r (Tells line (form m.class) packet content at) → IfSome r (TellsMembers line (tag ∷ other ∷ []) packet content from)

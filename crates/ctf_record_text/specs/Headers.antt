@@ -18,7 +18,7 @@ use Rattle.ctf_decode.specs.Views.{form, member_part}
 use Rattle.ctf_decode.specs.Walk.{walk, walk_members}
 use Rattle.ctf_decode.specs.declared.scopes.TheConstants.{MOST_VALUES}
 use Rattle.ctf_record_text.specs.declared.header.PlannedHead.{PlannedHead}
-use Rattle.ctf_record_text.specs.declared.header.Tag.{Tag}
+use Rattle.ctf_record_text.specs.declared.header.HeaderTag.{HeaderTag}
 use Rattle.ctf_record_text.specs.declared.header.Telling.{Telling}
 use Rattle.ctf_record_text.specs.declared.header.ToldHead.{ToldHead}
 use Rattle.ctf_packet.specs.Classes.{Classes, StreamForm, event_form, stream_form}
@@ -82,7 +82,7 @@ TellsNumber line m i v from to =
     × (last_or from.id (named_id m.name (form m.class) v) ≡ to.id)
 
 -- an enumeration with this number is at a place, whatever was decoded before
-abbrev pub StandsAsTag : ℕ → Integer → List ℕ → ℕ → ℕ → Tag → Type 0
+abbrev pub StandsAsTag : ℕ → Integer → List ℕ → ℕ → ℕ → HeaderTag → Type 0
 StandsAsTag align i packet content place tag =
     (earlier : Scope → Option Val) (env : Env) (spent : ℕ) → spent < MOST_VALUES
     → walk (enumeration align i) (among packet content earlier) env place spent

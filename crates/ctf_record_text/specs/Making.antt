@@ -20,12 +20,12 @@ use Rattle.ctf_packet.specs.declared.record.EventRecord.{EventRecord}
 use Rattle.ctf_packet.specs.declared.record.Head.{Head}
 use Rattle.ctf_format.specs.Around.{KnownScopes, ScopeIs, ScopesAre, SharesPacket}
 use Rattle.ctf_format.specs.Lines.{scope_texts}
-use Rattle.ctf_format.specs.declared.around.Members.{Members}
+use Rattle.ctf_format.specs.declared.around.MemberNumbers.{MemberNumbers}
 use Rattle.ctf_format.specs.declared.standing.Standing.{Standing}
 
 -- Whatever is in the scopes of the event record, with so much known of those before: this scope's value is there from a
 -- place on, has members of the numbers that are kept, and its text and a comma follow a text.
-abbrev pub PutsScope : KnownScopes → Members → Option Class → List ℕ → ℕ → Standing → List ℕ
+abbrev pub PutsScope : KnownScopes → MemberNumbers → Option Class → List ℕ → ℕ → Standing → List ℕ
     → Standing → List ℕ → Type 0
 PutsScope known members class bytes content from before to after =
     (values : Values) → ScopesAre known (value_in values)

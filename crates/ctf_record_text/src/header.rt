@@ -31,14 +31,14 @@ struct Telling {
 
 /// The number of a tag, and where it ends, in bits from the packet's first one.
 #[derive(Clone, Copy)]
-struct Tag {
+struct HeaderTag {
     number: i128,
     place: u64,
 }
 
 /// Where an integer begins and ends, in bits from the packet's first one.
 #[derive(Clone, Copy)]
-struct Bits {
+struct HeaderBits {
     begin: u64,
     end: u64,
 }
@@ -348,7 +348,7 @@ fn tell_pair(
 
 /// Reads the tag of a header's variant.
 #[inline(always)]
-fn tag_at(container: &Integer, align: Align, packet: &Content<'_>, place: u64) -> Option<Tag>
+fn tag_at(container: &Integer, align: Align, packet: &Content<'_>, place: u64) -> Option<HeaderTag>
     requires start { place ≤ packet.now.end }
     ensures stands { let content = packet.now in
         IfSome result (StandsAsTag align container.now content.bytes.now content.end place) }
@@ -361,7 +361,7 @@ fn tag_at(container: &Integer, align: Align, packet: &Content<'_>, place: u64) -
     } else {
         i128::from(uint_within(packet.bytes, bits.begin, size, container.order))
     };
-    Some(Tag {
+    Some(HeaderTag {
         number,
         place: bits.end,
     })
@@ -369,7 +369,7 @@ fn tag_at(container: &Integer, align: Align, packet: &Content<'_>, place: u64) -
 
 /// The bits of an integer that could begin at a place, if they lie within the content.
 #[inline(always)]
-fn bits_at(integer: &Integer, align: Align, packet: &Content<'_>, place: u64) -> Option<Bits>
+fn bits_at(integer: &Integer, align: Align, packet: &Content<'_>, place: u64) -> Option<HeaderBits>
     requires start { place ≤ packet.now.end }
     ensures begin { IfSome result (λ bits. bits.begin ≡ next_multiple_of place align) }
     ensures end { IfSome result
@@ -381,7 +381,7 @@ fn bits_at(integer: &Integer, align: Align, packet: &Content<'_>, place: u64) ->
     if end > packet.end {
         return None;
     }
-    Some(Bits { begin, end })
+    Some(HeaderBits { begin, end })
 }
 
 /// Decodes members that are integers.

@@ -16,7 +16,8 @@ use crate::part::PacketPart;
 use ctf_class::{Class, StreamClass};
 use ctf_decode::{MOST_VALUES, Scopes};
 use ctf_format::{
-    Content, Members, ScopeInput, Standing, put_comma, put_front, put_planned_record, put_standing,
+    Content, MemberNumbers, ScopeInput, Standing, put_comma, put_front, put_planned_record,
+    put_standing,
 };
 use ctf_packet::{EventRecord, Head, RecordPlace, Scratch, StreamFault, next_head, put_body};
 use std::alloc::Global;
@@ -33,9 +34,9 @@ pub struct LineBuffer {
     pub bytes: Vec<u8>,
     /// The text of the packet in the lines of its event records.
     pub part: PacketPart,
-    stream_context: Members,
-    event_context: Members,
-    fields: Members,
+    stream_context: MemberNumbers,
+    event_context: MemberNumbers,
+    fields: MemberNumbers,
 }
 
 impl LineBuffer {
@@ -44,9 +45,9 @@ impl LineBuffer {
         LineBuffer {
             bytes: Vec::new(alloc),
             part: PacketPart::new(alloc),
-            stream_context: Members::none(),
-            event_context: Members::none(),
-            fields: Members::none(),
+            stream_context: MemberNumbers::none(),
+            event_context: MemberNumbers::none(),
+            fields: MemberNumbers::none(),
         }
     }
 }
@@ -352,7 +353,7 @@ fn put_scope(
     class: Option<&Class>,
     input: &ScopeInput<'_>,
     from: Standing,
-    last: &mut Members,
+    last: &mut MemberNumbers,
     line: &mut Vec<u8>,
 ) -> Option<Standing>
     requires start { from.place ≤ input.now.content.now.end }

@@ -24,7 +24,7 @@ use Rattle.stream_laws.proofs.Later.{not_less, at_most}
 use Rattle.ctf_session.specs.Answers.{Setting, verdict, is_after, is_within, text_of, fault_line}
 use Rattle.ctf_session.specs.Printing.{TellsFault}
 use Rattle.ctf_session.specs.Endings.{stop_outcome, ended_by}
-use Rattle.ctf_session.specs.declared.step.Ending.{Ending}
+use Rattle.ctf_session.specs.declared.step.SessionEnding.{SessionEnding}
 use Rattle.ctf_session.specs.Sessions.{left_by}
 use Rattle.ctf_session.specs.Steps.{Session, IsQuietBy, LeavesFirst, Goes, Ends, EndsBy, EachAfter, shown_text, last_shown, next_texts}
 use Rattle.ctf_session.specs.declared.step.Stop.{Stop}
@@ -95,7 +95,7 @@ item_in x (reader.fault f) = x
 same_left : (m : Merge) (n : ℕ) (new : List Reader) (is : IsNext m n) (it : LeavesOne n m.readers new) → is.next ≡ it.left
 same_left m n new is it = ap (item_in is.next) (sym is.ahead ∙ ap head_in (sym is.at ∙ it.at) ∙ it.ahead)
 
-pub not_ended : (ended : Option Ending) → ((e : Ending) → ended ≡ Some e → ⊥) → ended_by ended ≡ None
+pub not_ended : (ended : Option SessionEnding) → ((e : SessionEnding) → ended ≡ Some e → ⊥) → ended_by ended ≡ None
 not_ended None open_ = refl
 not_ended (Some e) open_ = absurd (open_ e refl)
 

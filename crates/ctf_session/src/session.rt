@@ -15,7 +15,7 @@ use crate::log::Log;
 use crate::next_item::{NextItem, front_time, print_front};
 use crate::opening::open_all;
 use crate::printing::say;
-use crate::step::{Ending, Step, Stop};
+use crate::step::{SessionEnding, Step, Stop};
 use ctf_bits::{Sink, Source};
 use ctf_faults::{Outcome, stream_line};
 use ctf_list::NoMemory;
@@ -39,7 +39,7 @@ pub struct Session<'a, S: Source + Drop> {
     printer: Printer,
     /// The time of the last printed event record that has one, in nanoseconds since the epoch.
     last: Option<i64>,
-    ended: Option<Ending>,
+    ended: Option<SessionEnding>,
 }
 
 impl<'a, S: Source + Drop> Model for Session<'a, S> {
@@ -180,7 +180,7 @@ impl<'a, S: Source + Drop> Session<'a, S> {
         };
         match self.trim.judge(front_time(&next)) {
             Verdict::After => {
-                self.ended = Some(Ending::Done);
+                self.ended = Some(SessionEnding::Done);
                 Step::Ended(Outcome::Done)
             }
             Verdict::Before => {
@@ -196,7 +196,7 @@ impl<'a, S: Source + Drop> Session<'a, S> {
                         Step::Went
                     }
                     Err(stop) => {
-                        self.ended = Some(Ending::Stopped(stop));
+                        self.ended = Some(SessionEnding::Stopped(stop));
                         Step::Ended(stop.outcome())
                     }
                 }
@@ -205,7 +205,7 @@ impl<'a, S: Source + Drop> Session<'a, S> {
     }
 
     /// Says how the run ends where no item comes: its fault's line, if there is one.
-    fn end<W: Log, E: Sink>(&self, out: &mut W, err: &mut E) -> Ending
+    fn end<W: Log, E: Sink>(&self, out: &mut W, err: &mut E) -> SessionEnding
         ensures ends { let wrote = written_by W.accepted W.settled E.accepted in
             EachTells self.now.readers → self.now.ended ≡ None → self.now.coming.items ≡ []
             → IsTrue (W.tells out.old) → IsTrue (E.tells err.old)
@@ -222,8 +222,8 @@ impl<'a, S: Source + Drop> Session<'a, S> {
         ensures err_tells { IsTrue (E.tells err.old) → IsTrue (E.tells err.new) }
     {
         match self.merge.fault() {
-            None => Ending::Done,
-            Some(MergeFault::NoMemory) => Ending::Stopped(Stop::NoMemory),
+            None => SessionEnding::Done,
+            Some(MergeFault::NoMemory) => SessionEnding::Stopped(Stop::NoMemory),
             Some(MergeFault::Stream { number, fault }) => self.tell(number, fault, out, err),
         }
     }
@@ -235,7 +235,7 @@ impl<'a, S: Source + Drop> Session<'a, S> {
         fault: StreamFault,
         out: &mut W,
         err: &mut E,
-    ) -> Ending
+    ) -> SessionEnding
         ensures told { let wrote = written_by W.accepted W.settled E.accepted in
             IsTrue (W.tells out.old) → IsTrue (E.tells err.old)
             → TellsFault self.now.setting number fault (endings.outcome_of result)
@@ -250,14 +250,14 @@ impl<'a, S: Source + Drop> Session<'a, S> {
         ensures err_tells { IsTrue (E.tells err.old) → IsTrue (E.tells err.new) }
     {
         if let StreamFault::NoMemory = fault {
-            return Ending::Stopped(Stop::NoMemory);
+            return SessionEnding::Stopped(Stop::NoMemory);
         }
         match stream_line(self.alloc, fault, self.name(number)) {
             Ok(text) => match say(&text, out, err) {
-                None => Ending::Fault(self.trace(number), fault),
-                Some(stop) => Ending::Stopped(stop),
+                None => SessionEnding::Fault(self.trace(number), fault),
+                Some(stop) => SessionEnding::Stopped(stop),
             },
-            Err(_refused) => Ending::Stopped(Stop::NoMemory),
+            Err(_refused) => SessionEnding::Stopped(Stop::NoMemory),
         }
     }
 

@@ -36,22 +36,22 @@ impl Stop {
 
 /// How a session ended.
 #[derive(Clone, Copy)]
-pub(crate) enum Ending {
+pub(crate) enum SessionEnding {
     Done,
     /// A stream of the trace of this number goes no further.
     Fault(usize, StreamFault),
     Stopped(Stop),
 }
 
-impl Ending {
+impl SessionEnding {
     /// The outcome of a run that ends so.
     pub(crate) fn outcome(self) -> Outcome
         ensures { result ≡ endings.outcome_of self }
     {
         match self {
-            Ending::Done => Outcome::Done,
-            Ending::Fault(trace, fault) => Outcome::Fault(RunFault::Stream { trace, fault }),
-            Ending::Stopped(stop) => stop.outcome(),
+            SessionEnding::Done => Outcome::Done,
+            SessionEnding::Fault(trace, fault) => Outcome::Fault(RunFault::Stream { trace, fault }),
+            SessionEnding::Stopped(stop) => stop.outcome(),
         }
     }
 }

@@ -19,23 +19,23 @@ use Rattle.ctf_stream.specs.Standing.{item_at}
 use Rattle.ctf_stream.specs.ReadState.{trace_of, coming_at, Inside, StandsAt, coming_of, StepsWithin, Enters, Advances}
 use Rattle.ctf_stream.specs.declared.read_state.ReadState.{ReadState}
 use Rattle.ctf_fetch.specs.declared.packet_start.PacketStart.{PacketStart}
-use Rattle.ctf_stream.specs.declared.packet.Packet.{Packet}
-use Rattle.ctf_stream.specs.declared.packet.Front.{Front}
+use Rattle.ctf_stream.specs.declared.packet.PacketReader.{PacketReader}
+use Rattle.ctf_stream.specs.declared.packet.PacketItem.{PacketItem}
 
 module _ (cut : PacketStart) (ending : Ending) (left : List ℕ) (bytes : List ℕ) where
-  abbrev pub follows : Known → Packet → Option Moment → Run Classes
+  abbrev pub follows : Known → PacketReader → Option Moment → Run Classes
   follows known p = after_packet (trace_of cut) ending (opened_in cut.shift known p.opened) left
 
-  same_follows : (known after : Known) (p q : Packet) → q.opened ≡ p.opened → packet_values (values_of after) ≡ packet_values (values_of known) → follows known p ≡ follows after q
+  same_follows : (known after : Known) (p q : PacketReader) → q.opened ≡ p.opened → packet_values (values_of after) ≡ packet_values (values_of known) → follows known p ≡ follows after q
   same_follows known after p q same values =
       ap (λ v. after_packet (trace_of cut) ending (opened_of cut.shift v p.opened) left) (sym values) ∙ ap (λ o. after_packet (trace_of cut) ending (opened_in cut.shift after o) left) (sym same)
 
   -- the packet at hand as it is
-  pub inside : (taken : ℕ) (held : Option Packet) (p : Packet) → held ≡ Some p → StandsAt cut bytes taken held → Inside cut bytes taken p
+  pub inside : (taken : ℕ) (held : Option PacketReader) (p : PacketReader) → held ≡ Some p → StandsAt cut bytes taken held → Inside cut bytes taken p
   inside taken held p is stands = subst (StandsAt cut bytes taken) is stands
 
   -- an item of the packet at hand
-  pub takes_item : (held : Option Packet) (known after : Known) (p q : Packet) (found : Option Front) (front : Front) → held ≡ Some p → q.opened ≡ p.opened → packet_values (values_of after) ≡ packet_values (values_of known) → found ≡ Some front
+  pub takes_item : (held : Option PacketReader) (known after : Known) (p q : PacketReader) (found : Option PacketItem) (front : PacketItem) → held ≡ Some p → q.opened ≡ p.opened → packet_values (values_of after) ≡ packet_values (values_of known) → found ≡ Some front
       → TakesItem cut.shift (follows known p) (left_in cut.shift known bytes (follows known p) p) q after bytes (Ok found)
       → coming_at cut ending left known bytes held ≡ before (item_in cut.shift after bytes q front ∷ []) (coming_at cut ending left after bytes (Some q))
   takes_item held known after p q found front is same values item takes =
@@ -43,7 +43,7 @@ module _ (cut : PacketStart) (ending : Ending) (left : List ℕ) (bytes : List �
       ap (coming_at cut ending left known bytes) is ∙ taken ∙ ap (λ f. before (item_in cut.shift after bytes q front ∷ []) (left_in cut.shift after bytes f q)) (same_follows known after p q same values)
 
   -- the packet at hand is over
-  pub is_over : (next : PacketStart) (held : Option Packet) (known after : Known) (p q : Packet) (found : Option Front) (reached : Reached) → held ≡ Some p → q.opened ≡ p.opened → found ≡ None
+  pub is_over : (next : PacketStart) (held : Option PacketReader) (known after : Known) (p q : PacketReader) (found : Option PacketItem) (reached : Reached) → held ≡ Some p → q.opened ≡ p.opened → found ≡ None
       → TakesItem cut.shift (follows known p) (left_in cut.shift known bytes (follows known p) p) q after bytes (Ok found)
       → ((shift : Shift) (values : Values) → reached ≡ packets.reached_after (opened_of shift values q.opened) q.clock)
       → next.trace ≡ cut.trace → next.shift ≡ cut.shift → next.reached ≡ Some reached → next.at ≡ p.opened.end
@@ -60,34 +60,34 @@ module _ (cut : PacketStart) (ending : Ending) (left : List ℕ) (bytes : List �
       ∙ ap (λ t. from_bytes t ending next.reached next.at left) forms
 
 -- an item after steps that kept what is to come
-pub advanced : (old middle new : Run Classes) (cut : PacketStart) (known : Known) (bytes : List ℕ) (packet : Option Packet) (left : List ℕ) (found : Option Front) (front : Front) → old ≡ middle → found ≡ Some front
+pub advanced : (old middle new : Run Classes) (cut : PacketStart) (known : Known) (bytes : List ℕ) (packet : Option PacketReader) (left : List ℕ) (found : Option PacketItem) (front : PacketItem) → old ≡ middle → found ≡ Some front
     → StepsWithin middle new cut known bytes packet (Ok found) → Advances old new cut known bytes packet left (Ok (Some front))
 advanced old middle new cut known bytes (Some p) left found front same is steps = same ∙ subst (λ o. StepsWithin middle new cut known bytes (Some p) (Ok o)) is steps
 advanced old middle new cut known bytes None left found front same is steps = absurd (subst (λ o. StepsWithin middle new cut known bytes None (Ok o)) is steps)
 
 -- steps that kept what is to come, before steps that give the item
-pub also_before : (old middle new : Run Classes) (cut : PacketStart) (known : Known) (bytes : List ℕ) (packet : Option Packet) (left : List ℕ) (front : Front) → old ≡ middle → Advances middle new cut known bytes packet left (Ok (Some front)) → Advances old new cut known bytes packet left (Ok (Some front))
+pub also_before : (old middle new : Run Classes) (cut : PacketStart) (known : Known) (bytes : List ℕ) (packet : Option PacketReader) (left : List ℕ) (front : PacketItem) → old ≡ middle → Advances middle new cut known bytes packet left (Ok (Some front)) → Advances old new cut known bytes packet left (Ok (Some front))
 also_before old middle new cut known bytes (Some p) left front same goes = same ∙ goes
 also_before old middle new cut known bytes None left front same goes = absurd goes
 
 -- what holds where nothing was written
-pub if_none : (written : Option Front) (P : Type 0) → written ≡ None → IfNone written P → P
+pub if_none : (written : Option PacketItem) (P : Type 0) → written ≡ None → IfNone written P → P
 if_none None P is holds = holds
 if_none (Some front) P is holds = absurd (cc)
 
 -- what comes after an item is what its read state gives next
-pub after_item : (c : ReadState) (packet : Option Packet) (front : Front) (at : ℕ) (run : Run Classes) → after_ahead (item_at c packet front) at run ≡ run
+pub after_item : (c : ReadState) (packet : Option PacketReader) (front : PacketItem) (at : ℕ) (run : Run Classes) → after_ahead (item_at c packet front) at run ≡ run
 after_item c (Some p) front at run = refl
 after_item c None front at run = refl
 
 -- the item that was found is the current one, and what is to come begins with it
-pub comes : (old new : Run Classes) (c : ReadState) (packet : Option Packet) (left : List ℕ) (front : Front) (at : ℕ) → Advances old new c.cut c.scopes c.buffer packet left (Ok (Some front))
+pub comes : (old new : Run Classes) (c : ReadState) (packet : Option PacketReader) (left : List ℕ) (front : PacketItem) (at : ℕ) → Advances old new c.cut c.scopes c.buffer packet left (Ok (Some front))
     → with_ahead (item_at c packet front) (after_ahead (item_at c packet front) at new) ≡ old
 comes old new c (Some p) left front at goes = sym goes
 comes old new c None left front at goes = absurd goes
 
 -- nothing was left of the packet at hand
-pub stepped : (old middle new : Run Classes) (cut : PacketStart) (known : Known) (bytes : List ℕ) (packet : Option Packet) (found : Option Front) → old ≡ middle → found ≡ None → StepsWithin middle new cut known bytes packet (Ok found) → (old ≡ new) × (packet ≡ None)
+pub stepped : (old middle new : Run Classes) (cut : PacketStart) (known : Known) (bytes : List ℕ) (packet : Option PacketReader) (found : Option PacketItem) → old ≡ middle → found ≡ None → StepsWithin middle new cut known bytes packet (Ok found) → (old ≡ new) × (packet ≡ None)
 stepped old middle new cut known bytes packet found same is steps =
     let took = subst (λ o. StepsWithin middle new cut known bytes packet (Ok o)) is steps in (same ∙ took.0, took.1)
 

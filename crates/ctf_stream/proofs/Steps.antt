@@ -15,7 +15,7 @@ use Rattle.ctf_packet.specs.declared.fault.StreamFault.{StreamFault}
 use Rattle.ctf_packet.specs.declared.record.EventRecord.{EventRecord}
 use Rattle.ctf_packet.proofs.Going.{goes_on}
 use Rattle.ctf_stream.specs.Coming.{opened_in, left_in, item_in, values_in, values_at, front_as, HoldsFront}
-use Rattle.ctf_stream.specs.declared.packet.Packet.{Packet}
+use Rattle.ctf_stream.specs.declared.packet.PacketReader.{PacketReader}
 
 -- no item comes before the event records any more
 told : (packet : Opened Classes) (lost dropped : Option ℕ) (run : Run Classes) → lost ≡ None → dropped ≡ None → before (lost_before packet lost ++ discarded_before packet dropped) run ≡ run
@@ -23,7 +23,7 @@ told packet lost dropped run no_lost no_dropped =
     ap (λ l. before (lost_before packet l ++ discarded_before packet dropped) run) no_lost ∙ ap (λ d. before (lost_before packet None ++ discarded_before packet d) run) no_dropped
 
 -- the event record at the place has a fault
-pub left_fault : (shift : Shift) (p : Packet) (known : Known) (bytes : List ℕ) (follows : Option Moment → Run Classes) (fault : StreamFault) → p.lost ≡ None → p.dropped ≡ None → p.place < p.opened.content
+pub left_fault : (shift : Shift) (p : PacketReader) (known : Known) (bytes : List ℕ) (follows : Option Moment → Run Classes) (fault : StreamFault) → p.lost ≡ None → p.dropped ≡ None → p.place < p.opened.content
     → record_at (opened_in shift known p.opened) bytes p.clock p.place ≡ Err fault → left_in shift known bytes follows p ≡ stops (Some fault) p.opened.start
 left_fault shift p known bytes follows fault no_lost no_dropped inside found =
     let packet = opened_in shift known p.opened in
@@ -31,7 +31,7 @@ left_fault shift p known bytes follows fault no_lost no_dropped inside found =
     ∙ goes_on packet bytes follows p.clock p.place inside
     ∙ ap (recorded packet (λ next end. from_place packet bytes next end follows)) found
 
-module _ (shift : Shift) (p : Packet) (known after : Known) (bytes : List ℕ) (same : packet_values (values_of after) ≡ packet_values (values_of known)) (r : EventRecord) where
+module _ (shift : Shift) (p : PacketReader) (known after : Known) (bytes : List ℕ) (same : packet_values (values_of after) ≡ packet_values (values_of known)) (r : EventRecord) where
   abbrev packet : Opened Classes
   packet = opened_in shift known p.opened
 

@@ -9,11 +9,11 @@ use Rattle.ctf_packet.specs.Scopes.{Values}
 use Rattle.ctf_packet.specs.Views.{values_of, packet_values}
 use Rattle.ctf_stream.specs.Coming.{opened_in, values_at, IsWritten}
 use Rattle.ctf_stream.specs.ReadState.{IsPartOf}
-use Rattle.ctf_stream.specs.declared.packet.Packet.{Packet}
+use Rattle.ctf_stream.specs.declared.packet.PacketReader.{PacketReader}
 use Rattle.ctf_stream.specs.declared.packet.WrittenRecord.{WrittenRecord}
 use Rattle.ctf_format.specs.Lines.{packet_part}
 
-module _ (writes : Bool) (shift : Shift) (known : Known) (bytes part line : List ℕ) (p : Packet) (w : WrittenRecord) where
+module _ (writes : Bool) (shift : Shift) (known : Known) (bytes part line : List ℕ) (p : PacketReader) (w : WrittenRecord) where
   abbrev pub the_event : Event Classes
   the_event = record {
     class = record { stream = p.opened.stream.now; event = w.event.event.now };

@@ -16,17 +16,17 @@ use Rattle.ctf_packet.specs.Views.{values_of, packet_values, opened_of, recorded
 use Rattle.ctf_packet.specs.declared.packet.OpenPacket.{OpenPacket}
 use Rattle.ctf_packet.specs.declared.fault.StreamFault.{StreamFault}
 use Rattle.ctf_packet.specs.declared.fault.StreamFault.TheVariants as faults
-use Rattle.ctf_stream.specs.declared.packet.Packet.{Packet}
+use Rattle.ctf_stream.specs.declared.packet.PacketReader.{PacketReader}
 use Rattle.ctf_stream.specs.declared.packet.WrittenRecord.{WrittenRecord}
-use Rattle.ctf_stream.specs.declared.packet.Front.{Front}
-use Rattle.ctf_stream.specs.declared.packet.Front.TheVariants as fronts
+use Rattle.ctf_stream.specs.declared.packet.PacketItem.{PacketItem}
+use Rattle.ctf_stream.specs.declared.packet.PacketItem.TheVariants as fronts
 
 -- the packet at hand, with the values of its header and context
 abbrev pub opened_in : Shift → Known → OpenPacket → Opened Classes
 opened_in shift known packet = opened_of shift (packet_values (values_of known)) packet
 
 -- the items of the packet at hand that are left, and what follows from the clock at its end
-abbrev pub left_in : Shift → Known → List ℕ → (Option Moment → Run Classes) → Packet → Run Classes
+abbrev pub left_in : Shift → Known → List ℕ → (Option Moment → Run Classes) → PacketReader → Run Classes
 left_in shift known bytes follows p =
     let packet = opened_in shift known p.opened in
     before (lost_before packet p.lost ++ discarded_before packet p.dropped)
@@ -42,16 +42,16 @@ abbrev pub values_at : Opened Classes → List ℕ → WrittenRecord → Values
 values_at packet bytes w = values_in packet.values (record_at packet bytes w.before w.begin)
 
 -- the current event record, which was read from a place on, where its packet's clock came so far
-abbrev pub front_as : EventRecord → Option Moment → ℕ → Option ℕ → Front
+abbrev pub front_as : EventRecord → Option Moment → ℕ → Option ℕ → PacketItem
 front_as r before begin None = fronts.Event r
 front_as r before begin (Some end) =
     fronts.Written (record { event = r; begin = begin; before = before; end = end })
 
-abbrev pub front_in : LineRecord → Option Moment → ℕ → Front
+abbrev pub front_in : LineRecord → Option Moment → ℕ → PacketItem
 front_in made before begin = front_as made.record before begin made.text
 
 -- the current item
-abbrev pub item_in : Shift → Known → List ℕ → Packet → Front → Item Classes
+abbrev pub item_in : Shift → Known → List ℕ → PacketReader → PacketItem → Item Classes
 item_in shift known bytes p (fronts.Written w) =
     let packet = opened_in shift known p.opened in
     item_of packet (recorded_of p.opened.stream.now (values_at packet bytes w) w.event)
@@ -68,18 +68,18 @@ one_if_some None = 0
 one_if_some (Some count) = 1
 
 -- how many items of the packet at hand are left, at the most
-abbrev pub room_in : Packet → ℕ
+abbrev pub room_in : PacketReader → ℕ
 room_in p = one_if_some p.lost + one_if_some p.dropped + (p.opened.content - p.place)
 
 -- a packet whose bytes are at hand
-pub record Within (bytes : List ℕ) (p : Packet) : Type 0 where
+pub record Within (bytes : List ℕ) (p : PacketReader) : Type 0 where
   pub place : p.place ≤ p.opened.content
   pub content : p.opened.content ≤ 2 ^ 62
   pub held : p.opened.content ≤ 8 * length bytes
 
 -- the next item of a packet, and what is left then; or its end; or its fault
-abbrev pub TakesItem : Shift → (Option Moment → Run Classes) → Run Classes → Packet → Known → List ℕ
-    → Result (Option Front) StreamFault → Type 0
+abbrev pub TakesItem : Shift → (Option Moment → Run Classes) → Run Classes → PacketReader → Known → List ℕ
+    → Result (Option PacketItem) StreamFault → Type 0
 TakesItem shift follows old p known bytes (Ok (Some front)) =
     old ≡ before (item_in shift known bytes p front ∷ []) (left_in shift known bytes follows p)
 TakesItem shift follows old p known bytes (Ok None) = old ≡ follows p.clock
@@ -87,7 +87,7 @@ TakesItem shift follows old p known bytes (Err fault) =
     (old ≡ stops (Some fault) p.opened.start) ⊎ (fault ≡ faults.NoMemory)
 
 -- an item that was found takes room
-abbrev pub TakesRoom : ℕ → ℕ → Result (Option Front) StreamFault → Type 0
+abbrev pub TakesRoom : ℕ → ℕ → Result (Option PacketItem) StreamFault → Type 0
 TakesRoom old new (Ok (Some front)) = new < old
 TakesRoom old new (Ok None) = new ≤ old
 TakesRoom old new (Err fault) = Unit {0}
@@ -104,7 +104,7 @@ pub record IsWritten (writes : Bool) (packet : Opened Classes) (stream : StreamC
   pub text : take w.end line ≡ values_text part stream w.event.event.now (values_at packet bytes w)
 
 -- an item that has no values in the scopes has its text in the line
-abbrev pub HoldsFront : Bool → Shift → Known → List ℕ → List ℕ → List ℕ → Packet → Front → Type 0
+abbrev pub HoldsFront : Bool → Shift → Known → List ℕ → List ℕ → List ℕ → PacketReader → PacketItem → Type 0
 HoldsFront writes shift known bytes part line p (fronts.Written w) =
     IsWritten writes (opened_in shift known p.opened) p.opened.stream.now bytes part line w
 HoldsFront writes shift known bytes part line p (fronts.Event r) = Unit {0}

@@ -10,8 +10,8 @@ use Rattle.ctf_packet.specs.declared.fault.StreamFault.{StreamFault}
 use Rattle.ctf_stream.specs.Coming.{opened_in, left_in, item_in, room_in, HoldsFront}
 use Rattle.ctf_fetch.specs.Fetching.{OrNoMemory, most_taken, after_packet, FetchedAt}
 use Rattle.ctf_fetch.specs.declared.packet_start.PacketStart.{PacketStart}
-use Rattle.ctf_stream.specs.declared.packet.Packet.{Packet}
-use Rattle.ctf_stream.specs.declared.packet.Front.{Front}
+use Rattle.ctf_stream.specs.declared.packet.PacketReader.{PacketReader}
+use Rattle.ctf_stream.specs.declared.packet.PacketItem.{PacketItem}
 use Rattle.ctf_stream.specs.declared.read_state.ReadState.{ReadState}
 use Rattle.ctf_format.specs.Lines.{packet_part}
 
@@ -19,7 +19,7 @@ abbrev pub trace_of : PacketStart → TraceForm Classes
 trace_of cut = trace_form cut.shift cut.trace.now
 
 -- what is to come at a packet boundary, or within the packet that begins there
-abbrev pub coming_at : PacketStart → Ending → List ℕ → Known → List ℕ → Option Packet → Run Classes
+abbrev pub coming_at : PacketStart → Ending → List ℕ → Known → List ℕ → Option PacketReader → Run Classes
 coming_at cut ending left known bytes None =
     from_bytes (trace_of cut) ending cut.reached cut.at left
 coming_at cut ending left known bytes (Some p) =
@@ -37,13 +37,13 @@ pub record Between (cut : PacketStart) (bytes : List ℕ) (taken : ℕ) : Type 0
   pub near : cut.at ≤ 2 ^ 60 + 2 ^ 28
 
 -- within a packet it is held, and no byte was taken after it
-pub record Inside (cut : PacketStart) (bytes : List ℕ) (taken : ℕ) (p : Packet) : Type 0 where
+pub record Inside (cut : PacketStart) (bytes : List ℕ) (taken : ℕ) (p : PacketReader) : Type 0 where
   pub fetched : FetchedAt cut.at bytes cut.shift p.opened
   pub here : taken ≡ p.opened.end
   pub near : cut.at ≤ 2 ^ 60
   pub place : p.place ≤ p.opened.content
 
-abbrev pub StandsAt : PacketStart → List ℕ → ℕ → Option Packet → Type 0
+abbrev pub StandsAt : PacketStart → List ℕ → ℕ → Option PacketReader → Type 0
 StandsAt cut bytes taken None = Between cut bytes taken
 StandsAt cut bytes taken (Some p) = Inside cut bytes taken p
 
@@ -51,7 +51,7 @@ abbrev pub Stands : ReadState → Type 0
 Stands c = StandsAt c.cut c.buffer c.taken c.packet
 
 -- the text that the lines of a packet share, of one with these values
-abbrev pub IsPartOf : Values → List ℕ → Option Packet → Type 0
+abbrev pub IsPartOf : Values → List ℕ → Option PacketReader → Type 0
 IsPartOf values text None = Unit {0}
 IsPartOf values text (Some p) =
     text ≡ packet_part p.opened.stream.now.packet_context values.packet_context
@@ -61,16 +61,16 @@ abbrev pub HasPart : ReadState → Type 0
 HasPart c = IsPartOf (packet_values (values_of c.scopes)) c.line.part c.packet
 
 -- the text of the current event record was written, where that has no values
-abbrev pub HoldsIn : ReadState → Option Packet → Front → Type 0
+abbrev pub HoldsIn : ReadState → Option PacketReader → PacketItem → Type 0
 HoldsIn c (Some p) front =
     HoldsFront c.writes c.cut.shift c.scopes c.buffer c.line.part c.line.bytes.items p front
 HoldsIn c None front = Unit {0}
 
-abbrev pub HoldsFound : ReadState → Option Front → Type 0
+abbrev pub HoldsFound : ReadState → Option PacketItem → Type 0
 HoldsFound c (Some front) = HoldsIn c c.packet front
 HoldsFound c None = Unit {0}
 
-abbrev pub room_within : Option Packet → ℕ
+abbrev pub room_within : Option PacketReader → ℕ
 room_within None = 0
 room_within (Some p) = room_in p
 
@@ -80,8 +80,8 @@ room_of c = 11 * (most_taken - c.taken) + room_within c.packet
 
 -- the items of the packet at hand give the next one, and the rest is to come; or they are over, and what is to come
 -- stays; or a fault is in the packet
-abbrev pub StepsWithin : Run Classes → Run Classes → PacketStart → Known → List ℕ → Option Packet
-    → Result (Option Front) StreamFault → Type 0
+abbrev pub StepsWithin : Run Classes → Run Classes → PacketStart → Known → List ℕ → Option PacketReader
+    → Result (Option PacketItem) StreamFault → Type 0
 StepsWithin old new cut known bytes (Some p) (Ok (Some front)) =
     old ≡ before (item_in cut.shift known bytes p front ∷ []) new
 StepsWithin old new cut known bytes None (Ok (Some front)) = ⊥
@@ -103,8 +103,8 @@ EntersRoom old new (Ok false) = new ≤ old
 EntersRoom old new (Err fault) = Unit {0}
 
 -- the next item, and the rest is to come; or the end; or a fault
-abbrev pub Advances : Run Classes → Run Classes → PacketStart → Known → List ℕ → Option Packet
-    → List ℕ → Result (Option Front) StreamFault → Type 0
+abbrev pub Advances : Run Classes → Run Classes → PacketStart → Known → List ℕ → Option PacketReader
+    → List ℕ → Result (Option PacketItem) StreamFault → Type 0
 Advances old new cut known bytes (Some p) left (Ok (Some front)) =
     old ≡ before (item_in cut.shift known bytes p front ∷ []) new
 Advances old new cut known bytes None left (Ok (Some front)) = ⊥
@@ -113,6 +113,6 @@ Advances old new cut known bytes packet left (Err fault) =
     OrNoMemory (λ f. old ≡ stops (Some f) cut.at) fault
 
 -- an item is one of the packet at hand, and no packet is at hand at the end
-abbrev pub IsOfPacket : Option Packet → Option Front → Type 0
+abbrev pub IsOfPacket : Option PacketReader → Option PacketItem → Type 0
 IsOfPacket packet (Some front) = IsSome packet
 IsOfPacket packet None = packet ≡ None

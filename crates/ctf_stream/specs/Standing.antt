@@ -4,25 +4,25 @@ use Rattle.ctf_stream.specs.Coming.{item_in}
 use Rattle.ctf_fetch.specs.Fetching.{longest_bytes, most_taken}
 use Rattle.ctf_stream.specs.ReadState.{Stands, HasPart, HoldsIn}
 use Rattle.ctf_stream.specs.Reader.{Peeked, start, item, ended, fault}
-use Rattle.ctf_stream.specs.declared.packet.Packet.{Packet}
-use Rattle.ctf_stream.specs.declared.packet.Front.{Front}
+use Rattle.ctf_stream.specs.declared.packet.PacketReader.{PacketReader}
+use Rattle.ctf_stream.specs.declared.packet.PacketItem.{PacketItem}
 use Rattle.ctf_stream.specs.declared.read_state.ReadState.{ReadState}
-use Rattle.ctf_stream.specs.declared.reader.Head.{Head}
-use Rattle.ctf_stream.specs.declared.reader.Head.TheVariants as heads
+use Rattle.ctf_stream.specs.declared.reader.ReaderHead.{ReaderHead}
+use Rattle.ctf_stream.specs.declared.reader.ReaderHead.TheVariants as heads
 
 -- the current item is one of the packet at hand; without one there is none
-abbrev pub item_at : ReadState → Option Packet → Front → Peeked
+abbrev pub item_at : ReadState → Option PacketReader → PacketItem → Peeked
 item_at c (Some p) front = item (item_in c.cut.shift c.scopes c.buffer p front)
 item_at c None front = start
 
-abbrev pub ahead_of : ReadState → Head → Peeked
+abbrev pub ahead_of : ReadState → ReaderHead → Peeked
 ahead_of c heads.Start = start
 ahead_of c (heads.Item front) = item_at c c.packet front
 ahead_of c heads.Ended = ended
 ahead_of c (heads.Fault f) = fault f
 
 -- there is one current item
-abbrev pub room_ahead : Head → ℕ
+abbrev pub room_ahead : ReaderHead → ℕ
 room_ahead heads.Start = 0
 room_ahead (heads.Item front) = 1
 room_ahead heads.Ended = 0
@@ -30,7 +30,7 @@ room_ahead (heads.Fault f) = 0
 
 -- the packet at hand, whose text was made, holds the current item, whose text was written or which has its values, or
 -- held the one before; at the end and after a fault nothing is held
-abbrev pub IsStanding : ReadState → Head → Type 0
+abbrev pub IsStanding : ReadState → ReaderHead → Type 0
 IsStanding c heads.Start = Stands c × HasPart c
 IsStanding c (heads.Item front) = Stands c × HasPart c × IsSome c.packet × HoldsIn c c.packet front
 IsStanding c heads.Ended = Stands c × (c.packet ≡ None)

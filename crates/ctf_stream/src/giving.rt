@@ -12,7 +12,7 @@ ghost use Rattle.ctf_stream.specs.Standing.{item_at};
 
 use crate::copy::copy;
 use crate::owned::{OwnedEvent, OwnedGap, OwnedItem};
-use crate::packet::Front;
+use crate::packet::PacketItem;
 use crate::read_state::ReadState;
 use ctf_class::{Scope, StreamClass, TraceClass};
 use ctf_clock::Moment;
@@ -26,7 +26,7 @@ impl<'a> ReadState<'a> {
     pub(crate) fn give(
         &mut self,
         alloc: Global,
-        front: &Front<'a>,
+        front: &PacketItem<'a>,
         name: &Text,
     ) -> Result<OwnedItem<'a>, NoMemory>
         requires stands { Stands self.old }
@@ -50,14 +50,14 @@ impl<'a> ReadState<'a> {
         };
         let opened = &packet.opened;
         match front {
-            Front::Event(record) => Ok(OwnedItem::Event(take_event(
+            PacketItem::Event(record) => Ok(OwnedItem::Event(take_event(
                 alloc,
                 self.cut.trace,
                 opened.stream,
                 record,
                 &mut self.scopes,
             )?)),
-            Front::Written(written) => {
+            PacketItem::Written(written) => {
                 let at = RecordPlace {
                     packet: opened,
                     bytes: self.buffer.as_slice(),
@@ -73,13 +73,18 @@ impl<'a> ReadState<'a> {
                     &mut self.scopes,
                 )?))
             }
-            Front::Discarded(count) => Ok(OwnedItem::Discarded(gap(
+            PacketItem::Discarded(count) => Ok(OwnedItem::Discarded(gap(
                 opened,
                 *count,
                 opened.until,
                 name,
             )?)),
-            Front::Lost(count) => Ok(OwnedItem::Lost(gap(opened, *count, opened.clock, name)?)),
+            PacketItem::Lost(count) => Ok(OwnedItem::Lost(gap(
+                opened,
+                *count,
+                opened.clock,
+                name,
+            )?)),
         }
     }
 }

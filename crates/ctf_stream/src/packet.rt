@@ -19,7 +19,7 @@ use std::alloc::Global;
 
 /// A packet whose items are given one after the other.
 #[derive(Drop)]
-pub(crate) struct Packet<'a> {
+pub(crate) struct PacketReader<'a> {
     pub(crate) opened: OpenPacket<'a>,
     /// How many packets were lost before it, where that is not reported yet.
     pub(crate) lost: Option<u64>,
@@ -43,7 +43,7 @@ pub(crate) struct PacketInput<'r> {
 
 /// The current item of a packet.
 #[derive(Clone, Copy)]
-pub(crate) enum Front<'a> {
+pub(crate) enum PacketItem<'a> {
     /// An event record, whose values are those of the scopes.
     Event(EventRecord<'a>),
     /// An event record, whose text was written.
@@ -66,7 +66,7 @@ pub(crate) struct WrittenRecord<'a> {
     pub(crate) end: usize,
 }
 
-impl<'a> Packet<'a> {
+impl<'a> PacketReader<'a> {
     /// The next item, if texts are asked for, and it is an event record that can be shown without its values: then its
     /// text is at the start of `line`. `scopes` has the values of the packet. Mostly that is the next item, so it is
     /// apart from `next`. Its header is decoded by its plan, or `by_class`.
@@ -79,7 +79,7 @@ impl<'a> Packet<'a> {
         scopes: &Scopes,
         by_class: bool,
         line: &mut LineBuffer,
-    ) -> Option<Front<'a>>
+    ) -> Option<PacketItem<'a>>
         requires within { Within input.buffer.now self.old }
         ensures takes { let bytes = input.entry.buffer.now in
             (shift : Shift) (follows : Option Moment → Run Classes) →
@@ -130,7 +130,7 @@ impl<'a> Packet<'a> {
         scratch: &mut Scratch,
         scopes: &mut Scopes,
         line: &mut LineBuffer,
-    ) -> Result<Option<Front<'a>>, StreamFault>
+    ) -> Result<Option<PacketItem<'a>>, StreamFault>
         requires { Within input.buffer.now self.old }
         ensures takes { let bytes = input.entry.buffer.now in
             (shift : Shift) (follows : Option Moment → Run Classes) →
@@ -151,11 +151,11 @@ impl<'a> Packet<'a> {
     {
         if let Some(count) = self.lost {
             self.lost = None;
-            return Ok(Some(Front::Lost(count)));
+            return Ok(Some(PacketItem::Lost(count)));
         }
         if let Some(count) = self.dropped {
             self.dropped = None;
-            return Ok(Some(Front::Discarded(count)));
+            return Ok(Some(PacketItem::Discarded(count)));
         }
         if self.place >= self.opened.content {
             return Ok(None);
@@ -207,12 +207,12 @@ fn event_at<'a>(
 
 /// The current event record, which was read from a place on, where its packet's clock came so far.
 #[inline(always)]
-fn front_of(made: LineRecord<'_>, before: Option<Moment>, begin: u64) -> Front<'_>
+fn front_of(made: LineRecord<'_>, before: Option<Moment>, begin: u64) -> PacketItem<'_>
     ensures { result ≡ front_in made.entry before begin }
 {
     match made.text {
-        None => Front::Event(made.record),
-        Some(end) => Front::Written(WrittenRecord {
+        None => PacketItem::Event(made.record),
+        Some(end) => PacketItem::Written(WrittenRecord {
             event: made.record,
             begin,
             before,

@@ -3,8 +3,8 @@
 ghost use Rattle.std.specs.Prelude.{◌≡◌, option_map};
 ghost use Rattle.ctf_stream.specs.Peeked.{told, time_in};
 
-use crate::packet::{Front, Packet};
-use crate::reader::{Head, StreamReader};
+use crate::packet::{PacketItem, PacketReader};
+use crate::reader::{ReaderHead, StreamReader};
 use ctf_bits::Source;
 use ctf_clock::Moment;
 use ctf_packet::StreamFault;
@@ -22,10 +22,10 @@ pub enum Peeked {
 
 /// The time of an item of a packet, in nanoseconds since the epoch. Mostly it is an event record that was written.
 #[inline(always)]
-fn time_of(front: &Front, packet: &Packet) -> Option<i64>
+fn time_of(front: &PacketItem, packet: &PacketReader) -> Option<i64>
     ensures { result ≡ time_in front.now packet.now }
 {
-    if let Front::Written(written) = front {
+    if let PacketItem::Written(written) = front {
         return time_at(written.event.clock);
     }
     other_time(front, packet)
@@ -35,14 +35,14 @@ fn time_of(front: &Front, packet: &Packet) -> Option<i64>
 /// In one `match` with these, it would be a table of jumps.
 #[cold]
 #[inline(never)]
-fn other_time(front: &Front, packet: &Packet) -> Option<i64>
+fn other_time(front: &PacketItem, packet: &PacketReader) -> Option<i64>
     ensures { result ≡ time_in front.now packet.now }
 {
     match front {
-        Front::Event(record) => time_at(record.clock),
-        Front::Written(written) => time_at(written.event.clock),
-        Front::Discarded(_) => time_at(packet.opened.clock),
-        Front::Lost(_) => time_at(packet.opened.clock),
+        PacketItem::Event(record) => time_at(record.clock),
+        PacketItem::Written(written) => time_at(written.event.clock),
+        PacketItem::Discarded(_) => time_at(packet.opened.clock),
+        PacketItem::Lost(_) => time_at(packet.opened.clock),
     }
 }
 
@@ -62,16 +62,16 @@ impl<'a, S: Source + Drop> StreamReader<'a, S> {
     pub fn ahead(&self) -> Peeked
         ensures { result ≡ told self.now.ahead }
     {
-        if let Head::Item(front) = &self.head {
+        if let ReaderHead::Item(front) = &self.head {
             return match &self.read_state.packet {
                 Some(packet) => Peeked::Item(time_of(front, packet)),
                 None => Peeked::Start,
             };
         }
-        if let Head::Fault(fault) = &self.head {
+        if let ReaderHead::Fault(fault) = &self.head {
             return Peeked::Fault(*fault);
         }
-        if let Head::Ended = &self.head {
+        if let ReaderHead::Ended = &self.head {
             return Peeked::Ended;
         }
         Peeked::Start

@@ -13,7 +13,7 @@ ghost use Rattle.ctf_fetch.specs.Fetching.{longest_bytes, most_taken};
 ghost use Rattle.ctf_stream.specs.ReadState.{coming_of, Stands, room_of, StepsWithin, Enters, EntersRoom, Advances, IsOfPacket, HasPart, HoldsIn, HoldsFound};
 
 use crate::item::{CurrentItem, Event, EventText, Gap, Item};
-use crate::packet::{Front, Packet, PacketInput};
+use crate::packet::{PacketInput, PacketItem, PacketReader};
 use ctf_bits::Source;
 use ctf_class::{HasId, Scope};
 use ctf_decode::Scopes;
@@ -27,7 +27,7 @@ use std::alloc::Global;
 pub(crate) struct ReadState<'a> {
     /// Where the packet at hand begins, or the next one.
     pub(crate) cut: PacketStart<'a>,
-    pub(crate) packet: Option<Packet<'a>>,
+    pub(crate) packet: Option<PacketReader<'a>>,
     /// The bytes of the packet at hand.
     pub(crate) buffer: Buffer,
     /// The values of the packet at hand, and of the current event record, if there is one.
@@ -88,7 +88,7 @@ impl<'a> ReadState<'a> {
     /// are asked for: its header is decoded by its plan, or `by_class`. `None` elsewhere: then only the line is another
     /// one.
     #[inline(always)]
-    pub(crate) fn next_written(&mut self, alloc: Global, by_class: bool) -> Option<Front<'a>>
+    pub(crate) fn next_written(&mut self, alloc: Global, by_class: bool) -> Option<PacketItem<'a>>
         requires stands { Stands self.old }
         requires part { HasPart self.old }
         ensures advances { (ending : Ending) (left : List ℕ) →
@@ -126,7 +126,7 @@ impl<'a> ReadState<'a> {
         &mut self,
         alloc: Global,
         source: &mut S,
-    ) -> Result<Option<Front<'a>>, StreamFault>
+    ) -> Result<Option<PacketItem<'a>>, StreamFault>
         requires stands { Stands self.old }
         requires part { HasPart self.old }
         ensures tells { IsTrue (S.tells source.old) → IsTrue (S.tells source.new) }
@@ -213,7 +213,7 @@ impl<'a> ReadState<'a> {
                     Err(_) => return Err(StreamFault::NoMemory),
                     Ok(()) => {}
                 }
-                self.packet = Some(Packet {
+                self.packet = Some(PacketReader {
                     lost: opened.lost,
                     dropped: opened.dropped,
                     clock: opened.clock,
@@ -226,7 +226,7 @@ impl<'a> ReadState<'a> {
     }
 
     /// The next item of the packet at hand. `None` where there is none, and the packet is left then.
-    fn step_within(&mut self, alloc: Global) -> Result<Option<Front<'a>>, StreamFault>
+    fn step_within(&mut self, alloc: Global) -> Result<Option<PacketItem<'a>>, StreamFault>
         requires stands { Stands self.old }
         requires part { HasPart self.old }
         ensures steps { (ending : Ending) (left : List ℕ) →
@@ -265,7 +265,7 @@ impl<'a> ReadState<'a> {
     /// The current item, of the packet at hand. `name` is the stream's.
     pub(crate) fn current_item<'r>(
         &'r self,
-        front: &'r Front<'a>,
+        front: &'r PacketItem<'a>,
         name: &'r str,
     ) -> Option<CurrentItem<'r>>
         requires part { HasPart self.now }
@@ -281,7 +281,7 @@ impl<'a> ReadState<'a> {
         };
         let opened = &packet.opened;
         match front {
-            Front::Event(record) => Some(CurrentItem::Item(Item::Event(Event {
+            PacketItem::Event(record) => Some(CurrentItem::Item(Item::Event(Event {
                 trace: self.cut.trace,
                 stream: opened.stream,
                 class: record.event,
@@ -289,18 +289,18 @@ impl<'a> ReadState<'a> {
                 scopes: &self.scopes,
                 part: Some(self.line.part.as_slice()),
             }))),
-            Front::Written(written) => Some(CurrentItem::Text(EventText {
+            PacketItem::Written(written) => Some(CurrentItem::Text(EventText {
                 moment: written.event.clock,
                 text: &self.line.bytes[..written.end],
             })),
-            Front::Discarded(count) => Some(CurrentItem::Item(Item::Discarded(Gap {
+            PacketItem::Discarded(count) => Some(CurrentItem::Item(Item::Discarded(Gap {
                 count: *count,
                 moment: opened.clock,
                 from: opened.before,
                 to: opened.until,
                 name,
             }))),
-            Front::Lost(count) => Some(CurrentItem::Item(Item::Lost(Gap {
+            PacketItem::Lost(count) => Some(CurrentItem::Item(Item::Lost(Gap {
                 count: *count,
                 moment: opened.clock,
                 from: opened.before,
@@ -330,7 +330,7 @@ impl<'a> ReadState<'a> {
 }
 
 /// What a stream has come to after a packet.
-fn reached_after(packet: &Packet<'_>) -> Reached
+fn reached_after(packet: &PacketReader<'_>) -> Reached
     ensures { (shift : Shift) (values : Values) →
         result ≡ packets.reached_after (opened_of shift values packet.now.opened)
         packet.now.clock }

@@ -3,14 +3,14 @@
 ghost use Rattle.std.specs.Prelude.{◌≡◌, true, false, ◌+◌, ◌<◌, ◌≤◌, ◌⊎◌, IsTrue, IfSome, length};
 ghost use Rattle.ctf_packet.specs.Classes.{trace_form};
 ghost use Rattle.ctf_packet.specs.Items.{run_of};
-ghost use Rattle.ctf_stream.specs.declared.reader.Head.TheVariants.{Ended, Fault};
+ghost use Rattle.ctf_stream.specs.declared.reader.ReaderHead.TheVariants.{Ended, Fault};
 ghost use Rattle.ctf_stream.specs.Shown.{ShowsValues, Tells, IsMade, IsMadeTold, IsAsked};
 ghost use Rattle.ctf_stream.specs.Reader.{start, fault_ahead, coming, rest_of, OrRefused, IsFetched, IsLast, IsOnLine, IsAllTaken, RoomTaken};
 ghost use Rattle.ctf_stream.specs.Owned.{Gives, GivesAhead, GivesOf, GivesRoom, KeepsAfter, ahead_after};
 
 use crate::item::{CurrentItem, Item};
 use crate::owned::OwnedItem;
-use crate::packet::Front;
+use crate::packet::PacketItem;
 use crate::read_state::ReadState;
 use ctf_bits::Source;
 use ctf_class::TraceClass;
@@ -24,10 +24,10 @@ use std::marker::Model;
 
 /// What the reader gives next.
 #[derive(Drop)]
-pub(crate) enum Head<'a> {
+pub(crate) enum ReaderHead<'a> {
     /// Nothing was fetched yet, or the item was given away.
     Start,
-    Item(Front<'a>),
+    Item(PacketItem<'a>),
     Ended,
     Fault(StreamFault),
 }
@@ -40,7 +40,7 @@ pub struct StreamReader<'a, S: Source + Drop> {
     name: Text,
     source: S,
     pub(crate) read_state: ReadState<'a>,
-    pub(crate) head: Head<'a>,
+    pub(crate) head: ReaderHead<'a>,
 }
 
 impl<'a, S: Source + Drop> Model for StreamReader<'a, S> {
@@ -102,7 +102,7 @@ impl<'a, S: Source + Drop> StreamReader<'a, S> {
             name,
             source,
             read_state,
-            head: Head::Start,
+            head: ReaderHead::Start,
         }
     }
 
@@ -137,16 +137,16 @@ impl<'a, S: Source + Drop> StreamReader<'a, S> {
             IsLast self.old.ahead ⊎ IsAllTaken self.new.ahead self.new.left }
     {
         match &self.head {
-            Head::Ended => return,
-            Head::Fault(_) => return,
-            Head::Item(_) => {}
-            Head::Start => {}
+            ReaderHead::Ended => return,
+            ReaderHead::Fault(_) => return,
+            ReaderHead::Item(_) => {}
+            ReaderHead::Start => {}
         }
         if let Some(front) = self.read_state.next_written(self.alloc, false) {
-            self.head = Head::Item(front);
+            self.head = ReaderHead::Item(front);
             return;
         }
-        self.head = Head::Start;
+        self.head = ReaderHead::Start;
         self.advance();
     }
 
@@ -168,11 +168,11 @@ impl<'a, S: Source + Drop> StreamReader<'a, S> {
         ensures all_taken { IsTrue self.old.tells → IsAllTaken self.new.ahead self.new.left }
     {
         if let Some(front) = self.read_state.next_written(self.alloc, true) {
-            self.head = Head::Item(front);
+            self.head = ReaderHead::Item(front);
             return;
         }
         match self.read_state.advance(self.alloc, &mut self.source) {
-            Ok(Some(front)) => self.head = Head::Item(front),
+            Ok(Some(front)) => self.head = ReaderHead::Item(front),
             Ok(None) => {
                 self.read_state.release(self.alloc);
                 end(&mut self.head);
@@ -231,10 +231,10 @@ impl<'a, S: Source + Drop> StreamReader<'a, S> {
             IsFetched self.old.ahead ⊎ IsAllTaken self.new.ahead self.new.left }
     {
         match &self.head {
-            Head::Start => self.go_on(),
-            Head::Item(_) => {}
-            Head::Ended => {}
-            Head::Fault(_) => {}
+            ReaderHead::Start => self.go_on(),
+            ReaderHead::Item(_) => {}
+            ReaderHead::Ended => {}
+            ReaderHead::Fault(_) => {}
         }
     }
 
@@ -257,19 +257,19 @@ impl<'a, S: Source + Drop> StreamReader<'a, S> {
         ensures on_line { IsOnLine self.new }
     {
         let front = match &self.head {
-            Head::Start => unreachable!(),
-            Head::Ended => return Ok(None),
-            Head::Fault(fault) => return Err(*fault),
-            Head::Item(front) => front,
+            ReaderHead::Start => unreachable!(),
+            ReaderHead::Ended => return Ok(None),
+            ReaderHead::Fault(fault) => return Err(*fault),
+            ReaderHead::Item(front) => front,
         };
         match self.read_state.give(self.alloc, front, &self.name) {
             Ok(item) => {
-                self.head = Head::Start;
+                self.head = ReaderHead::Start;
                 Ok(Some(item))
             }
             Err(_) => {
                 self.read_state.release(self.alloc);
-                self.head = Head::Fault(StreamFault::NoMemory);
+                self.head = ReaderHead::Fault(StreamFault::NoMemory);
                 Err(StreamFault::NoMemory)
             }
         }
@@ -282,10 +282,10 @@ impl<'a, S: Source + Drop> StreamReader<'a, S> {
         ensures asked { IfSome result (IsAsked self.now.writes) }
     {
         match &self.head {
-            Head::Item(front) => self.read_state.current_item(front, self.name.as_str()),
-            Head::Start => None,
-            Head::Ended => None,
-            Head::Fault(_) => None,
+            ReaderHead::Item(front) => self.read_state.current_item(front, self.name.as_str()),
+            ReaderHead::Start => None,
+            ReaderHead::Ended => None,
+            ReaderHead::Fault(_) => None,
         }
     }
 
@@ -308,10 +308,10 @@ impl<'a, S: Source + Drop> StreamReader<'a, S> {
         ensures { result ≡ fault_ahead self.now.ahead }
     {
         match &self.head {
-            Head::Fault(fault) => Some(*fault),
-            Head::Ended => None,
-            Head::Item(_) => None,
-            Head::Start => None,
+            ReaderHead::Fault(fault) => Some(*fault),
+            ReaderHead::Ended => None,
+            ReaderHead::Item(_) => None,
+            ReaderHead::Start => None,
         }
     }
 
@@ -342,17 +342,17 @@ impl<'a, S: Source + Drop> StreamReader<'a, S> {
 /// seldom made.
 #[cold]
 #[inline(never)]
-fn end(head: &mut Head<'_>)
+fn end(head: &mut ReaderHead<'_>)
     ensures { head.new ≡ Ended }
 {
-    *head = Head::Ended;
+    *head = ReaderHead::Ended;
 }
 
 /// Gives the fault of a stream next.
 #[cold]
 #[inline(never)]
-fn stop(head: &mut Head<'_>, fault: StreamFault)
+fn stop(head: &mut ReaderHead<'_>, fault: StreamFault)
     ensures { head.new ≡ Fault fault }
 {
-    *head = Head::Fault(fault);
+    *head = ReaderHead::Fault(fault);
 }

@@ -44,7 +44,7 @@ pub struct Stamper {
 
 /// A stamp that needs no calendar.
 #[derive(Drop)]
-struct Kept {
+struct KeptStamp {
     // `hh:mm:ss`, and what may come after it.
     text: [u8; MOST_HEAD],
     nanos: u32,
@@ -147,7 +147,7 @@ impl Stamper {
     /// The stamp of a moment, if the style shows `hh:mm:ss` alone before the dot and its second is the one that is
     /// kept.
     #[inline(always)]
-    fn stamp_if_kept(&self, moment: Moment) -> Option<Kept>
+    fn stamp_if_kept(&self, moment: Moment) -> Option<KeptStamp>
         ensures stamp { IfSome result
             (λ kept. take 8 kept.text ++ (codes "." ++ last_digits 9 kept.nanos) ≡
             stamp self.now moment) }
@@ -159,7 +159,7 @@ impl Stamper {
         let start = self.start?;
         let nanos = nanos_within(start, moment.time)?;
         let text = self.text;
-        Some(Kept { text, nanos })
+        Some(KeptStamp { text, nanos })
     }
 
     /// The beginning of a line with any stamp. It is apart, so that the usual one stays short in its callers.

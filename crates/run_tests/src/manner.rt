@@ -1,6 +1,6 @@
 //! How bytes are given and taken.
 
-use crate::words::{Word, word_of};
+use crate::words::{RowWord, word_of};
 
 /// How bytes are given or taken.
 #[derive(Clone, Copy)]
@@ -47,7 +47,7 @@ pub fn manners_of(line: &str) -> Manners {
         messages: Manner::Whole,
     };
     for word in line.split(' ') {
-        if let Word::Manner(side, manner) = word_of(word) {
+        if let RowWord::Manner(side, manner) = word_of(word) {
             manners.set(side, manner);
         }
     }

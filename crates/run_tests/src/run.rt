@@ -22,7 +22,7 @@
 mod made;
 
 use crate::row::Row;
-use made::{Run, run_of};
+use made::{RunResult, run_of};
 
 /// Puts what comes of a row, or of a row for each of its numbers.
 pub fn put_row(rt: &HostRuntime, row: &mut Row<'_>) {
@@ -59,7 +59,7 @@ fn tries_of<'a>(front: &'a str, last: &str) -> Tries<'a> {
 }
 
 /// Puts a line for each number.
-fn put_tries(rt: &HostRuntime, row: &mut Row<'_>, tries: Tries<'_>, whole: &Run) {
+fn put_tries(rt: &HostRuntime, row: &mut Row<'_>, tries: Tries<'_>, whole: &RunResult) {
     for number in tries.first..=tries.last {
         row.put_number(b"", number as i128);
         if let Ok(line) = format!(in rt.alloc(); "{}:{number}", tries.front) {
@@ -69,7 +69,7 @@ fn put_tries(rt: &HostRuntime, row: &mut Row<'_>, tries: Tries<'_>, whole: &Run)
 }
 
 /// Puts how far a run came beside the whole one.
-fn put_try(row: &mut Row<'_>, run: &Run, whole: &Run) {
+fn put_try(row: &mut Row<'_>, run: &RunResult, whole: &RunResult) {
     row.put(b": output ");
     put_beginning(row, run.output.bytes(), whole.output.bytes());
     row.put(b", messages ");
@@ -86,7 +86,7 @@ fn put_beginning(row: &mut Row<'_>, text: &[u8], whole: &[u8]) {
 }
 
 /// The line that the program prints after a run, or else the last message of the run.
-fn last_message(run: &Run) -> &[u8] {
+fn last_message(run: &RunResult) -> &[u8] {
     if run.status == 0 {
         return b"done";
     }
@@ -103,7 +103,7 @@ fn last_message(run: &Run) -> &[u8] {
 }
 
 /// Puts the output, the messages and the status of a run.
-fn put_run(row: &mut Row<'_>, run: &Run) {
+fn put_run(row: &mut Row<'_>, run: &RunResult) {
     row.put_lines(b"", run.output.bytes());
     row.put_lines(b"! ", run.messages.bytes());
     row.put_number(b"= ", run.status as i128);

@@ -20,7 +20,7 @@ use crate::files::{add_stream, file_of};
 use crate::manner::{Manner, Manners, manners_of};
 use crate::row::Row;
 use crate::source::RowSource;
-use crate::words::{Word, add_word, command_of, word_of};
+use crate::words::{RowWord, add_word, command_of, word_of};
 use crossing::{add_crossing, put_crossing};
 use ctf_class::TraceClass;
 use ctf_list::NoMemory;
@@ -63,9 +63,9 @@ fn streams_of(rt: &HostRuntime, words: &str, manner: Manner) -> Vec<(String, Row
     let mut streams = Vec::new(rt.alloc());
     for word in words.split(' ') {
         match word_of(word) {
-            Word::Stream("") => {}
-            Word::Stream("crossing") => add_crossing(rt.alloc(), &mut streams),
-            Word::Stream(word) => add_stream(rt, &mut streams, word, manner),
+            RowWord::Stream("") => {}
+            RowWord::Stream("crossing") => add_crossing(rt.alloc(), &mut streams),
+            RowWord::Stream(word) => add_stream(rt, &mut streams, word, manner),
             _ => {}
         }
     }

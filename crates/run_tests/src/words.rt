@@ -5,7 +5,7 @@ use std::alloc::Global;
 
 /// What a word of a row is.
 #[derive(Clone, Copy)]
-pub enum Word<'a> {
+pub enum RowWord<'a> {
     /// A word of the command line.
     Option(&'a str),
     /// A side, and how bytes are given or taken there.
@@ -16,14 +16,14 @@ pub enum Word<'a> {
 }
 
 /// What a word is.
-pub fn word_of(word: &str) -> Word<'_> {
+pub fn word_of(word: &str) -> RowWord<'_> {
     if word.starts_with("--") {
-        return Word::Option(word);
+        return RowWord::Option(word);
     }
     match (word.split_once('='), word.split_once(':')) {
-        (Some((side, manner)), _) => Word::Manner(side, manner_of(manner)),
-        (None, Some((name, metadata))) => Word::Trace(name, metadata),
-        (None, None) => Word::Stream(word),
+        (Some((side, manner)), _) => RowWord::Manner(side, manner_of(manner)),
+        (None, Some((name, metadata))) => RowWord::Trace(name, metadata),
+        (None, None) => RowWord::Stream(word),
     }
 }
 
@@ -33,7 +33,7 @@ pub fn command_of(alloc: Global, line: &str) -> Vec<String> {
     add_word(alloc, &mut words, "bt-ctf");
     for word in line.split(' ') {
         match word_of(word) {
-            Word::Option(word) | Word::Trace(word, _) => add_word(alloc, &mut words, word),
+            RowWord::Option(word) | RowWord::Trace(word, _) => add_word(alloc, &mut words, word),
             _ => {}
         }
     }

@@ -5,8 +5,8 @@ use Rattle.std.proofs.lemmas.Bool.{cases_Bool}
 use Rattle.std.proofs.lemmas.List.Sums.{sum_by-cons}
 use Rattle.tsdl_text.specs.declared.token.Symbol.{Symbol}
 use Rattle.tsdl_text.specs.declared.token.Symbol.TheVariants as s
-use Rattle.tsdl_text.specs.declared.token.Kind.{Kind}
-use Rattle.tsdl_text.specs.declared.token.Kind.TheVariants as k
+use Rattle.tsdl_text.specs.declared.token.TokenKind.{TokenKind}
+use Rattle.tsdl_text.specs.declared.token.TokenKind.TheVariants as k
 use Rattle.tsdl_text.specs.declared.token.Token.{Token}
 use Rattle.tsdl_text.specs.Symbols.{is_keyword, is_type_keyword, is_same, is_symbol, is_word, is_typeword, is_identifier, is_string, constant_of}
 use Rattle.tsdl_text.proofs.SameSymbols.{same_true}
@@ -22,7 +22,7 @@ room (suc n) (t ∷ ts) = cond (is s.OpenBrace t) (room n ts) (cond (is s.CloseB
 -- ---- a token is no brace
 
 -- two symbols differ
-other_kind : (a b : Symbol) (q : Kind) → is_same a b ≡ false → is_symbol a q ≡ true → is_symbol b q ≡ false
+other_kind : (a b : Symbol) (q : TokenKind) → is_same a b ≡ false → is_symbol a q ≡ true → is_symbol b q ≡ false
 other_kind a b k.Identifier d e = absurd cc
 other_kind a b (k.Constant n) d e = absurd cc
 other_kind a b k.String d e = absurd cc
@@ -48,7 +48,7 @@ symbol_no_brace {a} i e =
     record { no_open = is_other s.OpenBrace i d.0; no_close = is_other s.CloseBrace i d.1 }
 
 -- the same of a token's kind
-abbrev IsPlain : Kind → Type 0
+abbrev IsPlain : TokenKind → Type 0
 IsPlain q = (is_symbol s.OpenBrace q ≡ false) × (is_symbol s.CloseBrace q ≡ false)
 
 keyword_plain : (a : Symbol) → is_keyword a ≡ true → IsPlain (k.Symbol a)
@@ -56,7 +56,7 @@ keyword_plain s.OpenBrace e = absurd cc
 keyword_plain s.CloseBrace e = absurd cc
 keyword_plain a e = (refl, refl)
 
-word_plain : (q : Kind) → is_word q ≡ true → IsPlain q
+word_plain : (q : TokenKind) → is_word q ≡ true → IsPlain q
 word_plain k.Identifier e = (refl, refl)
 word_plain (k.Constant n) e = absurd cc
 word_plain k.String e = absurd cc
@@ -67,25 +67,25 @@ type_keyword_plain s.OpenBrace e = absurd cc
 type_keyword_plain s.CloseBrace e = absurd cc
 type_keyword_plain a e = (refl, refl)
 
-typeword_plain : (q : Kind) → is_typeword q ≡ true → IsPlain q
+typeword_plain : (q : TokenKind) → is_typeword q ≡ true → IsPlain q
 typeword_plain k.Identifier e = (refl, refl)
 typeword_plain (k.Constant n) e = absurd cc
 typeword_plain k.String e = absurd cc
 typeword_plain (k.Symbol a) e = type_keyword_plain a e
 
-identifier_plain : (q : Kind) → is_identifier q ≡ true → IsPlain q
+identifier_plain : (q : TokenKind) → is_identifier q ≡ true → IsPlain q
 identifier_plain k.Identifier e = (refl, refl)
 identifier_plain (k.Constant n) e = absurd cc
 identifier_plain k.String e = absurd cc
 identifier_plain (k.Symbol a) e = absurd cc
 
-string_plain : (q : Kind) → is_string q ≡ true → IsPlain q
+string_plain : (q : TokenKind) → is_string q ≡ true → IsPlain q
 string_plain k.Identifier e = absurd cc
 string_plain (k.Constant n) e = absurd cc
 string_plain k.String e = (refl, refl)
 string_plain (k.Symbol a) e = absurd cc
 
-constant_plain : (q : Kind) (n : ℕ) → constant_of q ≡ Some n → IsPlain q
+constant_plain : (q : TokenKind) (n : ℕ) → constant_of q ≡ Some n → IsPlain q
 constant_plain k.Identifier n e = absurd cc
 constant_plain (k.Constant m) n e = (refl, refl)
 constant_plain k.String n e = absurd cc

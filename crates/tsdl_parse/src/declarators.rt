@@ -12,7 +12,7 @@ use crate::settings::path;
 use crate::terminals::{begins, end_with, expect, identifier};
 use ctf_list::List;
 use std::alloc::Global;
-use tsdl_text::{Kind, Symbol, Token};
+use tsdl_text::{Symbol, Token, TokenKind};
 use tsdl_tree::{Declarator, Length};
 
 /// What is in brackets: a constant or a path.
@@ -25,8 +25,8 @@ fn bound<'t, 'a>(alloc: Global, tokens: &'t [Token<'a>]) -> Read<'t, 'a, Length>
         return Err(Failure::Syntax(0));
     };
     match first.kind {
-        Kind::Constant(count) => Ok((Length::Constant(count), rest)),
-        Kind::Identifier | Kind::String | Kind::Symbol(_) => {
+        TokenKind::Constant(count) => Ok((Length::Constant(count), rest)),
+        TokenKind::Identifier | TokenKind::String | TokenKind::Symbol(_) => {
             let (path, rest) = path(alloc, tokens)?;
             Ok((Length::Path(path), rest))
         }

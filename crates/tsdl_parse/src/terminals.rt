@@ -10,7 +10,7 @@ use crate::failure::{Failure, Read};
 use crate::part::Part;
 use ctf_list::List;
 use std::alloc::Global;
-use tsdl_text::{Kind, Symbol, Token};
+use tsdl_text::{Symbol, Token, TokenKind};
 use tsdl_tree::Word;
 
 /// What follows the symbol, where it comes first.
@@ -129,7 +129,7 @@ pub(crate) fn identifier<'t, 'a>(alloc: Global, tokens: &'t [Token<'a>]) -> Read
 {
     match tokens {
         [first, rest @ ..] => match first.kind {
-            Kind::Identifier => Ok((List::from_slice(alloc, first.text)?, rest)),
+            TokenKind::Identifier => Ok((List::from_slice(alloc, first.text)?, rest)),
             _ => Err(Failure::Syntax(tokens.len())),
         },
         [] => Err(Failure::Syntax(0)),
@@ -149,7 +149,7 @@ impl Part for OwnName {
 
     fn comes(&self, tokens: &[Token<'_>]) -> bool {
         match tokens {
-            [first, ..] => matches!(first.kind, Kind::Identifier),
+            [first, ..] => matches!(first.kind, TokenKind::Identifier),
             [] => false,
         }
     }
@@ -169,7 +169,7 @@ pub(crate) fn constant<'t, 'a>(tokens: &'t [Token<'a>]) -> Read<'t, 'a, u64>
 {
     match tokens {
         [first, rest @ ..] => match first.kind {
-            Kind::Constant(n) => Ok((n, rest)),
+            TokenKind::Constant(n) => Ok((n, rest)),
             _ => Err(Failure::Syntax(tokens.len())),
         },
         [] => Err(Failure::Syntax(0)),

@@ -6,7 +6,7 @@ use Rattle.std.proofs.lemmas.List.Sums.{sum_by-append}
 use Rattle.std.proofs.lemmas.Option.{none-some}
 use Rattle.ctf_list.specs.Row.{NothingStands}
 use Rattle.ctf_list.proofs.Row.{AllStand-push, flat_map-push}
-use Rattle.tsdl_text.specs.declared.token.Kind.{Kind}
+use Rattle.tsdl_text.specs.declared.token.TokenKind.{TokenKind}
 use Rattle.tsdl_text.specs.declared.token.Token.{Token}
 use Rattle.tsdl_text.specs.declared.lexer.Extent.{Extent}
 use Rattle.tsdl_text.specs.Tokens.{Piece, Stands, joined, AllPieces, Lexeme, lexeme, lexemes, newlines, line_after, Lexes, NoToken}
@@ -14,7 +14,7 @@ use Rattle.tsdl_text.specs.Scanning.{piece_at}
 use Rattle.tsdl_text.proofs.PieceLaws.{PieceFront, piece_front, piece_is_read}
 
 -- the token, if it is one, that a piece is
-abbrev pub piece_token : Option Kind → List ℕ → ℕ → ℕ → List Lexeme
+abbrev pub piece_token : Option TokenKind → List ℕ → ℕ → ℕ → List Lexeme
 piece_token kind bytes start line = option_to_list (option_map (λ k. record { kind = k; bytes = bytes; start = start; line = line }) kind)
 
 pub lexemes-push : (front : List ℕ) (pieces : List Piece) (piece : Piece) → lexemes front (pieces ++ piece ∷ []) ≡ lexemes front pieces ++ piece_token piece.kind piece.bytes (length (front ++ joined pieces)) (line_after (front ++ joined pieces))
@@ -113,15 +113,15 @@ cut_all text start line found h cut =
 
 -- ---- a token is pushed, or none
 
-lexeme_is : (kind k : Kind) (bytes b : List ℕ) (start s line l : ℕ) → kind ≡ k → bytes ≡ b → start ≡ s → line ≡ l → ◌≡◌ {A = Lexeme} (record { kind = kind; bytes = bytes; start = start; line = line }) (record { kind = k; bytes = b; start = s; line = l })
+lexeme_is : (kind k : TokenKind) (bytes b : List ℕ) (start s line l : ℕ) → kind ≡ k → bytes ≡ b → start ≡ s → line ≡ l → ◌≡◌ {A = Lexeme} (record { kind = kind; bytes = bytes; start = start; line = line }) (record { kind = k; bytes = b; start = s; line = l })
 lexeme_is kind k bytes b start s line l p q r t = cc
 
-pub token_pushed : (found found' : List Token) (token : Token) (kind : Option Kind) (k : Kind) (bytes : List ℕ) (start line : ℕ) → found' ≡ found ++ token ∷ [] → kind ≡ Some k → token.kind ≡ k → token.text.now ≡ bytes → token.start ≡ start → token.line ≡ line → map lexeme found' ≡ map lexeme found ++ piece_token kind bytes start line
+pub token_pushed : (found found' : List Token) (token : Token) (kind : Option TokenKind) (k : TokenKind) (bytes : List ℕ) (start line : ℕ) → found' ≡ found ++ token ∷ [] → kind ≡ Some k → token.kind ≡ k → token.text.now ≡ bytes → token.start ≡ start → token.line ≡ line → map lexeme found' ≡ map lexeme found ++ piece_token kind bytes start line
 token_pushed found found' token kind k bytes start line e is p q r t =
     ap (map lexeme) e ∙ map-append lexeme found (token ∷ [])
     ∙ ap (λ x. map lexeme found ++ x ∷ []) (lexeme_is token.kind k token.text.now bytes token.start start token.line line p q r t)
     ∙ ap (λ o. map lexeme found ++ piece_token o bytes start line) (sym is)
 
-pub no_token_pushed : (found found' : List Token) (kind : Option Kind) (bytes : List ℕ) (start line : ℕ) → found' ≡ found → kind ≡ None → map lexeme found' ≡ map lexeme found ++ piece_token kind bytes start line
+pub no_token_pushed : (found found' : List Token) (kind : Option TokenKind) (bytes : List ℕ) (start line : ℕ) → found' ≡ found → kind ≡ None → map lexeme found' ≡ map lexeme found ++ piece_token kind bytes start line
 no_token_pushed found found' kind bytes start line e is =
     ap (map lexeme) e ∙ sym (append-nil (map lexeme found)) ∙ ap (λ o. map lexeme found ++ piece_token o bytes start line) (sym is)

@@ -7,7 +7,7 @@ use Rattle.ctf_list.specs.Row.{NothingStands}
 use Rattle.ctf_list.proofs.Row.{AreTold, nothing_at_end, one_row, Front, row}
 use Rattle.tsdl_text.specs.declared.packet.TheConstants.{HEADER_LEN, MOST_BYTES}
 use Rattle.tsdl_text.specs.PacketReading.{HasEnds}
-use Rattle.tsdl_text.specs.declared.packet.Order.{Order}
+use Rattle.tsdl_text.specs.declared.packet.HeaderOrder.{HeaderOrder}
 use Rattle.tsdl_text.specs.declared.fault.MetaFault.{MetaFault}
 use Rattle.tsdl_text.specs.declared.fault.MetaFault.TheVariants as faults
 use Rattle.tsdl_text.specs.Packets.{Stands, uuid, content_size, packet_size, sizes_fit, or_else, header_fault, first_fault, order_of, Packet, IsPacket, AllPackets, bytes_of, contents_of, IsJoined, IsBrokenAfter, MetaText, MetaBroken}
@@ -16,7 +16,7 @@ use Rattle.tsdl_text.proofs.PacketLemmas.{Passes, Passes-none, header_fault-none
 
 -- ---- a good packet passes every check, and is the only one at its place
 
-packet_passes : (order : Order) (id : List ℕ) (p : Packet) (after : List ℕ) → IsPacket order id p → Passes order id (p.bytes ++ after)
+packet_passes : (order : HeaderOrder) (id : List ℕ) (p : Packet) (after : List ℕ) → IsPacket order id p → Passes order id (p.bytes ++ after)
 packet_passes order id p after is =
     let same = same_header order p.bytes after is.has_header in
     let l = length-append p.bytes after in
@@ -29,7 +29,7 @@ packet_passes order id p after is =
       same_uuid = same.id ∙ is.same_uuid;
     }
 
-packet_ends : (order : Order) (id : List ℕ) (p : Packet) (after : List ℕ) (is : IsPacket order id p) → HasEnds order (p.bytes ++ after) (is.content_end, length p.bytes)
+packet_ends : (order : HeaderOrder) (id : List ℕ) (p : Packet) (after : List ℕ) (is : IsPacket order id p) → HasEnds order (p.bytes ++ after) (is.content_end, length p.bytes)
 packet_ends order id p after is =
     let same = same_header order p.bytes after is.has_header in
     let l = length-append p.bytes after in
@@ -41,7 +41,7 @@ packet_ends order id p after is =
       within = omega arith;
     }
 
-packet_no_fault : (order : Order) (id : List ℕ) (p : Packet) (after : List ℕ) → IsPacket order id p → first_fault order id (p.bytes ++ after) ≡ None
+packet_no_fault : (order : HeaderOrder) (id : List ℕ) (p : Packet) (after : List ℕ) → IsPacket order id p → first_fault order id (p.bytes ++ after) ≡ None
 unfolding first_fault
 packet_no_fault order id p after is =
     ap (λ f. or_else f (cond (sizes_fit order (p.bytes ++ after)) None (Some faults.CutShort))) (Passes-none order id (p.bytes ++ after) (packet_passes order id p after is))
@@ -51,7 +51,7 @@ eighth : (m n : ℕ) → 8 * m ≡ 8 * n → m ≡ n
 eighth m n e = omega arith
 
 -- two packets at one place are one
-one_packet : (order : Order) (id : List ℕ) (p q : Packet) (s t : List ℕ) → IsPacket order id p → IsPacket order id q → p.bytes ++ s ≡ q.bytes ++ t → (p ≡ q) × (s ≡ t)
+one_packet : (order : HeaderOrder) (id : List ℕ) (p q : Packet) (s t : List ℕ) → IsPacket order id p → IsPacket order id q → p.bytes ++ s ≡ q.bytes ++ t → (p ≡ q) × (s ≡ t)
 one_packet order id p q s t a b e =
     let x = same_header order p.bytes s a.has_header in
     let y = same_header order q.bytes t b.has_header in
@@ -66,30 +66,30 @@ one_packet order id p q s t a b e =
 
 -- ---- packets in a row
 
-told : (order : Order) (id : List ℕ) → AreTold (λ (p : Packet). p.bytes) (Stands order id)
+told : (order : HeaderOrder) (id : List ℕ) → AreTold (λ (p : Packet). p.bytes) (Stands order id)
 told order id = record { some = λ p after is. some_bytes p is.has_header; one = one_packet order id }
   where
     some_bytes : (p : Packet) → HEADER_LEN ≤ length p.bytes → 0 < length p.bytes
     some_bytes p h = omega arith
 
-nothing_left : (order : Order) (id : List ℕ) → NothingStands (λ (p : Packet). p.bytes) (Stands order id) []
+nothing_left : (order : HeaderOrder) (id : List ℕ) → NothingStands (λ (p : Packet). p.bytes) (Stands order id) []
 nothing_left order id = nothing_at_end (λ (p : Packet). p.bytes) (Stands order id) (told order id)
 
 -- where a check fails no packet is there
-nothing_good : (order : Order) (id rest : List ℕ) (fault : MetaFault) → first_fault order id rest ≡ Some fault → NothingStands (λ (p : Packet). p.bytes) (Stands order id) rest
+nothing_good : (order : HeaderOrder) (id rest : List ℕ) (fault : MetaFault) → first_fault order id rest ≡ Some fault → NothingStands (λ (p : Packet). p.bytes) (Stands order id) rest
 nothing_good order id rest fault f p after e is = none-some fault (sym (packet_no_fault order id p after is) ∙ ap (first_fault order id) (sym e) ∙ f)
 
-one_way : (order : Order) (id : List ℕ) (ps qs : List Packet) (a b : List ℕ) → AllPackets order id ps a → AllPackets order id qs b → NothingStands (λ (p : Packet). p.bytes) (Stands order id) a → NothingStands (λ (p : Packet). p.bytes) (Stands order id) b → bytes_of ps ++ a ≡ bytes_of qs ++ b → (ps ≡ qs) × (a ≡ b)
+one_way : (order : HeaderOrder) (id : List ℕ) (ps qs : List Packet) (a b : List ℕ) → AllPackets order id ps a → AllPackets order id qs b → NothingStands (λ (p : Packet). p.bytes) (Stands order id) a → NothingStands (λ (p : Packet). p.bytes) (Stands order id) b → bytes_of ps ++ a ≡ bytes_of qs ++ b → (ps ≡ qs) × (a ≡ b)
 one_way order id = one_row (λ (p : Packet). p.bytes) (Stands order id) (told order id)
 
 -- ---- one text
 
-one_joined : (order : Order) (bytes first second : List ℕ) → IsJoined order bytes first → IsJoined order bytes second → first ≡ second
+one_joined : (order : HeaderOrder) (bytes first second : List ℕ) → IsJoined order bytes first → IsJoined order bytes second → first ≡ second
 one_joined order bytes first second f s =
     let same = one_way order (uuid bytes) f.packets s.packets [] [] f.good s.good (nothing_left order (uuid bytes)) (nothing_left order (uuid bytes)) (ap (λ bs. bs ++ []) (f.whole ∙ sym s.whole)) in
     f.text_is ∙ ap contents_of same.0 ∙ sym s.text_is
 
-text_by : (o : Option Order) (bytes first second : List ℕ) → MatchOption o (first ≡ bytes) (λ order. IsJoined order bytes first) → MatchOption o (second ≡ bytes) (λ order. IsJoined order bytes second) → first ≡ second
+text_by : (o : Option HeaderOrder) (bytes first second : List ℕ) → MatchOption o (first ≡ bytes) (λ order. IsJoined order bytes first) → MatchOption o (second ≡ bytes) (λ order. IsJoined order bytes second) → first ≡ second
 text_by None bytes first second f s = f ∙ sym s
 text_by (Some order) bytes first second f s = one_joined order bytes first second f s
 
@@ -98,7 +98,7 @@ one_text bytes first second f s = text_by (order_of bytes) bytes first second f.
 
 -- ---- one fault
 
-one_broken : (order : Order) (bytes : List ℕ) (first second : MetaFault) → IsBrokenAfter order bytes first → IsBrokenAfter order bytes second → first ≡ second
+one_broken : (order : HeaderOrder) (bytes : List ℕ) (first second : MetaFault) → IsBrokenAfter order bytes first → IsBrokenAfter order bytes second → first ≡ second
 one_broken order bytes first second f s =
     let same = one_way order (uuid bytes) f.packets s.packets f.rest s.rest f.good s.good (nothing_good order (uuid bytes) f.rest first f.fails) (nothing_good order (uuid bytes) s.rest second s.fails) (f.whole ∙ sym s.whole) in
     same_Some first second (sym f.fails ∙ ap (first_fault order (uuid bytes)) same.1 ∙ s.fails)
@@ -113,12 +113,12 @@ one_break bytes first second (inr f) (inr s) =
 
 -- ---- never both
 
-joined_or_broken : (order : Order) (bytes text : List ℕ) (fault : MetaFault) → IsJoined order bytes text → IsBrokenAfter order bytes fault → ⊥
+joined_or_broken : (order : HeaderOrder) (bytes text : List ℕ) (fault : MetaFault) → IsJoined order bytes text → IsBrokenAfter order bytes fault → ⊥
 joined_or_broken order bytes text fault f s =
     let same = one_way order (uuid bytes) f.packets s.packets [] s.rest f.good s.good (nothing_left order (uuid bytes)) (nothing_good order (uuid bytes) s.rest fault s.fails) (append-nil (bytes_of f.packets) ∙ f.whole ∙ sym s.whole) in
     s.goes_on (sym same.1)
 
-never_by : (o : Option Order) (bytes text : List ℕ) (fault : MetaFault) (order : Order) → o ≡ Some order → MatchOption o (text ≡ bytes) (λ order. IsJoined order bytes text) → IsBrokenAfter order bytes fault → ⊥
+never_by : (o : Option HeaderOrder) (bytes text : List ℕ) (fault : MetaFault) (order : HeaderOrder) → o ≡ Some order → MatchOption o (text ≡ bytes) (λ order. IsJoined order bytes text) → IsBrokenAfter order bytes fault → ⊥
 never_by None bytes text fault order e f s = none-some order e
 never_by (Some known) bytes text fault order e f s = joined_or_broken order bytes text fault (subst (λ o. IsJoined o bytes text) (same_Some known order e) f) s
 
@@ -128,15 +128,15 @@ never_broken bytes text fault f (inr s) = never_by (order_of bytes) bytes text f
 
 -- ---- there is one
 
-abbrev Answer : Order → List ℕ → Type 0
+abbrev Answer : HeaderOrder → List ℕ → Type 0
 Answer order bytes = ((text : List ℕ) × IsJoined order bytes text) ⊎ ((fault : MetaFault) × IsBrokenAfter order bytes fault)
 
 -- a check fails here
-abbrev Fails : Order → List ℕ → List ℕ → Type 0
+abbrev Fails : HeaderOrder → List ℕ → List ℕ → Type 0
 Fails order id rest = (fault : MetaFault) × (first_fault order id rest ≡ Some fault)
 
 -- what is at the front where no check fails
-packet_there : (order : Order) (id rest : List ℕ) → first_fault order id rest ≡ None → Front (λ (p : Packet). p.bytes) (Stands order id) rest
+packet_there : (order : HeaderOrder) (id rest : List ℕ) → first_fault order id rest ≡ None → Front (λ (p : Packet). p.bytes) (Stands order id) rest
 unfolding first_fault
 packet_there order id rest e =
     let parts = or_else-none (header_fault order id rest) (cond (sizes_fit order rest) None (Some faults.CutShort)) e in
@@ -149,14 +149,14 @@ packet_there order id rest e =
     let packet : Packet = record { bytes = take len rest; content = content } in
     record { piece = packet; after = drop len rest; whole = sym (take-append-drop len rest); stands = good; some = (told order id).some packet (drop len rest) good }
 
-next_packet : (order : Order) (id rest : List ℕ) → Front (λ (p : Packet). p.bytes) (Stands order id) rest ⊎ Fails order id rest
+next_packet : (order : HeaderOrder) (id rest : List ℕ) → Front (λ (p : Packet). p.bytes) (Stands order id) rest ⊎ Fails order id rest
 next_packet order id rest = by (first_fault order id rest) refl
   where
     by : (o : Option MetaFault) → first_fault order id rest ≡ o → Front (λ (p : Packet). p.bytes) (Stands order id) rest ⊎ Fails order id rest
     by None e = inl (packet_there order id rest e)
     by (Some fault) e = inr (fault, e)
 
-answer : (order : Order) (bytes : List ℕ) → Answer order bytes
+answer : (order : HeaderOrder) (bytes : List ℕ) → Answer order bytes
 answer order bytes =
     let id = uuid bytes in
     let r = row (λ (p : Packet). p.bytes) (Stands order id) (Fails order id) (λ rest some. next_packet order id rest) bytes in
@@ -168,7 +168,7 @@ answer order bytes =
 abbrev Whole : List ℕ → Type 0
 Whole bytes = ((text : List ℕ) × MetaText bytes text) ⊎ ((fault : MetaFault) × MetaBroken bytes fault)
 
-whole_by : (bytes : List ℕ) (o : Option Order) → order_of bytes ≡ o → length bytes ≤ MOST_BYTES → Whole bytes
+whole_by : (bytes : List ℕ) (o : Option HeaderOrder) → order_of bytes ≡ o → length bytes ≤ MOST_BYTES → Whole bytes
 whole_by bytes None e h = inl (bytes, record { short = h; text_is = subst (λ o. MatchOption o (bytes ≡ bytes) (λ order. IsJoined order bytes bytes)) (sym e) refl })
 whole_by bytes (Some order) e h =
     ⊎_elim

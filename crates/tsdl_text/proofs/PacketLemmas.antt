@@ -5,7 +5,7 @@ use Rattle.std.proofs.lemmas.List.{take-append-le, drop-append-le, get_or_append
 use Rattle.std.proofs.lemmas.Slice.Eq.{bytes_eq-Decides}
 use Rattle.ctf_list.proofs.Row.{AllStand-push, flat_map-push}
 use Rattle.tsdl_text.specs.declared.packet.TheConstants.{HEADER_LEN}
-use Rattle.tsdl_text.specs.declared.packet.Order.{Order}
+use Rattle.tsdl_text.specs.declared.packet.HeaderOrder.{HeaderOrder}
 use Rattle.tsdl_text.specs.declared.fault.MetaFault.{MetaFault}
 use Rattle.tsdl_text.specs.declared.fault.MetaFault.TheVariants as faults
 use Rattle.tsdl_text.specs.PacketReading.{HasEnds, BeginsPacket, JoinRefused}
@@ -29,7 +29,7 @@ pub fits_by : (b : Bool) (f : MetaFault) → cond b None (Some f) ≡ None → b
 fits_by true f e = refl
 fits_by false f e = absurd cc
 
-pub sizes_fit-parts : (order : Order) (rest : List ℕ) → sizes_fit order rest ≡ true → HasEnds order rest (content_size order rest / 8, packet_size order rest / 8)
+pub sizes_fit-parts : (order : HeaderOrder) (rest : List ℕ) → sizes_fit order rest ≡ true → HasEnds order rest (content_size order rest / 8, packet_size order rest / 8)
 unfolding sizes_fit
 sizes_fit-parts order rest e =
     let a = and_parts _ _ e in
@@ -53,7 +53,7 @@ sizes_fit-parts order rest e =
     divided : (m n : ℕ) → m ≤ n → m / 8 ≤ n / 8
     divided m n h = omega arith
 
-pub HasEnds-fit : (order : Order) (rest : List ℕ) (ends : ℕ × ℕ) → HasEnds order rest ends → sizes_fit order rest ≡ true
+pub HasEnds-fit : (order : HeaderOrder) (rest : List ℕ) (ends : ℕ × ℕ) → HasEnds order rest ends → sizes_fit order rest ≡ true
 unfolding sizes_fit
 HasEnds-fit order rest ends h =
     let ci = h.content_is in
@@ -76,13 +76,13 @@ HasEnds-fit order rest ends h =
     most a n l p h = omega arith
 
 -- sizes that are whole bytes, in order, are where the parts end; others do not fit
-pub has_ends : (order : Order) (rest : List ℕ) (cs ps : ℕ) → cs ≡ content_size order rest → ps ≡ packet_size order rest → cs % 8 ≡ 0 → ps % 8 ≡ 0 → HEADER_LEN ≤ cs / 8 → cs / 8 ≤ ps / 8 → ps / 8 ≤ length rest → HasEnds order rest (cs / 8, ps / 8)
+pub has_ends : (order : HeaderOrder) (rest : List ℕ) (cs ps : ℕ) → cs ≡ content_size order rest → ps ≡ packet_size order rest → cs % 8 ≡ 0 → ps % 8 ≡ 0 → HEADER_LEN ≤ cs / 8 → cs / 8 ≤ ps / 8 → ps / 8 ≤ length rest → HasEnds order rest (cs / 8, ps / 8)
 has_ends order rest cs ps c p cw pw low mid high = record { content_is = sym c ∙ eighths cs cw; packet_is = sym p ∙ eighths ps pw; after_header = low; within_packet = mid; within = high }
   where
     eighths : (n : ℕ) → n % 8 ≡ 0 → n ≡ 8 * (n / 8)
     eighths n h = omega arith
 
-pub no_ends : (order : Order) (rest : List ℕ) (cs ps : ℕ) → cs ≡ content_size order rest → ps ≡ packet_size order rest → ((cs % 8 ≡ 0) → (ps % 8 ≡ 0) → HEADER_LEN ≤ cs / 8 → cs / 8 ≤ ps / 8 → ps / 8 ≤ length rest → ⊥) → sizes_fit order rest ≡ false
+pub no_ends : (order : HeaderOrder) (rest : List ℕ) (cs ps : ℕ) → cs ≡ content_size order rest → ps ≡ packet_size order rest → ((cs % 8 ≡ 0) → (ps % 8 ≡ 0) → HEADER_LEN ≤ cs / 8 → cs / 8 ≤ ps / 8 → ps / 8 ≤ length rest → ⊥) → sizes_fit order rest ≡ false
 no_ends order rest cs ps c p none =
     false_from_ne_true _ (λ fit.
     let h = sizes_fit-parts order rest fit in
@@ -95,14 +95,14 @@ no_ends order rest cs ps c p none =
     whole n m h = omega arith
 
 -- a header that passes every check but for the sizes
-pub record Passes (order : Order) (id rest : List ℕ) : Type 0 where
+pub record Passes (order : HeaderOrder) (id rest : List ℕ) : Type 0 where
   pub has_header : HEADER_LEN ≤ length rest
   pub has_magic : take 4 rest ≡ magic order
   pub plain : is_plain rest ≡ true
   pub version : is_version_1_8 rest ≡ true
   pub same_uuid : uuid rest ≡ id
 
-pub header_fault-none : (order : Order) (id rest : List ℕ) → header_fault order id rest ≡ None → Passes order id rest
+pub header_fault-none : (order : HeaderOrder) (id rest : List ℕ) → header_fault order id rest ≡ None → Passes order id rest
 unfolding header_fault
 header_fault-none order id rest e =
     let a = step _ _ _ e in
@@ -118,7 +118,7 @@ header_fault-none order id rest e =
       same_uuid = (bytes_eq-Decides (uuid rest) id).0 (not-false _ f.0);
     }
 
-pub Passes-none : (order : Order) (id rest : List ℕ) → Passes order id rest → header_fault order id rest ≡ None
+pub Passes-none : (order : HeaderOrder) (id rest : List ℕ) → Passes order id rest → header_fault order id rest ≡ None
 unfolding header_fault
 Passes-none order id rest p =
     let short : ltb (length rest) HEADER_LEN ≡ false = le-ltb _ _ p.has_header in
@@ -130,7 +130,7 @@ Passes-none order id rest p =
 
 -- ---- a header does not depend on what follows it
 
-pub record SameHeader (order : Order) (xs ys : List ℕ) : Type 0 where
+pub record SameHeader (order : HeaderOrder) (xs ys : List ℕ) : Type 0 where
   pub front : take 4 xs ≡ take 4 ys
   pub id : uuid xs ≡ uuid ys
   pub plain : is_plain xs ≡ is_plain ys
@@ -138,12 +138,12 @@ pub record SameHeader (order : Order) (xs ys : List ℕ) : Type 0 where
   pub content : content_size order xs ≡ content_size order ys
   pub packet : packet_size order xs ≡ packet_size order ys
 
-size-front : (order : Order) (n : ℕ) (xs after : List ℕ) → n + 4 ≤ length xs → word order (take 4 (drop n (xs ++ after))) ≡ word order (take 4 (drop n xs))
+size-front : (order : HeaderOrder) (n : ℕ) (xs after : List ℕ) → n + 4 ≤ length xs → word order (take 4 (drop n (xs ++ after))) ≡ word order (take 4 (drop n xs))
 size-front order n xs after h =
     let l = length-drop n xs in
     ap (λ ys. word order (take 4 ys)) (drop-append-le n xs after (omega arith)) ∙ ap (word order) (take-append-le 4 (drop n xs) after (omega arith))
 
-pub same_header : (order : Order) (xs after : List ℕ) → HEADER_LEN ≤ length xs → SameHeader order (xs ++ after) xs
+pub same_header : (order : HeaderOrder) (xs after : List ℕ) → HEADER_LEN ≤ length xs → SameHeader order (xs ++ after) xs
 same_header order xs after h =
     let l = length-drop 4 xs in
     let g : (i : ℕ) → i < HEADER_LEN → get_or (xs ++ after) i 0 ≡ get_or xs i 0 = λ i k. get_or_append_left xs after 0 i (omega arith) in
@@ -165,7 +165,7 @@ same_header order xs after h =
 -- ---- a packet at the front
 
 -- a header that passes every check begins a packet
-pub begins_packet : (order : Order) (id rest content : List ℕ) (ends : ℕ × ℕ) → Passes order id rest → HasEnds order rest ends → content ≡ take (ends.0 - HEADER_LEN) (drop HEADER_LEN rest) → BeginsPacket order id rest content ends.1
+pub begins_packet : (order : HeaderOrder) (id rest content : List ℕ) (ends : ℕ × ℕ) → Passes order id rest → HasEnds order rest ends → content ≡ take (ends.0 - HEADER_LEN) (drop HEADER_LEN rest) → BeginsPacket order id rest content ends.1
 begins_packet order id rest content ends p h is =
     let n = ends.1 in
     let c = ends.0 in
@@ -196,35 +196,35 @@ begins_packet order id rest content ends p h is =
     }
 
 -- the packets up to a place, and the text so far
-pub record JoinedSoFar (order : Order) (bytes : List ℕ) (start : ℕ) (text : List ℕ) : Type 0 where
+pub record JoinedSoFar (order : HeaderOrder) (bytes : List ℕ) (start : ℕ) (text : List ℕ) : Type 0 where
   pub packets : List Packet
   pub good : AllPackets order (uuid bytes) packets (drop start bytes)
   pub front : bytes_of packets ≡ take start bytes
   pub text_is : text ≡ contents_of packets
 
 -- what a refusal of a packet says
-pub faulty_header : (order : Order) (id rest : List ℕ) (fault : MetaFault) → Some fault ≡ header_fault order id rest → first_fault order id rest ≡ Some fault
+pub faulty_header : (order : HeaderOrder) (id rest : List ℕ) (fault : MetaFault) → Some fault ≡ header_fault order id rest → first_fault order id rest ≡ Some fault
 unfolding first_fault
 faulty_header order id rest fault e = ap (λ f. or_else f (cond (sizes_fit order rest) None (Some faults.CutShort))) (sym e)
 
-pub faulty_sizes : (order : Order) (id rest : List ℕ) → header_fault order id rest ≡ None → sizes_fit order rest ≡ false → first_fault order id rest ≡ Some faults.CutShort
+pub faulty_sizes : (order : HeaderOrder) (id rest : List ℕ) → header_fault order id rest ≡ None → sizes_fit order rest ≡ false → first_fault order id rest ≡ Some faults.CutShort
 unfolding first_fault
 faulty_sizes order id rest e s = ap (λ f. or_else f (cond (sizes_fit order rest) None (Some faults.CutShort))) e ∙ ap (λ b. cond b None (Some faults.CutShort)) s
 
 -- fewer bytes than a header has
-short_header : (order : Order) (id rest : List ℕ) → length rest < HEADER_LEN → Some faults.CutShort ≡ header_fault order id rest
+short_header : (order : HeaderOrder) (id rest : List ℕ) → length rest < HEADER_LEN → Some faults.CutShort ≡ header_fault order id rest
 unfolding header_fault
 short_header order id rest h = let e : ltb (length rest) HEADER_LEN ≡ true = lt-ltb _ _ h in rw e refl
 
-pub faulty_front : (order : Order) (id rest : List ℕ) → length rest < HEADER_LEN → first_fault order id rest ≡ Some faults.CutShort
+pub faulty_front : (order : HeaderOrder) (id rest : List ℕ) → length rest < HEADER_LEN → first_fault order id rest ≡ Some faults.CutShort
 faulty_front order id rest h = faulty_header order id rest faults.CutShort (short_header order id rest h)
 
 -- the text of no packets
-pub joined_none : (order : Order) (bytes : List ℕ) → JoinedSoFar order bytes 0 []
+pub joined_none : (order : HeaderOrder) (bytes : List ℕ) → JoinedSoFar order bytes 0 []
 joined_none order bytes = record { packets = []; good = tt; front = refl; text_is = refl }
 
 -- the text of one more packet
-pub joined_more : (order : Order) (bytes content text text' : List ℕ) (start len : ℕ) → BeginsPacket order (uuid bytes) (drop start bytes) content len → text' ≡ text ++ content → JoinedSoFar order bytes start text → JoinedSoFar order bytes (start + len) text'
+pub joined_more : (order : HeaderOrder) (bytes content text text' : List ℕ) (start len : ℕ) → BeginsPacket order (uuid bytes) (drop start bytes) content len → text' ≡ text ++ content → JoinedSoFar order bytes start text → JoinedSoFar order bytes (start + len) text'
 joined_more order bytes content text text' start len found is so_far =
     let rest = drop start bytes in
     let packet : Packet = record { bytes = take len rest; content = content } in
@@ -237,12 +237,12 @@ joined_more order bytes content text text' start len found is so_far =
     }
 
 -- the text of all packets
-pub joined_all : (order : Order) (bytes text : List ℕ) (start : ℕ) → length bytes ≤ start → JoinedSoFar order bytes start text → IsJoined order bytes text
+pub joined_all : (order : HeaderOrder) (bytes text : List ℕ) (start : ℕ) → length bytes ≤ start → JoinedSoFar order bytes start text → IsJoined order bytes text
 joined_all order bytes text start h so_far =
     record { packets = so_far.packets; good = subst (AllPackets order (uuid bytes) so_far.packets) (drop_all start bytes h) so_far.good; whole = so_far.front ∙ take_all start bytes h; text_is = so_far.text_is }
 
 -- a packet is not good
-pub broken_after : (order : Order) (bytes text : List ℕ) (start : ℕ) (fault : MetaFault) → start < length bytes → first_fault order (uuid bytes) (drop start bytes) ≡ Some fault → JoinedSoFar order bytes start text → IsBrokenAfter order bytes fault
+pub broken_after : (order : HeaderOrder) (bytes text : List ℕ) (start : ℕ) (fault : MetaFault) → start < length bytes → first_fault order (uuid bytes) (drop start bytes) ≡ Some fault → JoinedSoFar order bytes start text → IsBrokenAfter order bytes fault
 broken_after order bytes text start fault h e so_far =
     let l = length-drop start bytes in
     record {
@@ -260,7 +260,7 @@ never : (b : Bool) (f : MetaFault) (o : Option MetaFault) (line : ℕ) → (f �
 never true f o line differs rest e = differs cc
 never false f o line differs rest e = rest e
 
-header_never : (order : Order) (id rest : List ℕ) (line : ℕ) → header_fault order id rest ≡ Some (faults.NoToken line) → ⊥
+header_never : (order : HeaderOrder) (id rest : List ℕ) (line : ℕ) → header_fault order id rest ≡ Some (faults.NoToken line) → ⊥
 unfolding header_fault
 header_never order id rest line e =
     never _ faults.CutShort _ line (λ h. cc)
@@ -277,12 +277,12 @@ sizes_never : (b : Bool) (line : ℕ) → cond b None (Some faults.CutShort) ≡
 sizes_never true line e = absurd cc
 sizes_never false line e = absurd cc
 
-first_never : (order : Order) (id rest : List ℕ) (line : ℕ) → first_fault order id rest ≡ Some (faults.NoToken line) → ⊥
+first_never : (order : HeaderOrder) (id rest : List ℕ) (line : ℕ) → first_fault order id rest ≡ Some (faults.NoToken line) → ⊥
 unfolding first_fault
 first_never order id rest line e = or_else_never (header_fault order id rest) _ line (header_never order id rest line) (sizes_never (sizes_fit order rest) line) e
 
 -- what a check reports is a refusal
-pub refused_by : (order : Order) (bytes rest : List ℕ) (fault : MetaFault) → first_fault order (uuid bytes) rest ≡ Some fault → IsBrokenAfter order bytes fault → JoinRefused order bytes fault
+pub refused_by : (order : HeaderOrder) (bytes rest : List ℕ) (fault : MetaFault) → first_fault order (uuid bytes) rest ≡ Some fault → IsBrokenAfter order bytes fault → JoinRefused order bytes fault
 refused_by order bytes rest faults.CutShort e broken = broken
 refused_by order bytes rest faults.WrongMagic e broken = broken
 refused_by order bytes rest faults.SchemeUnsupported e broken = broken
@@ -293,7 +293,7 @@ refused_by order bytes rest faults.NoMemory e broken = tt
 refused_by order bytes rest (faults.NoToken line) e broken = first_never order (uuid bytes) rest line e
 
 -- bytes that begin with a magic are some
-pub order_of-some : (bytes : List ℕ) (order : Order) → order_of bytes ≡ Some order → 0 < length bytes
+pub order_of-some : (bytes : List ℕ) (order : HeaderOrder) → order_of bytes ≡ Some order → 0 < length bytes
 unfolding order_of
 order_of-some [] order e = absurd cc
 order_of-some (b ∷ bytes) order e = omega arith

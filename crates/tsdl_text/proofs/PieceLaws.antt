@@ -5,7 +5,7 @@ use Rattle.std.specs.Option.{option_map}
 use Rattle.std.specs.Str.{bytes_eq}
 use Rattle.std.proofs.lemmas.List.{length-append}
 use Rattle.std.proofs.lemmas.Bool.{eqb-true, and_parts, false≢true, false_from_ne_true}
-use Rattle.tsdl_text.specs.declared.token.Kind.{Kind}
+use Rattle.tsdl_text.specs.declared.token.TokenKind.{TokenKind}
 use Rattle.tsdl_text.specs.declared.lexer.Extent.{Extent}
 use Rattle.ctf_list.specs.Prefix.{begins}
 use Rattle.tsdl_text.specs.Bytes.{is_blank}
@@ -227,7 +227,7 @@ skipped_is_read (rest_of_line {inside} {after} all stops) = record {
   some = omega arith;
 }
 
-token_piece : (kind : Kind) (bytes after : List ℕ) → IsToken kind bytes after → PieceRead (record { kind = Some kind; bytes = bytes }) after
+token_piece : (kind : TokenKind) (bytes after : List ℕ) → IsToken kind bytes after → PieceRead (record { kind = Some kind; bytes = bytes }) after
 token_piece kind bytes after token =
     let r = token_is_read kind bytes after token in
     record {
@@ -235,7 +235,7 @@ token_piece kind bytes after token =
       some = r.some;
     }
 
-by_kind : (kind : Option Kind) (bytes after : List ℕ) → Stands (record { kind = kind; bytes = bytes }) after → PieceRead (record { kind = kind; bytes = bytes }) after
+by_kind : (kind : Option TokenKind) (bytes after : List ℕ) → Stands (record { kind = kind; bytes = bytes }) after → PieceRead (record { kind = kind; bytes = bytes }) after
 by_kind None bytes after stands = skipped_is_read stands
 by_kind (Some kind) bytes after stands = token_piece kind bytes after stands
 

@@ -4,8 +4,8 @@ use Rattle.std.specs.Prelude.{◌↔◌}
 use Rattle.std.proofs.lemmas.Bool.{false≢true}
 use Rattle.tsdl_text.specs.declared.token.Symbol.{Symbol}
 use Rattle.tsdl_text.specs.declared.token.Symbol.TheVariants as symbols
-use Rattle.tsdl_text.specs.declared.token.Kind.{Kind}
-use Rattle.tsdl_text.specs.declared.token.Kind.TheVariants as kinds
+use Rattle.tsdl_text.specs.declared.token.TokenKind.{TokenKind}
+use Rattle.tsdl_text.specs.declared.token.TokenKind.TheVariants as kinds
 use Rattle.tsdl_text.specs.Symbols.{is_same, is_symbol}
 
 pub same_true : (a b : Symbol) → is_same a b ≡ true → a ≡ b
@@ -60,7 +60,7 @@ pub same_refl : (a : Symbol) → is_same a a ≡ true
 same_refl symbols.Align = refl
 same_refl a = refl
 
-pub symbols_are_compared : (symbol : Symbol) (kind : Kind) → (is_symbol symbol kind ≡ true) ↔ (kind ≡ kinds.Symbol symbol)
+pub symbols_are_compared : (symbol : Symbol) (kind : TokenKind) → (is_symbol symbol kind ≡ true) ↔ (kind ≡ kinds.Symbol symbol)
 symbols_are_compared symbol kinds.Identifier = (λ e. absurd cc, λ e. absurd cc)
 symbols_are_compared symbol (kinds.Constant value) = (λ e. absurd cc, λ e. absurd cc)
 symbols_are_compared symbol kinds.String = (λ e. absurd cc, λ e. absurd cc)

@@ -5,7 +5,7 @@ use Rattle.std.proofs.lemmas.List.{append-nil, take_at, append_cancel_left}
 use Rattle.std.proofs.lemmas.List.Sums.{sum_by-append}
 use Rattle.ctf_list.specs.Row.{NothingStands}
 use Rattle.ctf_list.proofs.Row.{AreTold, nothing_at_end, one_row, Front, row}
-use Rattle.tsdl_text.specs.declared.token.Kind.{Kind}
+use Rattle.tsdl_text.specs.declared.token.TokenKind.{TokenKind}
 use Rattle.tsdl_text.specs.declared.lexer.Extent.{Extent}
 use Rattle.tsdl_text.specs.Tokens.{Piece, Stands, joined, AllPieces, Lexeme, lexemes, line_after, Lexes, NoToken}
 use Rattle.tsdl_text.specs.Scanning.{piece_at}
@@ -27,7 +27,7 @@ one_piece p q s t a b e =
     let bytes : p.bytes ≡ q.bytes = sym (take_at p.bytes s (length p.bytes) refl) ∙ ap (take (length p.bytes)) e ∙ take_at q.bytes t (length p.bytes) (sym same.1) in
     (pieces_are p.kind q.kind p.bytes q.bytes same.0 bytes, append_cancel_left q.bytes s t (ap (λ bs. bs ++ s) (sym bytes) ∙ e))
   where
-    pieces_are : (k l : Option Kind) (x y : List ℕ) → k ≡ l → x ≡ y → ◌≡◌ {A = Piece} (record { kind = k; bytes = x }) (record { kind = l; bytes = y })
+    pieces_are : (k l : Option TokenKind) (x y : List ℕ) → k ≡ l → x ≡ y → ◌≡◌ {A = Piece} (record { kind = k; bytes = x }) (record { kind = l; bytes = y })
     pieces_are k l x y e f = cc
 
 -- ---- the laws
@@ -86,7 +86,7 @@ rise_from low high (token ∷ tokens) h r = let a = r.0 in (omega arith, r.1)
 lines_after : (front bytes : List ℕ) → line_after front ≤ line_after (front ++ bytes)
 lines_after front bytes = let e = sum_by-append (λ b. cond (eqb b 10) 1 0) front bytes in omega arith
 
-rise_by : (front : List ℕ) (kind : Option Kind) (bytes : List ℕ) (rest : List Lexeme) → Rise (line_after (front ++ bytes)) rest → Rise (line_after front) (piece_token kind bytes (length front) (line_after front) ++ rest)
+rise_by : (front : List ℕ) (kind : Option TokenKind) (bytes : List ℕ) (rest : List Lexeme) → Rise (line_after (front ++ bytes)) rest → Rise (line_after front) (piece_token kind bytes (length front) (line_after front) ++ rest)
 rise_by front None bytes rest r = rise_from _ _ rest (lines_after front bytes) r
 rise_by front (Some kind) bytes rest r = (omega arith, rise_from _ _ rest (lines_after front bytes) r)
 

@@ -6,8 +6,8 @@ use Rattle.std.specs.Char.{is_ascii_digit}
 use Rattle.std.proofs.lemmas.List.{length-append, take_at}
 use Rattle.std.proofs.lemmas.Bool.{eqb-true, leb-true, cases_Bool, false_from_ne_true}
 use Rattle.tsdl_text.specs.declared.token.Symbol.{Symbol}
-use Rattle.tsdl_text.specs.declared.token.Kind.{Kind}
-use Rattle.tsdl_text.specs.declared.token.Kind.TheVariants as kinds
+use Rattle.tsdl_text.specs.declared.token.TokenKind.{TokenKind}
+use Rattle.tsdl_text.specs.declared.token.TokenKind.TheVariants as kinds
 use Rattle.tsdl_text.specs.Symbols.{spelling}
 use Rattle.ctf_list.specs.Prefix.{begins}
 use Rattle.tsdl_text.specs.Bytes.{is_word_start, is_word_byte, is_blank}
@@ -43,14 +43,14 @@ unfolding is_word_byte
 quote_no_word b e = ap is_word_byte (eqb-true b 34 e)
 
 -- a token that begins with a letter, a digit or `_` has no other bytes
-words_only : (kind : Kind) (bytes : List ℕ) → Spells kind bytes → begins is_word_byte bytes ≡ true → list_all is_word_byte bytes ≡ true
+words_only : (kind : TokenKind) (bytes : List ℕ) → Spells kind bytes → begins is_word_byte bytes ≡ true → list_all is_word_byte bytes ≡ true
 words_only kinds.Identifier bytes is e = is.word.each
 words_only (kinds.Constant value) bytes is e = constant_is_word bytes value is
 words_only kinds.String bytes is e = let f : begins is_word_byte bytes ≡ false = ap (begins is_word_byte) is.stands.opened ∙ quote_no_word 34 refl in absurd cc
 words_only (kinds.Symbol s) bytes is e = ap (list_all is_word_byte) is ∙ spelling_word s (spelling_start s (ap (begins is_word_byte) (sym is) ∙ e))
 
 -- a token that begins with a quote is a string
-strings_only : (kind : Kind) (bytes : List ℕ) → Spells kind bytes → begins (λ b. eqb b 34) bytes ≡ true → IsString bytes
+strings_only : (kind : TokenKind) (bytes : List ℕ) → Spells kind bytes → begins (λ b. eqb b 34) bytes ≡ true → IsString bytes
 strings_only kinds.Identifier bytes is e =
     let f = not_both (λ b. eqb b 34) is_word_byte quote_no_word bytes e in
     let g = begins_also is_word_start is_word_byte start_is_word bytes is.word.first in
@@ -64,7 +64,7 @@ strings_only (kinds.Symbol s) bytes is e =
     let f : begins (λ b. eqb b 34) bytes ≡ false = ap (begins (λ b. eqb b 34)) is ∙ spelling_no_quote s in absurd cc
 
 -- a token that begins otherwise is a punctuator
-symbols_only : (kind : Kind) (bytes : List ℕ) → Spells kind bytes → begins is_word_byte bytes ≡ false → begins (λ b. eqb b 34) bytes ≡ false → (s : Symbol) × (bytes ≡ spelling s)
+symbols_only : (kind : TokenKind) (bytes : List ℕ) → Spells kind bytes → begins is_word_byte bytes ≡ false → begins (λ b. eqb b 34) bytes ≡ false → (s : Symbol) × (bytes ≡ spelling s)
 symbols_only kinds.Identifier bytes is e f = let g = begins_also is_word_start is_word_byte start_is_word bytes is.word.first in absurd cc
 symbols_only (kinds.Constant value) bytes is e f =
     let g = begins_also is_ascii_digit is_word_byte (λ b h. (digit_is_apart b h).3) bytes (constant_begins bytes value is) in
@@ -128,7 +128,7 @@ punctuator_longest s after no_word no_quote found kind other rest e spelled =
 -- ---- what is read is the token
 
 -- the token at the front
-pub record TokenFront (s : List ℕ) (x : Kind × ℕ) : Type 0 where
+pub record TokenFront (s : List ℕ) (x : TokenKind × ℕ) : Type 0 where
   pub bytes : List ℕ
   pub after : List ℕ
   pub whole : s ≡ bytes ++ after
@@ -193,7 +193,7 @@ word_front b text e =
     first_is [] back e h = absurd (omega arith)
     first_is (c ∷ front) back e h = (front, let s : b ≡ c = cc in ap (λ (n : ℕ). n ∷ front) (sym s))
 
-read_word : (b : ℕ) (text : List ℕ) (x : Kind × ℕ) → is_word_start b ≡ true → Some (word_kind (take (word_len (b ∷ text)) (b ∷ text)), word_len (b ∷ text)) ≡ Some x → TokenFront (b ∷ text) x
+read_word : (b : ℕ) (text : List ℕ) (x : TokenKind × ℕ) → is_word_start b ≡ true → Some (word_kind (take (word_len (b ∷ text)) (b ∷ text)), word_len (b ∷ text)) ≡ Some x → TokenFront (b ∷ text) x
 read_word b text x e h =
     let w = word_front b text (start_is_word b e) in
     let is : IsWord w.word = record { first = ap (begins is_word_start) w.first ∙ e; each = w.all } in
@@ -207,7 +207,7 @@ read_word b text x e h =
       some = omega arith;
     })
 
-read_number : (b : ℕ) (text : List ℕ) (x : Kind × ℕ) → is_ascii_digit b ≡ true → option_map (λ value. (kinds.Constant value, word_len (b ∷ text))) (constant_value (take (word_len (b ∷ text)) (b ∷ text))) ≡ Some x → TokenFront (b ∷ text) x
+read_number : (b : ℕ) (text : List ℕ) (x : TokenKind × ℕ) → is_ascii_digit b ≡ true → option_map (λ value. (kinds.Constant value, word_len (b ∷ text))) (constant_value (take (word_len (b ∷ text)) (b ∷ text))) ≡ Some x → TokenFront (b ∷ text) x
 read_number b text x e h =
     let w = word_front b text ((digit_is_apart b e).3) in
     let m = map_some (λ value. (kinds.Constant value, word_len (b ∷ text))) (constant_value (take (word_len (b ∷ text)) (b ∷ text))) x h in
@@ -223,7 +223,7 @@ read_number b text x e h =
       some = omega arith;
     })
 
-read_string : (text : List ℕ) (x : Kind × ℕ) → option_map (λ n. (kinds.String, 1 + n)) (string_len text) ≡ Some x → TokenFront (34 ∷ text) x
+read_string : (text : List ℕ) (x : TokenKind × ℕ) → option_map (λ n. (kinds.String, 1 + n)) (string_len text) ≡ Some x → TokenFront (34 ∷ text) x
 read_string text x h =
     let m = map_some (λ n. (kinds.String, 1 + n)) (string_len text) x h in
     let f = string_front text m.0 m.1 in
@@ -236,7 +236,7 @@ read_string text x h =
       some = omega arith;
     })
 
-read_symbol : (text : List ℕ) (x : Kind × ℕ) → begins is_word_byte text ≡ false → begins (λ b. eqb b 34) text ≡ false → option_map (λ y. (kinds.Symbol y.0, y.1)) (punctuator_at text) ≡ Some x → TokenFront text x
+read_symbol : (text : List ℕ) (x : TokenKind × ℕ) → begins is_word_byte text ≡ false → begins (λ b. eqb b 34) text ≡ false → option_map (λ y. (kinds.Symbol y.0, y.1)) (punctuator_at text) ≡ Some x → TokenFront text x
 read_symbol text x no_word no_quote h =
     let m = map_some (λ y. (kinds.Symbol y.0, y.1)) (punctuator_at text) x h in
     let f = punctuator_front text m.0 m.1 in
@@ -253,7 +253,7 @@ read_symbol text x no_word no_quote h =
       some = omega arith;
     })
 
-pub token_front : (s : List ℕ) (x : Kind × ℕ) → token_at s ≡ Some x → TokenFront s x
+pub token_front : (s : List ℕ) (x : TokenKind × ℕ) → token_at s ≡ Some x → TokenFront s x
 unfolding token_at
 token_front [] x e = absurd cc
 token_front (b ∷ text) x e =
@@ -271,7 +271,7 @@ token_front (b ∷ text) x e =
 -- ---- the token is read
 
 -- no byte of a word follows a word that is a token
-word_stops : (kind : Kind) (word after : List ℕ) → IsWord word → IsToken kind word after → begins is_word_byte after ≡ false
+word_stops : (kind : TokenKind) (word after : List ℕ) → IsWord word → IsToken kind word after → begins is_word_byte after ≡ false
 word_stops kind word [] is token = refl
 word_stops kind word (c ∷ after) is token = false_from_ne_true _ (λ e.
     let longer = word ++ c ∷ [] in
@@ -306,13 +306,13 @@ token_by_symbol [] e d q = refl
 token_by_symbol (b ∷ text) e d q = rw (e, d, q) refl
 
 -- what the reader makes of a token
-pub record IsRead (kind : Kind) (bytes after : List ℕ) : Type 0 where
+pub record IsRead (kind : TokenKind) (bytes after : List ℕ) : Type 0 where
   pub read : token_at (bytes ++ after) ≡ Some (kind, length bytes)
   pub some : 0 < length bytes
   pub no_blank : begins is_blank bytes ≡ false
   pub no_slash : begins (λ b. eqb b 47) bytes ≡ false
 
-word_is_read : (kind : Kind) (word after : List ℕ) → IsWord word → IsToken kind word after → word_kind word ≡ kind → IsRead kind word after
+word_is_read : (kind : TokenKind) (word after : List ℕ) → IsWord word → IsToken kind word after → word_kind word ≡ kind → IsRead kind word after
 word_is_read kind word after is token k =
     let stops = word_stops kind word after is token in
     let len = prefix_len_at is_word_byte word after is.each stops in
@@ -388,7 +388,7 @@ keyword_is_read s after token start =
     word_is_read (kinds.Symbol s) (spelling s) after (record { first = start; each = spelling_word s start }) token
     (ap (λ o. option_map_or kinds.Symbol o kinds.Identifier) (keyword_found s ∙ ap (λ b. cond b (Some s) None) start))
 
-pub token_is_read : (kind : Kind) (bytes after : List ℕ) → IsToken kind bytes after → IsRead kind bytes after
+pub token_is_read : (kind : TokenKind) (bytes after : List ℕ) → IsToken kind bytes after → IsRead kind bytes after
 token_is_read kinds.Identifier bytes after token = identifier_is_read bytes after token
 token_is_read (kinds.Constant value) bytes after token = constant_is_read value bytes after token
 token_is_read kinds.String bytes after token = string_is_read bytes after token

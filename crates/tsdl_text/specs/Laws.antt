@@ -2,8 +2,8 @@
 use Rattle.std.specs.Prelude.{◌≡◌, ◌⊎◌, ◌↔◌, ℕ, true, List, map}
 use Rattle.std.specs.List.Sorted.{IsNonDecreasing}
 use Rattle.tsdl_text.specs.declared.token.Symbol.{Symbol}
-use Rattle.tsdl_text.specs.declared.token.Kind.{Kind}
-use Rattle.tsdl_text.specs.declared.token.Kind.TheVariants as kinds
+use Rattle.tsdl_text.specs.declared.token.TokenKind.{TokenKind}
+use Rattle.tsdl_text.specs.declared.token.TokenKind.TheVariants as kinds
 use Rattle.tsdl_text.specs.declared.fault.MetaFault.{MetaFault}
 use Rattle.tsdl_text.specs.Characters.{StandsFor}
 use Rattle.tsdl_text.specs.Strings.{string_value}
@@ -46,7 +46,7 @@ StringsStand = (slice values : List ℕ) → StandsFor slice values → string_v
 -- a token is said to be a symbol exactly where its kind is that symbol
 abbrev pub SymbolsAreCompared : Type 0
 SymbolsAreCompared =
-    (symbol : Symbol) (kind : Kind) → (is_symbol symbol kind ≡ true) ↔ (kind ≡ kinds.Symbol symbol)
+    (symbol : Symbol) (kind : TokenKind) → (is_symbol symbol kind ≡ true) ↔ (kind ≡ kinds.Symbol symbol)
 
 -- bytes are metadata of at most one text
 abbrev pub OneText : Type 0

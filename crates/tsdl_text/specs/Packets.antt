@@ -4,8 +4,8 @@ use Rattle.std.specs.List.{flat_map}
 use Rattle.std.specs.Str.{bytes_eq}
 use Rattle.ctf_list.specs.Row.{AllStand}
 use Rattle.byteorder.specs.Endian.{big_number, little_number}
-use Rattle.tsdl_text.specs.declared.packet.Order.{Order}
-use Rattle.tsdl_text.specs.declared.packet.Order.TheVariants as orders
+use Rattle.tsdl_text.specs.declared.packet.HeaderOrder.{HeaderOrder}
+use Rattle.tsdl_text.specs.declared.packet.HeaderOrder.TheVariants as orders
 use Rattle.tsdl_text.specs.declared.packet.TheConstants.{HEADER_LEN, MOST_BYTES}
 use Rattle.tsdl_text.specs.declared.fault.MetaFault.{MetaFault}
 use Rattle.tsdl_text.specs.declared.fault.MetaFault.TheVariants as faults
@@ -13,12 +13,12 @@ use Rattle.tsdl_text.specs.declared.fault.MetaFault.TheVariants as faults
 -- ---- the header of a packet
 
 -- the magic 0x75D11D57 in either order
-abbrev pub magic : Order → List ℕ
+abbrev pub magic : HeaderOrder → List ℕ
 magic orders.Big = 0x75 ∷ 0xD1 ∷ 0x1D ∷ 0x57 ∷ []
 magic orders.Little = 0x57 ∷ 0x1D ∷ 0xD1 ∷ 0x75 ∷ []
 
 -- the number in the first four bytes
-unfoldable pub word : Order → List ℕ → ℕ
+unfoldable pub word : HeaderOrder → List ℕ → ℕ
 word orders.Big bytes = big_number 4 bytes
 word orders.Little bytes = little_number 4 bytes
 
@@ -26,10 +26,10 @@ abbrev pub uuid : List ℕ → List ℕ
 uuid bytes = take 16 (drop 4 bytes)
 
 -- the sizes are in bits, and count the header
-abbrev pub content_size : Order → List ℕ → ℕ
+abbrev pub content_size : HeaderOrder → List ℕ → ℕ
 content_size order bytes = word order (take 4 (drop 24 bytes))
 
-abbrev pub packet_size : Order → List ℕ → ℕ
+abbrev pub packet_size : HeaderOrder → List ℕ → ℕ
 packet_size order bytes = word order (take 4 (drop 28 bytes))
 
 -- the text is neither compressed, nor encrypted, nor does it have a checksum
@@ -42,7 +42,7 @@ is_version_1_8 bytes = slice_index bytes 35 == 1 && slice_index bytes 36 == 8
 
 -- Both sizes are whole bytes, the content has a header and ends in the packet, and the packet ends in
 -- what is left.
-unfoldable pub sizes_fit : Order → List ℕ → Bool
+unfoldable pub sizes_fit : HeaderOrder → List ℕ → Bool
 sizes_fit order rest =
     let content = content_size order rest in
     let packet = packet_size order rest in
@@ -58,7 +58,7 @@ pub record Packet : Type 0 where
   pub content : List ℕ
 
 -- a whole packet of this order and uuid, and its content, which begins after the header
-pub record IsPacket (order : Order) (id : List ℕ) (packet : Packet) : Type 0 where
+pub record IsPacket (order : HeaderOrder) (id : List ℕ) (packet : Packet) : Type 0 where
   pub has_header : HEADER_LEN ≤ length packet.bytes
   pub has_magic : take 4 packet.bytes ≡ magic order
   pub plain : is_plain packet.bytes ≡ true
@@ -72,7 +72,7 @@ pub record IsPacket (order : Order) (id : List ℕ) (packet : Packet) : Type 0 w
   pub content_is : packet.content ≡ drop HEADER_LEN (take content_end packet.bytes)
 
 -- a whole packet of this order and uuid, whatever bytes follow it
-abbrev pub Stands : Order → List ℕ → Packet → List ℕ → Type 0
+abbrev pub Stands : HeaderOrder → List ℕ → Packet → List ℕ → Type 0
 Stands order id packet after = IsPacket order id packet
 
 abbrev pub bytes_of : List Packet → List ℕ
@@ -82,20 +82,20 @@ abbrev pub contents_of : List Packet → List ℕ
 contents_of packets = flat_map (λ packet. packet.content) packets
 
 -- good packets, one after the other, and then these bytes
-abbrev pub AllPackets : Order → List ℕ → List Packet → List ℕ → Type 0
+abbrev pub AllPackets : HeaderOrder → List ℕ → List Packet → List ℕ → Type 0
 AllPackets order id packets after =
     AllStand (λ packet. packet.bytes) (Stands order id) packets after
 
 -- ---- metadata
 
 -- the order of the magic in the first four bytes; without the magic the bytes are plain text
-unfoldable pub order_of : List ℕ → Option Order
+unfoldable pub order_of : List ℕ → Option HeaderOrder
 order_of bytes =
     if bytes_eq (take 4 bytes) (magic orders.Big) then Some orders.Big
     else (if bytes_eq (take 4 bytes) (magic orders.Little) then Some orders.Little else None)
 
 -- the text is the contents of packets, which one after the other are the bytes
-pub record IsJoined (order : Order) (bytes text : List ℕ) : Type 0 where
+pub record IsJoined (order : HeaderOrder) (bytes text : List ℕ) : Type 0 where
   pub packets : List Packet
   pub good : AllPackets order (uuid bytes) packets []
   pub whole : bytes_of packets ≡ bytes
@@ -113,7 +113,7 @@ or_else (Some fault) other = Some fault
 or_else None other = other
 
 -- the first check that a header fails, but for the sizes
-unfoldable pub header_fault : Order → List ℕ → List ℕ → Option MetaFault
+unfoldable pub header_fault : HeaderOrder → List ℕ → List ℕ → Option MetaFault
 header_fault order id rest =
     if nat_lt (length rest) HEADER_LEN then Some faults.CutShort
     else (if not (bytes_eq (take 4 rest) (magic order)) then Some faults.WrongMagic
@@ -123,13 +123,13 @@ header_fault order id rest =
     else None))))
 
 -- The first check that fails where a packet has to begin; none does where a good packet begins.
-unfoldable pub first_fault : Order → List ℕ → List ℕ → Option MetaFault
+unfoldable pub first_fault : HeaderOrder → List ℕ → List ℕ → Option MetaFault
 first_fault order id rest =
     or_else (header_fault order id rest)
     (if sizes_fit order rest then None else Some faults.CutShort)
 
 -- after as many good packets as there are, bytes are left, and this is the first check that they fail
-pub record IsBrokenAfter (order : Order) (bytes : List ℕ) (fault : MetaFault) : Type 0 where
+pub record IsBrokenAfter (order : HeaderOrder) (bytes : List ℕ) (fault : MetaFault) : Type 0 where
   pub packets : List Packet
   pub rest : List ℕ
   pub good : AllPackets order (uuid bytes) packets rest
@@ -142,7 +142,7 @@ abbrev pub MetaBroken : List ℕ → MetaFault → Type 0
 MetaBroken bytes fault =
     ((MOST_BYTES < length bytes) × (fault ≡ faults.TooLong))
     ⊎ ((length bytes ≤ MOST_BYTES)
-    × ((order : Order) × (order_of bytes ≡ Some order) × IsBrokenAfter order bytes fault))
+    × ((order : HeaderOrder) × (order_of bytes ≡ Some order) × IsBrokenAfter order bytes fault))
 
 -- what a refusal says: nothing where an allocation failed
 abbrev pub Refused : (MetaFault → Type 0) → MetaFault → Type 0

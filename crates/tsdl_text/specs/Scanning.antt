@@ -6,8 +6,8 @@ use Rattle.std.specs.Str.{bytes_eq}
 use Rattle.std.specs.Char.{is_ascii_digit}
 use Rattle.tsdl_text.specs.declared.token.Symbol.{Symbol}
 use Rattle.tsdl_text.specs.declared.token.Symbol.TheVariants as symbols
-use Rattle.tsdl_text.specs.declared.token.Kind.{Kind}
-use Rattle.tsdl_text.specs.declared.token.Kind.TheVariants as kinds
+use Rattle.tsdl_text.specs.declared.token.TokenKind.{TokenKind}
+use Rattle.tsdl_text.specs.declared.token.TokenKind.TheVariants as kinds
 use Rattle.tsdl_text.specs.declared.lexer.Extent.{Extent}
 use Rattle.tsdl_text.specs.Symbols.{spelling}
 use Rattle.ctf_list.specs.Prefix.{begins}
@@ -153,11 +153,11 @@ string_len text = closing_len (length text) text
 -- ---- a place in a text
 
 -- what kind of word this is
-unfoldable pub word_kind : List ℕ → Kind
+unfoldable pub word_kind : List ℕ → TokenKind
 word_kind word = option_map_or kinds.Symbol (keyword_of word) kinds.Identifier
 
 -- the kind of the next token, and how many bytes it has
-unfoldable pub token_at : List ℕ → Option (Kind × ℕ)
+unfoldable pub token_at : List ℕ → Option (TokenKind × ℕ)
 token_at [] = None
 token_at (b ∷ text) =
     let len = word_len (b ∷ text) in
@@ -171,7 +171,7 @@ token_at (b ∷ text) =
 abbrev pub skipped : ℕ → Extent
 skipped len = record { kind = None; len = len }
 
-abbrev pub token_of : Kind × ℕ → Extent
+abbrev pub token_of : TokenKind × ℕ → Extent
 token_of x = record { kind = Some x.0; len = x.1 }
 
 -- the next piece: its kind, if it is a token, and how many bytes it has

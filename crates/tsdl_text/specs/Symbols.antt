@@ -2,8 +2,8 @@
 use Rattle.std.specs.Prelude.{ℕ, Bool, true, false, List, Option, Some, None, codes}
 use Rattle.tsdl_text.specs.declared.token.Symbol.{Symbol}
 use Rattle.tsdl_text.specs.declared.token.Symbol.TheVariants as symbols
-use Rattle.tsdl_text.specs.declared.token.Kind.{Kind}
-use Rattle.tsdl_text.specs.declared.token.Kind.TheVariants as kinds
+use Rattle.tsdl_text.specs.declared.token.TokenKind.{TokenKind}
+use Rattle.tsdl_text.specs.declared.token.TokenKind.TheVariants as kinds
 
 -- how a symbol is written (CTF 1.8.3, appendix C.1)
 abbrev pub spelling : Symbol → List ℕ
@@ -154,40 +154,40 @@ is_same symbols.Minus symbols.Minus = true
 is_same first second = false
 
 -- it is that symbol
-abbrev pub is_symbol : Symbol → Kind → Bool
+abbrev pub is_symbol : Symbol → TokenKind → Bool
 is_symbol symbol kinds.Identifier = false
 is_symbol symbol (kinds.Constant value) = false
 is_symbol symbol kinds.String = false
 is_symbol symbol (kinds.Symbol other) = is_same other symbol
 
 -- an identifier or a keyword
-abbrev pub is_word : Kind → Bool
+abbrev pub is_word : TokenKind → Bool
 is_word kinds.Identifier = true
 is_word (kinds.Constant value) = false
 is_word kinds.String = false
 is_word (kinds.Symbol symbol) = is_keyword symbol
 
 -- an identifier, `const` or a keyword of C's types
-abbrev pub is_typeword : Kind → Bool
+abbrev pub is_typeword : TokenKind → Bool
 is_typeword kinds.Identifier = true
 is_typeword (kinds.Constant value) = false
 is_typeword kinds.String = false
 is_typeword (kinds.Symbol symbol) = is_type_keyword symbol
 
-abbrev pub is_identifier : Kind → Bool
+abbrev pub is_identifier : TokenKind → Bool
 is_identifier kinds.Identifier = true
 is_identifier (kinds.Constant value) = false
 is_identifier kinds.String = false
 is_identifier (kinds.Symbol symbol) = false
 
-abbrev pub is_string : Kind → Bool
+abbrev pub is_string : TokenKind → Bool
 is_string kinds.Identifier = false
 is_string (kinds.Constant value) = false
 is_string kinds.String = true
 is_string (kinds.Symbol symbol) = false
 
 -- the value of a constant
-abbrev pub constant_of : Kind → Option ℕ
+abbrev pub constant_of : TokenKind → Option ℕ
 constant_of kinds.Identifier = None
 constant_of (kinds.Constant value) = Some value
 constant_of kinds.String = None

@@ -4,8 +4,8 @@ use Rattle.std.specs.Option.{option_map, option_to_list}
 use Rattle.std.specs.List.{list_all, flat_map}
 use Rattle.ctf_list.specs.Row.{AllStand, NothingStands}
 use Rattle.tsdl_text.specs.declared.token.Symbol.{Symbol}
-use Rattle.tsdl_text.specs.declared.token.Kind.{Kind}
-use Rattle.tsdl_text.specs.declared.token.Kind.TheVariants as kinds
+use Rattle.tsdl_text.specs.declared.token.TokenKind.{TokenKind}
+use Rattle.tsdl_text.specs.declared.token.TokenKind.TheVariants as kinds
 use Rattle.tsdl_text.specs.declared.token.Token.{Token}
 use Rattle.tsdl_text.specs.declared.fault.MetaFault.{MetaFault}
 use Rattle.tsdl_text.specs.declared.fault.MetaFault.TheVariants as faults
@@ -33,7 +33,7 @@ pub record IsString (bytes : List ℕ) : Type 0 where
   pub stands : StandsFor bytes values
 
 -- these bytes are a token of this kind
-abbrev pub Spells : Kind → List ℕ → Type 0
+abbrev pub Spells : TokenKind → List ℕ → Type 0
 Spells kinds.Identifier bytes = IsIdentifier bytes
 Spells (kinds.Constant value) bytes = IsConstant bytes value
 Spells kinds.String bytes = IsString bytes
@@ -42,10 +42,10 @@ Spells (kinds.Symbol symbol) bytes = bytes ≡ spelling symbol
 -- no token at the same place is longer
 abbrev pub IsLongest : List ℕ → List ℕ → Type 0
 IsLongest bytes after =
-    (kind : Kind) (other rest : List ℕ) → bytes ++ after ≡ other ++ rest → Spells kind other
+    (kind : TokenKind) (other rest : List ℕ) → bytes ++ after ≡ other ++ rest → Spells kind other
     → length other ≤ length bytes
 
-abbrev pub is_constant : Kind → Bool
+abbrev pub is_constant : TokenKind → Bool
 is_constant kinds.Identifier = false
 is_constant (kinds.Constant value) = true
 is_constant kinds.String = false
@@ -53,7 +53,7 @@ is_constant (kinds.Symbol symbol) = false
 
 -- These bytes are the token that is before the bytes `after`: the longest one there, and no
 -- letter, digit or `_` follows a constant.
-pub record IsToken (kind : Kind) (bytes after : List ℕ) : Type 0 where
+pub record IsToken (kind : TokenKind) (bytes after : List ℕ) : Type 0 where
   pub spelled : Spells kind bytes
   pub longest : IsLongest bytes after
   pub apart : is_constant kind ≡ true → begins is_word_byte after ≡ false
@@ -74,7 +74,7 @@ pub data Skipped : List ℕ → List ℕ → Type 0 where
 
 -- bytes of a text: a token of a kind, or, with no kind, a blank or a comment
 pub record Piece : Type 0 where
-  pub kind : Option Kind
+  pub kind : Option TokenKind
   pub bytes : List ℕ
 
 -- the piece is before these bytes, which go on to the end of the text
@@ -94,7 +94,7 @@ AllPieces pieces after = AllStand (λ (piece : Piece). piece.bytes) Stands piece
 
 -- a token as contracts see it: its slice is the list of its bytes
 pub record Lexeme : Type 0 where
-  pub kind : Kind
+  pub kind : TokenKind
   pub bytes : List ℕ
   pub start : ℕ
   pub line : ℕ

@@ -11,13 +11,13 @@ ghost use Rattle.tsdl_text.specs.Tokens.{newlines, lexeme, Lexes, TokensRefused}
 use crate::fault::MetaFault;
 use crate::line::LineNumber;
 use crate::string::{character, digit_count, number};
-use crate::token::{Kind, Symbol, Token};
+use crate::token::{Symbol, Token, TokenKind};
 use std::alloc::Global;
 
 /// A piece of a text: the kind of a token, or none for a blank or a comment, and its length in bytes.
 #[derive(Clone, Copy)]
 pub(crate) struct Extent {
-    pub kind: Option<Kind>,
+    pub kind: Option<TokenKind>,
     pub len: usize,
 }
 
@@ -141,12 +141,12 @@ fn keyword(word: &[u8]) -> Option<Symbol>
 
 /// Whether a word is a keyword, and which, or an identifier.
 #[tactic(auto, unfolding(crate::specs::Scanning::word_kind))]
-fn word_kind(word: &[u8]) -> Kind
+fn word_kind(word: &[u8]) -> TokenKind
     ensures { result ≡ word_kind word.now }
 {
     match keyword(word) {
-        Some(symbol) => Kind::Symbol(symbol),
-        None => Kind::Identifier,
+        Some(symbol) => TokenKind::Symbol(symbol),
+        None => TokenKind::Identifier,
     }
 }
 
@@ -261,7 +261,7 @@ fn constant(bytes: &[u8]) -> Option<u64>
 
 /// The kind of the next token, and its length.
 #[tactic(auto, unfolding(crate::specs::Scanning::token_at))]
-fn token(text: &[u8]) -> Option<(Kind, usize)>
+fn token(text: &[u8]) -> Option<(TokenKind, usize)>
     ensures value { result ≡ token_at text.now }
     ensures bound { IfSome result (λ found. found.1 ≤ length text.now) }
 {
@@ -274,12 +274,12 @@ fn token(text: &[u8]) -> Option<(Kind, usize)>
     } else if first.is_ascii_digit() {
         let len = word_len(text);
         let value = constant(&text[..len])?;
-        Some((Kind::Constant(value), len))
+        Some((TokenKind::Constant(value), len))
     } else if *first == b'"' {
-        Some((Kind::String, 1 + string_len(rest)?))
+        Some((TokenKind::String, 1 + string_len(rest)?))
     } else {
         let (symbol, len) = punctuator(text)?;
-        Some((Kind::Symbol(symbol), len))
+        Some((TokenKind::Symbol(symbol), len))
     }
 }
 

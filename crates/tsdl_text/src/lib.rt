@@ -13,4 +13,4 @@ pub use fault::MetaFault;
 pub use lexer::tokens;
 pub use line::LineNumber;
 pub use packet::{HEADER_LEN, MOST_BYTES, metadata_text};
-pub use token::{Kind, Symbol, Token};
+pub use token::{Symbol, Token, TokenKind};

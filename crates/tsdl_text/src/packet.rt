@@ -16,19 +16,19 @@ pub const HEADER_LEN: usize = 37;
 
 /// The byte order of the headers.
 #[derive(Clone, Copy)]
-pub(crate) enum Order {
+pub(crate) enum HeaderOrder {
     Big,
     Little,
 }
 
-impl Order {
+impl HeaderOrder {
     /// The magic in this order.
     fn magic(self) -> &'static [u8]
         ensures { result.now ≡ magic self }
     {
         match self {
-            Order::Big => &[0x75, 0xD1, 0x1D, 0x57],
-            Order::Little => &[0x57, 0x1D, 0xD1, 0x75],
+            HeaderOrder::Big => &[0x75, 0xD1, 0x1D, 0x57],
+            HeaderOrder::Little => &[0x57, 0x1D, 0xD1, 0x75],
         }
     }
 
@@ -39,21 +39,21 @@ impl Order {
         ensures { result ≡ word self bytes.now }
     {
         match self {
-            Order::Big => BigEndian::read_u32(bytes),
-            Order::Little => LittleEndian::read_u32(bytes),
+            HeaderOrder::Big => BigEndian::read_u32(bytes),
+            HeaderOrder::Little => LittleEndian::read_u32(bytes),
         }
     }
 
     /// The order of the magic at the beginning, if it is there.
     #[tactic(auto, unfolding(crate::specs::Packets::order_of))]
-    fn of(bytes: &[u8]) -> Option<Order>
+    fn of(bytes: &[u8]) -> Option<HeaderOrder>
         ensures { result ≡ order_of bytes.now }
     {
         let front = &bytes[..bytes.len().min(4)];
-        if front == Order::Big.magic() {
-            Some(Order::Big)
-        } else if front == Order::Little.magic() {
-            Some(Order::Little)
+        if front == HeaderOrder::Big.magic() {
+            Some(HeaderOrder::Big)
+        } else if front == HeaderOrder::Little.magic() {
+            Some(HeaderOrder::Little)
         } else {
             None
         }
@@ -61,7 +61,7 @@ impl Order {
 }
 
 /// Where the content ends and where the packet ends, in bytes, if the sizes in the header are possible.
-fn ends(order: Order, rest: &[u8]) -> Option<(usize, usize)>
+fn ends(order: HeaderOrder, rest: &[u8]) -> Option<(usize, usize)>
     requires { HEADER_LEN ≤ length rest.now }
     ensures { MatchOption result (sizes_fit order rest.now ≡ false) (HasEnds order rest.now) }
 {
@@ -80,7 +80,7 @@ fn ends(order: Order, rest: &[u8]) -> Option<(usize, usize)>
 
 /// The first check that a header fails, but for the sizes.
 #[tactic(auto, unfolding(crate::specs::Packets::header_fault))]
-fn header_fault(order: Order, id: &[u8], rest: &[u8]) -> Option<MetaFault>
+fn header_fault(order: HeaderOrder, id: &[u8], rest: &[u8]) -> Option<MetaFault>
     ensures { result ≡ header_fault order id.now rest.now }
 {
     if rest.len() < HEADER_LEN {
@@ -102,7 +102,7 @@ fn header_fault(order: Order, id: &[u8], rest: &[u8]) -> Option<MetaFault>
 }
 
 /// The content of the next packet, and how many bytes the packet has.
-fn packet<'a>(order: Order, id: &[u8], rest: &'a [u8]) -> Result<(&'a [u8], usize), MetaFault>
+fn packet<'a>(order: HeaderOrder, id: &[u8], rest: &'a [u8]) -> Result<(&'a [u8], usize), MetaFault>
     ensures { MatchResult result
         (λ found. BeginsPacket order id.now rest.now found.0.now found.1)
         (λ fault. first_fault order id.now rest.now ≡ Some fault) }
@@ -117,7 +117,7 @@ fn packet<'a>(order: Order, id: &[u8], rest: &'a [u8]) -> Result<(&'a [u8], usiz
 }
 
 /// The contents of packets, joined.
-fn contents(alloc: Global, order: Order, bytes: &[u8]) -> Result<Vec<u8>, MetaFault>
+fn contents(alloc: Global, order: HeaderOrder, bytes: &[u8]) -> Result<Vec<u8>, MetaFault>
     requires { order_of bytes.now ≡ Some order }
     ensures { MatchResult result (λ text. IsJoined order bytes.now text.items)
         (λ fault. JoinRefused order bytes.now fault) }
@@ -145,7 +145,7 @@ pub fn metadata_text(alloc: Global, bytes: &[u8]) -> Result<Vec<u8>, MetaFault>
     if bytes.len() > MOST_BYTES {
         return Err(MetaFault::TooLong);
     }
-    match Order::of(bytes) {
+    match HeaderOrder::of(bytes) {
         Some(order) => contents(alloc, order, bytes),
         None => Ok(Vec::from_slice(alloc, bytes)?),
     }

@@ -166,7 +166,7 @@ impl Symbol {
 
 /// What a token is.
 #[derive(Clone, Copy)]
-pub enum Kind {
+pub enum TokenKind {
     /// A name that is no keyword.
     Identifier,
     /// A number.
@@ -180,7 +180,7 @@ pub enum Kind {
 /// A token, with its slice of the text, where the slice starts in the text, in bytes, and on which line.
 #[derive(Clone, Copy)]
 pub struct Token<'a> {
-    pub kind: Kind,
+    pub kind: TokenKind,
     pub text: &'a [u8],
     pub start: usize,
     pub line: LineNumber,
@@ -192,8 +192,8 @@ impl Token<'_> {
         ensures { result ≡ is_symbol symbol self.now.kind }
     {
         match self.kind {
-            Kind::Symbol(own) => own == symbol,
-            Kind::Identifier | Kind::Constant(_) | Kind::String => false,
+            TokenKind::Symbol(own) => own == symbol,
+            TokenKind::Identifier | TokenKind::Constant(_) | TokenKind::String => false,
         }
     }
 
@@ -202,9 +202,9 @@ impl Token<'_> {
         ensures { result ≡ is_word self.now.kind }
     {
         match self.kind {
-            Kind::Identifier => true,
-            Kind::Symbol(symbol) => !symbol.is_punctuator(),
-            Kind::Constant(_) | Kind::String => false,
+            TokenKind::Identifier => true,
+            TokenKind::Symbol(symbol) => !symbol.is_punctuator(),
+            TokenKind::Constant(_) | TokenKind::String => false,
         }
     }
 
@@ -213,9 +213,9 @@ impl Token<'_> {
         ensures { result ≡ is_typeword self.now.kind }
     {
         match self.kind {
-            Kind::Identifier => true,
-            Kind::Symbol(symbol) => symbol.is_type_keyword(),
-            Kind::Constant(_) | Kind::String => false,
+            TokenKind::Identifier => true,
+            TokenKind::Symbol(symbol) => symbol.is_type_keyword(),
+            TokenKind::Constant(_) | TokenKind::String => false,
         }
     }
 
@@ -231,8 +231,8 @@ impl Token<'_> {
         ensures { result ≡ constant_of self.now.kind }
     {
         match self.kind {
-            Kind::Constant(value) => Some(value),
-            Kind::Identifier | Kind::String | Kind::Symbol(_) => None,
+            TokenKind::Constant(value) => Some(value),
+            TokenKind::Identifier | TokenKind::String | TokenKind::Symbol(_) => None,
         }
     }
 
@@ -251,8 +251,8 @@ impl Token<'_> {
             (value.items ≡ string_value self.now.text.now))) }
     {
         match self.kind {
-            Kind::String => Ok(Some(string_value(alloc, self.text)?)),
-            Kind::Identifier | Kind::Constant(_) | Kind::Symbol(_) => Ok(None),
+            TokenKind::String => Ok(Some(string_value(alloc, self.text)?)),
+            TokenKind::Identifier | TokenKind::Constant(_) | TokenKind::Symbol(_) => Ok(None),
         }
     }
 }

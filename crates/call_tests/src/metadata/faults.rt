@@ -17,14 +17,14 @@ use std::str;
 
 /// What is around the texts of rows.
 #[derive(Clone, Copy)]
-struct Around<'a> {
+struct Surroundings<'a> {
     front: &'a str,
     back: &'a str,
 }
 
 /// Puts what comes of the rows of a table, and how many there are.
 pub fn put_table(told: &mut Row<'_>, table: &str) {
-    let mut around = Around {
+    let mut around = Surroundings {
         front: "",
         back: "",
     };
@@ -42,7 +42,7 @@ pub fn put_table(told: &mut Row<'_>, table: &str) {
 }
 
 /// Puts what a row declares, or that something else was reported of it than it wants.
-fn put_line(told: &mut Row<'_>, around: Around<'_>, line: &str) {
+fn put_line(told: &mut Row<'_>, around: Surroundings<'_>, line: &str) {
     let (wanted, text) = line.split_once(' ').unwrap_or((line, ""));
     let (wanted, count) = wanted.split_once('*').unwrap_or((wanted, "1"));
     let text = text_of(
@@ -86,7 +86,7 @@ fn is_told(told: &str, wanted: &str) -> bool {
 }
 
 /// The text of a row, with what is around it.
-fn text_of(alloc: Global, around: Around<'_>, text: &str, count: usize) -> Vec<u8> {
+fn text_of(alloc: Global, around: Surroundings<'_>, text: &str, count: usize) -> Vec<u8> {
     let (open, rest) = halves(text);
     let (inner, close) = ends(rest);
     let mut whole = Row::new(alloc, "");
@@ -99,9 +99,9 @@ fn text_of(alloc: Global, around: Around<'_>, text: &str, count: usize) -> Vec<u
 }
 
 /// What is before and after the `~` of a pattern.
-fn around_of(pattern: &str) -> Around<'_> {
+fn around_of(pattern: &str) -> Surroundings<'_> {
     let (front, back) = halves(pattern);
-    Around { front, back }
+    Surroundings { front, back }
 }
 
 /// What is before and after the first `~`; without one, all is before it.

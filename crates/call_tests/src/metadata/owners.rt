@@ -7,11 +7,11 @@ use std::rc::Rc;
 
 /// A tree through lists, boxes and shared values.
 #[derive(Drop, PartialEq)]
-enum Shape {
+enum OwnerTree {
     Leaf(u8),
-    Group(List<Shape>),
-    Inner(Boxed<Shape>),
-    Common(Shared<Shape>),
+    Group(List<OwnerTree>),
+    Inner(Boxed<OwnerTree>),
+    Common(Shared<OwnerTree>),
 }
 
 /// Puts a line for each owner: what it holds, and whether that is what a copy or another holds.
@@ -40,27 +40,27 @@ fn put_tree(row: &mut Row<'_>) {
     if let ((Ok(()), Ok(())), [shape, other]) = (added, shapes.as_slice()) {
         row.put_number(b"tree of ", leaves(shape) as i128);
         row.put_answer(b" leaves, another one: ", shape == other);
-        row.put_answer(b", a leaf: ", *shape == Shape::Leaf(1));
+        row.put_answer(b", a leaf: ", *shape == OwnerTree::Leaf(1));
         row.put(b"\n");
     }
 }
 
 /// Adds three leaves, each under another owner.
-fn add_three(alloc: Global, groups: &mut List<Shape>) -> Result<(), AllocError> {
+fn add_three(alloc: Global, groups: &mut List<OwnerTree>) -> Result<(), AllocError> {
     let mut shapes = List::new(alloc);
-    shapes.push(Shape::Leaf(1))?;
-    shapes.push(Shape::Inner(Boxed::new(alloc, Shape::Leaf(2))?))?;
-    shapes.push(Shape::Common(Shared::new(alloc, Shape::Leaf(3))?))?;
-    groups.push(Shape::Group(shapes))
+    shapes.push(OwnerTree::Leaf(1))?;
+    shapes.push(OwnerTree::Inner(Boxed::new(alloc, OwnerTree::Leaf(2))?))?;
+    shapes.push(OwnerTree::Common(Shared::new(alloc, OwnerTree::Leaf(3))?))?;
+    groups.push(OwnerTree::Group(shapes))
 }
 
 /// How many leaves a shape has, up to the last count.
-fn leaves(shape: &Shape) -> u64 {
+fn leaves(shape: &OwnerTree) -> u64 {
     match shape {
-        Shape::Leaf(_) => 1,
-        Shape::Inner(inner) => leaves(inner.get()),
-        Shape::Common(common) => leaves(common.get()),
-        Shape::Group(shapes) => {
+        OwnerTree::Leaf(_) => 1,
+        OwnerTree::Inner(inner) => leaves(inner.get()),
+        OwnerTree::Common(common) => leaves(common.get()),
+        OwnerTree::Group(shapes) => {
             let mut count = 0u64;
             for shape in shapes.as_slice() {
                 count = count.saturating_add(leaves(shape));

@@ -1,7 +1,7 @@
 //! Items as text.
 
 use crate::row::Row;
-use crate::streams::words::Shown;
+use crate::streams::words::RecordDetail;
 use crate::value::put_value;
 use ctf_class::Scope;
 use ctf_clock::Moment;
@@ -18,7 +18,7 @@ const SCOPES: [(&str, Scope); 6] = [
 ];
 
 /// Puts an item.
-pub fn put_item(row: &mut Row<'_>, item: &Item<'_>, shown: Shown) {
+pub fn put_item(row: &mut Row<'_>, item: &Item<'_>, shown: RecordDetail) {
     match item {
         Item::Event(event) => put_event(row, event, shown),
         Item::Discarded(gap) => put_gap(row, b"discarded ", gap),
@@ -35,14 +35,14 @@ pub fn put_text(row: &mut Row<'_>, event: &EventText<'_>) {
     row.put(b"\n");
 }
 
-fn put_event(row: &mut Row<'_>, event: &Event<'_>, shown: Shown) {
+fn put_event(row: &mut Row<'_>, event: &Event<'_>, shown: RecordDetail) {
     row.put_number(b"event ", event.class.id as i128);
     put_moment(row, b" at ", event.moment);
     match (shown, event.part) {
-        (Shown::Nothing, _) => {}
-        (Shown::Values, _) => put_scopes(row, event),
-        (Shown::Part, None) => row.put(b", no part"),
-        (Shown::Part, Some(part)) => {
+        (RecordDetail::Nothing, _) => {}
+        (RecordDetail::Values, _) => put_scopes(row, event),
+        (RecordDetail::Part, None) => row.put(b", no part"),
+        (RecordDetail::Part, Some(part)) => {
             row.put(b", part ");
             row.put(part);
         }

@@ -2,8 +2,8 @@
 
 use crate::row::Row;
 use crate::source::RowSource;
-use crate::streams::reading::{Stream, add_reader};
-use crate::streams::words::{Asked, Step};
+use crate::streams::reading::{RowStream, add_reader};
+use crate::streams::words::{Asked, ReaderCall};
 use ctf_class::TraceClass;
 use ctf_list::{List, NoMemory};
 use ctf_log::line;
@@ -29,7 +29,7 @@ fn merge_of<'a>(
 ) -> Result<Merge<'a, RowSource>, NoMemory> {
     let mut readers = List::new(alloc);
     for (number, bytes) in streams.iter().enumerate() {
-        let stream = Stream {
+        let stream = RowStream {
             trace,
             asked,
             number,
@@ -54,10 +54,10 @@ fn put_calls(row: &mut Row<'_>, merge: &mut Merge<'_, RowSource>, asked: &Asked)
 }
 
 /// Makes a call, and puts what it gives.
-fn put_step(row: &mut Row<'_>, merge: &mut Merge<'_, RowSource>, step: Step) {
+fn put_step(row: &mut Row<'_>, merge: &mut Merge<'_, RowSource>, step: ReaderCall) {
     match (step, merge.next_stream()) {
-        (Step::Next, _) => put_given(row, &merge.next()),
-        (Step::Leave, Some(number)) => merge.leave(number),
+        (ReaderCall::Next, _) => put_given(row, &merge.next()),
+        (ReaderCall::Leave, Some(number)) => merge.leave(number),
         _ => merge.go_on(),
     }
 }

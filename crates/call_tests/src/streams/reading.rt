@@ -3,7 +3,7 @@
 use crate::row::Row;
 use crate::source::{Manner, RowSource};
 use crate::streams::items::{put_item, put_text};
-use crate::streams::words::{Asked, Shown, Step};
+use crate::streams::words::{Asked, ReaderCall, RecordDetail};
 use ctf_class::TraceClass;
 use ctf_clock::Shift;
 use ctf_list::{List, NoMemory, Text};
@@ -16,7 +16,7 @@ const PIECES: [usize; 5] = [1, 2, 3, 7, 13];
 
 /// A stream of a row, by its number, from 0.
 #[derive(Clone, Copy)]
-pub struct Stream<'a> {
+pub struct RowStream<'a> {
     pub trace: &'a TraceClass,
     pub asked: &'a Asked,
     pub number: usize,
@@ -28,7 +28,7 @@ pub fn put_readers(row: &mut Row<'_>, trace: &TraceClass, asked: &Asked, streams
     for (number, bytes) in streams.iter().enumerate() {
         put_stream(
             row,
-            Stream {
+            RowStream {
                 trace,
                 asked,
                 number,
@@ -39,7 +39,7 @@ pub fn put_readers(row: &mut Row<'_>, trace: &TraceClass, asked: &Asked, streams
 }
 
 /// Puts what the reader of a stream gives, and in which pieces the bytes come to the same.
-fn put_stream(row: &mut Row<'_>, stream: Stream<'_>) {
+fn put_stream(row: &mut Row<'_>, stream: RowStream<'_>) {
     let whole = reader_row(row.alloc, stream, stream.asked.input);
     row.put(&whole);
     if let Manner::Whole = stream.asked.input {
@@ -54,7 +54,7 @@ fn put_stream(row: &mut Row<'_>, stream: Stream<'_>) {
 }
 
 /// What the reader of a stream gives where its bytes come in this manner.
-fn reader_row(alloc: Global, stream: Stream<'_>, manner: Manner) -> Vec<u8> {
+fn reader_row(alloc: Global, stream: RowStream<'_>, manner: Manner) -> Vec<u8> {
     let mut row = Row::new(alloc, "");
     let mut readers = List::new(alloc);
     let added = add_reader(alloc, &mut readers, stream, manner);
@@ -68,7 +68,7 @@ fn reader_row(alloc: Global, stream: Stream<'_>, manner: Manner) -> Vec<u8> {
 pub fn add_reader<'a>(
     alloc: Global,
     readers: &mut List<StreamReader<'a, RowSource>>,
-    stream: Stream<'a>,
+    stream: RowStream<'a>,
     manner: Manner,
 ) -> Result<(), NoMemory> {
     let name = Text::from_string(format!(in alloc; "s{}", stream.number)?);
@@ -101,11 +101,11 @@ fn put_reader(row: &mut Row<'_>, reader: &mut StreamReader<'_, RowSource>, asked
 fn put_step(
     row: &mut Row<'_>,
     reader: &mut StreamReader<'_, RowSource>,
-    step: Step,
-    shown: Shown,
+    step: ReaderCall,
+    shown: RecordDetail,
 ) -> bool {
     match step {
-        Step::Next => {
+        ReaderCall::Next => {
             let given = reader.next();
             put_counts(row, reader);
             put_given(row, &given, shown)
@@ -119,7 +119,7 @@ fn put_step(
 }
 
 /// Puts the current item, the end or the fault, and answers whether it is no item. `told` and `head` give one item.
-fn put_front(row: &mut Row<'_>, reader: &StreamReader<'_, RowSource>, shown: Shown) -> bool {
+fn put_front(row: &mut Row<'_>, reader: &StreamReader<'_, RowSource>, shown: RecordDetail) -> bool {
     match (reader.told(), reader.head()) {
         (Some(CurrentItem::Item(_)), Some(item)) => put_item(row, &item, shown),
         (Some(CurrentItem::Text(event)), None) => put_text(row, &event),
@@ -133,7 +133,7 @@ fn put_front(row: &mut Row<'_>, reader: &StreamReader<'_, RowSource>, shown: Sho
 fn put_given(
     row: &mut Row<'_>,
     given: &Result<Option<OwnedItem<'_>>, StreamFault>,
-    shown: Shown,
+    shown: RecordDetail,
 ) -> bool {
     match given {
         Ok(Some(item)) => {

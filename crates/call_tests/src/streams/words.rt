@@ -5,7 +5,7 @@ use crate::source::Manner;
 
 /// What a reader or a merge is asked for.
 #[derive(Clone, Copy)]
-pub enum Step {
+pub enum ReaderCall {
     /// `go_on`.
     On,
     /// `next`.
@@ -16,7 +16,7 @@ pub enum Step {
 
 /// What is shown of an event record beside its class and its moment.
 #[derive(Clone, Copy)]
-pub enum Shown {
+pub enum RecordDetail {
     Nothing,
     /// The values of its scopes.
     Values,
@@ -32,20 +32,20 @@ pub struct Asked {
     pub shift: i64,
     /// Whether event records are read as texts where they can be.
     pub writes: bool,
-    pub shown: Shown,
+    pub shown: RecordDetail,
     /// The steps of the row, and then the last one again.
-    steps: [Step; 3],
+    steps: [ReaderCall; 3],
     count: usize,
 }
 
 impl Asked {
     /// The step of this number, from 0.
-    pub fn step(&self, number: usize) -> Step {
+    pub fn step(&self, number: usize) -> ReaderCall {
         self.steps[number.min(2)]
     }
 
     /// Adds a step.
-    fn add(&mut self, step: Step) {
+    fn add(&mut self, step: ReaderCall) {
         for place in self.count..3 {
             self.steps[place] = step;
         }
@@ -56,11 +56,11 @@ impl Asked {
     fn ask(&mut self, word: &str) {
         match word {
             "writing" => self.writes = true,
-            "values" => self.shown = Shown::Values,
-            "part" => self.shown = Shown::Part,
-            "on" => self.add(Step::On),
-            "next" => self.add(Step::Next),
-            "leave" => self.add(Step::Leave),
+            "values" => self.shown = RecordDetail::Values,
+            "part" => self.shown = RecordDetail::Part,
+            "on" => self.add(ReaderCall::On),
+            "next" => self.add(ReaderCall::Next),
+            "leave" => self.add(ReaderCall::Leave),
             _ => self.set(word),
         }
     }
@@ -82,8 +82,8 @@ pub fn asked_of(words: &str) -> Asked {
         input: Manner::Whole,
         shift: 0,
         writes: false,
-        shown: Shown::Nothing,
-        steps: [Step::On; 3],
+        shown: RecordDetail::Nothing,
+        steps: [ReaderCall::On; 3],
         count: 0,
     };
     for word in words.split(' ') {

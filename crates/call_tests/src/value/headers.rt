@@ -10,7 +10,7 @@ use std::alloc::Global;
 
 /// What headers are decoded into, and the values decoded before.
 #[derive(Drop)]
-struct Making {
+struct HeaderScratch {
     scopes: Scopes,
     value: Value,
 }
@@ -18,7 +18,7 @@ struct Making {
 /// Puts a line for each header, which is at the start of a packet of its own. Each is decoded into the value of the one
 /// before it.
 pub fn put_row(row: &mut Row<'_>, class: &Class) {
-    let making = Making {
+    let making = HeaderScratch {
         scopes: Scopes::new(),
         value: Value::Signed(1),
     };
@@ -34,7 +34,7 @@ pub fn put_row(row: &mut Row<'_>, class: &Class) {
 }
 
 /// Puts what a header says, or its fault.
-fn put_header(row: &mut Row<'_>, class: &Class, header: &str, making: &mut Making) {
+fn put_header(row: &mut Row<'_>, class: &Class, header: &str, making: &mut HeaderScratch) {
     let (range, digits) = header.split_once(' ').unwrap_or((header, ""));
     let bytes = bytes_of_digits(row.alloc, digits);
     if let Some(place) = Place::new(range, &bytes) {
@@ -43,13 +43,13 @@ fn put_header(row: &mut Row<'_>, class: &Class, header: &str, making: &mut Makin
 }
 
 /// Puts what a header at a place says, or its fault.
-fn put_place(row: &mut Row<'_>, class: &Class, place: Place<'_>, making: &mut Making) {
+fn put_place(row: &mut Row<'_>, class: &Class, place: Place<'_>, making: &mut HeaderScratch) {
     let Place {
         bytes,
         start,
         content,
     } = place;
-    let Making { scopes, value } = making;
+    let HeaderScratch { scopes, value } = making;
     let packet = Packet {
         bytes,
         content,

@@ -10,7 +10,7 @@ use crate::value::place::Place;
 use crate::value::words::values_of;
 use ctf_class::{Class, RecordPlan, Scope, StreamClass};
 use ctf_decode::Scopes;
-use ctf_format::{Content, Members, ScopeInput, Standing, put_planned_record, put_standing};
+use ctf_format::{Content, MemberNumbers, ScopeInput, Standing, put_planned_record, put_standing};
 
 /// A line of five bytes, and after it old bytes of its buffer.
 pub const LINE: &[u8] = b"[12] and what was there";
@@ -21,14 +21,14 @@ pub fn put_place(row: &mut Row<'_>, class: &Class, place: Place<'_>) {
         let mut line = line;
         let scopes = scopes_of(row);
         let content = content_of(place);
-        let none = Members::none();
+        let none = MemberNumbers::none();
         let input = ScopeInput {
             content: &content,
             scopes: &scopes,
             stream_context: &none,
             event_context: &none,
         };
-        let mut last = Members::none();
+        let mut last = MemberNumbers::none();
         let standing = put_standing(class, &input, begin_of(place), &mut last, &mut line);
         put_text(row, &line, standing);
     }

@@ -15,7 +15,7 @@ pub struct MadeUp<'a> {
 
 /// What is at a path.
 #[derive(Clone, Copy)]
-enum Entry<'a> {
+enum PathEntry<'a> {
     Text(&'a str),
     /// Bytes in hexadecimal.
     Bytes(&'a str),
@@ -27,7 +27,7 @@ enum Entry<'a> {
 
 impl<'a> MadeUp<'a> {
     /// What is at a path.
-    fn at(&self, path: &str) -> Option<Entry<'a>> {
+    fn at(&self, path: &str) -> Option<PathEntry<'a>> {
         for line in self.table.lines() {
             let (name, entry) = line.split_once(' ').unwrap_or((line, ""));
             if name == path {
@@ -39,21 +39,21 @@ impl<'a> MadeUp<'a> {
 }
 
 /// What the words of an entry say.
-fn entry_of(words: &str) -> Entry<'_> {
+fn entry_of(words: &str) -> PathEntry<'_> {
     let (kind, content) = words.split_once(' ').unwrap_or((words, ""));
     match kind {
-        "text" => Entry::Text(content),
-        "bytes" => Entry::Bytes(content),
-        "closed" => Entry::Closed,
-        _ => Entry::Other,
+        "text" => PathEntry::Text(content),
+        "bytes" => PathEntry::Bytes(content),
+        "closed" => PathEntry::Closed,
+        _ => PathEntry::Other,
     }
 }
 
 /// The bytes of an entry that has some.
-fn bytes_of(alloc: Global, entry: Option<Entry<'_>>) -> Option<Vec<u8>> {
+fn bytes_of(alloc: Global, entry: Option<PathEntry<'_>>) -> Option<Vec<u8>> {
     match entry {
-        Some(Entry::Text(text)) => Vec::from_slice(alloc, text.as_bytes()).ok(),
-        Some(Entry::Bytes(digits)) => Some(bytes_of_digits(alloc, digits)),
+        Some(PathEntry::Text(text)) => Vec::from_slice(alloc, text.as_bytes()).ok(),
+        Some(PathEntry::Bytes(digits)) => Some(bytes_of_digits(alloc, digits)),
         _ => None,
     }
 }
@@ -103,7 +103,7 @@ impl Folders for MadeUp<'_> {
         _before: usize,
     ) -> Result<Option<RowSource>, FolderFault> {
         let entry = self.at(path);
-        if let Some(Entry::Closed) = entry {
+        if let Some(PathEntry::Closed) = entry {
             return Err(FolderFault::Unreadable);
         }
         match bytes_of(alloc, entry) {

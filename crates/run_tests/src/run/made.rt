@@ -4,14 +4,14 @@ use crate::files::{add_stream, file_of};
 use crate::manner::{Manner, Manners, manners_of};
 use crate::sink::RowSink;
 use crate::source::RowSource;
-use crate::words::{Word, command_of, word_of};
+use crate::words::{RowWord, command_of, word_of};
 use ctf_options::{Options, options_of};
 use ctf_run::{Trace, run};
 use std::alloc::Global;
 
 /// What came of a run.
 #[derive(Drop)]
-pub struct Run {
+pub struct RunResult {
     pub output: RowSink,
     pub messages: RowSink,
     pub status: u8,
@@ -20,7 +20,7 @@ pub struct Run {
 }
 
 /// What comes of the run of a row.
-pub fn run_of(rt: &HostRuntime, line: &str) -> Run {
+pub fn run_of(rt: &HostRuntime, line: &str) -> RunResult {
     let manners = manners_of(line);
     let mut made = nothing(rt.alloc(), manners);
     if let Ok(options) = options_of(rt.alloc(), &command_of(rt.alloc(), line)) {
@@ -31,8 +31,8 @@ pub fn run_of(rt: &HostRuntime, line: &str) -> Run {
 }
 
 /// A run that did not begin.
-fn nothing(alloc: Global, manners: Manners) -> Run {
-    Run {
+fn nothing(alloc: Global, manners: Manners) -> RunResult {
+    RunResult {
         output: RowSink::new(alloc, manners.output),
         messages: RowSink::new(alloc, manners.messages),
         status: 2,
@@ -41,8 +41,8 @@ fn nothing(alloc: Global, manners: Manners) -> Run {
 }
 
 /// Runs over traces.
-fn run_over(alloc: Global, traces: Vec<Trace<RowSource>>, options: &Options, made: &mut Run) {
-    let Run {
+fn run_over(alloc: Global, traces: Vec<Trace<RowSource>>, options: &Options, made: &mut RunResult) {
+    let RunResult {
         output,
         messages,
         status,
@@ -65,8 +65,8 @@ fn traces_of(rt: &HostRuntime, line: &str, manner: Manner) -> Vec<Trace<RowSourc
 /// Adds the trace or the stream that a word names.
 fn add_part(rt: &HostRuntime, traces: &mut Vec<Trace<RowSource>>, word: &str, manner: Manner) {
     match word_of(word) {
-        Word::Trace(name, metadata) if metadata != "-" => add_trace(rt, traces, name, metadata),
-        Word::Stream(bytes) => {
+        RowWord::Trace(name, metadata) if metadata != "-" => add_trace(rt, traces, name, metadata),
+        RowWord::Stream(bytes) => {
             if let Some(trace) = traces.last_mut() {
                 add_stream(rt, &mut trace.streams, bytes, manner);
             }

@@ -36,21 +36,21 @@ pub fn add_crossing(alloc: Global, streams: &mut Vec<(String, RowSource)>) {
 
 /// Which stream's event record a step takes, its time, and what the stream holds then.
 #[derive(Clone, Copy)]
-struct Turn {
+struct CrossingTurn {
     number: u32,
     time: u32,
     held: usize,
 }
 
 /// The turn at a step.
-fn turn_at(step: u32) -> Turn {
+fn turn_at(step: u32) -> CrossingTurn {
     match step.checked_sub(COUNT) {
-        None => Turn {
+        None => CrossingTurn {
             number: (COUNT - 1).saturating_sub(step),
             time: step,
             held: CONTENT,
         },
-        Some(number) => Turn {
+        Some(number) => CrossingTurn {
             number,
             time: LAST,
             held: 0,
@@ -80,7 +80,7 @@ fn put_turn(
     row: &mut Row<'_>,
     session: &mut Session<'_, RowSource>,
     manners: Manners,
-    turn: Turn,
+    turn: CrossingTurn,
 ) -> bool {
     let mut step = Row::new(row.alloc, "");
     put_step(&mut step, session, manners);
@@ -91,7 +91,12 @@ fn put_turn(
 }
 
 /// Whether a step wrote one line, that of its turn, and left its stream as it should.
-fn is_turn(alloc: Global, session: &Session<'_, RowSource>, text: &[u8], turn: Turn) -> bool {
+fn is_turn(
+    alloc: Global,
+    session: &Session<'_, RowSource>,
+    text: &[u8],
+    turn: CrossingTurn,
+) -> bool {
     let lines = text.iter().filter(|byte| **byte == b'\n').count();
     match session.reader(turn.number as usize) {
         Some(reader) => {

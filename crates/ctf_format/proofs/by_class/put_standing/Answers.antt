@@ -2,7 +2,7 @@ use Rattle.std.proofs.Common.{◌≡◌, ◌+◌, ◌≤◌, length, take, sym, 
 use Rattle.ctf_class.specs.declared.class.Kind as kind
 use Rattle.ctf_decode.specs.declared.scopes.TheConstants.{MOST_VALUES}
 use Rattle.ctf_format.specs.Around.{Agrees, MembersAre, ScopeIs, sight}
-use Rattle.ctf_format.specs.declared.around.Around.TheVariants as arounds
+use Rattle.ctf_format.specs.declared.around.OuterMembers.TheVariants as arounds
 use Rattle.ctf_format.proofs.AroundLemmas.{agrees_top, scope_is}
 use Rattle.ctf_format.proofs.StandingLemmas.{puts_structure}
 use Rattle.ctf_format.proofs.by_class.put_standing.Goals as goal

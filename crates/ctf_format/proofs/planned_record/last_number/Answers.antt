@@ -2,7 +2,7 @@ use Rattle.std.proofs.Common.{◌≡◌, ◌<◌, ◌-◌, ◌/◌, ◌∙◌, �
 use Rattle.std.specs.List.{All}
 use Rattle.std.proofs.lemmas.List.Elements.{All-get_or}
 use Rattle.ctf_bits.specs.Placed.{number_after}
-use Rattle.ctf_class.specs.declared.run_number.RunNumber.{RunNumber}
+use Rattle.ctf_class.specs.declared.planned_number.PlannedNumber.{PlannedNumber}
 use Rattle.ctf_format.specs.Plain.{IsPlaced, number_at, place_in}
 use Rattle.ctf_format.specs.Records.{IsLastNumber}
 use Rattle.ctf_format.proofs.PlainLemmas.{plain_number}
@@ -20,7 +20,7 @@ returns-then-last-2 c =
     let some : 0 < length numbers = omega (arith, c.if-count-eq0.false) in
     subst (λ ns. IsLastNumber (Some c.unsigned_number.result) ns bytes first) c.as_slice-numbers.ensures (last_number numbers c.index-numbers-count.result (Some c.unsigned_number.result) bytes first some c.index-numbers-count.is c.if-last.false c.unsigned_number.ensures)
 
-some_so : (n : RunNumber) (bytes : List ℕ) (first : ℕ) → ((v : ℕ) → number_after n.window bytes first ≡ pos v → number_at n.integer bytes (place_in first n) ≡ pos v) → (r : Option ℕ) → IfSome r (λ v. number_after n.window bytes first ≡ pos v) → IfSome r (λ v. number_at n.integer bytes (place_in first n) ≡ pos v)
+some_so : (n : PlannedNumber) (bytes : List ℕ) (first : ℕ) → ((v : ℕ) → number_after n.window bytes first ≡ pos v → number_at n.integer bytes (place_in first n) ≡ pos v) → (r : Option ℕ) → IfSome r (λ v. number_after n.window bytes first ≡ pos v) → IfSome r (λ v. number_at n.integer bytes (place_in first n) ≡ pos v)
 some_so n bytes first reads None read = tt
 some_so n bytes first reads (Some v) read = reads v read
 

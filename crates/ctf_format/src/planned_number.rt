@@ -10,13 +10,13 @@ ghost use Rattle.ctf_format.specs.Plain.{IsInside, IsPlaced, run_text};
 use crate::decimal::{put_signed_short, put_unsigned};
 use crate::standing::put_integer_at;
 use ctf_bits::Window;
-use ctf_class::RunNumber;
+use ctf_class::PlannedNumber;
 
 /// Writes numbers of a run that begins after so many bytes at an index of a line, and gives the index after them. All
 /// are in decimal and little endian.
 #[inline(always)]
 pub(crate) fn put_plain_numbers(
-    numbers: &[RunNumber],
+    numbers: &[PlannedNumber],
     bytes: &[u8],
     first: usize,
     line: &mut [u8],
@@ -40,7 +40,7 @@ pub(crate) fn put_plain_numbers(
 /// Writes numbers of a run that begins after so many bytes at an index of a line, and gives the index after them. They
 /// are of any base and byte order.
 pub(crate) fn put_special_numbers(
-    numbers: &[RunNumber],
+    numbers: &[PlannedNumber],
     bytes: &[u8],
     first: usize,
     line: &mut [u8],
@@ -63,7 +63,13 @@ pub(crate) fn put_special_numbers(
 
 /// Writes a number in decimal, little endian. Mostly it is not below zero.
 #[inline(always)]
-fn put_number(number: &RunNumber, bytes: &[u8], first: usize, line: &mut [u8], at: usize) -> usize
+fn put_number(
+    number: &PlannedNumber,
+    bytes: &[u8],
+    first: usize,
+    line: &mut [u8],
+    at: usize,
+) -> usize
     requires room { at + length number.now.ready + 48 ≤ length line.old }
     requires held { first + number.now.window.place / 8 + 8 ≤ length bytes.now }
     requires placed { IsPlaced number.now }
@@ -95,7 +101,7 @@ fn put_below_zero(window: &Window, bytes: &[u8], first: usize, line: &mut [u8], 
 /// Writes a number of any base and byte order.
 #[inline(always)]
 fn put_any_number(
-    number: &RunNumber,
+    number: &PlannedNumber,
     bytes: &[u8],
     first: usize,
     line: &mut [u8],

@@ -4,7 +4,7 @@ use Rattle.ctf_record_text.specs.Making.{Made}
 use Rattle.ctf_stream.specs.Coming.{opened_in, left_in, item_in, HoldsFront}
 use Rattle.ctf_fetch.proofs.Longer.{record_held}
 use Rattle.ctf_stream.proofs.Steps.{took_made, holds_made}
-use Rattle.ctf_stream.proofs.packet.Packet.next_written.Goals as goal
+use Rattle.ctf_stream.proofs.packet.PacketReader.next_written.Goals as goal
 
 pub returns-clause-takes : goal.returns-clause-takes
 returns-clause-takes c = λ shift follows timed.

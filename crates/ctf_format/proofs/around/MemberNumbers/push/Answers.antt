@@ -1,7 +1,7 @@
 use Rattle.std.proofs.Common.{◌≡◌, ◌+◌, ◌%◌, ◌++◌, ◌∷◌, [], length, set, ap, subst, sym, rules}
 use Rattle.ctf_format.specs.Around.{MembersAre}
 use Rattle.ctf_format.proofs.AroundLemmas.{one_more}
-use Rattle.ctf_format.proofs.around.Members.push.Goals as goal
+use Rattle.ctf_format.proofs.around.MemberNumbers.push.Goals as goal
 
 pub returns : goal.returns
 returns c = λ vs v are counted is.

@@ -1,7 +1,7 @@
 use Rattle.std.proofs.Common.{◌≡◌, ◌^◌, ◌≤◌, List, ◌++◌, take}
 use Rattle.ctf_class.specs.Making.{IsMade}
 use Rattle.ctf_class.specs.Records.{Slot, laters}
-use Rattle.ctf_class.proofs.record_plan.Making.add_later.Given as goal
+use Rattle.ctf_class.proofs.record_plan.PlanBuilder.add_later.Given as goal
 
 abbrev pub invariant-loop-i : goal.invariant-loop-i
 invariant-loop-i l = record {

@@ -2,7 +2,7 @@ use Rattle.std.proofs.Common.{◌≡◌, ◌+◌, ◌∷◌, ◌++◌, ◌∙◌
 use Rattle.ctf_class.specs.Making.{IsMade}
 use Rattle.ctf_class.specs.Records.{Slot, later, laters}
 use Rattle.ctf_class.proofs.RecordsLemmas.{laters_on}
-use Rattle.ctf_class.proofs.record_plan.Making.add_later.Goals as goal
+use Rattle.ctf_class.proofs.record_plan.PlanBuilder.add_later.Goals as goal
 
 pub loop-i-preserved : goal.loop-i-preserved
 loop-i-preserved c =

@@ -10,7 +10,7 @@ use ctf_bits::{Order, Window};
 
 /// An integer whose distance from the begin of its run is known (CTF 1.8.3, section 4.1.5).
 #[derive(Drop)]
-pub struct RunNumber {
+pub struct PlannedNumber {
     pub integer: Integer,
     /// Where it is after that begin.
     pub window: Window,
@@ -21,7 +21,7 @@ pub struct RunNumber {
 }
 
 /// Whether some numbers are big endian, or not in decimal.
-pub(crate) fn have_special(numbers: &[RunNumber]) -> bool
+pub(crate) fn have_special(numbers: &[PlannedNumber]) -> bool
     ensures { result ≡ are_special numbers.now }
 {
     numbers.iter().any(|number| number.is_special)
