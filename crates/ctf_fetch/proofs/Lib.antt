@@ -7,4 +7,5 @@ mod Opening
 mod Sizing
 mod Fetched
 mod Fronts
+mod Headers
 pub mod Longer

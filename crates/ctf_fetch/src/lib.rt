@@ -5,10 +5,13 @@ mod buffer;
 mod demand;
 mod fill;
 mod intake;
+mod known_header;
 mod least;
 mod needed;
+mod packet_scratch;
 mod packet_start;
 mod scope;
 
 pub use buffer::Buffer;
-pub use packet_start::{PacketScratch, PacketStart};
+pub use packet_scratch::PacketScratch;
+pub use packet_start::PacketStart;

@@ -1,6 +1,6 @@
 //! Packets out of a source.
 
-ghost use Rattle.std.specs.Prelude.{◌≡◌, ◌+◌, ◌*◌, ◌/◌, ◌^◌, ◌≤◌, ◌<◌, [], ◌++◌, min, max, length, take, Some, None, true, IsTrue, ◌⊎◌, Err, IfOk, IfErr, IfSome, OnOk};
+ghost use Rattle.std.specs.Prelude.{◌≡◌, ℕ, List, ◌+◌, ◌*◌, ◌/◌, ◌^◌, ◌≤◌, ◌<◌, [], ◌++◌, min, max, length, take, Some, None, true, IsTrue, ◌⊎◌, Err, IfOk, IfErr, IfSome, OnOk};
 ghost use Rattle.ctf_class.specs.declared.route.Scope.TheVariants.{EventContext, EventFields};
 ghost use Rattle.ctf_decode.specs.Known.{nothing_known, without_value};
 ghost use Rattle.ctf_packet.specs.Classes.{trace_form};
@@ -11,16 +11,21 @@ ghost use Rattle.ctf_packet.specs.Views.{values_of, packet_values};
 ghost use Rattle.ctf_packet_demand.specs.Wants as wants;
 ghost use Rattle.ctf_fetch.specs.Fetching.{longest_bytes, OrNoMemory, Fetches, FetchedAt, FetchesAt};
 ghost use Rattle.ctf_packet.specs.declared.fault.StreamFault.TheVariants.{NoMemory};
+ghost use Rattle.ctf_decode.specs.declared.scopes.TheConstants.{MOST_VALUES};
+ghost use Rattle.ctf_packet.specs.Scopes.{longest};
 ghost use Rattle.ctf_fetch.specs.Demand.{FrontTakes};
+ghost use Rattle.ctf_fetch.specs.Headers.{IsHeaded, KnowsHeader};
 ghost use Rattle.ctf_fetch.specs.Openings.{want_of, FitsOpening, TakesWhole, TakesRest, TakesSized, Opens};
 ghost use Rattle.ctf_fetch.specs.Keeping.{Keeps};
 
 use crate::buffer::{Buffer, Filled};
 use crate::intake::Intake;
+use crate::known_header::{Headed, KnownHeader};
 use crate::least::least_front;
+use crate::packet_scratch::PacketScratch;
 use crate::scope::{NextScope, scope_on_demand};
 use ctf_bits::{Ending, Source};
-use ctf_class::{Scope, TraceClass};
+use ctf_class::{HasId, Scope, TraceClass};
 use ctf_clock::Shift;
 use ctf_decode::{Scopes, Value};
 use ctf_packet::{
@@ -51,14 +56,6 @@ pub struct PacketStart<'a> {
     least: usize,
     ghost takes: { FrontTakes trace.now least },
     ghost bounded: { least ≤ longest_bytes },
-}
-
-/// Memory of the values of a packet's header and context, which those of the next packet are decoded into. What the
-/// values in it are means nothing.
-#[derive(Drop)]
-pub struct PacketScratch {
-    header: Value,
-    context: Value,
 }
 
 /// A packet whose header and context were decoded.
@@ -101,16 +98,6 @@ fn fill_rest<S: Source>(intake: &mut Intake<'_, S>) -> Result<Ending, StreamFaul
         Filled::Ended(ending) => {
             intake.buffer.fit();
             Ok(ending)
-        }
-    }
-}
-
-impl PacketScratch {
-    /// Scratch without memory. None is allocated.
-    pub fn new() -> PacketScratch {
-        PacketScratch {
-            header: Value::Unsigned(0),
-            context: Value::Unsigned(0),
         }
     }
 }
@@ -162,10 +149,12 @@ impl<'a> PacketStart<'a> {
         source: &mut S,
         buffer: &mut Buffer,
         scopes: &mut Scopes,
-        scratch: &mut PacketScratch,
+        scratch: &mut PacketScratch<'a>,
     ) -> Result<Option<OpenPacket<'a>>, StreamFault>
         requires at { self.now.at ≤ 2 ^ 61 }
         requires empty { buffer.old ≡ [] }
+        requires knows { KnowsHeader self.now.trace.now scratch.old
+            (packet_values (values_of scopes.old)) }
         ensures tells { IsTrue (S.tells source.old) → IsTrue (S.tells source.new) }
         ensures same_end { IsTrue (S.tells source.old) → S.ending source.new ≡ S.ending source.old }
         ensures kept { IsTrue (S.tells source.old) →
@@ -179,6 +168,8 @@ impl<'a> PacketStart<'a> {
             (S.left source.new) result }
         ensures at { FetchesAt self.now.at buffer.new self.now.shift result }
         ensures begins { IfOk result (λ packet. self.now.at ≤ 2 ^ 60 ⊎ (packet ≡ None)) }
+        ensures knows { OnOk result
+            (KnowsHeader self.now.trace.now scratch.new (packet_values (values_of scopes.new))) }
         ensures few { length buffer.new ≤ longest_bytes + 1 }
         ensures last { 2 ^ 60 < self.now.at → length buffer.new ≤ 1 }
     {
@@ -233,12 +224,15 @@ impl<'a> PacketStart<'a> {
         alloc: Global,
         intake: &mut Intake<'_, S>,
         scopes: &mut Scopes,
-        scratch: &mut PacketScratch,
+        scratch: &mut PacketScratch<'a>,
     ) -> Result<OpenPacket<'a>, StreamFault>
         requires at { self.now.at ≤ 2 ^ 60 }
         requires some { 0 < length intake.old.buffer.now }
         requires few { length intake.old.buffer.now ≤ max 1 self.now.least }
+        requires knows { KnowsHeader self.now.trace.now scratch.old (values_of scopes.old) }
         ensures keeps { Keeps S.Source intake.old intake.new }
+        ensures knows { OnOk result
+            (KnowsHeader self.now.trace.now scratch.new (values_of scopes.new)) }
         ensures opens { let cut = self.now in
             IsTrue (S.tells intake.old.source.now) →
             Opens cut.shift scopes.new
@@ -264,17 +258,153 @@ impl<'a> PacketStart<'a> {
         }
     }
 
+    /// The header of the packet whose first bytes are in the buffer, with its value alone in `scopes`: the one that is
+    /// known, if the packet begins with its bytes; else bytes are taken until it is there.
+    #[inline(always)]
+    fn header<S: Source>(
+        &self,
+        alloc: Global,
+        intake: &mut Intake<'_, S>,
+        scopes: &mut Scopes,
+        scratch: &mut PacketScratch<'a>,
+    ) -> Result<Headed<'a>, StreamFault>
+        requires few { length intake.old.buffer.now ≤ longest_bytes }
+        requires knows { KnowsHeader self.now.trace.now scratch.old (values_of scopes.old) }
+        ensures keeps { Keeps S.Source intake.old intake.new }
+        ensures headed { let cut = self.now in
+            (more : List ℕ) →
+            let bytes = intake.new.buffer.now ++ more in
+            IfOk result (λ h. IsHeaded cut.shift cut.trace.now cut.reached bytes h scopes.new) }
+        ensures knows { OnOk result
+            (KnowsHeader self.now.trace.now scratch.new (values_of scopes.new)) }
+        ensures within { IfOk result (λ h. h.end ≤ min (8 * length intake.new.buffer.now) longest) }
+        ensures near { IfOk result (λ h.
+            8 * length intake.new.buffer.now ≤
+            max (8 * length intake.old.buffer.now) (h.end + 7)) }
+        ensures faulty { let cut = self.now in
+            IsTrue (S.tells intake.old.source.now) →
+            IfErr result (OrNoMemory
+            (λ fault. open_at (trace_form cut.shift cut.trace.now)
+            (S.ending intake.old.source.now) cut.reached cut.at
+            (intake.new.buffer.now ++ S.left intake.new.source.now) ≡ Err fault)) }
+        ensures few { length intake.new.buffer.now ≤ longest_bytes }
+    {
+        match self.known_header(intake.as_slice(), scopes, scratch) {
+            Some(headed) => Ok(headed),
+            None => self.header_on_demand(alloc, intake, scopes, scratch),
+        }
+    }
+
+    /// The header that is known, if a packet of these first bytes has it, and of the stream class of those before.
+    #[inline(always)]
+    fn known_header(
+        &self,
+        bytes: &[u8],
+        scopes: &mut Scopes,
+        scratch: &mut PacketScratch<'a>,
+    ) -> Option<Headed<'a>>
+        requires knows { KnowsHeader self.now.trace.now scratch.old (values_of scopes.old) }
+        ensures headed { let cut = self.now in
+            (more : List ℕ) →
+            let all = bytes.now ++ more in
+            IfSome result (λ h. IsHeaded cut.shift cut.trace.now cut.reached all h scopes.new) }
+        ensures knows { KnowsHeader self.now.trace.now scratch.new (values_of scopes.new) }
+        ensures within { IfSome result (λ h. h.end ≤ min (8 * length bytes.now) longest) }
+    {
+        let known = match (&scratch.known, &self.reached) {
+            (Some(known), Some(reached)) if known.headed.stream.id() == reached.stream => known,
+            _ => return None,
+        };
+        if !known.begins(bytes) {
+            return None;
+        }
+        leave_packet(scopes, &mut scratch.context);
+        scopes.set_spent(known.spent);
+        Some(known.headed)
+    }
+
+    /// Takes bytes until the header of a packet is there. That of a stream's first packet is known from then on, as long
+    /// as no other one is met.
+    #[cold]
+    #[inline(never)]
+    fn header_on_demand<S: Source>(
+        &self,
+        alloc: Global,
+        intake: &mut Intake<'_, S>,
+        scopes: &mut Scopes,
+        scratch: &mut PacketScratch<'a>,
+    ) -> Result<Headed<'a>, StreamFault>
+        requires few { length intake.old.buffer.now ≤ longest_bytes }
+        ensures keeps { Keeps S.Source intake.old intake.new }
+        ensures headed { let cut = self.now in
+            (more : List ℕ) →
+            let bytes = intake.new.buffer.now ++ more in
+            IfOk result (λ h. IsHeaded cut.shift cut.trace.now cut.reached bytes h scopes.new) }
+        ensures knows { OnOk result
+            (KnowsHeader self.now.trace.now scratch.new (values_of scopes.new)) }
+        ensures within { IfOk result (λ h. h.end ≤ min (8 * length intake.new.buffer.now) longest) }
+        ensures near { IfOk result (λ h.
+            8 * length intake.new.buffer.now ≤
+            max (8 * length intake.old.buffer.now) (h.end + 7)) }
+        ensures faulty { let cut = self.now in
+            IsTrue (S.tells intake.old.source.now) →
+            IfErr result (OrNoMemory
+            (λ fault. open_at (trace_form cut.shift cut.trace.now)
+            (S.ending intake.old.source.now) cut.reached cut.at
+            (intake.new.buffer.now ++ S.left intake.new.source.now) ≡ Err fault)) }
+        ensures few { length intake.new.buffer.now ≤ longest_bytes }
+    {
+        forget(scopes, scratch);
+        let header = NextScope {
+            class: self.trace.packet_header(),
+            scope: Scope::PacketHeader,
+            end: 0,
+            alloc,
+        };
+        let end = scope_on_demand(&header, intake, &mut scratch.header, scopes)?;
+        let reached = self.reached.as_ref();
+        let stream = stream_checked(self.trace, reached, scopes.get(Scope::PacketHeader))?;
+        let headed = Headed { stream, end };
+        scratch.known = self.first_header(alloc, intake.as_slice(), headed, scopes.spent());
+        Ok(headed)
+    }
+
+    /// The header that was decoded of these bytes, and how many values were begun in it, if the packet is the first of
+    /// its stream: then these bytes are its alone.
+    fn first_header(
+        &self,
+        alloc: Global,
+        bytes: &[u8],
+        headed: Headed<'a>,
+        spent: u64,
+    ) -> Option<KnownHeader<'a>>
+        requires within { headed.end ≤ min (8 * length bytes.now) longest }
+        requires few { spent ≤ MOST_VALUES }
+        ensures first { IfSome result (λ _. self.now.reached ≡ None) }
+        ensures bytes { IfSome result (λ k. k.bytes.items ≡ bytes.now) }
+        ensures headed { IfSome result (λ k. k.headed ≡ headed.entry) }
+        ensures spent { IfSome result (λ k. k.spent ≡ spent) }
+    {
+        match &self.reached {
+            None => KnownHeader::new(alloc, bytes, headed, spent),
+            Some(_) => None,
+        }
+    }
+
     /// Takes bytes until the header and context of a packet are there.
     fn begin<S: Source>(
         &self,
         alloc: Global,
         intake: &mut Intake<'_, S>,
         scopes: &mut Scopes,
-        scratch: &mut PacketScratch,
+        scratch: &mut PacketScratch<'a>,
     ) -> Result<Opening<'a>, StreamFault>
         requires some { 0 < length intake.old.buffer.now }
         requires few { length intake.old.buffer.now ≤ max 1 self.now.least }
+        requires knows { KnowsHeader self.now.trace.now scratch.old (values_of scopes.old) }
         ensures keeps { Keeps S.Source intake.old intake.new }
+        ensures knows { OnOk result
+            (KnowsHeader self.now.trace.now scratch.new (values_of scopes.new)) }
         ensures asks { let cut = self.now in
             IfOk result (λ opening.
             wants.wanted (trace_form cut.shift cut.trace.now) cut.reached intake.new.buffer.now ≡
@@ -292,20 +422,12 @@ impl<'a> PacketStart<'a> {
         ensures some { 0 < length intake.new.buffer.now }
         ensures few { length intake.new.buffer.now ≤ longest_bytes }
     {
-        forget(scopes, scratch);
-        let header = NextScope {
-            class: self.trace.packet_header(),
-            scope: Scope::PacketHeader,
-            end: 0,
-            alloc,
-        };
-        let end = scope_on_demand(&header, intake, &mut scratch.header, scopes)?;
-        let reached = self.reached.as_ref();
-        let stream = stream_checked(self.trace, reached, scopes.get(Scope::PacketHeader))?;
+        let headed = self.header(alloc, intake, scopes, scratch)?;
+        let stream = headed.stream;
         let context = NextScope {
             class: stream.packet_context(),
             scope: Scope::PacketContext,
-            end,
+            end: headed.end,
             alloc,
         };
         let first = scope_on_demand(&context, intake, &mut scratch.context, scopes)?;
@@ -319,12 +441,23 @@ impl<'a> PacketStart<'a> {
     }
 }
 
-/// Removes all values from the scopes. `scratch` gets those of the packet's header and context, for their memory.
-fn forget(scopes: &mut Scopes, scratch: &mut PacketScratch)
-    ensures { scopes.new ≡ nothing_known }
+/// Removes all values from the scopes, for which `scratch` gets the memory. No header is known then.
+fn forget(scopes: &mut Scopes, scratch: &mut PacketScratch<'_>)
+    ensures scopes { scopes.new ≡ nothing_known }
+    ensures known { scratch.new.known ≡ None }
 {
+    scratch.known = None;
     scopes.leave(Scope::PacketHeader, &mut scratch.header);
-    scopes.leave(Scope::PacketContext, &mut scratch.context);
+    leave_packet(scopes, &mut scratch.context);
+}
+
+/// Removes all values from the scopes but that of the packet's header. `context` gets that of the packet's context, for
+/// its memory.
+#[inline(always)]
+fn leave_packet(scopes: &mut Scopes, context: &mut Value)
+    ensures { scopes.new ≡ record nothing_known { packet_header = scopes.old.packet_header } }
+{
+    scopes.leave(Scope::PacketContext, context);
     if scopes.get(Scope::EventContext).is_some() || scopes.get(Scope::EventFields).is_some() {
         drop_body(scopes);
     }

@@ -1,6 +1,7 @@
 -- How far a stream was read.
 use Rattle.std.specs.Prelude.{◌≡◌, ℕ, ◌+◌, ◌-◌, ◌*◌, ◌^◌, ◌≤◌, ◌<◌, Bool, true, false, List, [], ◌∷◌, Option, IsSome, Some, None, Result, Ok, Err}
 use Rattle.ctf_bits.specs.declared.source.Ending.{Ending}
+use Rattle.ctf_class.specs.declared.trace.TraceClass.{TraceClass}
 use Rattle.ctf_decode.specs.Known.{Known}
 use Rattle.ctf_packet.specs.Classes.{Classes, TraceForm, trace_form}
 use Rattle.ctf_packet.specs.Items.{Run, stops, before, from_bytes}
@@ -9,6 +10,8 @@ use Rattle.ctf_packet.specs.Views.{values_of, packet_values}
 use Rattle.ctf_packet.specs.declared.fault.StreamFault.{StreamFault}
 use Rattle.ctf_stream.specs.Coming.{opened_in, left_in, item_in, room_in, HoldsFront}
 use Rattle.ctf_fetch.specs.Fetching.{OrNoMemory, most_taken, after_packet, FetchedAt}
+use Rattle.ctf_fetch.specs.Headers.{KnowsHeader}
+use Rattle.ctf_fetch.specs.declared.packet_scratch.PacketScratch.{PacketScratch}
 use Rattle.ctf_fetch.specs.declared.packet_start.PacketStart.{PacketStart}
 use Rattle.ctf_stream.specs.declared.packet.PacketReader.{PacketReader}
 use Rattle.ctf_stream.specs.declared.packet.PacketItem.{PacketItem}
@@ -56,9 +59,18 @@ IsPartOf values text None = Unit {0}
 IsPartOf values text (Some p) =
     text ≡ packet_part p.opened.stream.now.packet_context values.packet_context
 
--- that of the packet at hand was made
-abbrev pub HasPart : ReadState → Type 0
-HasPart c = IsPartOf (packet_values (values_of c.scopes)) c.line.part c.packet
+-- what was made of a packet's header and context is that of these values: the text that its lines share, and the header
+-- that is known
+pub record IsFrontOf (values : Values) (text : List ℕ) (packet : Option PacketReader)
+    (trace : TraceClass) (scratch : PacketScratch) : Type 0 where
+  pub part : IsPartOf values text packet
+  pub header : KnowsHeader trace scratch values
+
+-- that of the packet at hand was made, or is of the packet before
+abbrev pub HasFront : ReadState → Type 0
+HasFront c =
+    IsFrontOf (packet_values (values_of c.scopes)) c.line.part c.packet c.cut.trace.now
+    c.packet_scratch
 
 -- the text of the current event record was written, where that has no values
 abbrev pub HoldsIn : ReadState → Option PacketReader → PacketItem → Type 0

@@ -1,60 +1,35 @@
-use Rattle.std.proofs.Common.{rules, ◌≡◌, ◌++◌, ◌∙◌, [], length, drop, IfErr, Ok, Err, ap, subst, sym, arith, append-nil, inr}
+use Rattle.std.proofs.Common.{rules, ◌≡◌, ◌++◌, ◌∙◌, [], length, drop, IfErr, IfSome, Ok, Err, ap, subst, sym, arith, append-nil, inr}
 use Rattle.ctf_packet.specs.Classes.{trace_form, stream_form}
 use Rattle.ctf_packet.specs.Packets as packets
 use Rattle.ctf_packet.specs.Packets.{open_at}
-use Rattle.ctf_packet.specs.Scopes.{no_values, scope_at, fault_in_front}
+use Rattle.ctf_packet.specs.Scopes.{Values, scope_at, fault_in_front}
 use Rattle.ctf_packet.specs.Views.{values_of}
 use Rattle.ctf_packet_demand.specs.Gives as front
 use Rattle.ctf_packet_demand.proofs.Beginning as beginning
 use Rattle.ctf_fetch.specs.Fetching.{OrNoMemory}
+use Rattle.ctf_fetch.specs.Headers.{IsHeader}
 use Rattle.ctf_fetch.proofs.Parts.{grown_all, grown_more}
 use Rattle.ctf_fetch.proofs.Fronts.{front_ends}
-use Rattle.ctf_fetch.proofs.Opening.{header_short, stream_refused, asked_refused, context_short, fits}
+use Rattle.ctf_fetch.proofs.Opening.{asked_refused, context_short, fits}
 use Rattle.ctf_fetch.proofs.packet_start.PacketStart.begin.Goals as goal
-
-pub returns-in_err-end-clause-faulty : goal.returns-in_err-end-clause-faulty
-returns-in_err-end-clause-faulty g c = λ tells.
-    let cut = c.args.self.now in
-    let trace = trace_form cut.shift cut.trace.now in
-    let fault = c.in_err-end.field-0.0 in
-    let all = c.scope_on_demand.new.intake.buffer.now ++ g.S.Source.left c.scope_on_demand.new.intake.source.now in
-    let ending = g.S.Source.ending c.args.intake.now.source.now in
-    let told : OrNoMemory (λ f. scope_at (fault_in_front ending) trace.packet_header (packets.front all no_values) 0 0 ≡ Err f) fault = rw (c.forget.ensures, c.packet_header.ensures) at (c.in_err-end.ensures.faulty tells) in
-    let e : c.from_residual.result ≡ Err fault = search rules in
-    subst (λ r. IfErr r (OrNoMemory (λ f. open_at trace ending cut.reached cut.at all ≡ Err f))) (sym e) (header_short trace ending cut.reached cut.at all c.forget.new.scopes fault told)
-
-pub returns-in_err-stream-clause-faulty : goal.returns-in_err-stream-clause-faulty
-returns-in_err-stream-clause-faulty g c = λ tells.
-    let cut = c.args.self.now in
-    let trace = trace_form cut.shift cut.trace.now in
-    let fault = c.in_err-stream.field-0.0 in
-    let have = c.scope_on_demand.new.intake.buffer.now in
-    let left = g.S.Source.left c.scope_on_demand.new.intake.source.now in
-    let known = c.scope_on_demand.new.scopes in
-    let ending = g.S.Source.ending c.args.intake.now.source.now in
-    let header : beginning.Header trace cut.reached (have ++ []) c.in_ok-end.end known = rw (c.forget.ensures, c.packet_header.ensures) at (c.in_ok-end.ensures.puts []) in
-    let here = subst (λ b. beginning.Header trace cut.reached b c.in_ok-end.end known) (append-nil have) header in
-    let checked : packets.stream_checked trace cut.reached (values_of known).packet_header ≡ Err fault = rw (c.as_ref-reached.ensures.value, c.get.ensures) at (c.in_err-stream.ensures cut.shift) in
-    let e : c.from_residual-in_err-stream.result ≡ Err fault = search rules in
-    subst (λ r. IfErr r (OrNoMemory (λ f. open_at trace ending cut.reached cut.at (have ++ left) ≡ Err f))) (sym e) (inr (stream_refused trace ending cut.reached cut.at have left c.in_ok-end.end known fault here checked))
 
 pub returns-in_err-first-clause-faulty : goal.returns-in_err-first-clause-faulty
 returns-in_err-first-clause-faulty g c = λ tells.
     let cut = c.args.self.now in
     let trace = trace_form cut.shift cut.trace.now in
-    let s = stream_form cut.shift c.in_ok-stream.stream.now in
+    let s = stream_form cut.shift c.in_ok-headed.headed.stream.now in
     let fault = c.in_err-first.field-0.0 in
-    let have = c.scope_on_demand.new.intake.buffer.now in
-    let later = c.scope_on_demand-2.new.intake.buffer.now in
-    let left = g.S.Source.left c.scope_on_demand-2.new.intake.source.now in
-    let known = c.scope_on_demand.new.scopes in
-    let end = c.in_ok-end.end in
+    let have = c.header.new.intake.buffer.now in
+    let later = c.scope_on_demand.new.intake.buffer.now in
+    let left = g.S.Source.left c.scope_on_demand.new.intake.source.now in
+    let known = c.header.new.scopes in
+    let end = c.in_ok-headed.headed.end in
     let ending = g.S.Source.ending c.args.intake.now.source.now in
-    let header : beginning.Header trace cut.reached (have ++ (drop (length have) later ++ left)) end known = rw (c.forget.ensures, c.packet_header.ensures) at (c.in_ok-end.ensures.puts (drop (length have) later ++ left)) in
-    let here = subst (λ b. beginning.Header trace cut.reached b end known) (sym (grown_more have later left c.scope_on_demand-2.ensures.keeps.bytes.first)) header in
-    let checked : packets.stream_checked trace cut.reached (values_of known).packet_header ≡ Ok s = rw (c.as_ref-reached.ensures.value, c.get.ensures) at (c.in_ok-stream.ensures cut.shift) in
-    let asked : OrNoMemory (λ f. scope_at (fault_in_front (g.S.Source.ending c.scope_on_demand.new.intake.source.now)) s.packet_context (packets.front (later ++ left) (values_of known)) end known.spent ≡ Err f) fault = rw c.packet_context.ensures at (c.in_err-first.ensures.faulty (c.scope_on_demand.ensures.keeps.bytes.tells tells)) in
-    let told = subst (λ e. OrNoMemory (λ f. scope_at (fault_in_front e) s.packet_context (packets.front (later ++ left) (values_of known)) end known.spent ≡ Err f) fault) (c.scope_on_demand.ensures.keeps.bytes.same_end tells) asked in
+    let header : beginning.Header trace cut.reached (have ++ (drop (length have) later ++ left)) end known = (c.in_ok-headed.ensures.headed (drop (length have) later ++ left)).header in
+    let here = subst (λ b. beginning.Header trace cut.reached b end known) (sym (grown_more have later left c.scope_on_demand.ensures.keeps.bytes.first)) header in
+    let checked : packets.stream_checked trace cut.reached (values_of known).packet_header ≡ Ok s = (c.in_ok-headed.ensures.headed []).stream in
+    let asked : OrNoMemory (λ f. scope_at (fault_in_front (g.S.Source.ending c.header.new.intake.source.now)) s.packet_context (packets.front (later ++ left) (values_of known)) end known.spent ≡ Err f) fault = rw c.packet_context.ensures at (c.in_err-first.ensures.faulty (c.header.ensures.keeps.bytes.tells tells)) in
+    let told = subst (λ e. OrNoMemory (λ f. scope_at (fault_in_front e) s.packet_context (packets.front (later ++ left) (values_of known)) end known.spent ≡ Err f) fault) (c.header.ensures.keeps.bytes.same_end tells) asked in
     let e : c.from_residual-in_err-first.result ≡ Err fault = search rules in
     subst (λ r. IfErr r (OrNoMemory (λ f. open_at trace ending cut.reached cut.at (later ++ left) ≡ Err f))) (sym e) (context_short trace ending cut.reached cut.at (later ++ left) end known known fault s here checked told)
 
@@ -62,23 +37,23 @@ pub returns-in_err-begun-clause-faulty : goal.returns-in_err-begun-clause-faulty
 returns-in_err-begun-clause-faulty g c = λ tells.
     let cut = c.args.self.now in
     let trace = trace_form cut.shift cut.trace.now in
-    let s = stream_form cut.shift c.in_ok-stream.stream.now in
-    let have = c.scope_on_demand.new.intake.buffer.now in
-    let later = c.scope_on_demand-2.new.intake.buffer.now in
-    let known = c.scope_on_demand.new.scopes in
-    let after = c.scope_on_demand-2.new.scopes in
-    let end = c.in_ok-end.end in
+    let s = stream_form cut.shift c.in_ok-headed.headed.stream.now in
+    let have = c.header.new.intake.buffer.now in
+    let later = c.scope_on_demand.new.intake.buffer.now in
+    let known = c.header.new.scopes in
+    let after = c.scope_on_demand.new.scopes in
+    let end = c.in_ok-headed.headed.end in
     let first = c.in_ok-first.first in
-    let header : beginning.Header trace cut.reached (have ++ drop (length have) later) end known = rw (c.forget.ensures, c.packet_header.ensures) at (c.in_ok-end.ensures.puts (drop (length have) later)) in
-    let here = subst (λ b. beginning.Header trace cut.reached b end known) (sym (grown_all have later c.scope_on_demand-2.ensures.keeps.bytes.first)) header in
-    let checked : packets.stream_checked trace cut.reached (values_of known).packet_header ≡ Ok s = rw (c.as_ref-reached.ensures.value, c.get.ensures) at (c.in_ok-stream.ensures cut.shift) in
+    let header : beginning.Header trace cut.reached (have ++ drop (length have) later) end known = (c.in_ok-headed.ensures.headed (drop (length have) later)).header in
+    let here = subst (λ b. beginning.Header trace cut.reached b end known) (sym (grown_all have later c.scope_on_demand.ensures.keeps.bytes.first)) header in
+    let checked : packets.stream_checked trace cut.reached (values_of known).packet_header ≡ Ok s = (c.in_ok-headed.ensures.headed []).stream in
     let put_there : beginning.Context trace cut.reached (later ++ []) s end known first after = rw c.packet_context.ensures at (c.in_ok-first.ensures.puts []) in
     let context = subst (λ b. beginning.Context trace cut.reached b s end known first after) (append-nil later) put_there in
     let asks = beginning.to_sized trace cut.reached later end first known after here s checked context in
     let fault = c.in_err-begun.field-0.0 in
-    let left = g.S.Source.left c.scope_on_demand-2.new.intake.source.now in
+    let left = g.S.Source.left c.scope_on_demand.new.intake.source.now in
     let ending = g.S.Source.ending c.args.intake.now.source.now in
-    let judged = asks ∙ (rw c.get-2.ensures at (c.in_err-begun.ensures.judged cut.shift (values_of after))) in
+    let judged = asks ∙ (rw c.get.ensures at (c.in_err-begun.ensures.judged cut.shift (values_of after))) in
     let e : c.from_residual-in_err-begun.result ≡ Err fault = search rules in
     subst (λ r. IfErr r (OrNoMemory (λ f. open_at trace ending cut.reached cut.at (later ++ left) ≡ Err f))) (sym e) (inr (asked_refused trace ending cut.reached cut.at later left fault judged))
 
@@ -86,62 +61,72 @@ pub returns-in-Rest-clause-asks : goal.returns-in-Rest-clause-asks
 returns-in-Rest-clause-asks g c =
     let cut = c.args.self.now in
     let trace = trace_form cut.shift cut.trace.now in
-    let s = stream_form cut.shift c.in_ok-stream.stream.now in
-    let have = c.scope_on_demand.new.intake.buffer.now in
-    let later = c.scope_on_demand-2.new.intake.buffer.now in
-    let known = c.scope_on_demand.new.scopes in
-    let after = c.scope_on_demand-2.new.scopes in
-    let end = c.in_ok-end.end in
+    let s = stream_form cut.shift c.in_ok-headed.headed.stream.now in
+    let have = c.header.new.intake.buffer.now in
+    let later = c.scope_on_demand.new.intake.buffer.now in
+    let known = c.header.new.scopes in
+    let after = c.scope_on_demand.new.scopes in
+    let end = c.in_ok-headed.headed.end in
     let first = c.in_ok-first.first in
-    let header : beginning.Header trace cut.reached (have ++ drop (length have) later) end known = rw (c.forget.ensures, c.packet_header.ensures) at (c.in_ok-end.ensures.puts (drop (length have) later)) in
-    let here = subst (λ b. beginning.Header trace cut.reached b end known) (sym (grown_all have later c.scope_on_demand-2.ensures.keeps.bytes.first)) header in
-    let checked : packets.stream_checked trace cut.reached (values_of known).packet_header ≡ Ok s = rw (c.as_ref-reached.ensures.value, c.get.ensures) at (c.in_ok-stream.ensures cut.shift) in
+    let header : beginning.Header trace cut.reached (have ++ drop (length have) later) end known = (c.in_ok-headed.ensures.headed (drop (length have) later)).header in
+    let here = subst (λ b. beginning.Header trace cut.reached b end known) (sym (grown_all have later c.scope_on_demand.ensures.keeps.bytes.first)) header in
+    let checked : packets.stream_checked trace cut.reached (values_of known).packet_header ≡ Ok s = (c.in_ok-headed.ensures.headed []).stream in
     let put_there : beginning.Context trace cut.reached (later ++ []) s end known first after = rw c.packet_context.ensures at (c.in_ok-first.ensures.puts []) in
     let context = subst (λ b. beginning.Context trace cut.reached b s end known first after) (append-nil later) put_there in
     let asks = beginning.to_sized trace cut.reached later end first known after here s checked context in
-    asks ∙ (rw c.get-2.ensures at (c.in_ok-begun.ensures.judged cut.shift (values_of after))) ∙ ap (front.want_of cut.shift (values_of after)) c.in-Rest.is
+    asks ∙ (rw c.get.ensures at (c.in_ok-begun.ensures.judged cut.shift (values_of after))) ∙ ap (front.want_of cut.shift (values_of after)) c.in-Rest.is
 
 pub returns-in-Whole-clause-asks : goal.returns-in-Whole-clause-asks
 returns-in-Whole-clause-asks g c =
     let cut = c.args.self.now in
     let trace = trace_form cut.shift cut.trace.now in
-    let s = stream_form cut.shift c.in_ok-stream.stream.now in
-    let have = c.scope_on_demand.new.intake.buffer.now in
-    let later = c.scope_on_demand-2.new.intake.buffer.now in
-    let known = c.scope_on_demand.new.scopes in
-    let after = c.scope_on_demand-2.new.scopes in
-    let end = c.in_ok-end.end in
+    let s = stream_form cut.shift c.in_ok-headed.headed.stream.now in
+    let have = c.header.new.intake.buffer.now in
+    let later = c.scope_on_demand.new.intake.buffer.now in
+    let known = c.header.new.scopes in
+    let after = c.scope_on_demand.new.scopes in
+    let end = c.in_ok-headed.headed.end in
     let first = c.in_ok-first.first in
-    let header : beginning.Header trace cut.reached (have ++ drop (length have) later) end known = rw (c.forget.ensures, c.packet_header.ensures) at (c.in_ok-end.ensures.puts (drop (length have) later)) in
-    let here = subst (λ b. beginning.Header trace cut.reached b end known) (sym (grown_all have later c.scope_on_demand-2.ensures.keeps.bytes.first)) header in
-    let checked : packets.stream_checked trace cut.reached (values_of known).packet_header ≡ Ok s = rw (c.as_ref-reached.ensures.value, c.get.ensures) at (c.in_ok-stream.ensures cut.shift) in
+    let header : beginning.Header trace cut.reached (have ++ drop (length have) later) end known = (c.in_ok-headed.ensures.headed (drop (length have) later)).header in
+    let here = subst (λ b. beginning.Header trace cut.reached b end known) (sym (grown_all have later c.scope_on_demand.ensures.keeps.bytes.first)) header in
+    let checked : packets.stream_checked trace cut.reached (values_of known).packet_header ≡ Ok s = (c.in_ok-headed.ensures.headed []).stream in
     let put_there : beginning.Context trace cut.reached (later ++ []) s end known first after = rw c.packet_context.ensures at (c.in_ok-first.ensures.puts []) in
     let context = subst (λ b. beginning.Context trace cut.reached b s end known first after) (append-nil later) put_there in
     let asks = beginning.to_sized trace cut.reached later end first known after here s checked context in
-    asks ∙ (rw c.get-2.ensures at (c.in_ok-begun.ensures.judged cut.shift (values_of after))) ∙ ap (front.want_of cut.shift (values_of after)) c.in-Whole.is
+    asks ∙ (rw c.get.ensures at (c.in_ok-begun.ensures.judged cut.shift (values_of after))) ∙ ap (front.want_of cut.shift (values_of after)) c.in-Whole.is
 
 pub returns-in-Whole-clause-fits : goal.returns-in-Whole-clause-fits
 returns-in-Whole-clause-fits g c =
     let cut = c.args.self.now in
     let trace = trace_form cut.shift cut.trace.now in
-    let s = stream_form cut.shift c.in_ok-stream.stream.now in
-    let have = c.scope_on_demand.new.intake.buffer.now in
-    let later = c.scope_on_demand-2.new.intake.buffer.now in
-    let known = c.scope_on_demand.new.scopes in
-    let after = c.scope_on_demand-2.new.scopes in
-    let end = c.in_ok-end.end in
+    let s = stream_form cut.shift c.in_ok-headed.headed.stream.now in
+    let have = c.header.new.intake.buffer.now in
+    let later = c.scope_on_demand.new.intake.buffer.now in
+    let known = c.header.new.scopes in
+    let after = c.scope_on_demand.new.scopes in
+    let end = c.in_ok-headed.headed.end in
     let first = c.in_ok-first.first in
-    let header : beginning.Header trace cut.reached (have ++ drop (length have) later) end known = rw (c.forget.ensures, c.packet_header.ensures) at (c.in_ok-end.ensures.puts (drop (length have) later)) in
-    let here = subst (λ b. beginning.Header trace cut.reached b end known) (sym (grown_all have later c.scope_on_demand-2.ensures.keeps.bytes.first)) header in
-    let checked : packets.stream_checked trace cut.reached (values_of known).packet_header ≡ Ok s = rw (c.as_ref-reached.ensures.value, c.get.ensures) at (c.in_ok-stream.ensures cut.shift) in
+    let header : beginning.Header trace cut.reached (have ++ drop (length have) later) end known = (c.in_ok-headed.ensures.headed (drop (length have) later)).header in
+    let here = subst (λ b. beginning.Header trace cut.reached b end known) (sym (grown_all have later c.scope_on_demand.ensures.keeps.bytes.first)) header in
+    let checked : packets.stream_checked trace cut.reached (values_of known).packet_header ≡ Ok s = (c.in_ok-headed.ensures.headed []).stream in
     let put_there : beginning.Context trace cut.reached (later ++ []) s end known first after = rw c.packet_context.ensures at (c.in_ok-first.ensures.puts []) in
     let context = subst (λ b. beginning.Context trace cut.reached b s end known first after) (append-nil later) put_there in
     let asks = beginning.to_sized trace cut.reached later end first known after here s checked context in
-    let told = asks ∙ (rw c.get-2.ensures at (c.in_ok-begun.ensures.judged cut.shift (values_of after))) ∙ ap (front.want_of cut.shift (values_of after)) c.in-Whole.is in
+    let told = asks ∙ (rw c.get.ensures at (c.in_ok-begun.ensures.judged cut.shift (values_of after))) ∙ ap (front.want_of cut.shift (values_of after)) c.in-Whole.is in
     let few = c.requires.few in
     let takes = front_ends cut.trace.now cut.shift cut.reached cut.least later end first known after s cut.takes here checked context in
-    let near = c.in_ok-end.ensures.near in
+    let near = c.in_ok-headed.ensures.near in
     let also = c.in_ok-first.ensures.near in
     let on = c.in_ok-first.ensures.forward in
     let ends : c.in-Whole.begun.first ≡ first = rw c.in-Whole.is at c.in_ok-begun.ensures.first in
     fits trace cut.reached later (front.begun_of cut.shift (values_of after) c.in-Whole.begun) c.in-Whole.sizes 1 told (omega arith) (omega (arith, few, takes, near, also, on, ends))
+
+pub returns-in-Rest-clause-knows : goal.returns-in-Rest-clause-knows
+returns-in-Rest-clause-knows g c =
+    let kept = c.in_ok-first.ensures.puts [] in
+    subst (λ v. IfSome c.header.new.scratch.known (λ k. IsHeader c.args.self.now.trace.now k v)) (sym (ap (λ (v : Values). v.packet_header) kept.4)) c.in_ok-headed.ensures.knows
+
+pub returns-in-Whole-clause-knows : goal.returns-in-Whole-clause-knows
+returns-in-Whole-clause-knows g c =
+    let kept = c.in_ok-first.ensures.puts [] in
+    subst (λ v. IfSome c.header.new.scratch.known (λ k. IsHeader c.args.self.now.trace.now k v)) (sym (ap (λ (v : Values). v.packet_header) kept.4)) c.in_ok-headed.ensures.knows

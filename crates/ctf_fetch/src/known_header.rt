@@ -1,0 +1,67 @@
+//! The header that the packets of a stream share.
+
+ghost use Rattle.std.specs.Prelude.{◌≡◌, ◌*◌, ◌≤◌, min, length, take, IsTrue, IfSome};
+ghost use Rattle.ctf_decode.specs.declared.scopes.TheConstants.{MOST_VALUES};
+ghost use Rattle.ctf_packet.specs.Scopes.{longest};
+
+use ctf_class::StreamClass;
+use ctf_decode::MOST_VALUES;
+use std::alloc::Global;
+
+/// The longest header that is kept, in bytes.
+const LONGEST_KEPT: usize = 64;
+
+/// A packet whose header was decoded, or is known: its stream class, and the bit at which the header ends.
+#[derive(Clone, Copy)]
+pub(crate) struct Headed<'a> {
+    pub(crate) stream: &'a StreamClass,
+    pub(crate) end: u64,
+}
+
+/// A header with the bytes that it was decoded from: each packet of its stream that begins with them has this header.
+#[derive(Drop)]
+pub(crate) struct KnownHeader<'a> {
+    pub(crate) bytes: Vec<u8>,
+    pub(crate) headed: Headed<'a>,
+    /// How many values were begun in it.
+    pub(crate) spent: u64,
+    ghost within: { headed.end ≤ min (8 * length bytes.items) longest },
+    ghost few: { spent ≤ MOST_VALUES },
+}
+
+impl<'a> KnownHeader<'a> {
+    /// Keeps a header, unless it is long or an allocation fails.
+    pub(crate) fn new(
+        alloc: Global,
+        bytes: &[u8],
+        headed: Headed<'a>,
+        spent: u64,
+    ) -> Option<KnownHeader<'a>>
+        requires within { headed.end ≤ min (8 * length bytes.now) longest }
+        requires few { spent ≤ MOST_VALUES }
+        ensures bytes { IfSome result (λ k. k.bytes.items ≡ bytes.now) }
+        ensures headed { IfSome result (λ k. k.headed ≡ headed.entry) }
+        ensures spent { IfSome result (λ k. k.spent ≡ spent) }
+    {
+        if bytes.len() > LONGEST_KEPT {
+            return None;
+        }
+        match bytes.to_vec(alloc) {
+            Err(_) => None,
+            Ok(bytes) => Some(KnownHeader {
+                bytes,
+                headed,
+                spent,
+            }),
+        }
+    }
+
+    /// Whether a packet begins with its bytes.
+    pub(crate) fn begins(&self, packet: &[u8]) -> bool
+        ensures { IsTrue result →
+            take (length self.now.bytes.items) packet.now ≡ self.now.bytes.items }
+    {
+        let count = self.bytes.len();
+        packet.len() >= count && packet[..count] == self.bytes[..]
+    }
+}

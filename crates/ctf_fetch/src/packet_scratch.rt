@@ -1,0 +1,28 @@
+//! What a packet leaves for the next one.
+
+ghost use Rattle.std.specs.Prelude.{◌≡◌, None};
+
+use crate::known_header::KnownHeader;
+use ctf_decode::Value;
+
+/// What the packets of a stream leave for the next one: memory for the values of its header and context, in which the
+/// values mean nothing, and a header that the next packets mostly have too.
+#[derive(Drop)]
+pub struct PacketScratch<'a> {
+    pub(crate) header: Value,
+    pub(crate) context: Value,
+    pub(crate) known: Option<KnownHeader<'a>>,
+}
+
+impl<'a> PacketScratch<'a> {
+    /// Scratch without memory, by which no header is known. None is allocated.
+    pub fn new() -> PacketScratch<'a>
+        ensures { result.known ≡ None }
+    {
+        PacketScratch {
+            header: Value::Unsigned(0),
+            context: Value::Unsigned(0),
+            known: None,
+        }
+    }
+}
