@@ -20,7 +20,7 @@ pub use align::up;
 pub use drip_sink::DripSink;
 pub use failing_sink::FailingSink;
 pub use from_read::FromRead;
-pub use number::{Order, uint, uint_within};
+pub use number::{Order, uint, uint_at_byte, uint_within};
 pub use signed::{is_unsigned, sint, sint_within};
 pub use sink::{Sink, SinkFault};
 pub use slices::{FailingSource, PieceSource, SliceSource};

@@ -12,6 +12,7 @@ mod moves;
 mod octets;
 mod parts;
 mod place;
+mod plain;
 mod room;
 mod scopes;
 mod slot;

@@ -12,6 +12,7 @@ use crate::find::{length_at, option_at};
 use crate::leaf::{enumeration_into, integer_into};
 use crate::octets::{are_octets, is_octet, octets_into};
 use crate::place::{Around, Cursor, Frame, Stopped, begin_at};
+use crate::plain::plain_members_into;
 use crate::room::with_room;
 use crate::scopes::MOST_VALUES;
 use crate::text::{characters_into, string_into};
@@ -185,8 +186,9 @@ fn each_member_into(
     ensures within { IfOk result (λ _. (at.new.end ≤ around.now.packet.content) ×
         (at.new.spent ≤ MOST_VALUES)) }
 {
-    for (i, member) in members.iter().enumerate() {
-        member_into(&member.class, around, at, values, i)?;
+    let first = plain_members_into(members, &around.packet, at, values);
+    for i in first..members.len() {
+        member_into(&members[i].class, around, at, values, i)?;
     }
     Ok(())
 }
