@@ -1,10 +1,8 @@
 //! Classes of a packet's header and context.
 
-ghost use Rattle.std.specs.Prelude.{◌≡◌, IfOk, IfSome};
-ghost use Rattle.std.specs.List.{slice_get};
+ghost use Rattle.std.specs.Prelude.{◌≡◌, IfOk};
 ghost use Rattle.ctf_class.specs.Fronts.{ArePlaces, are_of_packet, is_of_packet, members_of, place_named};
 ghost use Rattle.ctf_class.specs.RoleNames.{role_name};
-ghost use Rattle.ctf_class.specs.declared.class.Member.{Member as MemberOf};
 
 use crate::class::{Class, Kind, Member};
 use crate::role::Role;
@@ -98,17 +96,13 @@ impl FrontClass {
         }
     }
 
-    /// Whether the member at an index has a name that no line shows of a packet context, since it says something of the
-    /// packet and not of its events. Past the last member the answer is unspecified.
+    /// For each member, in their order, whether it has a name that no line shows of a packet context, since it says
+    /// something of the packet and not of its events.
     #[inline(always)]
-    pub fn hides(&self, index: usize) -> bool
-        ensures { IfSome (slice_get (members_of self.now) index)
-            (λ (member : MemberOf). result ≡ is_of_packet member.name) }
+    pub fn hidden(&self) -> &[bool]
+        ensures { result.now ≡ are_of_packet (members_of self.now) }
     {
-        match self.hidden.as_slice().get(index) {
-            Some(hidden) => *hidden,
-            None => false,
-        }
+        self.hidden.as_slice()
     }
 }
 

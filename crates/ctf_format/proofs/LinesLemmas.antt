@@ -1,10 +1,9 @@
 -- Packet contexts and lines, part by part.
-use Rattle.std.proofs.Common.{◌≡◌, ℕ, zero, suc, ◌+◌, ◌<◌, ◌≤◌, Bool, true, false, cond, List, [], ◌∷◌, ◌++◌, map, drop, length, get_or, slice_get, Some, IfSome, refl, sym, ap, subst, ◌∙◌, arith, append_assoc, append-nil, length-append}
+use Rattle.std.proofs.Common.{◌≡◌, ℕ, zero, suc, ◌+◌, ◌<◌, ◌≤◌, Bool, true, false, cond, List, [], ◌∷◌, ◌++◌, map, drop, length, get_or, refl, sym, ap, ◌∙◌, arith, append_assoc, append-nil, length-append}
 use Rattle.std.specs.List.{flat_map}
 use Rattle.std.proofs.lemmas.Grind.{flat_map-append}
-use Rattle.std.proofs.lemmas.Option.{slice_get_read}
 use Rattle.ctf_class.specs.declared.class.Member.{Member}
-use Rattle.ctf_class.specs.Fronts.{is_of_packet}
+use Rattle.ctf_class.specs.Fronts.{are_of_packet, is_of_packet}
 use Rattle.ctf_decode.specs.declared.value.Value.{Value}
 use Rattle.ctf_decode.specs.Values.{vals_of, no_vals}
 use Rattle.ctf_decode.specs.Views.{val}
@@ -23,17 +22,18 @@ none_shown (m ∷ ms) = refl
 pub shown_end : (ms : List Member) (vs : List Value) (i : ℕ) → length vs ≤ i → shown_of (drop i ms) (drop i vs) ≡ []
 shown_end ms vs i past = ap (shown_of (drop i ms)) (drop-all vs i past) ∙ none_shown (drop i ms)
 
+-- past the last member, and past the last value, none is shown
+pub shown_past : (ms : List Member) (vs : List Value) (i : ℕ) → (i < length ms → i < length vs → ⊥) → shown_of (drop i ms) (drop i vs) ≡ []
+shown_past [] vs i past = ap (λ left. shown_of left (drop i vs)) (drop-all [] i (omega arith))
+shown_past (m ∷ ms) [] i past = shown_end (m ∷ ms) [] i (omega arith)
+shown_past (m ∷ ms) (v ∷ vs) zero past = absurd (past (omega arith) (omega arith))
+shown_past (m ∷ ms) (v ∷ vs) (suc i) past = shown_past ms vs i (λ a b. past (omega arith) (omega arith))
+
 next : (ms : List Member) (vs : List Value) (i : ℕ) (m : Member) (v : Value) (b : Bool) → i < length ms → i < length vs → m ≡ get_or ms i m → v ≡ get_or vs i v → is_of_packet m.name ≡ b
     → shown_of (drop i ms) (drop i vs) ≡ cond b (shown_of (drop (i + 1) ms) (drop (i + 1) vs)) (part_text (member_part m) (val v) ∷ shown_of (drop (i + 1) ms) (drop (i + 1) vs))
 next ms vs i m v b in_ms in_vs m_is v_is is =
     let rest = shown_of (drop (i + 1) ms) (drop (i + 1) vs) in
     (λ j. shown_of (here ms i m in_ms m_is j) (here vs i v in_vs v_is j)) ∙ ap (λ c. cond c rest (part_text (member_part m) (val v) ∷ rest)) is
-
--- what is known of the member at an index
-pub hidden_at : {ms of_class : List Member} → ms ≡ of_class → (i : ℕ) (m : Member) → i < length ms → m ≡ get_or ms i m → (hides : Bool) → IfSome (slice_get of_class i) (λ (member : Member). hides ≡ is_of_packet member.name) → hides ≡ is_of_packet m.name
-hidden_at {ms} {of_class} same i m within is hides known =
-    let there : slice_get of_class i ≡ Some m = ap (λ xs. slice_get xs i) (sym same) ∙ slice_get_read ms (length ms) i m refl within is in
-    subst (λ found. IfSome found (λ (member : Member). hides ≡ is_of_packet member.name)) there known
 
 -- a member that is shown is written
 pub shown_more : (ms : List Member) (vs : List Value) (i : ℕ) (m : Member) (v : Value) (line more before : List ℕ) (lead mark : ℕ) (all : List (List ℕ)) → i < length ms → i < length vs → m ≡ get_or ms i m → v ≡ get_or vs i v → is_of_packet m.name ≡ false
@@ -43,10 +43,10 @@ shown_more ms vs i m v line more before lead mark all in_ms in_vs m_is v_is is a
     let text = part_text (member_part m) (val v) in
     ap (λ xs. xs ++ row 44 rest) wrote ∙ row_next line before text rest all lead mark (ap (λ texts. line ++ row lead texts) (sym (next ms vs i m v false in_ms in_vs m_is v_is is)) ∙ already)
 
-item : (vs : List Value) (i : ℕ) → i < length vs → (v : Value) × (v ≡ get_or vs i v)
+item : {A : Type 0} (xs : List A) (i : ℕ) → i < length xs → (x : A) × (x ≡ get_or xs i x)
 item [] i within = absurd (omega arith)
-item (v ∷ vs) zero within = (v, refl)
-item (v ∷ vs) (suc i) within = item vs i (omega arith)
+item (x ∷ xs) zero within = (x, refl)
+item (x ∷ xs) (suc i) within = item xs i (omega arith)
 
 -- another one is not
 pub shown_same : (ms : List Member) (vs : List Value) (i : ℕ) (m : Member) (line before : List ℕ) (lead mark : ℕ) (all : List (List ℕ)) → i < length ms → i < length vs → m ≡ get_or ms i m → is_of_packet m.name ≡ true
@@ -54,6 +54,23 @@ pub shown_same : (ms : List Member) (vs : List Value) (i : ℕ) (m : Member) (li
 shown_same ms vs i m line before lead mark all in_ms in_vs m_is is already =
     let v = item vs i in_vs in
     ap (λ texts. line ++ row lead texts) (sym (next ms vs i m v.0 true in_ms in_vs m_is v.1 is)) ∙ already
+
+-- the member at an index, which is hidden
+hidden_at : (ms : List Member) (i : ℕ) (m : Member) → i < length ms → m ≡ get_or ms i m → get_or (are_of_packet ms) i false ≡ true → is_of_packet m.name ≡ true
+hidden_at [] i m within is known = absurd (omega arith)
+hidden_at (n ∷ ms) zero m within is known = ap (λ (member : Member). is_of_packet member.name) is ∙ known
+hidden_at (n ∷ ms) (suc i) m within is known = hidden_at ms i m (omega arith) is known
+
+pub hidden_same : (ms : List Member) (vs : List Value) (i : ℕ) (line before : List ℕ) (lead mark : ℕ) (all : List (List ℕ)) → i < length ms → i < length vs → get_or (are_of_packet ms) i false ≡ true
+    → line ++ row lead (shown_of (drop i ms) (drop i vs)) ≡ before ++ row mark all → line ++ row lead (shown_of (drop (i + 1) ms) (drop (i + 1) vs)) ≡ before ++ row mark all
+hidden_same ms vs i line before lead mark all in_ms in_vs hidden already =
+    let m = item ms i in_ms in
+    shown_same ms vs i m.0 line before lead mark all in_ms in_vs m.1 (hidden_at ms i m.0 in_ms m.1 hidden) already
+
+-- all that are shown were written
+pub shown_all : (ms : List Member) (vs : List Value) (i : ℕ) (line before : List ℕ) (lead mark : ℕ) (all : List (List ℕ)) → (i < length ms → i < length vs → ⊥) → line ++ row lead (shown_of (drop i ms) (drop i vs)) ≡ before ++ row mark all → line ≡ before ++ row mark all
+shown_all ms vs i line before lead mark all past already =
+    sym (append-nil line) ∙ ap (λ texts. line ++ row lead texts) (sym (shown_past ms vs i past)) ∙ already
 
 -- a context of which nothing was written
 pub context_none : (texts : List (List ℕ)) (line before : List ℕ) → length line ≡ length before → line ≡ before ++ row 123 texts → line ≡ before ++ context_text texts

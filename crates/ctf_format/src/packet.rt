@@ -76,14 +76,13 @@ fn put_shown(
     let mut end = at;
     let mut lead = b'{';
     let members = class.members();
-    for (i, member) in members.iter().enumerate() {
-        if i >= values.len() {
-            return Ok(end);
-        }
-        if class.hides(i) {
+    let hidden = class.hidden();
+    let count = hidden.len().min(values.len());
+    for i in 0..count {
+        if hidden[i] {
             continue;
         }
-        end = put_member(lead, member, &values[i], buffer, end)?;
+        end = put_member(lead, &members[i], &values[i], buffer, end)?;
         lead = b',';
     }
     Ok(end)

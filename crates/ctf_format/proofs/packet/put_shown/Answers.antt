@@ -1,23 +1,43 @@
-use Rattle.std.proofs.Common.{take, sym, ◌∙◌}
-use Rattle.ctf_format.proofs.LinesLemmas.{hidden_at, shown_more, shown_same}
+use Rattle.std.proofs.Common.{◌≡◌, ◌+◌, ◌++◌, ◌<◌, ◌≤◌, min, false, List, map, length, get_or, take, ap, sym, ◌∙◌, arith}
+use Rattle.std.proofs.Math.Nat.{min-le_left, min-le_right, le-min}
+use Rattle.std.proofs.lemmas.List.{length-map}
+use Rattle.ctf_class.specs.Fronts.{are_of_packet}
+use Rattle.ctf_class.specs.declared.class.Member.{Member}
+use Rattle.ctf_decode.specs.Values.{vals_of}
+use Rattle.ctf_decode.specs.Views.{val}
+use Rattle.ctf_format.specs.Lines.{shown_members}
+use Rattle.ctf_format.specs.Rows.{row}
+use Rattle.ctf_format.proofs.LinesLemmas.{hidden_same, shown_all}
 use Rattle.ctf_format.proofs.packet.put_shown.Goals as goal
 
-pub loop-i-preserved-then-hides : goal.loop-i-preserved-then-hides
-loop-i-preserved-then-hides c =
+pub loop-i-preserved-then-hidden-i : goal.loop-i-preserved-then-hidden-i
+loop-i-preserved-then-hidden-i c =
     let ms = c.members-members.result.now in
-    let m = c.index-members-i.result in
-    let named = hidden_at c.members-members.ensures c.loop-i.i m c.loop-i-test.true c.index-members-i.is c.hides.result c.hides.ensures in
+    let vs = c.args.values.now in
+    let hs = c.hidden-hidden.result.now in
+    let same : hs ≡ are_of_packet ms = c.hidden-hidden.ensures ∙ ap are_of_packet (sym c.members-members.ensures) in
+    let count : length hs ≡ length ms = ap length same ∙ length-map ms _ in
+    let in_ms : c.loop-i.i < length ms = omega (arith, c.loop-i-test.true, c.min-count.ensures, count, min-le_left (length hs) (length vs)) in
+    let in_vs : c.loop-i.i < length vs = omega (arith, c.loop-i-test.true, c.min-count.ensures, min-le_right (length hs) (length vs)) in
     record {
       held = c.loop-i.invariant.held;
-      text = shown_same ms c.args.values.now c.loop-i.i m (take c.loop-i.end c.loop-i.buffer.items) (take c.args.at c.args.buffer.now.items) c.loop-i.lead 123 _ c.loop-i-test.true c.if-i-values.false c.index-members-i.is (sym named ∙ c.if-hides.true) c.loop-i.invariant.text;
+      text = hidden_same ms vs c.loop-i.i (take c.loop-i.end c.loop-i.buffer.items) (take c.args.at c.args.buffer.now.items) c.loop-i.lead 123 _ in_ms in_vs (sym (ap (λ h. get_or h c.loop-i.i false) same) ∙ c.if-hidden-i.true) c.loop-i.invariant.text;
     }
 
-pub loop-i-preserved : goal.loop-i-preserved
-loop-i-preserved c =
+pub returns-clause-text : goal.returns-clause-text
+returns-clause-text c =
     let ms = c.members-members.result.now in
-    let m = c.index-members-i.result in
-    let named = hidden_at c.members-members.ensures c.loop-i.i m c.loop-i-test.true c.index-members-i.is c.hides.result c.hides.ensures in
-    record {
-      held = c.in_ok-end.ensures.held;
-      text = shown_more ms c.args.values.now c.loop-i.i m c.index-values-i.result (take c.loop-i.end c.loop-i.buffer.items) (take c.in_ok-end.end c.put_member.new.buffer.items) (take c.args.at c.args.buffer.now.items) c.loop-i.lead 123 _ c.loop-i-test.true c.if-i-values.false c.index-members-i.is c.index-values-i.is (sym named ∙ c.if-hides.false) c.loop-i.invariant.text c.in_ok-end.ensures.text;
-    }
+    let vs = c.args.values.now in
+    let hs = c.hidden-hidden.result.now in
+    let before = take c.args.at c.args.buffer.now.items in
+    let same : hs ≡ are_of_packet ms = c.hidden-hidden.ensures ∙ ap are_of_packet (sym c.members-members.ensures) in
+    let count : length ms ≡ length hs = sym (ap length same ∙ length-map ms _) in
+    let past : c.loop-i.i < length ms → c.loop-i.i < length vs → ⊥ =
+    λ a b.
+    let in_hs : c.loop-i.i + 1 ≤ length hs = omega (arith, a, count) in
+    let in_vs : c.loop-i.i + 1 ≤ length vs = omega (arith, b) in
+    let more : c.loop-i.i + 1 ≤ min (length hs) (length vs) = le-min in_hs in_vs in
+    omega (arith, c.loop-i-test.false, c.min-count.ensures, more)
+    in
+    shown_all ms vs c.loop-i.i (take c.loop-i.end c.loop-i.buffer.items) before c.loop-i.lead 123 _ past c.loop-i.invariant.text
+    ∙ ap (λ (xs : List Member). before ++ row 123 (shown_members xs (vals_of (map val vs)))) c.members-members.ensures
