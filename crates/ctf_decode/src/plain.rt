@@ -50,7 +50,8 @@ pub fn plain_members_into(
 fn is_padded(packet: &Packet<'_>) -> bool
     ensures { IsTrue result → packet.now.content + 64 ≤ 8 * length packet.now.bytes.now }
 {
-    packet.content.div_ceil(8) + 8 <= packet.bytes.len() as u64
+    // As many bytes as the content takes, rounded up, and eight.
+    (packet.content + 71) / 8 <= packet.bytes.len() as u64
 }
 
 /// Makes the first members of a structure the values, as far as they are unsigned integers that begin at bytes. How many

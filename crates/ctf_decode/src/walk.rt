@@ -1,6 +1,6 @@
 //! Values of classes, made in place.
 
-ghost use Rattle.std.specs.Prelude.{◌≡◌, ◌+◌, ◌≤◌, ◌<◌, [], ◌∷◌, length, map, take, IfOk};
+ghost use Rattle.std.specs.Prelude.{◌≡◌, ◌+◌, ◌≤◌, ◌<◌, [], ◌∷◌, length, map, take, drop, IfOk};
 ghost use Rattle.std.specs.Int.{next_multiple_of};
 ghost use Rattle.ctf_decode.specs.Forms.{parts_of};
 ghost use Rattle.ctf_decode.specs.Views.{form, member_part, val, env, input};
@@ -169,7 +169,7 @@ fn members_into(
     each_member_into(members, around, at, values.as_mut_slice())
 }
 
-/// Makes the members of a structure the values, of which there are as many.
+/// Makes the members of a structure the values, of which there are as many. Mostly the plain ones are all.
 #[cycle(walk)]
 fn each_member_into(
     members: &[Member],
@@ -187,6 +187,34 @@ fn each_member_into(
         (at.new.spent ≤ MOST_VALUES)) }
 {
     let first = plain_members_into(members, &around.packet, at, values);
+    if first >= members.len() {
+        return Ok(());
+    }
+    members_from(members, first, around, at, values)
+}
+
+/// Makes the members of a structure from one on the values, those before it being there. It is not inlined, so that
+/// fewer registers are saved where there is no such member.
+#[cycle(walk)]
+#[inline(never)]
+fn members_from(
+    members: &[Member],
+    first: usize,
+    around: &Around<'_>,
+    at: &mut Cursor,
+    values: &mut [Value],
+) -> Result<(), Stopped>
+    requires start { at.old.end ≤ around.now.packet.content }
+    requires spent { at.old.spent ≤ MOST_VALUES }
+    requires room { length values.old ≡ length members.now }
+    requires first { first ≤ length members.now }
+    ensures gives { Gives result at.new (map val values.new)
+        (walk_members (parts_of (map member_part (drop first members.now)))
+        (input around.now.packet) (env around.now.frame.now) (map val (take first values.old))
+        at.old.end at.old.spent) }
+    ensures within { IfOk result (λ _. (at.new.end ≤ around.now.packet.content) ×
+        (at.new.spent ≤ MOST_VALUES)) }
+{
     for i in first..members.len() {
         member_into(&members[i].class, around, at, values, i)?;
     }

@@ -5,10 +5,10 @@ use Rattle.ctf_decode.specs.Walk.{walk, walk_members, repeat}
 use Rattle.ctf_decode.specs.declared.scopes.TheConstants.{MOST_VALUES}
 use Rattle.ctf_decode.proofs.walk.+walk.Given as goal
 
-abbrev pub invariant-each_member_into-loop-i : goal.invariant-each_member_into-loop-i
-invariant-each_member_into-loop-i l = record {
+abbrev pub invariant-members_from-loop-i : goal.invariant-members_from-loop-i
+invariant-members_from-loop-i l = record {
   kept : length l.values ≡ length l.members;
-  walked : walk_members (parts_of (map member_part (drop l.i l.members))) (input l.around.packet) (env l.around.frame.now) (map val (take l.i l.values)) l.at.end l.at.spent ≡ walk_members (parts_of (map member_part l.members)) (input l.around.packet) (env l.around.frame.now) [] l.fn.at.end l.fn.at.spent;
+  walked : walk_members (parts_of (map member_part (drop l.i l.members))) (input l.around.packet) (env l.around.frame.now) (map val (take l.i l.values)) l.at.end l.at.spent ≡ walk_members (parts_of (map member_part (drop l.first l.members))) (input l.around.packet) (env l.around.frame.now) (map val (take l.first l.initial.values)) l.initial.at.end l.initial.at.spent;
   within : l.at.end ≤ l.around.packet.content;
   few : l.at.spent ≤ MOST_VALUES;
 }
