@@ -9,11 +9,14 @@ use Rattle.ctf_class.specs.Records.{Slot, Scoped, between, all_slots, values_in,
 
 -- fields are these runs, whatever runs are after them
 abbrev pub RunsTo : List Slot → List PlannedRun → Type 0
-RunsTo full runs = (rest : List Slot) (rs : List PlannedRun) → AreRuns rest rs → AreRuns (full ++ rest) (runs ++ rs)
+RunsTo full runs =
+    (rest : List Slot) (rs : List PlannedRun) → AreRuns rest rs
+    → AreRuns (full ++ rest) (runs ++ rs)
 
 -- fields are the numbers of a run of this alignment, whatever fields are after them
 abbrev pub IsOpen : ℕ → List Slot → List PlannedNumber → ℕ → Type 0
-IsOpen align now numbers span = (rest : List Slot) → TakesNumbers align (now ++ rest) numbers span rest
+IsOpen align now numbers span =
+    (rest : List Slot) → TakesNumbers align (now ++ rest) numbers span rest
 
 -- fields are the whole runs and the open one
 pub record IsMade (done : List Slot) (m : PlanBuilder) : Type 0 where
@@ -51,7 +54,14 @@ with_number m align n = record {
 -- with a field after the open run, which is whole then
 abbrev pub with_field : PlanBuilder → PlannedField → PlanBuilder
 with_field m f = record {
-  runs = m.runs ++ record { align = m.align; numbers = m.numbers; has_special = have_special m.numbers; span = m.span; room = m.room + (length f.ready + 66); field = Some f } ∷ [];
+  runs = m.runs ++ record {
+    align = m.align;
+    numbers = m.numbers;
+    has_special = have_special m.numbers;
+    span = m.span;
+    room = m.room + (length f.ready + 66);
+    field = Some f;
+  } ∷ [];
   align = 1;
   numbers = [];
   span = 0;

@@ -47,7 +47,8 @@ laters i (m ∷ ms) = later i m ∷ laters (suc i) ms
 -- the fields of a structure, of which the first is after a text and a brace
 abbrev pub slots_of : List ℕ → ℕ → List Member → List Slot
 slots_of before align [] = []
-slots_of before align (m ∷ ms) = record { lead = before ++ (123 ∷ 32 ∷ []); align = align; index = 0; member = m } ∷ laters 1 ms
+slots_of before align (m ∷ ms) =
+    record { lead = before ++ (123 ∷ 32 ∷ []); align = align; index = 0; member = m } ∷ laters 1 ms
 
 abbrev pub slots : List ℕ → Scoped → List Slot
 slots before s = slots_of before s.align s.members
@@ -71,7 +72,9 @@ abbrev pub AreScoped : List Class → List Scoped → Type 0
 AreScoped [] [] = ⊤
 AreScoped [] (s ∷ ss) = ⊥
 AreScoped (k ∷ ks) [] = ⊥
-AreScoped (k ∷ ks) (s ∷ ss) = (k.kind ≡ kind.Structure s.members) × (k.align ≡ s.align) × (0 < length s.members) × AreScoped ks ss
+AreScoped (k ∷ ks) (s ∷ ss) =
+    (k.kind ≡ kind.Structure s.members) × (k.align ≡ s.align) × (0 < length s.members)
+    × AreScoped ks ss
 
 -- the scopes of an event record after its header that have a class
 abbrev pub and_scope : Option Class → List Class → List Class
@@ -88,14 +91,19 @@ pub record IsNumber (base from : ℕ) (s : Slot) (n : PlannedNumber) : Type 0 wh
   pub special : n.is_special ≡ false → IsUsual n.integer
   pub begins : base % s.align ≡ 0
   pub divides : base % s.member.class.align ≡ 0
-  pub window : n.window ≡ record { place = next_multiple_of (next_multiple_of from s.align) s.member.class.align; size = max 1 n.integer.size; is_signed = n.integer.is_signed }
+  pub window : n.window ≡ record {
+    place = next_multiple_of (next_multiple_of from s.align) s.member.class.align;
+    size = max 1 n.integer.size;
+    is_signed = n.integer.is_signed;
+  }
   pub ready : n.ready ≡ s.lead ++ field_text s.member.name
 
 -- so are the first of these fields, one after the other, as far as a distance, and these are left
 abbrev pub AreInRun : ℕ → ℕ → List Slot → List PlannedNumber → ℕ → List Slot → Type 0
 AreInRun base from ss [] span rest = (span ≡ from) × (rest ≡ ss)
 AreInRun base from [] (n ∷ ns) span rest = ⊥
-AreInRun base from (s ∷ ss) (n ∷ ns) span rest = IsNumber base from s n × AreInRun base (n.window.place + n.window.size) ss ns span rest
+AreInRun base from (s ∷ ss) (n ∷ ns) span rest =
+    IsNumber base from s n × AreInRun base (n.window.place + n.window.size) ss ns span rest
 
 -- a run of these numbers begins where the first of these fields does; without a number, where the fields before it end
 abbrev pub BeginsRun : ℕ → List Slot → List PlannedNumber → Type 0
@@ -106,11 +114,14 @@ BeginsRun align (s ∷ ss) (n ∷ ns) = IsLarger align s.align s.member.class.al
 -- The numbers of a run that begins at this alignment, and at a byte, are the first of these fields, one after the other,
 -- as far as a distance, and these are left.
 abbrev pub TakesNumbers : ℕ → List Slot → List PlannedNumber → ℕ → List Slot → Type 0
-TakesNumbers align ss ns span rest = BeginsRun align ss ns × AreInRun (max 8 align) 0 ss ns span rest
+TakesNumbers align ss ns span rest =
+    BeginsRun align ss ns × AreInRun (max 8 align) 0 ss ns span rest
 
 -- a route leads to the member before the one of an index in the innermost structure
 abbrev pub LeadsBefore : Route → ℕ → Type 0
-LeadsBefore route index = (route.origin ≡ Enclosing 0) × ((step : ℕ) × (route.steps ≡ step ∷ []) × (index ≡ step + 1))
+LeadsBefore route index =
+    (route.origin ≡ Enclosing 0)
+    × ((step : ℕ) × (route.steps ≡ step ∷ []) × (index ≡ step + 1))
 
 -- a class is this integer of this alignment
 abbrev pub IsInteger : Class → Integer → ℕ → Type 0
@@ -119,16 +130,21 @@ IsInteger k integer align = (k.kind ≡ kind.Integer integer) × (align ≡ k.al
 -- a member after so many others is one integer, or an array of integers
 abbrev pub AreIntegers : ℕ → Member → Integer → ℕ → Many → Type 0
 AreIntegers index m integer align many.One = IsInteger m.class integer align
-AreIntegers index m integer align (many.Fixed count) = (k : Class) × (m.class.kind ≡ kind.Array (lengths.Fixed count) k) × IsInteger k integer align
-AreIntegers index m integer align many.Counted = (route : Route) × (k : Class) × (m.class.kind ≡ kind.Array (lengths.Field route) k) × LeadsBefore route index × IsInteger k integer align
+AreIntegers index m integer align (many.Fixed count) =
+    (k : Class) × (m.class.kind ≡ kind.Array (lengths.Fixed count) k) × IsInteger k integer align
+AreIntegers index m integer align many.Counted =
+    (route : Route) × (k : Class) × (m.class.kind ≡ kind.Array (lengths.Field route) k)
+    × LeadsBefore route index × IsInteger k integer align
 
 -- what a member after so many others is shown as
 abbrev pub IsShown : ℕ → Member → Shown → Type 0
 IsShown index m shown.String = m.class.kind ≡ kind.String
 IsShown index m (shown.Text count) = m.class.kind ≡ kind.Text (lengths.Fixed count)
-IsShown index m shown.CountedText = (route : Route) × (m.class.kind ≡ kind.Text (lengths.Field route)) × LeadsBefore route index
+IsShown index m shown.CountedText =
+    (route : Route) × (m.class.kind ≡ kind.Text (lengths.Field route)) × LeadsBefore route index
 IsShown index m (shown.Integers are) = AreIntegers index m are.integer are.align are.many
-IsShown index m (shown.Labelled is) = (m.class.kind ≡ kind.Enumeration is.container is.labels) × (is.align ≡ m.class.align)
+IsShown index m (shown.Labelled is) =
+    (m.class.kind ≡ kind.Enumeration is.container is.labels) × (is.align ≡ m.class.align)
 
 -- a field is shown so
 pub record IsField (s : Slot) (f : PlannedField) : Type 0 where
@@ -160,8 +176,14 @@ room_of (n ∷ ns) f = length n.ready + 66 + room_of ns f
 -- fields are these runs, one after the other
 abbrev pub AreRuns : List Slot → List PlannedRun → Type 0
 AreRuns ss [] = ss ≡ []
-AreRuns ss (r ∷ rs) = (rest : List Slot) × TakesNumbers r.align ss r.numbers r.span rest × (r.room ≡ room_of r.numbers r.field) × (r.span ≤ 2 ^ 33) × (r.has_special ≡ have_special r.numbers) × After rest r.field (λ others. AreRuns others rs)
+AreRuns ss (r ∷ rs) =
+    (rest : List Slot) × TakesNumbers r.align ss r.numbers r.span rest
+    × (r.room ≡ room_of r.numbers r.field) × (r.span ≤ 2 ^ 33)
+    × (r.has_special ≡ have_special r.numbers) × After rest r.field (λ others. AreRuns others rs)
 
 -- a plan is one of these classes, if it has runs
 abbrev pub IsPlanOf : List Class → RecordPlan → Type 0
-IsPlanOf ks p = 0 < length p.runs → (ss : List Scoped) × AreScoped ks ss × (p.count ≡ values_in ss) × AreRuns (all_slots [] ss) p.runs
+IsPlanOf ks p =
+    0 < length p.runs
+    → (ss : List Scoped) × AreScoped ks ss × (p.count ≡ values_in ss)
+    × AreRuns (all_slots [] ss) p.runs

@@ -116,7 +116,8 @@ ChoosesIn seen tag choices i =
 
 -- The value of a scope is there from a place to another, whatever was decoded before with so much known of it, and its
 -- text follows a text. Its members have the numbers that are kept. So many values were begun before it, and after it.
-abbrev pub PutsWith : KnownScopes → MemberNumbers → Form → Shown → List ℕ → ℕ → ℕ → ℕ → ℕ → ℕ → List ℕ
+abbrev pub PutsWith : KnownScopes → MemberNumbers → Form → Shown → List ℕ → ℕ → ℕ → ℕ → ℕ → ℕ
+    → List ℕ
     → List ℕ → Type 0
 PutsWith known members k shown packet content place spent end total before after =
     (earlier : Scope → Option Val) (env : Env) → ScopesAre known earlier

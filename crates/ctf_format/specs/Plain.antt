@@ -9,7 +9,8 @@ use Rattle.ctf_format.specs.Numbers.{number_text}
 -- the number of an integer at a place (CTF 1.8.3, section 4.1.5)
 abbrev pub number_at : Integer → List ℕ → ℕ → ℤ
 number_at i packet place =
-    if i.is_signed then signed_number i.order packet place (bits_of i) else pos (number i.order packet place (bits_of i))
+    if i.is_signed then signed_number i.order packet place (bits_of i)
+    else pos (number i.order packet place (bits_of i))
 
 -- where one is, in a run that begins after so many bytes
 abbrev pub place_in : ℕ → PlannedNumber → ℕ
@@ -17,11 +18,13 @@ place_in first n = 8 * first + n.window.place
 
 -- what is printed of one there
 abbrev pub run_text : List ℕ → ℕ → PlannedNumber → List ℕ
-run_text packet first n = n.ready ++ number_text n.integer (number_at n.integer packet (place_in first n))
+run_text packet first n =
+    n.ready ++ number_text n.integer (number_at n.integer packet (place_in first n))
 
 -- one is within the packet there
 abbrev pub IsInside : List ℕ → ℕ → PlannedNumber → Type 0
-IsInside packet first n = (place_in first n + bits_of n.integer ≤ 8 * length packet) × (place_in first n ≤ 2 ^ 62)
+IsInside packet first n =
+    (place_in first n + bits_of n.integer ≤ 8 * length packet) × (place_in first n ≤ 2 ^ 62)
 
 -- a window is that of its integer, which is in decimal, little endian, where it is not special
 pub record IsPlaced (n : PlannedNumber) : Type 0 where

@@ -43,28 +43,38 @@ abbrev pub PutsField : Slot → List ℕ → ℕ → Reached → Reached → Typ
 PutsField s packet content from to =
     let begun = next_multiple_of from.place s.align in
     (begun ≤ content) × (some : ℕ) × (to.more ≡ from.more + some)
-    × PutsNext (after_members s.index from.last) (form s.member.class) (λ v. s.lead ++ part_text (member_part s.member) v) packet content begun from.line (record { place = to.place; text = 0; more = some; last = known None }) to.line
+    × PutsNext (after_members s.index from.last) (form s.member.class)
+    (λ v. s.lead ++ part_text (member_part s.member) v) packet content begun from.line
+    (record { place = to.place; text = 0; more = some; last = known None }) to.line
     × IfSome to.last (StandsAsNumber (form s.member.class) packet content begun)
 
 -- so do fields one after the other
 abbrev pub PutsFields : List Slot → List ℕ → ℕ → Reached → Reached → Type 0
 PutsFields [] packet content from to = to ≡ from
-PutsFields (s ∷ ss) packet content from to = (mid : Reached) × PutsField s packet content from mid × PutsFields ss packet content mid to
+PutsFields (s ∷ ss) packet content from to =
+    (mid : Reached) × PutsField s packet content from mid × PutsFields ss packet content mid to
 
 -- a value is at the place that was reached, after a number, if it is known, and so many others of its structure
-abbrev pub PutsOther : ℕ → Option ℕ → Form → Shown → List ℕ → ℕ → Reach → List ℕ → Reach → List ℕ → Type 0
+abbrev pub PutsOther : ℕ → Option ℕ → Form → Shown → List ℕ → ℕ → Reach → List ℕ → Reach
+    → List ℕ → Type 0
 PutsOther index last k shown packet content from before to after =
-    (some : ℕ) × (to.more ≡ from.more + some) × PutsNext (after_members index last) k shown packet content from.place before (record { place = to.place; text = 0; more = some; last = known None }) after
+    (some : ℕ) × (to.more ≡ from.more + some)
+    × PutsNext (after_members index last) k shown packet content from.place before
+    (record { place = to.place; text = 0; more = some; last = known None }) after
 
 -- a number, if it is given, is the last one of a run that begins after so many bytes, and unsigned
 abbrev pub IsLastNumber : Option ℕ → List PlannedNumber → List ℕ → ℕ → Type 0
 IsLastNumber last [] packet first = last ≡ None
-IsLastNumber last (n ∷ []) packet first = IfSome last (λ v. (n.integer.is_signed ≡ false) × (number_at n.integer packet (place_in first n) ≡ pos v))
+IsLastNumber last (n ∷ []) packet first =
+    IfSome last (λ v.
+    (n.integer.is_signed ≡ false) × (number_at n.integer packet (place_in first n) ≡ pos v))
 IsLastNumber last (n ∷ (m ∷ ns)) packet first = IsLastNumber last (m ∷ ns) packet first
 
 -- a run takes the first of these fields, and these are left
 abbrev pub TakesRun : List Slot → PlannedRun → List Slot → Type 0
-TakesRun ss r others = (rest : List Slot) × TakesNumbers r.align ss r.numbers r.span rest × After rest r.field (λ xs. xs ≡ others)
+TakesRun ss r others =
+    (rest : List Slot) × TakesNumbers r.align ss r.numbers r.span rest
+    × After rest r.field (λ xs. xs ≡ others)
 
 -- what is known of each run: its room, whether it has special numbers, and that all its numbers are within its span
 pub record IsNear (r : PlannedRun) : Type 0 where
@@ -84,6 +94,9 @@ pub record BeginsAt (from : ℕ) (r : PlannedRun) (place : ℕ) : Type 0 where
 -- with a comma between two, follow a text. So many values were begun before them, and after them.
 abbrev pub PutsScopes : List Class → List ℕ → ℕ → ℕ → ℕ → ℕ → ℕ → List ℕ → List ℕ → Type 0
 PutsScopes [] packet content place spent end total before after = ⊥
-PutsScopes (k ∷ []) packet content place spent end total before after = Puts (form k) (value_text k) packet content place spent end total before after
+PutsScopes (k ∷ []) packet content place spent end total before after =
+    Puts (form k) (value_text k) packet content place spent end total before after
 PutsScopes (k ∷ (l ∷ ks)) packet content place spent end total before after =
-    (mid many : ℕ) × (text : List ℕ) × Puts (form k) (value_text k) packet content place spent mid many before text × PutsScopes (l ∷ ks) packet content mid many end total (text ++ codes ", ") after
+    (mid many : ℕ) × (text : List ℕ)
+    × Puts (form k) (value_text k) packet content place spent mid many before text
+    × PutsScopes (l ∷ ks) packet content mid many end total (text ++ codes ", ") after
