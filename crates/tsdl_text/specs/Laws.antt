@@ -46,7 +46,8 @@ StringsStand = (slice values : List ℕ) → StandsFor slice values → string_v
 -- a token is said to be a symbol exactly where its kind is that symbol
 abbrev pub SymbolsAreCompared : Type 0
 SymbolsAreCompared =
-    (symbol : Symbol) (kind : TokenKind) → (is_symbol symbol kind ≡ true) ↔ (kind ≡ kinds.Symbol symbol)
+    (symbol : Symbol) (kind : TokenKind)
+    → (is_symbol symbol kind ≡ true) ↔ (kind ≡ kinds.Symbol symbol)
 
 -- bytes are metadata of at most one text
 abbrev pub OneText : Type 0
