@@ -9,7 +9,7 @@ use Rattle.ctf_class.specs.declared.record_plan.PlannedField.{PlannedField}
 use Rattle.ctf_class.specs.declared.record_plan.PlanBuilder.{PlanBuilder}
 use Rattle.ctf_class.specs.declared.record_plan.PlannedRun.{PlannedRun}
 use Rattle.ctf_class.specs.declared.planned_number.PlannedNumber.{PlannedNumber}
-use Rattle.ctf_class.specs.Making.{IsOpen, IsMade, IsMadeOf, before_scope, with_number, with_field}
+use Rattle.ctf_class.specs.PlanBuilding.{IsOpen, IsMade, IsMadeOf, before_scope, with_number, with_field}
 use Rattle.ctf_class.specs.Records.{Slot, Scoped, later, laters, slots, between, all_slots, values_in, AreScoped, and_scope, scopes_of, IsNumber, AreInRun, TakesNumbers, IsField, AreRuns, IsPlanOf, have_special, room_of}
 
 -- one number more after the others

@@ -8,6 +8,6 @@ use Rattle.ctf_class.specs.declared.integer.Integer.{Integer}
 abbrev pub bits_of : Integer → ℕ
 bits_of i = max 1 i.size
 
--- an integer is in decimal, little endian
+-- an integer is usual: in decimal, little endian
 abbrev pub IsUsual : Integer → Type 0
 IsUsual i = (i.base ≡ Decimal) × (i.order ≡ Le)

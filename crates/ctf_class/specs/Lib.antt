@@ -9,12 +9,12 @@ pub mod Integers
 pub mod Items
 pub mod LabelSearch
 pub mod Labels
-pub mod Making
 pub mod NameFirsts
 pub mod NamePlaces
 pub mod NameRanks
 pub mod Names
 pub mod Places
+pub mod PlanBuilding
 pub mod Ranks
 pub mod Records
 pub mod RoleNames

@@ -84,8 +84,9 @@ and_scope (Some k) ks = k ∷ ks
 abbrev pub scopes_of : Option Class → Option Class → Class → List Class
 scopes_of shared own fields = and_scope shared (and_scope own (fields ∷ []))
 
--- a field is an integer after this distance from a place that is a multiple of `base`, where it is wherever that place
--- is; and so it is read and begun
+-- A field is this number of a run. The run begins at a multiple of `base`, and the fields before this one end `from`
+-- bits after that. As its alignments divide `base`, its distance from the run's begin does not depend on where that is.
+-- The window has this distance; a number that is not special is usual.
 pub record IsNumber (base from : ℕ) (s : Slot) (n : PlannedNumber) : Type 0 where
   pub is : s.member.class.kind ≡ kind.Integer n.integer
   pub special : n.is_special ≡ false → IsUsual n.integer
@@ -158,16 +159,17 @@ After ss None Holds = Holds ss
 After [] (Some f) Holds = ⊥
 After (s ∷ ss) (Some f) Holds = IsField s f × Holds ss
 
--- some numbers are big endian, or not in decimal
+-- some numbers are special: each that is not is usual
 abbrev pub have_special : List PlannedNumber → Bool
 have_special ns = list_any (λ n. n.is_special) ns
 
--- the room that numbers take in a line, in bytes: each text 66 more for its number, and 24 more
+-- How many bytes of a line must be free for numbers: for each the text before it and 66, the longest being `0b` and 64
+-- digits; and 24 after the last, as texts are copied in words.
 abbrev pub numbers_room : List PlannedNumber → ℕ
 numbers_room [] = 24
 numbers_room (n ∷ ns) = length n.ready + 66 + numbers_room ns
 
--- the room that numbers and a field after them take in a line, in bytes: each text 66 more for its number, and 24 more
+-- so many for numbers and a field after them
 abbrev pub room_of : List PlannedNumber → Option PlannedField → ℕ
 room_of [] None = 24
 room_of [] (Some f) = length f.ready + 90

@@ -47,7 +47,7 @@ struct HeaderInteger {
     integer: Integer,
 }
 
-/// The option of a variant's first choice.
+/// The option that the first choice of a variant names, and for which numbers of the tag.
 #[derive(Clone, Copy)]
 struct FirstOption<'a> {
     option: &'a Member,

@@ -14,20 +14,20 @@ pub struct PlannedNumber {
     pub integer: Integer,
     /// Where it is after that begin.
     pub window: Window,
-    /// Whether it is big endian, or not in decimal.
+    /// `false` only where it is usual: little endian and in decimal.
     pub is_special: bool,
     /// What is printed before it.
     pub ready: PreparedText,
 }
 
-/// Whether some numbers are big endian, or not in decimal.
+/// Whether some numbers are special.
 pub(crate) fn have_special(numbers: &[PlannedNumber]) -> bool
     ensures { result ≡ are_special numbers.now }
 {
     numbers.iter().any(|number| number.is_special)
 }
 
-/// Whether an integer is big endian, or not in decimal.
+/// Whether an integer is special: `false` only where it is usual, which is little endian and in decimal.
 pub(crate) fn is_special(integer: &Integer) -> bool
     ensures { result ≡ false → IsUsual integer.now }
 {

@@ -3,7 +3,7 @@
 ghost use Rattle.std.specs.Prelude.{◌≡◌, ◌+◌, ◌%◌, ◌∷◌, ◌++◌, [], ◌^◌, ◌<◌, ◌≤◌, length, max, IsTrue, IfOk, IfSome, OnOk, option_copied};
 ghost use Rattle.std.specs.Int.{next_multiple_of};
 ghost use Rattle.ctf_class.specs.Alignment.{IsLarger};
-ghost use Rattle.ctf_class.specs.Making.{IsMade, IsMadeOf, before_scope, with_number, with_field};
+ghost use Rattle.ctf_class.specs.PlanBuilding.{IsMade, IsMadeOf, before_scope, with_number, with_field};
 ghost use Rattle.ctf_class.specs.Records.{Slot, IsNumber, IsShown, IsPlanOf, laters, and_scope, scopes_of};
 ghost use Rattle.ctf_class.specs.declared.class.Kind as kinds;
 
@@ -101,7 +101,7 @@ pub struct PlannedRun {
     /// The alignment at which the numbers begin, or 1 where there are none.
     pub align: Align,
     pub numbers: List<PlannedNumber>,
-    /// Whether some of them are big endian, or not in decimal.
+    /// Whether some of them are special.
     pub has_special: bool,
     /// How many bits the numbers take.
     pub span: u64,
@@ -160,12 +160,12 @@ impl RecordPlan {
             (scopes_of (option_copied stream_context.entry)
             (option_copied event_context.entry) fields.now)) }
     {
-        let mut making = PlanBuilder::new(alloc);
-        if making.add_optional(alloc, stream_context)?
-            && making.add_optional(alloc, event_context)?
-            && making.add_scope(alloc, fields)?
+        let mut builder = PlanBuilder::new(alloc);
+        if builder.add_optional(alloc, stream_context)?
+            && builder.add_optional(alloc, event_context)?
+            && builder.add_scope(alloc, fields)?
         {
-            return making.finish();
+            return builder.finish();
         }
         Ok(RecordPlan::none(alloc))
     }
@@ -470,11 +470,11 @@ fn shown_of(class: &Class, index: usize) -> Result<Option<Shown>, NoMemory>
             labels,
         })));
     }
-    Ok(plain_shown_of(class, index))
+    Ok(unlabelled_shown_of(class, index))
 }
 
 /// How a field is shown that is no enumeration.
-fn plain_shown_of(class: &Class, index: usize) -> Option<Shown>
+fn unlabelled_shown_of(class: &Class, index: usize) -> Option<Shown>
     ensures { (m : Member) → m.class ≡ class.now → IfSome result (IsShown index m) }
 {
     match &class.kind {

@@ -1,5 +1,5 @@
 use Rattle.std.proofs.Common.{◌≡◌, ◌+◌, ◌∷◌, ◌++◌, ◌∙◌, [], take, IsTrue, sym, ap, subst, append_assoc, rules}
-use Rattle.ctf_class.specs.Making.{IsMade}
+use Rattle.ctf_class.specs.PlanBuilding.{IsMade}
 use Rattle.ctf_class.specs.Records.{Slot, later, laters}
 use Rattle.ctf_class.proofs.RecordsLemmas.{laters_on}
 use Rattle.ctf_class.proofs.record_plan.PlanBuilder.add_later.Goals as goal

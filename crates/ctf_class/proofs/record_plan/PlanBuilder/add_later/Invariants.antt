@@ -1,5 +1,5 @@
 use Rattle.std.proofs.Common.{◌≡◌, ◌^◌, ◌≤◌, List, ◌++◌, take}
-use Rattle.ctf_class.specs.Making.{IsMade}
+use Rattle.ctf_class.specs.PlanBuilding.{IsMade}
 use Rattle.ctf_class.specs.Records.{Slot, laters}
 use Rattle.ctf_class.proofs.record_plan.PlanBuilder.add_later.Given as goal
 

@@ -1,5 +1,5 @@
 use Rattle.std.proofs.Common.{◌++◌, ◌∷◌, [], IfSome, max, refl, sym, subst, rules}
-use Rattle.ctf_class.specs.Making.{IsMade}
+use Rattle.ctf_class.specs.PlanBuilding.{IsMade}
 use Rattle.ctf_class.specs.Records.{Slot, IsNumber, IsShown, IsField}
 use Rattle.ctf_class.specs.declared.record_plan.PlannedField.{PlannedField}
 use Rattle.ctf_class.specs.declared.planned_number.PlannedNumber.{PlannedNumber}

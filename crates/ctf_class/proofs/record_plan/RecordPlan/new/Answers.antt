@@ -1,6 +1,6 @@
 use Rattle.std.proofs.Common.{[], ◌++◌, IsTrue, option_copied, rules, subst}
 use Rattle.std.proofs.lemmas.Result.{IfOk-weaker}
-use Rattle.ctf_class.specs.Making.{IsMadeOf}
+use Rattle.ctf_class.specs.PlanBuilding.{IsMadeOf}
 use Rattle.ctf_class.specs.Records.{and_scope, scopes_of, IsPlanOf}
 use Rattle.ctf_class.proofs.RecordsLemmas.{scopes_are}
 use Rattle.ctf_class.proofs.record_plan.RecordPlan.new.Goals as goal
@@ -13,7 +13,7 @@ returns-then-branch-3 c =
     let one : IsTrue c.in_ok-add_optional.field-0 = search rules in
     let two : IsTrue c.in_ok-add_optional-2.field-0 = search rules in
     let three : IsTrue c.in_ok-add_scope.field-0 = search rules in
-    let first = c.in_ok-add_optional.ensures.made one [] c.new-making.ensures.made in
+    let first = c.in_ok-add_optional.ensures.made one [] c.new-builder.ensures.made in
     let second = c.in_ok-add_optional-2.ensures.made two (and_scope stream_context []) first in
     let third = c.in_ok-add_scope.ensures.made three (and_scope stream_context [] ++ and_scope event_context []) second in
     let all : IsMadeOf (scopes_of stream_context event_context fields) c.add_scope.new.self = subst (λ ks. IsMadeOf ks c.add_scope.new.self) (scopes_are stream_context event_context fields) third in

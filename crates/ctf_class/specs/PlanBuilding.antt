@@ -1,4 +1,4 @@
--- Plans of event records on their way (all own).
+-- Plans of event records while they are built (all own).
 use Rattle.std.specs.Prelude.{◌≡◌, ℕ, zero, suc, ◌+◌, ◌^◌, ◌≤◌, List, [], ◌∷◌, ◌++◌, length, Some, None}
 use Rattle.ctf_class.specs.declared.class.Class.{Class}
 use Rattle.ctf_class.specs.declared.record_plan.PlannedField.{PlannedField}
