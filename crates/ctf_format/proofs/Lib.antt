@@ -10,7 +10,7 @@ pub mod HexadecimalLemmas
 pub mod PatternLemmas
 pub mod StandingLemmas
 pub mod StartsLemmas
-pub mod PlainLemmas
+pub mod RunNumbersLemmas
 pub mod RecordsLemmas
 pub mod AroundLemmas
 pub mod ArrayLemmas

@@ -26,7 +26,7 @@ use Rattle.ctf_decode.specs.Walk.{begin, leaf, walk}
 use Rattle.ctf_decode.specs.Views.{form}
 use Rattle.ctf_decode.specs.declared.scopes.TheConstants.{MOST_VALUES}
 use Rattle.ctf_format.specs.Numbers.{number_text}
-use Rattle.ctf_format.specs.Plain.{IsPlaced, number_at, place_in, run_text}
+use Rattle.ctf_format.specs.RunNumbers.{IsPlaced, number_at, place_in, run_text}
 use Rattle.ctf_format.specs.Records.{Reached, IsLastNumber, PutsField, PutsFields, PutsScopes, TakesRun, IsNear, after_members}
 use Rattle.ctf_format.specs.Standing.{Before, Counts, LastIs, Puts, PutsOne, PutsNext, StandsAsNumber, among, known}
 use Rattle.ctf_format.specs.Texts.{Shown, Part, integer_text, value_text, part_text, member_part}
@@ -34,7 +34,7 @@ use Rattle.ctf_format.specs.declared.standing.Last.{Last}
 use Rattle.ctf_format.specs.declared.standing.MembersEnd.{MembersEnd}
 use Rattle.ctf_format.specs.declared.standing.Next.{Next}
 use Rattle.ctf_format.proofs.StandingLemmas.{Going, PutsAfter, anywhere, last_is, going_begins, going_on, puts_next, known_next, going_ends, closed, puts_structure, as_one, form_integer, text_integer, member-is, stands_number}
-use Rattle.ctf_format.proofs.PlainLemmas.{run_integer}
+use Rattle.ctf_format.proofs.RunNumbersLemmas.{run_integer}
 use Rattle.ctf_format.proofs.StartsLemmas.{Leads, at_one, base_divides, leads_itself, run_leads}
 use Rattle.ctf_format.proofs.ArrayLemmas.{next_named, counts_last}
 

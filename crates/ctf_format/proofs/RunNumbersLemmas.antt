@@ -13,21 +13,21 @@ use Rattle.ctf_class.specs.declared.integer.Integer.{Integer}
 use Rattle.ctf_class.specs.declared.planned_number.PlannedNumber.{PlannedNumber}
 use Rattle.ctf_decode.specs.Forms.{integer}
 use Rattle.ctf_format.specs.Numbers.{in_base, number_text}
-use Rattle.ctf_format.specs.Plain.{IsPlaced, number_at, place_in, run_text}
+use Rattle.ctf_format.specs.RunNumbers.{IsPlaced, number_at, place_in, run_text}
 use Rattle.ctf_format.specs.Standing.{PutsOne}
 use Rattle.ctf_format.specs.Texts.{integer_text}
 use Rattle.ctf_format.proofs.StandingLemmas.{puts_signed, puts_unsigned}
 
 -- a number that is not special is what its window reads
-pub plain_number : (n : PlannedNumber) → IsPlaced n → n.is_special ≡ false → (packet : List ℕ) (first : ℕ) → number_after n.window packet first ≡ number_at n.integer packet (place_in first n)
-plain_number n is plain packet first =
-    let usual = is.usual plain in
-    λ j. if is.sign j then signed_number (sym usual.1 j) packet (place_in first n) (is.size j) else pos (number (sym usual.1 j) packet (place_in first n) (is.size j))
+pub usual_number : (n : PlannedNumber) → IsPlaced n → n.is_special ≡ false → (packet : List ℕ) (first : ℕ) → number_after n.window packet first ≡ number_at n.integer packet (place_in first n)
+usual_number n is usual packet first =
+    let are = is.usual usual in
+    λ j. if is.sign j then signed_number (sym are.1 j) packet (place_in first n) (is.size j) else pos (number (sym are.1 j) packet (place_in first n) (is.size j))
 
 -- and is shown in decimal
-pub plain_text : (n : PlannedNumber) → IsPlaced n → n.is_special ≡ false → (packet : List ℕ) (first : ℕ) → n.ready ++ signed_decimal (number_after n.window packet first) ≡ run_text packet first n
-plain_text n is plain packet first =
-    ap (λ z. n.ready ++ signed_decimal z) (plain_number n is plain packet first) ∙ ap (λ b. n.ready ++ in_base b n.integer.size (number_at n.integer packet (place_in first n))) (sym (is.usual plain).0)
+pub usual_text : (n : PlannedNumber) → IsPlaced n → n.is_special ≡ false → (packet : List ℕ) (first : ℕ) → n.ready ++ signed_decimal (number_after n.window packet first) ≡ run_text packet first n
+usual_text n is usual packet first =
+    ap (λ z. n.ready ++ signed_decimal z) (usual_number n is usual packet first) ∙ ap (λ b. n.ready ++ in_base b n.integer.size (number_at n.integer packet (place_in first n))) (sym (is.usual usual).0)
 
 -- none of some numbers is special
 pub none_special : (ns : List PlannedNumber) (k : ℕ) (n : PlannedNumber) → have_special ns ≡ false → k < length ns → n ≡ get_or ns k n → n.is_special ≡ false

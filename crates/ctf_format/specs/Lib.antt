@@ -3,8 +3,8 @@ pub mod Digits
 pub mod Labels
 pub mod Lines
 pub mod Numbers
-pub mod Plain
 pub mod Records
 pub mod Rows
+pub mod RunNumbers
 pub mod Standing
 pub mod Texts

@@ -9,7 +9,7 @@ use Rattle.ctf_class.specs.declared.class.Class.{Class}
 use Rattle.ctf_class.specs.declared.record_plan.PlannedRun.{PlannedRun}
 use Rattle.ctf_class.specs.declared.planned_number.PlannedNumber.{PlannedNumber}
 use Rattle.ctf_decode.specs.Views.{form}
-use Rattle.ctf_format.specs.Plain.{number_at, place_in, IsPlaced}
+use Rattle.ctf_format.specs.RunNumbers.{number_at, place_in, IsPlaced}
 use Rattle.ctf_format.specs.Standing.{Before, Puts, PutsNext, StandsAsNumber, known}
 use Rattle.ctf_decode.specs.Forms.{Form}
 use Rattle.ctf_format.specs.Texts.{Shown, value_text, part_text, member_part}
@@ -76,7 +76,8 @@ TakesRun ss r others =
     (rest : List Slot) × TakesNumbers r.align ss r.numbers r.span rest
     × After rest r.field (λ xs. xs ≡ others)
 
--- what is known of each run: its room, whether it has special numbers, and that all its numbers are within its span
+-- What is known of each run of a plan: how much room its text takes, that its span is short, whether it has special
+-- numbers, that all its numbers are within its span, and that their windows are those of their integers.
 pub record IsNear (r : PlannedRun) : Type 0 where
   pub room : r.room ≡ room_of r.numbers r.field
   pub bounded : r.span ≤ 2 ^ 33
@@ -84,7 +85,8 @@ pub record IsNear (r : PlannedRun) : Type 0 where
   pub within_span : All (λ n. n.window.place + bits_of n.integer ≤ r.span) r.numbers
   pub placed : All IsPlaced r.numbers
 
--- a run begins at a place, where it is looked for from another one
+-- `place` is where a run begins, if what is before it ends at `from`: the next multiple of its alignment, which is the
+-- first bit of a byte where the run has numbers
 pub record BeginsAt (from : ℕ) (r : PlannedRun) (place : ℕ) : Type 0 where
   pub least : IsLeastMultiple from r.align place
   pub value : place ≡ next_multiple_of from r.align

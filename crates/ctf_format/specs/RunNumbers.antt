@@ -1,4 +1,4 @@
--- Integers whose distances are known beforehand (all own).
+-- The numbers of runs: integers whose distances are known beforehand (all own).
 use Rattle.std.specs.Prelude.{◌≡◌, ℕ, ℤ, pos, ◌+◌, ◌*◌, ◌^◌, ◌≤◌, false, List, ◌++◌, length, if◌then◌else◌}
 use Rattle.ctf_bits.specs.Number.{number, signed_number}
 use Rattle.ctf_class.specs.Integers.{bits_of, IsUsual}
@@ -26,7 +26,7 @@ abbrev pub IsInside : List ℕ → ℕ → PlannedNumber → Type 0
 IsInside packet first n =
     (place_in first n + bits_of n.integer ≤ 8 * length packet) × (place_in first n ≤ 2 ^ 62)
 
--- a window is that of its integer, which is in decimal, little endian, where it is not special
+-- a window is that of its integer, which is usual where it is not special
 pub record IsPlaced (n : PlannedNumber) : Type 0 where
   pub size : n.window.size ≡ bits_of n.integer
   pub sign : n.window.is_signed ≡ n.integer.is_signed

@@ -3,7 +3,7 @@
 ghost use Rattle.std.specs.Prelude.{◌≡◌, ◌+◌, ◌-◌, ◌/◌, ◌≤◌, length};
 ghost use Rattle.std.specs.List.{All};
 ghost use Rattle.ctf_class.specs.Records.{have_special};
-ghost use Rattle.ctf_format.specs.Plain.{IsInside, IsPlaced};
+ghost use Rattle.ctf_format.specs.RunNumbers.{IsInside, IsPlaced};
 
 use crate::content::Content;
 use ctf_class::PlannedRun;

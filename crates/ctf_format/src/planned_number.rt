@@ -5,7 +5,7 @@ ghost use Rattle.std.specs.Fmt.{signed_decimal};
 ghost use Rattle.std.specs.List.{All, flat_map};
 ghost use Rattle.ctf_bits.specs.Placed.{number_after};
 ghost use Rattle.ctf_class.specs.Records.{have_special, numbers_room};
-ghost use Rattle.ctf_format.specs.Plain.{IsInside, IsPlaced, run_text};
+ghost use Rattle.ctf_format.specs.RunNumbers.{IsInside, IsPlaced, run_text};
 
 use crate::decimal::{put_signed_short, put_unsigned};
 use crate::standing::put_integer_at;
@@ -13,9 +13,9 @@ use ctf_bits::Window;
 use ctf_class::PlannedNumber;
 
 /// Writes numbers of a run that begins after so many bytes at an index of a line, and gives the index after them. All
-/// are in decimal and little endian.
+/// are usual.
 #[inline(always)]
-pub(crate) fn put_plain_numbers(
+pub(crate) fn put_usual_numbers(
     numbers: &[PlannedNumber],
     bytes: &[u8],
     first: usize,
@@ -25,7 +25,7 @@ pub(crate) fn put_plain_numbers(
     requires room { at + numbers_room numbers.now ≤ length line.old }
     requires held { All (λ n. first + n.window.place / 8 + 8 ≤ length bytes.now) numbers.now }
     requires placed { All IsPlaced numbers.now }
-    requires plain { have_special numbers.now ≡ false }
+    requires usual { have_special numbers.now ≡ false }
     ensures text { take result line.new ≡
         take at line.old ++ flat_map (run_text bytes.now first) numbers.now }
     ensures near { result + 24 ≤ at + numbers_room numbers.now }
@@ -61,7 +61,7 @@ pub(crate) fn put_special_numbers(
     text
 }
 
-/// Writes a number in decimal, little endian. Mostly it is not below zero.
+/// Writes a usual number: in decimal, little endian. Mostly it is not below zero.
 #[inline(always)]
 fn put_number(
     number: &PlannedNumber,
@@ -73,7 +73,7 @@ fn put_number(
     requires room { at + length number.now.ready + 48 ≤ length line.old }
     requires held { first + number.now.window.place / 8 + 8 ≤ length bytes.now }
     requires placed { IsPlaced number.now }
-    requires plain { number.now.is_special ≡ false }
+    requires usual { number.now.is_special ≡ false }
     ensures text { take result line.new ≡ take at line.old ++ run_text bytes.now first number.now }
     ensures near { result ≤ at + length number.now.ready + 24 }
 {

@@ -7,7 +7,7 @@ ghost use Rattle.ctf_class.specs.declared.class.Class.{Class};
 ghost use Rattle.ctf_class.specs.declared.class.Member.{Member};
 ghost use Rattle.ctf_class.specs.declared.record_plan.Many.TheVariants.{One};
 ghost use Rattle.ctf_decode.specs.Views.{form};
-ghost use Rattle.ctf_format.specs.Plain.{IsInside, number_at, place_in, run_text};
+ghost use Rattle.ctf_format.specs.RunNumbers.{IsInside, number_at, place_in, run_text};
 ghost use Rattle.ctf_format.specs.Records.{BeginsAt, IsNear, IsLastNumber, PutsField, PutsFields, PutsOther, PutsScopes, TakesRun, after_number, reached};
 ghost use Rattle.ctf_format.specs.Texts as texts;
 
@@ -16,7 +16,7 @@ use crate::content::Content;
 use crate::leaf::put_enumeration;
 use crate::mark::put_end;
 use crate::placed_run::PlacedRun;
-use crate::planned_number::{put_plain_numbers, put_special_numbers};
+use crate::planned_number::{put_special_numbers, put_usual_numbers};
 use crate::room::with_room;
 use crate::standing::{
     AlignedInteger, Position, Standing, put_fixed_text, put_integer, put_string,
@@ -40,8 +40,9 @@ pub(crate) struct Reach {
 /// of such records: `from` has the place after the header, in bits from the packet's first one, how many values were
 /// begun before, and the index, in bytes. What is before the index is kept, and the buffer grows where it has no room.
 ///
-/// `None` where there is no plan, where the record has a fault, where numbers of a run would begin within a byte or fewer
-/// than eight bytes are after them, and where an allocation fails; the buffer is then unspecified.
+/// `None` where there is no plan; where the record has a fault; where a run of numbers would begin within a byte; where
+/// the packet has fewer than eight bytes after the numbers of a run, or after the begin of a run without any; and where
+/// an allocation fails. The buffer is then unspecified.
 #[inline(always)]
 pub fn put_planned_record(
     plan: &RecordPlan,
@@ -161,8 +162,8 @@ fn put_run(
     put_placed_run(placed, reach, buffer, at)
 }
 
-/// Writes the fields of a run with numbers that are big endian or not in decimal, and gives the index after them;
-/// `reach` says how far they came then. It is out of the way of other runs.
+/// Writes the fields of a run with special numbers, and gives the index after them; `reach` says how far they came then.
+/// It is out of the way of other runs.
 #[inline(never)]
 fn put_special_run(
     placed: PlacedRun<'_>,
@@ -232,7 +233,7 @@ fn put_run_numbers(placed: PlacedRun<'_>, buffer: &mut Vec<u8>, at: usize) -> us
     if run.has_special {
         return put_special_numbers(numbers, bytes, first, buffer.as_mut_slice(), at);
     }
-    put_plain_numbers(numbers, bytes, first, buffer.as_mut_slice(), at)
+    put_usual_numbers(numbers, bytes, first, buffer.as_mut_slice(), at)
 }
 
 /// Writes the field after the numbers of a run, if there is one, and gives the index after it; `reach` says how far it

@@ -9,7 +9,7 @@ ghost use Rattle.ctf_class.specs.Names.{label_text};
 ghost use Rattle.ctf_class.specs.declared.route.Length.TheVariants.{Fixed};
 ghost use Rattle.ctf_decode.specs.Forms as forms;
 ghost use Rattle.ctf_format.specs.Numbers.{number_text};
-ghost use Rattle.ctf_format.specs.Plain.{number_at};
+ghost use Rattle.ctf_format.specs.RunNumbers.{number_at};
 ghost use Rattle.ctf_format.specs.Standing.{PutsOne, StandsAsNumber};
 ghost use Rattle.ctf_format.specs.Texts as texts;
 

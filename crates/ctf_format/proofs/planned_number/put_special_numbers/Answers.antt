@@ -1,7 +1,7 @@
 use Rattle.std.proofs.Common.{◌+◌, drop, ap, arith}
 use Rattle.ctf_class.specs.Records.{numbers_room}
 use Rattle.ctf_format.proofs.NamesLemmas.{here}
-use Rattle.ctf_format.proofs.PlainLemmas.{room_some}
+use Rattle.ctf_format.proofs.RunNumbersLemmas.{room_some}
 use Rattle.ctf_format.proofs.planned_number.put_special_numbers.Goals as goal
 
 pub put_any_number-text-requires-clause-room : goal.put_any_number-text-requires-clause-room

@@ -1,8 +1,8 @@
 use Rattle.std.proofs.Common.{◌+◌, drop, ap, arith}
 use Rattle.ctf_class.specs.Records.{numbers_room}
 use Rattle.ctf_format.proofs.NamesLemmas.{here}
-use Rattle.ctf_format.proofs.PlainLemmas.{room_some}
-use Rattle.ctf_format.proofs.planned_number.put_plain_numbers.Goals as goal
+use Rattle.ctf_format.proofs.RunNumbersLemmas.{room_some}
+use Rattle.ctf_format.proofs.planned_number.put_usual_numbers.Goals as goal
 
 pub put_number-text-requires-clause-room : goal.put_number-text-requires-clause-room
 put_number-text-requires-clause-room c =

@@ -1,8 +1,8 @@
 use Rattle.std.proofs.Common.{◌≡◌, ◌+◌, ◌++◌, ◌≤◌, take, drop, length}
 use Rattle.std.specs.List.{flat_map}
 use Rattle.ctf_class.specs.Records.{numbers_room}
-use Rattle.ctf_format.specs.Plain.{run_text}
-use Rattle.ctf_format.proofs.planned_number.put_plain_numbers.Given as goal
+use Rattle.ctf_format.specs.RunNumbers.{run_text}
+use Rattle.ctf_format.proofs.planned_number.put_usual_numbers.Given as goal
 
 abbrev pub invariant-loop-number : goal.invariant-loop-number
 invariant-loop-number l = record {

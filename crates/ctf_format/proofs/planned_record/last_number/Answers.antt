@@ -3,9 +3,9 @@ use Rattle.std.specs.List.{All}
 use Rattle.std.proofs.lemmas.List.Elements.{All-get_or}
 use Rattle.ctf_bits.specs.Placed.{number_after}
 use Rattle.ctf_class.specs.declared.planned_number.PlannedNumber.{PlannedNumber}
-use Rattle.ctf_format.specs.Plain.{IsPlaced, number_at, place_in}
+use Rattle.ctf_format.specs.RunNumbers.{IsPlaced, number_at, place_in}
 use Rattle.ctf_format.specs.Records.{IsLastNumber}
-use Rattle.ctf_format.proofs.PlainLemmas.{plain_number}
+use Rattle.ctf_format.proofs.RunNumbersLemmas.{usual_number}
 use Rattle.ctf_format.proofs.RecordsLemmas.{no_number, last_number}
 use Rattle.ctf_format.proofs.planned_record.last_number.Goals as goal
 
@@ -33,5 +33,5 @@ returns c =
     let some : 0 < length numbers = omega (arith, c.if-count-eq0.false) in
     let last : length numbers - 1 < length numbers = omega (arith, some) in
     let placed : IsPlaced n = subst IsPlaced (sym c.index-numbers-count.is) (All-get_or IsPlaced numbers (length numbers - 1) n last (subst (λ ns. All IsPlaced ns) (sym c.as_slice-numbers.ensures) c.args.placed.placed)) in
-    let reads : (v : ℕ) → number_after n.window bytes first ≡ pos v → number_at n.integer bytes (place_in first n) ≡ pos v = λ v read. sym (plain_number n placed c.if-last-2.false bytes first) ∙ read in
+    let reads : (v : ℕ) → number_after n.window bytes first ≡ pos v → number_at n.integer bytes (place_in first n) ≡ pos v = λ v read. sym (usual_number n placed c.if-last-2.false bytes first) ∙ read in
     subst (λ ns. IsLastNumber c.number.result ns bytes first) c.as_slice-numbers.ensures (last_number numbers n c.number.result bytes first some c.index-numbers-count.is c.if-last.false (some_so n bytes first reads c.number.result c.number.ensures.value))
