@@ -272,8 +272,7 @@ impl<'d, 'a, R: Files> Source for DiskStream<'d, 'a, R> {
     fn take(&mut self, buf: &mut [u8]) -> Result<usize, SourceFault> {
         // Mostly some bytes are held, which takes no call.
         if let StreamFile::Kept(kept) = &mut self.file {
-            let count = kept.ahead.give_held(buf);
-            if count > 0 {
+            if let Some(count) = kept.ahead.give_held(buf) {
                 return Ok(count);
             }
         }

@@ -1,6 +1,6 @@
 //! Bytes that are read before they are asked for.
 
-ghost use Rattle.std.specs.Prelude.{◌≡◌, ◌<◌, ◌≤◌, [], ◌++◌, length, take, OnOk, OnErr};
+ghost use Rattle.std.specs.Prelude.{◌≡◌, ◌<◌, ◌≤◌, [], ◌++◌, length, take, IfNone, IfSome, OnOk, OnErr};
 ghost use Rattle.std.specs.Io.{ReadsAtMost};
 ghost use Rattle.std.specs.Io.KnownBytes.{ReadConsumes, Consumes, Keeps, IsAtEnd, prepend_known};
 
@@ -60,15 +60,20 @@ impl ReadAhead {
         self.read_next(reader, most, buf)
     }
 
-    /// Gives the first of the bytes that are held, and answers how many: 0 where none is.
+    /// Gives the first of the bytes that are held, and answers how many: `None` where none is.
     #[inline(always)]
-    pub(crate) fn give_held(&mut self, buf: &mut [u8]) -> usize
+    pub(crate) fn give_held(&mut self, buf: &mut [u8]) -> Option<usize>
         requires { 0 < length buf.old }
-        ensures bound { result ≤ length buf.new }
-        ensures bytes { self.old.held.bytes ≡ take result buf.new ++ self.new.held.bytes }
-        ensures none { result ≡ 0 → self.old.held.bytes ≡ [] }
+        ensures some { IfSome result (λ count. (0 < count) × (count ≤ length buf.new)) }
+        ensures bytes { IfSome result
+            (λ count. self.old.held.bytes ≡ take count buf.new ++ self.new.held.bytes) }
+        ensures none { IfNone result
+            ((self.old.held.bytes ≡ []) × (self.new.held.bytes ≡ [])) }
     {
-        give(&mut self.held, buf)
+        if self.held.as_slice().is_empty() {
+            return None;
+        }
+        Some(give(&mut self.held, buf))
     }
 
     /// Gives the next bytes of a reader, where nothing is held. Up to `most` bytes after them may be held.
