@@ -112,8 +112,8 @@ BeginsRun align ss [] = align ≡ 1
 BeginsRun align [] (n ∷ ns) = ⊥
 BeginsRun align (s ∷ ss) (n ∷ ns) = IsLarger align s.align s.member.class.align
 
--- The numbers of a run that begins at this alignment, and at a byte, are the first of these fields, one after the other,
--- as far as a distance, and these are left.
+-- The numbers of a run that begins at this alignment, and at a byte, are the first of these fields, one after the
+-- other, as far as a distance, and these are left.
 abbrev pub TakesNumbers : ℕ → List Slot → List PlannedNumber → ℕ → List Slot → Type 0
 TakesNumbers align ss ns span rest =
     BeginsRun align ss ns × AreInRun (max 8 align) 0 ss ns span rest

@@ -13,15 +13,20 @@ Exactly view (Ok x) r = r ≡ Ok (view x)
 Exactly view (Err f) r = r ≡ Err f
 
 -- an answer, seen as what the definition gives, or memory ran out
-abbrev pub OrRefused : {A B : Type 0} → (A → B) → Result A StreamFault → Result B StreamFault → Type 0
+abbrev pub OrRefused : {A B : Type 0} → (A → B) → Result A StreamFault → Result B StreamFault
+    → Type 0
 OrRefused view (Ok x) r = r ≡ Ok (view x)
 OrRefused view (Err f) r = (r ≡ Err f) ⊎ (f ≡ faults.NoMemory)
 
 -- no size is given; the sizes given can be; or they can't, whatever is left
 abbrev pub SizesTold : Option ℕ → Option ℕ → ℕ → ℕ → Result (Option Sizes) StreamFault → Type 0
 SizesTold packet content rest end (Ok None) = (packet ≡ None) × (content ≡ None)
-SizesTold packet content rest end (Ok (Some sizes)) = (sizes_of packet content rest ≡ sizes) × (are_possible sizes end ≡ true) × (((packet ≡ None) × (content ≡ None)) → ⊥)
-SizesTold packet content rest end (Err f) = (f ≡ faults.ImpossibleSizes) × (are_possible (sizes_of packet content rest) end ≡ false) × (((packet ≡ None) × (content ≡ None)) → ⊥)
+SizesTold packet content rest end (Ok (Some sizes)) =
+    (sizes_of packet content rest ≡ sizes) × (are_possible sizes end ≡ true)
+    × (((packet ≡ None) × (content ≡ None)) → ⊥)
+SizesTold packet content rest end (Err f) =
+    (f ≡ faults.ImpossibleSizes) × (are_possible (sizes_of packet content rest) end ≡ false)
+    × (((packet ≡ None) × (content ≡ None)) → ⊥)
 
 -- sizes of a packet whose context ends at a bit and whose bytes are among n
 pub record Fitting (end n : ℕ) (s : Sizes) : Type 0 where

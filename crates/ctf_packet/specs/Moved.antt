@@ -20,7 +20,9 @@ signed_pair n (signed z) = (n, low_bits z n) ∷ []
 signed_pair n _ = []
 
 abbrev pub moved_in : Integer → Val → List (ℕ × ℕ)
-moved_in i v = if i.is_moving then (if i.is_signed then signed_pair i.size v else unsigned_pair i.size v) else []
+moved_in i v =
+    if i.is_moving then (if i.is_signed then signed_pair i.size v else unsigned_pair i.size v)
+    else []
 
 -- the width and the unsigned number of each integer that sets the clock, in the order of decoding
 abbrev pub moved : Form → Val → List (ℕ × ℕ)

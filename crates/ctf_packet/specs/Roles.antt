@@ -12,7 +12,8 @@ use Rattle.ctf_packet.specs.declared.field.UnsignedField.{UnsignedField}
 abbrev pub member_named : List ℕ → Parts → Vals → Option (Form × Val)
 member_named name no_parts vs = None
 member_named name (part n k ps) no_vals = None
-member_named name (part n k ps) (more_vals v vs) = if bytes_eq n name then Some (k, v) else member_named name ps vs
+member_named name (part n k ps) (more_vals v vs) =
+    if bytes_eq n name then Some (k, v) else member_named name ps vs
 
 abbrev pub member_of : List ℕ → Form → Val → Option (Form × Val)
 member_of name (structure a ps) v = member_named name ps (members_in v)
@@ -26,7 +27,8 @@ field_at_top name None v = None
 
 -- an unsigned integer, with its width; a field of another class has no role (own)
 abbrev pub unsigned_field : Form → Val → Option UnsignedField
-unsigned_field (integer a i) (unsigned n) = if i.is_signed then None else Some (record { width = i.size; number = n })
+unsigned_field (integer a i) (unsigned n) =
+    if i.is_signed then None else Some (record { width = i.size; number = n })
 unsigned_field _ _ = None
 
 unfoldable pub role : List ℕ → Option Form → Option Val → Option UnsignedField
@@ -58,7 +60,8 @@ octets (more_vals v vs) = octet v ∷ octets vs
 
 -- the bytes of an array of 16 unsigned integers of 8 bits, aligned on 8
 abbrev pub sixteen_octets : Form → Val → Option (List ℕ)
-sixteen_octets (array a many k) v = if is_sixteen many && is_octet k then Some (octets (elements_in v)) else None
+sixteen_octets (array a many k) v =
+    if is_sixteen many && is_octet k then Some (octets (elements_in v)) else None
 sixteen_octets _ v = None
 
 unfoldable pub uuid_field : Option Form → Option Val → Option (List ℕ)

@@ -40,13 +40,17 @@ abbrev pub value_moves : Class → Value → List (ℕ × ℕ)
 value_moves class value = moved.moved (form class) (val value)
 
 abbrev pub member_moves : List Member → List Value → List (ℕ × ℕ)
-member_moves members values = moved.member_moved (parts_of (map member_part members)) (vals_of (map val values))
+member_moves members values =
+    moved.member_moved (parts_of (map member_part members)) (vals_of (map val values))
 
 abbrev pub element_moves : Class → List Value → List (ℕ × ℕ)
-element_moves element values = fields.of_each (moved.moved (form element)) (vals_of (map val values))
+element_moves element values =
+    fields.of_each (moved.moved (form element)) (vals_of (map val values))
 
 abbrev pub choice_moves : List Member → Value → List (ℕ × ℕ)
-choice_moves options value = fields.of_choice (fields.choice_in (val value)) (moved.option_moved (parts_of (map member_part options)))
+choice_moves options value =
+    fields.of_choice (fields.choice_in (val value))
+    (moved.option_moved (parts_of (map member_part options)))
 
 abbrev pub option_moves : List Member → ℕ → Value → List (ℕ × ℕ)
 option_moves options i inner = moved.option_moved (parts_of (map member_part options)) i (val inner)
@@ -56,18 +60,23 @@ abbrev pub value_ids : Class → Value → List ℤ
 value_ids class value = fields.ids (form class) (val value)
 
 abbrev pub member_ids : List Member → List Value → List ℤ
-member_ids members values = fields.member_ids (parts_of (map member_part members)) (vals_of (map val values))
+member_ids members values =
+    fields.member_ids (parts_of (map member_part members)) (vals_of (map val values))
 
 abbrev pub element_ids : Class → List Value → List ℤ
 element_ids element values = fields.of_each (fields.ids (form element)) (vals_of (map val values))
 
 abbrev pub choice_ids : List Member → Value → List ℤ
-choice_ids options value = fields.of_choice (fields.choice_in (val value)) (fields.option_ids (parts_of (map member_part options)))
+choice_ids options value =
+    fields.of_choice (fields.choice_in (val value))
+    (fields.option_ids (parts_of (map member_part options)))
 
 abbrev pub option_ids : List Member → ℕ → Value → List ℤ
 option_ids options i inner = fields.option_ids (parts_of (map member_part options)) i (val inner)
 
 -- its class number and the clock after it; or the clock is refused
-abbrev pub TellsHeader : Option Line → Option Moment → Option Form → Option Val → Result HeaderTold StreamFault → Type 0
-TellsHeader line clock k v (Ok told) = (clock_after line clock (moves k v) ≡ Ok told.clock) × (told.id ≡ last_or None (ids_in k v))
+abbrev pub TellsHeader : Option Line → Option Moment → Option Form → Option Val
+    → Result HeaderTold StreamFault → Type 0
+TellsHeader line clock k v (Ok told) =
+    (clock_after line clock (moves k v) ≡ Ok told.clock) × (told.id ≡ last_or None (ids_in k v))
 TellsHeader line clock k v (Err f) = clock_after line clock (moves k v) ≡ Err f

@@ -33,14 +33,19 @@ pub fn stream_checked<'a>(
         (packets.stream_checked (trace_form shift trace.now) (option_copied reached.entry)
         (option_map val (option_copied header.entry))) }
 {
-    let told = fields_of_roles(trace.header_front(), header, Role::Magic, Role::StreamId);
-    if !is_magic(told.0) {
+    let (magic, stream_id) = fields_of_roles(
+        trace.header_front(),
+        header,
+        Role::Magic,
+        Role::StreamId,
+    );
+    if !is_magic(magic) {
         return Err(StreamFault::WrongMagic);
     }
     if !is_of_trace(trace, header) {
         return Err(StreamFault::OtherTrace);
     }
-    match stream_of(trace, reached, number_in(told.1)) {
+    match stream_of(trace, reached, number_in(stream_id)) {
         Some(stream) => Ok(stream),
         None => Err(StreamFault::UnknownStream),
     }
@@ -158,7 +163,8 @@ fn octet(value: &Value) -> u64
     }
 }
 
-/// The stream class of a number, or the only one; none where the packets before are of another.
+/// The stream class of a packet: that of the number in its header, or without a number the only one of the trace. `None`
+/// where there is no such class, and where the packets before are of another one.
 fn stream_of<'a>(
     trace: &'a TraceClass,
     reached: Option<&Reached>,

@@ -29,7 +29,7 @@ pub use packet_place::PacketPlace;
 pub use reached::Reached;
 pub use record::{EventRecord, Head, event_named, next_head, next_record, planned_named, put_body};
 pub use record_place::RecordPlace;
-pub use roles::{field_of_role, fields_of_roles, number_in};
+pub use roles::{fields_of_roles, number_in};
 pub use scope::{ScopePlace, cut_short, front_content, record_scope, scope_into};
 pub use scratch::Scratch;
 pub use sizes::{LONGEST_PACKET, Sizes, are_possible, sizes_checked, told_sizes};

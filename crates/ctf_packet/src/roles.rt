@@ -16,7 +16,7 @@ use ctf_decode::{Value, members_in};
 /// The unsigned integer of a role at the top of a scope; `None` where there is no field of its name, or
 /// one of another class.
 #[tactic(auto, unfolding(crate::specs::Roles::role))]
-pub fn field_of_role(
+pub(crate) fn field_of_role(
     class: Option<&FrontClass>,
     value: Option<&Value>,
     role: Role,
