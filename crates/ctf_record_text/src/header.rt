@@ -38,7 +38,7 @@ struct HeaderTag {
 
 /// Where an integer begins and ends, in bits from the packet's first one.
 #[derive(Clone, Copy)]
-struct HeaderBits {
+struct IntegerSpan {
     begin: u64,
     end: u64,
 }
@@ -369,7 +369,7 @@ fn tag_at(container: &Integer, align: Align, packet: &Content<'_>, place: u64) -
 
 /// The bits of an integer that could begin at a place, if they lie within the content.
 #[inline(always)]
-fn bits_at(integer: &Integer, align: Align, packet: &Content<'_>, place: u64) -> Option<HeaderBits>
+fn bits_at(integer: &Integer, align: Align, packet: &Content<'_>, place: u64) -> Option<IntegerSpan>
     requires start { place ≤ packet.now.end }
     ensures begin { IfSome result (λ bits. bits.begin ≡ next_multiple_of place align) }
     ensures end { IfSome result
@@ -381,7 +381,7 @@ fn bits_at(integer: &Integer, align: Align, packet: &Content<'_>, place: u64) ->
     if end > packet.end {
         return None;
     }
-    Some(HeaderBits { begin, end })
+    Some(IntegerSpan { begin, end })
 }
 
 /// Decodes members that are integers.
