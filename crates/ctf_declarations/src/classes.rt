@@ -22,7 +22,7 @@ use crate::leaves::{float_class, integer_class, string_class};
 use crate::looking::{class_of_reference, enumeration};
 use crate::visible::{BlockNames, Visible};
 use ctf_attributes::alignment;
-use ctf_declared_class::{Known, KnownField};
+use ctf_declared_class::{Known, KnownMember};
 use ctf_meaning::ResolveFault;
 use std::alloc::Global;
 use tsdl_tree::{Compound, Item, Path, Specifier, TypeDeclaration};
@@ -74,7 +74,7 @@ fn compound_class(
 pub fn structure(
     alloc: Global,
     align: Option<u64>,
-    fields: Vec<KnownField>,
+    fields: Vec<KnownMember>,
 ) -> Result<Known, ResolveFault>
     ensures { let all = map field fields.items in
         Follows (unless (structure_faults align) (compound_told all (plain.structure align all)))
@@ -88,7 +88,7 @@ pub fn structure(
 fn variant(
     alloc: Global,
     tag: &Option<Path>,
-    fields: Vec<KnownField>,
+    fields: Vec<KnownMember>,
 ) -> Result<Known, ResolveFault>
     ensures { let all = map field fields.items in
         Follows (compound_told all (plain.variant tag.now (plain.members_from all))) known result }
@@ -100,7 +100,11 @@ fn variant(
 
 /// The members of a body. Its names end with it.
 #[cycle(classes)]
-fn body(alloc: Global, outer: &Visible<'_>, items: &[Item]) -> Result<Vec<KnownField>, ResolveFault>
+fn body(
+    alloc: Global,
+    outer: &Visible<'_>,
+    items: &[Item],
+) -> Result<Vec<KnownMember>, ResolveFault>
     ensures { Follows (body_told (visible outer.now) nothing_seen []
         (items_from (map item_form items.now))) (λ fields. map field fields.items) result }
 {
@@ -119,7 +123,7 @@ fn member(
     outer: &Visible<'_>,
     own: &mut BlockNames,
     item: &Item,
-    fields: &mut Vec<KnownField>,
+    fields: &mut Vec<KnownMember>,
 ) -> Result<(), ResolveFault>
     ensures { Follows (member_told (visible outer.now)
         (names_in own.old, map field fields.old.items) (item_form item.now))

@@ -18,7 +18,7 @@ ghost use Rattle.ctf_declarations.specs.Given.{body_form, given_by, plainly, by_
 use crate::keys::key;
 use crate::names::Name;
 use crate::visible::BlockNames;
-use ctf_declared_class::{Known, KnownField};
+use ctf_declared_class::{Known, KnownMember};
 use ctf_list::{List, NoMemory};
 use ctf_meaning::ResolveFault;
 use std::alloc::Global;
@@ -174,7 +174,7 @@ pub fn push_fields(
     alloc: Global,
     class: &Known,
     declarators: &[Declarator],
-    fields: &mut Vec<KnownField>,
+    fields: &mut Vec<KnownMember>,
 ) -> Result<(), NoMemory>
     ensures { OnOk result (map field fields.new.items ≡
         map field fields.old.items ++ plain.declared (Some (known class.now)) declarators.now) }
@@ -187,7 +187,7 @@ pub fn push_fields(
 }
 
 /// The member of a declarator.
-fn field_by(alloc: Global, class: &Known, declarator: &Declarator) -> Result<KnownField, NoMemory>
+fn field_by(alloc: Global, class: &Known, declarator: &Declarator) -> Result<KnownMember, NoMemory>
     ensures { IfOk result (λ f.
         field f ≡ record {
           name = declarator.now.name;
@@ -197,5 +197,5 @@ fn field_by(alloc: Global, class: &Known, declarator: &Declarator) -> Result<Kno
 {
     let name = List::from_slice(alloc, declarator.name.as_slice())?;
     let known = class.arrays(alloc, declarator.lengths.as_slice())?;
-    Ok(KnownField { name, known })
+    Ok(KnownMember { name, known })
 }

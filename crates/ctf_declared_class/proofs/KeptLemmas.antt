@@ -10,7 +10,7 @@ use Rattle.ctf_meaning.specs.Own.{has_twins}
 use Rattle.ctf_meaning.specs.Settings.{when}
 use Rattle.ctf_meaning.specs.Shapes.{Shape, Members, Field, struct, variant, array, sequence, member, members_from, largest, align_of, depth_of, depth_of_members, nodes_of, nodes_of_members, has_float, has_float_member, arrays}
 use Rattle.ctf_meaning_steps.specs.Told.{unless}
-use Rattle.ctf_declared_class.specs.declared.known.KnownField as given
+use Rattle.ctf_declared_class.specs.declared.known.KnownMember as given
 use Rattle.ctf_declared_class.specs.declared.facts.Facts.{Facts}
 use Rattle.ctf_declared_class.specs.Stopped.{stopped}
 use Rattle.ctf_declared_class.specs.Kept.{Keeps, KeepsAll}
@@ -96,21 +96,21 @@ told-is fs ms told =
       | false ↦ λ e. cc
     ] told
 
-names-of : (fs : List given.KnownField) → map (λ f. f.name) (map field fs) ≡ map (λ f. f.name) fs
+names-of : (fs : List given.KnownMember) → map (λ f. f.name) (map field fs) ≡ map (λ f. f.name) fs
 names-of [] = refl
 names-of (f ∷ fs) = ap (λ ws. f.name ∷ ws) (names-of fs)
 
 -- members as they were made
-pub joined-from : (fs : List given.KnownField) → joined (map (λ f. f.name) fs) (map shape (map (λ f. f.known.shape) fs)) ≡ members_from (map field fs)
+pub joined-from : (fs : List given.KnownMember) → joined (map (λ f. f.name) fs) (map shape (map (λ f. f.known.shape) fs)) ≡ members_from (map field fs)
 joined-from [] = refl
 joined-from (f ∷ fs) = ap (member f.name (shape f.known.shape)) (joined-from fs)
 
-pub told-twins : (fs : List given.KnownField) (names : List Word) → names ≡ map (λ f. f.name) fs → has_twins same_word names ≡ true → members_told (map field fs) ≡ Err DeclaredTwice
+pub told-twins : (fs : List given.KnownMember) (names : List Word) → names ≡ map (λ f. f.name) fs → has_twins same_word names ≡ true → members_told (map field fs) ≡ Err DeclaredTwice
 told-twins fs names same twins =
     let words : map (λ f. f.name) (map field fs) ≡ names = names-of fs ∙ sym same in
     ap (λ ws. unless (when (has_twins same_word ws) DeclaredTwice) (Ok (members_from (map field fs)))) words ∙ ap (λ b. unless (when b DeclaredTwice) (Ok (members_from (map field fs)))) twins
 
-pub told-single : (fs : List given.KnownField) (names : List Word) → names ≡ map (λ f. f.name) fs → has_twins same_word names ≡ false → members_told (map field fs) ≡ Ok (members_from (map field fs))
+pub told-single : (fs : List given.KnownMember) (names : List Word) → names ≡ map (λ f. f.name) fs → has_twins same_word names ≡ false → members_told (map field fs) ≡ Ok (members_from (map field fs))
 told-single fs names same twins =
     let words : map (λ f. f.name) (map field fs) ≡ names = names-of fs ∙ sym same in
     ap (λ ws. unless (when (has_twins same_word ws) DeclaredTwice) (Ok (members_from (map field fs)))) words ∙ ap (λ b. unless (when b DeclaredTwice) (Ok (members_from (map field fs)))) twins

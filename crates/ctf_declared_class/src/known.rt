@@ -33,7 +33,7 @@ pub struct Known {
 
 /// A member of a structure or an option of a variant, which is to be made.
 #[derive(Drop)]
-pub struct KnownField {
+pub struct KnownMember {
     pub name: List<u8>,
     pub known: Known,
 }
@@ -104,7 +104,7 @@ impl Known {
     pub fn structure(
         alloc: Global,
         least: Align,
-        fields: Vec<KnownField>,
+        fields: Vec<KnownMember>,
     ) -> Result<Known, ResolveFault>
         ensures { let all = map field fields.items in
             Follows (compound_told all (plain.struct (largest least all) (members_from all))) known
@@ -121,7 +121,7 @@ impl Known {
     pub fn variant(
         alloc: Global,
         tag: Option<Path>,
-        fields: Vec<KnownField>,
+        fields: Vec<KnownMember>,
     ) -> Result<Known, ResolveFault>
         ensures { let all = map field fields.items in
             Follows (compound_told all (plain.variant tag (members_from all))) known result }

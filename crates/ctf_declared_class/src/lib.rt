@@ -9,5 +9,5 @@ mod parts;
 mod shape;
 
 pub use copy::{copied_path, copy_integer};
-pub use known::{Known, KnownField};
+pub use known::{Known, KnownMember};
 pub use shape::{Members, Shape};

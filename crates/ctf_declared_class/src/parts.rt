@@ -8,7 +8,7 @@ ghost use Rattle.ctf_declared_class.specs.Views.{members};
 ghost use Rattle.ctf_declared_class.specs.Distinct.{members_told};
 
 use crate::facts::Facts;
-use crate::known::KnownField;
+use crate::known::KnownMember;
 use crate::shape::{Members, Shape};
 use ctf_class::{Align, Names};
 use ctf_list::{List, NoMemory, Shared};
@@ -23,7 +23,7 @@ struct Parts {
 }
 
 /// What is kept of members, with the largest of their alignments and of `least`.
-pub fn facts_of(least: Align, fields: &[KnownField]) -> Facts
+pub fn facts_of(least: Align, fields: &[KnownMember]) -> Facts
     ensures { KeepsAll least (map field fields.now) result }
 {
     let mut facts = Facts {
@@ -39,7 +39,7 @@ pub fn facts_of(least: Align, fields: &[KnownField]) -> Facts
 }
 
 /// Members that have different names.
-pub fn distinct_members(alloc: Global, fields: Vec<KnownField>) -> Result<Members, ResolveFault>
+pub fn distinct_members(alloc: Global, fields: Vec<KnownMember>) -> Result<Members, ResolveFault>
     ensures { Follows (members_told (map field fields.items)) members result }
 {
     let Parts { names, shapes } = parts_of(alloc, fields)?;
@@ -53,7 +53,7 @@ pub fn distinct_members(alloc: Global, fields: Vec<KnownField>) -> Result<Member
 }
 
 /// The names of members beside their classes.
-fn parts_of(alloc: Global, fields: Vec<KnownField>) -> Result<Parts, NoMemory>
+fn parts_of(alloc: Global, fields: Vec<KnownMember>) -> Result<Parts, NoMemory>
     ensures names { IfOk result (λ parts. parts.names ≡ map (λ f. f.name) fields.items) }
     ensures shapes { IfOk result (λ parts. parts.shapes ≡ map (λ f. f.known.shape) fields.items) }
 {
