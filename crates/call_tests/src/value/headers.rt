@@ -18,38 +18,38 @@ struct HeaderScratch {
 /// Puts a line for each header, which is at the start of a packet of its own. Each is decoded into the value of the one
 /// before it.
 pub fn put_row(row: &mut Row<'_>, class: &Class) {
-    let making = HeaderScratch {
+    let scratch = HeaderScratch {
         scopes: Scopes::new(),
         value: Value::Signed(1),
     };
-    if let Ok(making) = Box::new(row.alloc, making) {
-        let mut making = making;
+    if let Ok(scratch) = Box::new(row.alloc, scratch) {
+        let mut scratch = scratch;
         let mut lead: &[u8] = b"";
         for header in row.words.split(", ") {
             row.put(lead);
-            put_header(row, class, header, &mut making);
+            put_header(row, class, header, &mut scratch);
             lead = b"\n";
         }
     }
 }
 
 /// Puts what a header says, or its fault.
-fn put_header(row: &mut Row<'_>, class: &Class, header: &str, making: &mut HeaderScratch) {
+fn put_header(row: &mut Row<'_>, class: &Class, header: &str, scratch: &mut HeaderScratch) {
     let (range, digits) = header.split_once(' ').unwrap_or((header, ""));
     let bytes = bytes_of_digits(row.alloc, digits);
     if let Some(place) = Place::new(range, &bytes) {
-        put_place(row, class, place, making);
+        put_place(row, class, place, scratch);
     }
 }
 
 /// Puts what a header at a place says, or its fault.
-fn put_place(row: &mut Row<'_>, class: &Class, place: Place<'_>, making: &mut HeaderScratch) {
+fn put_place(row: &mut Row<'_>, class: &Class, place: Place<'_>, scratch: &mut HeaderScratch) {
     let Place {
         bytes,
         start,
         content,
     } = place;
-    let HeaderScratch { scopes, value } = making;
+    let HeaderScratch { scopes, value } = scratch;
     let packet = Packet {
         bytes,
         content,
