@@ -48,7 +48,7 @@ impl StreamHead {
     {
         let parts = StreamParts {
             id: self.id,
-            packet_context: front_of(alloc, self.packet_context)?,
+            packet_context: front_class_of(alloc, self.packet_context)?,
             event_header: self.event_header,
             event_context: self.event_context,
             clock: self.clock,
@@ -59,7 +59,10 @@ impl StreamHead {
 }
 
 /// The class of a packet's header or context, if there is one, with what says something of the packet in it.
-pub(crate) fn front_of(alloc: Global, class: Option<Class>) -> Result<Option<FrontClass>, NoMemory>
+pub(crate) fn front_class_of(
+    alloc: Global,
+    class: Option<Class>,
+) -> Result<Option<FrontClass>, NoMemory>
     ensures { IfOk result (λ front. front ≡ class) }
 {
     match class {

@@ -15,7 +15,7 @@ ghost use Rattle.ctf_types.specs.Resolved.{IsWalked, Resolves, IsFinished, or_pl
 use crate::clocks::clocks;
 use crate::event::copy_host;
 use crate::gather::TraceParts;
-use crate::linked::{StreamHead, front_of};
+use crate::linked::{StreamHead, front_class_of};
 use crate::streams::streams;
 use crate::text::KnownText;
 use crate::trace::{TraceAt, trace};
@@ -115,7 +115,7 @@ fn trace_class_of(
         uuid: trace.settings.uuid,
         host: copy_host(alloc, host)?,
         streams: Indexed::new(alloc, streams)?,
-        packet_header: front_of(alloc, header_of(parts.headers))?,
+        packet_header: front_class_of(alloc, header_of(parts.headers))?,
     })
 }
 

@@ -23,7 +23,7 @@ returns g c = (
       ∙ (λ j. Some (record {
         uuid = c.in-Some.trace.settings.uuid;
         host = sym c.in_ok-copy_host.ensures j;
-        packet_header = sym (c.in_ok-front_of.ensures ∙ c.header_of.ensures) j;
+        packet_header = sym (c.in_ok-front_class_of.ensures ∙ c.header_of.ensures) j;
         streams = sym (c.in_ok-new.ensures ∙ c.in_ok-streams.ensures ∙ ap (λ hs. joined_all hs c.args.parts.events) c.in_ok-heads.ensures) j;
       })),
 )
