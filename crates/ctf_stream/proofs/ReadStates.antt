@@ -2,6 +2,7 @@
 use Rattle.std.proofs.Common.{◌≡◌, ℕ, Bool, true, false, List, [], ◌∷◌, Option, Some, None, Ok, inl, inr, refl, sym, ap, subst, ◌∙◌}
 use Rattle.std.specs.Prelude.{IfNone}
 use Rattle.ctf_bits.specs.declared.source.Ending.{Ending}
+use Rattle.ctf_class.specs.declared.trace.TraceClass.{TraceClass}
 use Rattle.ctf_clock.specs.declared.moment.Moment.{Moment}
 use Rattle.ctf_clock.specs.declared.moment.Shift.{Shift}
 use Rattle.ctf_decode.specs.Known.{Known}
@@ -18,6 +19,8 @@ use Rattle.ctf_stream.specs.Reader.{after_ahead, with_ahead}
 use Rattle.ctf_stream.specs.Standing.{item_at}
 use Rattle.ctf_stream.specs.ReadState.{trace_of, coming_at, Inside, StandsAt, coming_of, StepsWithin, Enters, Advances}
 use Rattle.ctf_stream.specs.declared.read_state.ReadState.{ReadState}
+use Rattle.ctf_fetch.specs.Headers.{KnowsHeader}
+use Rattle.ctf_fetch.specs.declared.packet_scratch.PacketScratch.{PacketScratch}
 use Rattle.ctf_fetch.specs.declared.packet_start.PacketStart.{PacketStart}
 use Rattle.ctf_stream.specs.declared.packet.PacketReader.{PacketReader}
 use Rattle.ctf_stream.specs.declared.packet.PacketItem.{PacketItem}
@@ -101,3 +104,8 @@ entered old ending left after middle next found is test enters =
 pub ended : (old ending : Ending) (left after : List ℕ) (middle next : ReadState) (found : Bool) → old ≡ ending → found ≡ false → Enters (coming_of old left middle) (coming_of old after next) next.cut after (Ok found) → (coming_of ending left middle ≡ stops None next.cut.at) × (after ≡ [])
 ended old ending left after middle next found is test enters =
     subst (λ e. (coming_of e left middle ≡ stops None next.cut.at) × (after ≡ [])) is (subst (λ b. Enters (coming_of old left middle) (coming_of old after next) next.cut after (Ok b)) test enters)
+
+-- a header that is known stays so where nothing of it changes
+pub still_known : (trace next : TraceClass) (scratch after : PacketScratch) (old new : Values) → next ≡ trace → after ≡ scratch → new ≡ old → KnowsHeader trace scratch old → KnowsHeader next after new
+still_known trace next scratch after old new t s v known =
+    subst (λ x. KnowsHeader x after new) (sym t) (subst (λ x. KnowsHeader trace x new) (sym s) (subst (KnowsHeader trace scratch) (sym v) known))

@@ -40,6 +40,7 @@ impl<'a> ReadState<'a> {
         ensures buffer { self.new.buffer ≡ self.old.buffer }
         ensures taken { self.new.taken ≡ self.old.taken }
         ensures part { self.new.line.part ≡ self.old.line.part }
+        ensures scratch { self.new.packet_scratch ≡ self.old.packet_scratch }
         ensures writes { self.new.writes ≡ self.old.writes }
         ensures values { OnOk result (packet_values (values_of self.new.scopes) ≡
             packet_values (values_of self.old.scopes)) }

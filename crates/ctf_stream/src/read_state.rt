@@ -177,6 +177,7 @@ impl<'a> ReadState<'a> {
     fn enter<S: Source>(&mut self, alloc: Global, source: &mut S) -> Result<bool, StreamFault>
         requires between { self.old.packet ≡ None }
         requires stands { Stands self.old }
+        requires front { HasFront self.old }
         ensures tells { IsTrue (S.tells source.old) → IsTrue (S.tells source.new) }
         ensures same_end { IsTrue (S.tells source.old) → S.ending source.new ≡ S.ending source.old }
         ensures enters { let ending = S.ending source.old in
@@ -321,6 +322,7 @@ impl<'a> ReadState<'a> {
         ensures at { self.new.cut.at ≡ self.old.taken }
         ensures empty { self.new.buffer ≡ [] }
         ensures scopes { self.new.scopes ≡ self.old.scopes }
+        ensures scratch { self.new.packet_scratch ≡ self.old.packet_scratch }
         ensures taken { self.new.taken ≡ self.old.taken }
         ensures writes { self.new.writes ≡ self.old.writes }
     {

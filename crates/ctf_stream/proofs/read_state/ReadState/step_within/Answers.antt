@@ -1,6 +1,7 @@
-use Rattle.std.proofs.Common.{ap, sym, ◌∙◌}
-use Rattle.ctf_stream.specs.ReadState.{coming_at}
-use Rattle.ctf_stream.proofs.ReadStates.{follows, inside, takes_item, is_over}
+use Rattle.std.proofs.Common.{◌≡◌, ap, subst, sym, ◌∙◌}
+use Rattle.ctf_packet.specs.Views.{values_of, packet_values}
+use Rattle.ctf_stream.specs.ReadState.{coming_at, IsPartOf}
+use Rattle.ctf_stream.proofs.ReadStates.{follows, inside, takes_item, is_over, still_known}
 use Rattle.ctf_stream.proofs.read_state.ReadState.step_within.Goals as goal
 
 pub returns-in-Ok-Some-clause-steps : goal.returns-in-Ok-Some-clause-steps
@@ -21,3 +22,13 @@ returns-in-Ok-None-clause-steps c = λ ending left.
     (c.in-Ok-None.ensures.takes old.cut.shift (follows old.cut ending left old.buffer old.scopes p) stands.fetched.line)
     c.reached_after-reached.ensures c.leave.ensures.trace c.leave.ensures.shift c.leave.ensures.reached (c.leave.ensures.at ∙ stands.here) in
     (over ∙ ap (coming_at new.cut ending left new.scopes new.buffer) (sym c.leave.ensures.packet), c.leave.ensures.packet)
+
+pub returns-in-Ok-None-clause-front : goal.returns-in-Ok-None-clause-front
+returns-in-Ok-None-clause-front c =
+    let old = c.args.self.now in
+    let new = c.leave.new.self in
+    let values : packet_values (values_of new.scopes) ≡ packet_values (values_of old.scopes) = ap (λ k. packet_values (values_of k)) c.leave.ensures.scopes ∙ c.in-Ok-None.ensures.packet in
+    record {
+      part = subst (IsPartOf (packet_values (values_of new.scopes)) new.line.part) (sym c.leave.ensures.packet) tt;
+      header = still_known old.cut.trace.now new.cut.trace.now old.packet_scratch new.packet_scratch (packet_values (values_of old.scopes)) (packet_values (values_of new.scopes)) (ap (λ t. t.now) c.leave.ensures.trace) c.leave.ensures.scratch values c.requires.front.header;
+    }
