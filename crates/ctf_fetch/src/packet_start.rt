@@ -136,6 +136,7 @@ impl<'a> PacketStart<'a> {
 
     /// The packet that begins here, out of a source (CTF 1.8.3, section 5); its bytes are in `buffer` then, and the
     /// values of its header and context in `scopes`, made in the memory of `scratch`. `None` where the stream ends here.
+    /// `scratch` is new, or that of the packet before, whose header is still in `scopes` then.
     ///
     /// It takes the bytes that each header and context ask for, one at least, then those that this header and this
     /// context ask for, then the rest of the packet: 2^28 bytes at the most, and one more of a stream whose rest is
