@@ -14,12 +14,14 @@ use Rattle.ctf_fetch.specs.declared.scope.NextScope.{NextScope}
 -- what is there in these bytes, or what it asks for
 abbrev pub scope_asked : NextScope → List ℕ → Known → Result Stood (Want Classes)
 scope_asked next bytes known =
-    asked_at (option_map form (option_copied next.class)) (front bytes (values_of known)) next.end known.spent
+    asked_at (option_map form (option_copied next.class)) (front bytes (values_of known)) next.end
+    known.spent
 
 -- what is there in these bytes, after which the stream ends so
 abbrev pub scope_found : Ending → NextScope → List ℕ → Known → Result Stood StreamFault
 scope_found ending next bytes known =
-    scope_at (fault_in_front ending) (option_map form (option_copied next.class)) (front bytes (values_of known)) next.end known.spent
+    scope_at (fault_in_front ending) (option_map form (option_copied next.class))
+    (front bytes (values_of known)) next.end known.spent
 
 -- this is its fault
 abbrev pub FailsAs : Result Stood StreamFault → StreamFault → Type 0

@@ -32,26 +32,34 @@ input_at place bytes = there bytes place.scopes.now
 
 -- what the function on lists finds at a place in these bytes: of a class
 abbrev pub found_at : Class → ValuePlace → List ℕ → Step Val
-found_at class place bytes = walk (form class) (input_at place bytes) (env place.frame.now) place.end place.spent
+found_at class place bytes =
+    walk (form class) (input_at place bytes) (env place.frame.now) place.end place.spent
 
 -- of the members of a structure that was opened
 abbrev pub members_at : List Member → ValuePlace → List ℕ → Step Val
 members_at members place bytes =
-    and_then (walk_members (parts_of (map member_part members)) (input_at place bytes) (env place.frame.now) [] place.end place.spent) as_group
+    and_then
+    (walk_members (parts_of (map member_part members)) (input_at place bytes)
+    (env place.frame.now) [] place.end place.spent) as_group
 
 -- of so many elements of an array that was opened
 abbrev pub elements_at : Class → ℕ → ValuePlace → List ℕ → Step Val
 elements_at element count place bytes =
-    and_then (repeat (walk (form element) (input_at place bytes) (env place.frame.now)) count [] place.end place.spent) as_list
+    and_then
+    (repeat (walk (form element) (input_at place bytes) (env place.frame.now)) count [] place.end
+    place.spent) as_list
 
 -- of the options of a variant, of which one was chosen or none
 abbrev pub option_in : List Member → ℕ → ValuePlace → List ℕ → Step Val
 option_in options i place bytes =
-    and_then (walk_option (parts_of (map member_part options)) i (input_at place bytes) (env place.frame.now) place.end (place.spent + 1)) (as_choice i)
+    and_then
+    (walk_option (parts_of (map member_part options)) i (input_at place bytes)
+    (env place.frame.now) place.end (place.spent + 1)) (as_choice i)
 
 abbrev pub options_at : List Member → Option ℕ → ValuePlace → List ℕ → Step Val
 options_at options chosen place bytes =
-    begin (input_at place bytes) place.spent (with_option chosen (λ i. option_in options i place bytes))
+    begin (input_at place bytes) place.spent
+    (with_option chosen (λ i. option_in options i place bytes))
 
 -- of a string, of which a value was begun
 abbrev pub text_at : ValuePlace → List ℕ → Step Val
@@ -61,7 +69,8 @@ text_at place bytes = string_at (input_at place bytes) (next_multiple_of place.e
 -- were there before
 abbrev pub EndsNear : ValuePlace → ℕ → List ℕ → Type 0
 EndsNear place before bytes =
-    (more : List ℕ) (x : Val × ℕ × ℕ) → text_at place (bytes ++ more) ≡ Ok x → 8 * length bytes ≤ max (8 * before) (x.1 + 7)
+    (more : List ℕ) (x : Val × ℕ × ℕ) → text_at place (bytes ++ more) ≡ Ok x
+    → 8 * length bytes ≤ max (8 * before) (x.1 + 7)
 
 -- it was found
 abbrev pub IsFound : Step Val → Decoded → Type 0
@@ -82,7 +91,9 @@ pub record IsOpened (place : ValuePlace) (b : ℕ) (inner : ValuePlace) : Type 0
 -- the fault of what would be opened at a bit, whatever its parts are
 abbrev pub FailsToOpen : Ending → ValuePlace → ℕ → List ℕ → StreamFault → Type 0
 FailsToOpen ending place b bytes fault =
-    (parts : Step Val) → Failed ending (begin (input_at place bytes) place.spent (open_at (input_at place bytes) b parts)) fault
+    (parts : Step Val)
+    → Failed ending
+    (begin (input_at place bytes) place.spent (open_at (input_at place bytes) b parts)) fault
 
 -- wherever a value of this class is, it takes so many bits at least
 abbrev pub TakesAtLeast : Class → ℕ → Type 0
@@ -103,25 +114,31 @@ ElementsTake element count n =
 
 -- a scope of this class, or of none, takes so many bits at least
 abbrev pub ScopeTakes : Option Form → ℕ → Type 0
-ScopeTakes k n = (c : Input) (p s : ℕ) (x : Stood) → asked_at {C = Classes} k c p s ≡ Ok x → p + n ≤ x.end
+ScopeTakes k n =
+    (c : Input) (p s : ℕ) (x : Stood) → asked_at {C = Classes} k c p s ≡ Ok x → p + n ≤ x.end
 
 -- so does the context of each packet of a trace
 abbrev pub ContextTakes : TraceClass → ℕ → Type 0
 ContextTakes trace n =
-    (shift : Shift) (id : Option ℕ) (stream : StreamForm Classes) → stream_named (trace_form shift trace).streams id ≡ Some stream → ScopeTakes stream.packet_context n
+    (shift : Shift) (id : Option ℕ) (stream : StreamForm Classes)
+    → stream_named (trace_form shift trace).streams id ≡ Some stream
+    → ScopeTakes stream.packet_context n
 
 -- the header and the context of each packet of a trace take so many bytes at least
 abbrev pub FrontTakes : TraceClass → ℕ → Type 0
 FrontTakes trace bytes =
-    (shift : Shift) (id : Option ℕ) (stream : StreamForm Classes) → stream_named (trace_form shift trace).streams id ≡ Some stream
-    → (c d : Input) (s t : ℕ) (x y : Stood) → asked_at {C = Classes} (trace_form shift trace).packet_header c 0 s ≡ Ok x
+    (shift : Shift) (id : Option ℕ) (stream : StreamForm Classes)
+    → stream_named (trace_form shift trace).streams id ≡ Some stream
+    → (c d : Input) (s t : ℕ) (x y : Stood)
+    → asked_at {C = Classes} (trace_form shift trace).packet_header c 0 s ≡ Ok x
     → asked_at {C = Classes} stream.packet_context d x.end t ≡ Ok y → 8 * bytes ≤ y.end
 
 -- whatever bytes are there, a value of this class at a place takes so many bits at least
 abbrev pub TakesAt : Class → ValuePlace → ℕ → Type 0
 TakesAt class place n =
     (bytes : List ℕ) (v : Val) (q : ℕ)
-    → Stands (form class) (input_at place bytes) (env place.frame.now) place.end v q → place.end + n ≤ q
+    → Stands (form class) (input_at place bytes) (env place.frame.now) place.end v q
+    → place.end + n ≤ q
 
 -- and ends at this bit at least
 abbrev pub EndsAtLeast : Class → ValuePlace → ℕ → Type 0

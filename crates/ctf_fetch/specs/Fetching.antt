@@ -22,20 +22,24 @@ abbrev pub most_taken : ℕ
 most_taken = 2 ^ 60 + 2 ^ 28 + 1
 
 -- what follows a packet at whose end the clock came so far
-abbrev pub after_packet : TraceForm Classes → Ending → Opened Classes → List ℕ → Option Moment → Run Classes
-after_packet trace ending packet left clock = from_bytes trace ending (Some (reached_after packet clock)) packet.end left
+abbrev pub after_packet : TraceForm Classes → Ending → Opened Classes → List ℕ → Option Moment
+    → Run Classes
+after_packet trace ending packet left clock =
+    from_bytes trace ending (Some (reached_after packet clock)) packet.end left
 
 -- memory ran out, or this holds of a fault
 abbrev pub OrNoMemory : (StreamFault → Type 0) → StreamFault → Type 0
 OrNoMemory P fault = (fault ≡ faults.NoMemory) ⊎ P fault
 
 -- a packet was fetched, and so its items come next; or the stream ends; or memory ran out, or this is its fault
-abbrev pub Fetches : Shift → Known → TraceForm Classes → Ending → ℕ → Run Classes → List ℕ → List ℕ → Result (Option OpenPacket) StreamFault → Type 0
+abbrev pub Fetches : Shift → Known → TraceForm Classes → Ending → ℕ → Run Classes → List ℕ
+    → List ℕ → Result (Option OpenPacket) StreamFault → Type 0
 Fetches shift known trace ending at run bytes left (Ok (Some packet)) =
     let opened = opened_of shift (packet_values (values_of known)) packet in
     run ≡ from_packet opened bytes (after_packet trace ending opened left)
 Fetches shift known trace ending at run bytes left (Ok None) = (run ≡ stops None at) × (left ≡ [])
-Fetches shift known trace ending at run bytes left (Err fault) = OrNoMemory (λ f. run ≡ stops (Some f) at) fault
+Fetches shift known trace ending at run bytes left (Err fault) =
+    OrNoMemory (λ f. run ≡ stops (Some f) at) fault
 
 -- a packet that begins at a packet boundary and whose bytes are these
 pub record FetchedAt (at : ℕ) (bytes : List ℕ) (shift : Shift) (packet : OpenPacket) : Type 0 where

@@ -4,8 +4,8 @@ use Rattle.ctf_bits.specs.declared.source.Source.{Ghosts}
 use Rattle.ctf_fetch.specs.declared.intake.Intake.{Intake}
 
 module _ {S : Type 0} (g : Ghosts S) where
-  -- a source that tells its bytes goes on telling them and ends as before, and those that it gave follow those that
-  -- were there
+  -- a source that tells its bytes goes on telling them and ends as before, and those that it gave
+  -- follow those that were there
   pub record KeepsBytes (old new : S) (before after : List ℕ) : Type 0 where
     pub tells : IsTrue (g.tells old) → IsTrue (g.tells new)
     pub same_end : IsTrue (g.tells old) → g.ending new ≡ g.ending old

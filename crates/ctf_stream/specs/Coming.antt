@@ -26,7 +26,8 @@ abbrev pub opened_in : Shift → Known → OpenPacket → Opened Classes
 opened_in shift known packet = opened_of shift (packet_values (values_of known)) packet
 
 -- the items of the packet at hand that are left, and what follows from the clock at its end
-abbrev pub left_in : Shift → Known → List ℕ → (Option Moment → Run Classes) → PacketReader → Run Classes
+abbrev pub left_in : Shift → Known → List ℕ → (Option Moment → Run Classes) → PacketReader
+    → Run Classes
 left_in shift known bytes follows p =
     let packet = opened_in shift known p.opened in
     before (lost_before packet p.lost ++ discarded_before packet p.dropped)
@@ -78,8 +79,8 @@ pub record Within (bytes : List ℕ) (p : PacketReader) : Type 0 where
   pub held : p.opened.content ≤ 8 * length bytes
 
 -- the next item of a packet, and what is left then; or its end; or its fault
-abbrev pub TakesItem : Shift → (Option Moment → Run Classes) → Run Classes → PacketReader → Known → List ℕ
-    → Result (Option PacketItem) StreamFault → Type 0
+abbrev pub TakesItem : Shift → (Option Moment → Run Classes) → Run Classes → PacketReader → Known
+    → List ℕ → Result (Option PacketItem) StreamFault → Type 0
 TakesItem shift follows old p known bytes (Ok (Some front)) =
     old ≡ before (item_in shift known bytes p front ∷ []) (left_in shift known bytes follows p)
 TakesItem shift follows old p known bytes (Ok None) = old ≡ follows p.clock
@@ -104,7 +105,8 @@ pub record IsWritten (writes : Bool) (packet : Opened Classes) (stream : StreamC
   pub text : take w.end line ≡ values_text part stream w.event.event.now (values_at packet bytes w)
 
 -- an item that has no values in the scopes has its text in the line
-abbrev pub HoldsFront : Bool → Shift → Known → List ℕ → List ℕ → List ℕ → PacketReader → PacketItem → Type 0
+abbrev pub HoldsFront : Bool → Shift → Known → List ℕ → List ℕ → List ℕ → PacketReader
+    → PacketItem → Type 0
 HoldsFront writes shift known bytes part line p (fronts.Written w) =
     IsWritten writes (opened_in shift known p.opened) p.opened.stream.now bytes part line w
 HoldsFront writes shift known bytes part line p (fronts.Event r) = Unit {0}

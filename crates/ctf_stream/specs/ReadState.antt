@@ -22,7 +22,8 @@ abbrev pub trace_of : PacketStart → TraceForm Classes
 trace_of cut = trace_form cut.shift cut.trace.now
 
 -- what is to come at a packet boundary, or within the packet that begins there
-abbrev pub coming_at : PacketStart → Ending → List ℕ → Known → List ℕ → Option PacketReader → Run Classes
+abbrev pub coming_at : PacketStart → Ending → List ℕ → Known → List ℕ → Option PacketReader
+    → Run Classes
 coming_at cut ending left known bytes None =
     from_bytes (trace_of cut) ending cut.reached cut.at left
 coming_at cut ending left known bytes (Some p) =
@@ -92,8 +93,8 @@ room_of c = 11 * (most_taken - c.taken) + room_within c.packet
 
 -- the items of the packet at hand give the next one, and the rest is to come; or they are over, and what is to come
 -- stays; or a fault is in the packet
-abbrev pub StepsWithin : Run Classes → Run Classes → PacketStart → Known → List ℕ → Option PacketReader
-    → Result (Option PacketItem) StreamFault → Type 0
+abbrev pub StepsWithin : Run Classes → Run Classes → PacketStart → Known → List ℕ
+    → Option PacketReader → Result (Option PacketItem) StreamFault → Type 0
 StepsWithin old new cut known bytes (Some p) (Ok (Some front)) =
     old ≡ before (item_in cut.shift known bytes p front ∷ []) new
 StepsWithin old new cut known bytes None (Ok (Some front)) = ⊥
