@@ -16,7 +16,7 @@ use Rattle.ctf_packet.specs.declared.fault.StreamFault.TheVariants as faults
 use Rattle.ctf_packet.specs.declared.reached.Reached.{Reached}
 use Rattle.ctf_packet_demand.specs.Wants.{asked_at}
 use Rattle.ctf_fetch.specs.Headers.{IsHeader, IsHeaded, stood_of}
-use Rattle.ctf_fetch.specs.declared.known_header.Headed.{Headed}
+use Rattle.ctf_fetch.specs.declared.known_header.FoundHeader.{FoundHeader}
 use Rattle.ctf_fetch.specs.declared.known_header.KnownHeader.{KnownHeader}
 
 -- a stream class that is found without a packet before is found after one of its packets
@@ -42,7 +42,7 @@ module _ (trace : TraceForm Classes) where
       by_checks (is_magic (role (codes "magic") trace.packet_header header)) (is_of_trace trace.uuid (uuid_field trace.packet_header header)) named r s same checked
 
 -- the header that was decoded of these bytes
-module _ (trace : TraceClass) (reached : Option Reached) (bytes : List ℕ) (headed : Headed) (known : Known) where
+module _ (trace : TraceClass) (reached : Option Reached) (bytes : List ℕ) (headed : FoundHeader) (known : Known) where
   abbrev pub Decoded : Type 0
   Decoded = (shift : Shift) (more : List ℕ) → IsHeaded shift trace reached (bytes ++ more) headed known
 

@@ -7,18 +7,18 @@ use Rattle.ctf_decode.specs.Known.{Known}
 use Rattle.ctf_decode.specs.Values.{Val}
 use Rattle.ctf_packet.specs.Classes.{Classes, stream_form, trace_form}
 use Rattle.ctf_packet.specs.Packets.{front, stream_checked}
-use Rattle.ctf_packet.specs.Scopes.{Values, Stood, no_values}
+use Rattle.ctf_packet.specs.Scopes.{Stood, no_values}
 use Rattle.ctf_packet.specs.Views.{values_of}
 use Rattle.ctf_packet.specs.declared.reached.Reached.{Reached}
 use Rattle.ctf_packet_demand.specs.Gives.{PutsAsked}
 use Rattle.ctf_packet_demand.specs.Wants.{asked_at}
-use Rattle.ctf_fetch.specs.declared.known_header.Headed.{Headed}
+use Rattle.ctf_fetch.specs.declared.known_header.FoundHeader.{FoundHeader}
 use Rattle.ctf_fetch.specs.declared.known_header.KnownHeader.{KnownHeader}
 use Rattle.ctf_fetch.specs.declared.packet_scratch.PacketScratch.{PacketScratch}
 
 -- a packet of these first bytes has this header, whose value alone is in the scopes, and is of this stream class
 pub record IsHeaded (shift : Shift) (trace : TraceClass) (reached : Option Reached)
-    (bytes : List ℕ) (h : Headed) (known : Known) : Type 0 where
+    (bytes : List ℕ) (h : FoundHeader) (known : Known) : Type 0 where
   pub header :
       PutsAsked PacketHeader no_values
       (asked_at (trace_form shift trace).packet_header (front bytes no_values) 0 0) h.end known
@@ -42,7 +42,6 @@ pub record IsHeader (trace : TraceClass) (k : KnownHeader) (value : Option Val) 
       stream_checked (trace_form shift trace) (Some reached) value
       ≡ Ok (stream_form shift k.headed.stream.now)
 
--- the header that is known, if there is one, is that of the packet with these values
-abbrev pub KnowsHeader : TraceClass → PacketScratch → Values → Type 0
-KnowsHeader trace scratch values =
-    IfSome scratch.known (λ k. IsHeader trace k values.packet_header)
+-- the header that is known, if there is one, is that of the packet whose header has this value
+abbrev pub KnowsHeader : TraceClass → PacketScratch → Option Val → Type 0
+KnowsHeader trace scratch value = IfSome scratch.known (λ k. IsHeader trace k value)

@@ -13,7 +13,7 @@ const LONGEST_KEPT: usize = 64;
 
 /// A packet whose header was decoded, or is known: its stream class, and the bit at which the header ends.
 #[derive(Clone, Copy)]
-pub(crate) struct Headed<'a> {
+pub(crate) struct FoundHeader<'a> {
     pub(crate) stream: &'a StreamClass,
     pub(crate) end: u64,
 }
@@ -22,7 +22,7 @@ pub(crate) struct Headed<'a> {
 #[derive(Drop)]
 pub(crate) struct KnownHeader<'a> {
     pub(crate) bytes: Vec<u8>,
-    pub(crate) headed: Headed<'a>,
+    pub(crate) headed: FoundHeader<'a>,
     /// How many values were begun in it.
     pub(crate) spent: u64,
     ghost within: { headed.end ≤ min (8 * length bytes.items) longest },
@@ -34,7 +34,7 @@ impl<'a> KnownHeader<'a> {
     pub(crate) fn new(
         alloc: Global,
         bytes: &[u8],
-        headed: Headed<'a>,
+        headed: FoundHeader<'a>,
         spent: u64,
     ) -> Option<KnownHeader<'a>>
         requires within { headed.end ≤ min (8 * length bytes.now) longest }
@@ -57,7 +57,7 @@ impl<'a> KnownHeader<'a> {
     }
 
     /// Whether a packet begins with its bytes.
-    pub(crate) fn begins(&self, packet: &[u8]) -> bool
+    pub(crate) fn is_front_of(&self, packet: &[u8]) -> bool
         ensures { IsTrue result →
             take (length self.now.bytes.items) packet.now ≡ self.now.bytes.items }
     {

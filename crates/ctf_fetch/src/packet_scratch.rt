@@ -15,7 +15,7 @@ pub struct PacketScratch<'a> {
 }
 
 impl<'a> PacketScratch<'a> {
-    /// Scratch without memory, by which no header is known. None is allocated.
+    /// Scratch without memory, by which no header is known. Nothing is allocated.
     pub fn new() -> PacketScratch<'a>
         ensures { result.known ≡ None }
     {

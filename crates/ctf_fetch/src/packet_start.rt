@@ -20,7 +20,7 @@ ghost use Rattle.ctf_fetch.specs.Keeping.{Keeps};
 
 use crate::buffer::{Buffer, Filled};
 use crate::intake::Intake;
-use crate::known_header::{Headed, KnownHeader};
+use crate::known_header::{FoundHeader, KnownHeader};
 use crate::least::least_front;
 use crate::packet_scratch::PacketScratch;
 use crate::scope::{NextScope, scope_on_demand};
@@ -143,7 +143,7 @@ impl<'a> PacketStart<'a> {
     /// longer.
     ///
     /// An error is the first fault of the packet before its event records: F1 to F5, F8, F9, F11, F13 or F14; or
-    /// `NoMemory`. The bytes that were taken are in `buffer` then too.
+    /// `NoMemory`. The bytes that were taken are in `buffer` then too, and `scratch` is not to be used again.
     pub fn fetch<S: Source>(
         &self,
         alloc: Global,
@@ -155,7 +155,7 @@ impl<'a> PacketStart<'a> {
         requires at { self.now.at ≤ 2 ^ 61 }
         requires empty { buffer.old ≡ [] }
         requires knows { KnowsHeader self.now.trace.now scratch.old
-            (packet_values (values_of scopes.old)) }
+            (values_of scopes.old).packet_header }
         ensures tells { IsTrue (S.tells source.old) → IsTrue (S.tells source.new) }
         ensures same_end { IsTrue (S.tells source.old) → S.ending source.new ≡ S.ending source.old }
         ensures kept { IsTrue (S.tells source.old) →
@@ -170,7 +170,7 @@ impl<'a> PacketStart<'a> {
         ensures at { FetchesAt self.now.at buffer.new self.now.shift result }
         ensures begins { IfOk result (λ packet. self.now.at ≤ 2 ^ 60 ⊎ (packet ≡ None)) }
         ensures knows { OnOk result
-            (KnowsHeader self.now.trace.now scratch.new (packet_values (values_of scopes.new))) }
+            (KnowsHeader self.now.trace.now scratch.new (values_of scopes.new).packet_header) }
         ensures few { length buffer.new ≤ longest_bytes + 1 }
         ensures last { 2 ^ 60 < self.now.at → length buffer.new ≤ 1 }
     {
@@ -230,10 +230,11 @@ impl<'a> PacketStart<'a> {
         requires at { self.now.at ≤ 2 ^ 60 }
         requires some { 0 < length intake.old.buffer.now }
         requires few { length intake.old.buffer.now ≤ max 1 self.now.least }
-        requires knows { KnowsHeader self.now.trace.now scratch.old (values_of scopes.old) }
+        requires knows { KnowsHeader self.now.trace.now scratch.old
+            (values_of scopes.old).packet_header }
         ensures keeps { Keeps S.Source intake.old intake.new }
         ensures knows { OnOk result
-            (KnowsHeader self.now.trace.now scratch.new (values_of scopes.new)) }
+            (KnowsHeader self.now.trace.now scratch.new (values_of scopes.new).packet_header) }
         ensures opens { let cut = self.now in
             IsTrue (S.tells intake.old.source.now) →
             Opens cut.shift scopes.new
@@ -268,16 +269,17 @@ impl<'a> PacketStart<'a> {
         intake: &mut Intake<'_, S>,
         scopes: &mut Scopes,
         scratch: &mut PacketScratch<'a>,
-    ) -> Result<Headed<'a>, StreamFault>
+    ) -> Result<FoundHeader<'a>, StreamFault>
         requires few { length intake.old.buffer.now ≤ longest_bytes }
-        requires knows { KnowsHeader self.now.trace.now scratch.old (values_of scopes.old) }
+        requires knows { KnowsHeader self.now.trace.now scratch.old
+            (values_of scopes.old).packet_header }
         ensures keeps { Keeps S.Source intake.old intake.new }
         ensures headed { let cut = self.now in
             (more : List ℕ) →
             let bytes = intake.new.buffer.now ++ more in
             IfOk result (λ h. IsHeaded cut.shift cut.trace.now cut.reached bytes h scopes.new) }
         ensures knows { OnOk result
-            (KnowsHeader self.now.trace.now scratch.new (values_of scopes.new)) }
+            (KnowsHeader self.now.trace.now scratch.new (values_of scopes.new).packet_header) }
         ensures within { IfOk result (λ h. h.end ≤ min (8 * length intake.new.buffer.now) longest) }
         ensures near { IfOk result (λ h.
             8 * length intake.new.buffer.now ≤
@@ -296,27 +298,30 @@ impl<'a> PacketStart<'a> {
         }
     }
 
-    /// The header that is known, if a packet of these first bytes has it, and of the stream class of those before.
+    /// The header that is known, if a packet of these first bytes has it, and if the packets before are of its stream
+    /// class. Then its value alone is in `scopes`; else they are as they were.
     #[inline(always)]
     fn known_header(
         &self,
         bytes: &[u8],
         scopes: &mut Scopes,
         scratch: &mut PacketScratch<'a>,
-    ) -> Option<Headed<'a>>
-        requires knows { KnowsHeader self.now.trace.now scratch.old (values_of scopes.old) }
+    ) -> Option<FoundHeader<'a>>
+        requires knows { KnowsHeader self.now.trace.now scratch.old
+            (values_of scopes.old).packet_header }
         ensures headed { let cut = self.now in
             (more : List ℕ) →
             let all = bytes.now ++ more in
             IfSome result (λ h. IsHeaded cut.shift cut.trace.now cut.reached all h scopes.new) }
-        ensures knows { KnowsHeader self.now.trace.now scratch.new (values_of scopes.new) }
+        ensures knows { KnowsHeader self.now.trace.now scratch.new
+            (values_of scopes.new).packet_header }
         ensures within { IfSome result (λ h. h.end ≤ min (8 * length bytes.now) longest) }
     {
         let known = match (&scratch.known, &self.reached) {
             (Some(known), Some(reached)) if known.headed.stream.id() == reached.stream => known,
             _ => return None,
         };
-        if !known.begins(bytes) {
+        if !known.is_front_of(bytes) {
             return None;
         }
         leave_packet(scopes, &mut scratch.context);
@@ -324,8 +329,8 @@ impl<'a> PacketStart<'a> {
         Some(known.headed)
     }
 
-    /// Takes bytes until the header of a packet is there. That of a stream's first packet is known from then on, as long
-    /// as no other one is met.
+    /// Takes bytes until the header of a packet is there. That of a stream's first packet is known from then on, until
+    /// this is called again: where a packet has another one, or where fewer bytes than its are asked for at once.
     #[cold]
     #[inline(never)]
     fn header_on_demand<S: Source>(
@@ -334,7 +339,7 @@ impl<'a> PacketStart<'a> {
         intake: &mut Intake<'_, S>,
         scopes: &mut Scopes,
         scratch: &mut PacketScratch<'a>,
-    ) -> Result<Headed<'a>, StreamFault>
+    ) -> Result<FoundHeader<'a>, StreamFault>
         requires few { length intake.old.buffer.now ≤ longest_bytes }
         ensures keeps { Keeps S.Source intake.old intake.new }
         ensures headed { let cut = self.now in
@@ -342,7 +347,7 @@ impl<'a> PacketStart<'a> {
             let bytes = intake.new.buffer.now ++ more in
             IfOk result (λ h. IsHeaded cut.shift cut.trace.now cut.reached bytes h scopes.new) }
         ensures knows { OnOk result
-            (KnowsHeader self.now.trace.now scratch.new (values_of scopes.new)) }
+            (KnowsHeader self.now.trace.now scratch.new (values_of scopes.new).packet_header) }
         ensures within { IfOk result (λ h. h.end ≤ min (8 * length intake.new.buffer.now) longest) }
         ensures near { IfOk result (λ h.
             8 * length intake.new.buffer.now ≤
@@ -365,18 +370,18 @@ impl<'a> PacketStart<'a> {
         let end = scope_on_demand(&header, intake, &mut scratch.header, scopes)?;
         let reached = self.reached.as_ref();
         let stream = stream_checked(self.trace, reached, scopes.get(Scope::PacketHeader))?;
-        let headed = Headed { stream, end };
+        let headed = FoundHeader { stream, end };
         scratch.known = self.first_header(alloc, intake.as_slice(), headed, scopes.spent());
         Ok(headed)
     }
 
-    /// The header that was decoded of these bytes, and how many values were begun in it, if the packet is the first of
-    /// its stream: then these bytes are its alone.
+    /// The header that was decoded of these bytes, in which so many values were begun, to be known. `None` of a later
+    /// packet: of the first one no bytes are asked for but those that its header needs, so others begin with them too.
     fn first_header(
         &self,
         alloc: Global,
         bytes: &[u8],
-        headed: Headed<'a>,
+        headed: FoundHeader<'a>,
         spent: u64,
     ) -> Option<KnownHeader<'a>>
         requires within { headed.end ≤ min (8 * length bytes.now) longest }
@@ -402,10 +407,11 @@ impl<'a> PacketStart<'a> {
     ) -> Result<Opening<'a>, StreamFault>
         requires some { 0 < length intake.old.buffer.now }
         requires few { length intake.old.buffer.now ≤ max 1 self.now.least }
-        requires knows { KnowsHeader self.now.trace.now scratch.old (values_of scopes.old) }
+        requires knows { KnowsHeader self.now.trace.now scratch.old
+            (values_of scopes.old).packet_header }
         ensures keeps { Keeps S.Source intake.old intake.new }
         ensures knows { OnOk result
-            (KnowsHeader self.now.trace.now scratch.new (values_of scopes.new)) }
+            (KnowsHeader self.now.trace.now scratch.new (values_of scopes.new).packet_header) }
         ensures asks { let cut = self.now in
             IfOk result (λ opening.
             wants.wanted (trace_form cut.shift cut.trace.now) cut.reached intake.new.buffer.now ≡
@@ -442,7 +448,8 @@ impl<'a> PacketStart<'a> {
     }
 }
 
-/// Removes all values from the scopes, for which `scratch` gets the memory. No header is known then.
+/// Removes all values from the scopes, and no header is known then. `scratch` gets the memory of those of the packet's
+/// header and context.
 fn forget(scopes: &mut Scopes, scratch: &mut PacketScratch<'_>)
     ensures scopes { scopes.new ≡ nothing_known }
     ensures known { scratch.new.known ≡ None }

@@ -106,6 +106,6 @@ ended old ending left after middle next found is test enters =
     subst (λ e. (coming_of e left middle ≡ stops None next.cut.at) × (after ≡ [])) is (subst (λ b. Enters (coming_of old left middle) (coming_of old after next) next.cut after (Ok b)) test enters)
 
 -- a header that is known stays so where nothing of it changes
-pub still_known : (trace next : TraceClass) (scratch after : PacketScratch) (old new : Values) → next ≡ trace → after ≡ scratch → new ≡ old → KnowsHeader trace scratch old → KnowsHeader next after new
+pub still_known : (trace next : TraceClass) (scratch after : PacketScratch) (old new : Values) → next ≡ trace → after ≡ scratch → new ≡ old → KnowsHeader trace scratch old.packet_header → KnowsHeader next after new.packet_header
 still_known trace next scratch after old new t s v known =
-    subst (λ x. KnowsHeader x after new) (sym t) (subst (λ x. KnowsHeader trace x new) (sym s) (subst (KnowsHeader trace scratch) (sym v) known))
+    subst (λ x. KnowsHeader x after new.packet_header) (sym t) (subst (λ x. KnowsHeader trace x new.packet_header) (sym s) (subst (λ (x : Values). KnowsHeader trace scratch x.packet_header) (sym v) known))

@@ -60,17 +60,17 @@ IsPartOf values text None = Unit {0}
 IsPartOf values text (Some p) =
     text ≡ packet_part p.opened.stream.now.packet_context values.packet_context
 
--- what was made of a packet's header and context is that of these values: the text that its lines share, and the header
--- that is known
-pub record IsFrontOf (values : Values) (text : List ℕ) (packet : Option PacketReader)
+-- what was made of a packet's header and context is that of these values: the text that its lines share,
+-- and the header that later packets may share
+pub record IsShared (values : Values) (text : List ℕ) (packet : Option PacketReader)
     (trace : TraceClass) (scratch : PacketScratch) : Type 0 where
   pub part : IsPartOf values text packet
-  pub header : KnowsHeader trace scratch values
+  pub header : KnowsHeader trace scratch values.packet_header
 
--- that of the packet at hand was made, or is of the packet before
-abbrev pub HasFront : ReadState → Type 0
-HasFront c =
-    IsFrontOf (packet_values (values_of c.scopes)) c.line.part c.packet c.cut.trace.now
+-- this was made of the packet at hand, or between two packets of the one before
+abbrev pub HasShared : ReadState → Type 0
+HasShared c =
+    IsShared (packet_values (values_of c.scopes)) c.line.part c.packet c.cut.trace.now
     c.packet_scratch
 
 -- the text of the current event record was written, where that has no values

@@ -2,7 +2,7 @@
 use Rattle.std.specs.Prelude.{◌≡◌, ℕ, ◌+◌, ◌≤◌, [], Option, Some, None, IsSome}
 use Rattle.ctf_stream.specs.Coming.{item_in}
 use Rattle.ctf_fetch.specs.Fetching.{longest_bytes, most_taken}
-use Rattle.ctf_stream.specs.ReadState.{Stands, HasFront, HoldsIn}
+use Rattle.ctf_stream.specs.ReadState.{Stands, HasShared, HoldsIn}
 use Rattle.ctf_stream.specs.Reader.{Peeked, start, item, ended, fault}
 use Rattle.ctf_stream.specs.declared.packet.PacketReader.{PacketReader}
 use Rattle.ctf_stream.specs.declared.packet.PacketItem.{PacketItem}
@@ -31,8 +31,8 @@ room_ahead (heads.Fault f) = 0
 -- the packet at hand, whose text was made, holds the current item, whose text was written or which has its values, or
 -- held the one before; at the end and after a fault nothing is held
 abbrev pub IsStanding : ReadState → ReaderHead → Type 0
-IsStanding c heads.Start = Stands c × HasFront c
-IsStanding c (heads.Item front) = Stands c × HasFront c × IsSome c.packet × HoldsIn c c.packet front
+IsStanding c heads.Start = Stands c × HasShared c
+IsStanding c (heads.Item front) = Stands c × HasShared c × IsSome c.packet × HoldsIn c c.packet front
 IsStanding c heads.Ended = Stands c × (c.packet ≡ None)
 IsStanding c (heads.Fault f) =
     (c.buffer ≡ []) × (c.cut.at ≤ c.taken) × (c.taken ≤ c.cut.at + longest_bytes + 1)

@@ -10,7 +10,7 @@ ghost use Rattle.ctf_stream.specs.Coming.{TakesRoom};
 ghost use Rattle.ctf_stream.specs.Shown.{Tells, IsMadeTold, IsAsked};
 ghost use Rattle.ctf_stream.specs.Standing.{item_at};
 ghost use Rattle.ctf_fetch.specs.Fetching.{longest_bytes, most_taken};
-ghost use Rattle.ctf_stream.specs.ReadState.{coming_of, Stands, room_of, StepsWithin, Enters, EntersRoom, Advances, IsOfPacket, HasFront, HoldsIn, HoldsFound};
+ghost use Rattle.ctf_stream.specs.ReadState.{coming_of, Stands, room_of, StepsWithin, Enters, EntersRoom, Advances, IsOfPacket, HasShared, HoldsIn, HoldsFound};
 
 use crate::item::{CurrentItem, Event, EventText, Gap, Item};
 use crate::packet::{PacketInput, PacketItem, PacketReader};
@@ -91,13 +91,13 @@ impl<'a> ReadState<'a> {
     #[inline(always)]
     pub(crate) fn next_written(&mut self, alloc: Global, by_class: bool) -> Option<PacketItem<'a>>
         requires stands { Stands self.old }
-        requires front { HasFront self.old }
+        requires shared { HasShared self.old }
         ensures advances { (ending : Ending) (left : List ℕ) →
             IfSome result (λ front.
             Advances (coming_of ending left self.old) (coming_of ending left self.new) self.new.cut
             self.new.scopes self.new.buffer self.new.packet left (Ok (Some front))) }
         ensures stands { Stands self.new }
-        ensures front { HasFront self.new }
+        ensures shared { HasShared self.new }
         ensures taken { self.new.taken ≡ self.old.taken }
         ensures room { IfSome result (λ _. room_of self.new < room_of self.old) }
         ensures found { IfSome result (λ _. IsSome self.new.packet) }
@@ -129,7 +129,7 @@ impl<'a> ReadState<'a> {
         source: &mut S,
     ) -> Result<Option<PacketItem<'a>>, StreamFault>
         requires stands { Stands self.old }
-        requires front { HasFront self.old }
+        requires shared { HasShared self.old }
         ensures tells { IsTrue (S.tells source.old) → IsTrue (S.tells source.new) }
         ensures same_end { IsTrue (S.tells source.old) → S.ending source.new ≡ S.ending source.old }
         ensures advances { let ending = S.ending source.old in
@@ -141,7 +141,7 @@ impl<'a> ReadState<'a> {
             self.new.taken + length (S.left source.new) ≡
             self.old.taken + length (S.left source.old) }
         ensures stands { OnOk result (Stands self.new) }
-        ensures front { OnOk result (HasFront self.new) }
+        ensures shared { OnOk result (HasShared self.new) }
         ensures found { IfOk result (IsOfPacket self.new.packet) }
         ensures holds { IfOk result (HoldsFound self.new) }
         ensures writes { self.new.writes ≡ self.old.writes }
@@ -177,7 +177,7 @@ impl<'a> ReadState<'a> {
     fn enter<S: Source>(&mut self, alloc: Global, source: &mut S) -> Result<bool, StreamFault>
         requires between { self.old.packet ≡ None }
         requires stands { Stands self.old }
-        requires front { HasFront self.old }
+        requires shared { HasShared self.old }
         ensures tells { IsTrue (S.tells source.old) → IsTrue (S.tells source.new) }
         ensures same_end { IsTrue (S.tells source.old) → S.ending source.new ≡ S.ending source.old }
         ensures enters { let ending = S.ending source.old in
@@ -189,7 +189,7 @@ impl<'a> ReadState<'a> {
             self.new.taken + length (S.left source.new) ≡
             self.old.taken + length (S.left source.old) }
         ensures stands { OnOk result (Stands self.new) }
-        ensures front { OnOk result (HasFront self.new) }
+        ensures shared { OnOk result (HasShared self.new) }
         ensures none { IfOk result (λ found. found ≡ false → self.new.packet ≡ None) }
         ensures room { EntersRoom (room_of self.old) (room_of self.new) result }
         ensures writes { self.new.writes ≡ self.old.writes }
@@ -230,12 +230,12 @@ impl<'a> ReadState<'a> {
     /// The next item of the packet at hand. `None` where there is none, and the packet is left then.
     fn step_within(&mut self, alloc: Global) -> Result<Option<PacketItem<'a>>, StreamFault>
         requires stands { Stands self.old }
-        requires front { HasFront self.old }
+        requires shared { HasShared self.old }
         ensures steps { (ending : Ending) (left : List ℕ) →
             StepsWithin (coming_of ending left self.old) (coming_of ending left self.new)
             self.new.cut self.new.scopes self.new.buffer self.new.packet result }
         ensures stands { OnOk result (Stands self.new) }
-        ensures front { OnOk result (HasFront self.new) }
+        ensures shared { OnOk result (HasShared self.new) }
         ensures taken { self.new.taken ≡ self.old.taken }
         ensures room { TakesRoom (room_of self.old) (room_of self.new) result }
         ensures cut { OnErr result (self.new.cut ≡ self.old.cut) }
@@ -270,7 +270,7 @@ impl<'a> ReadState<'a> {
         front: &'r PacketItem<'a>,
         name: &'r str,
     ) -> Option<CurrentItem<'r>>
-        requires front { HasFront self.now }
+        requires shared { HasShared self.now }
         requires holds { HoldsIn self.now self.now.packet front.now }
         ensures tells { Tells self.now.cut.trace.now name.now
             (item_at self.now self.now.packet front.now) result }

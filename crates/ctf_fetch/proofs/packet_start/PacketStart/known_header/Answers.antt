@@ -14,4 +14,4 @@ returns-clause-headed c = λ more.
     let same = sym c.if-id-reached.true ∙ c.id.ensures in
     let after = c.set_spent.ensures ∙ ap (λ x. with_spent x known.spent) c.leave_packet.ensures in
     subst (λ r. IsHeaded cut.shift cut.trace.now r (c.args.bytes.now ++ more) known.headed c.set_spent.new.self) (sym c.in-Some-Some.is-1)
-    (headed_by cut.trace.now known cut.shift c.in-Some-Some.reached c.args.bytes.now more before c.set_spent.new.self knows same (c.begins.ensures c.if-not-begins.false) after)
+    (headed_by cut.trace.now known cut.shift c.in-Some-Some.reached c.args.bytes.now more before c.set_spent.new.self knows same (c.is_front_of.ensures c.if-not-is_front_of.false) after)

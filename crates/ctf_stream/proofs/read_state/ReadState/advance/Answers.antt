@@ -68,7 +68,7 @@ loop-fault-preserved g c =
       forward = search rules;
       trace = search rules;
       stands = search rules;
-      front = search rules;
+      shared = search rules;
       writes = search rules;
       room = search rules;
     }

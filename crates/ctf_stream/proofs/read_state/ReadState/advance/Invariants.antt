@@ -1,5 +1,5 @@
 use Rattle.std.proofs.Common.{◌≡◌, ◌+◌, ◌≤◌, length, IsTrue}
-use Rattle.ctf_stream.specs.ReadState.{coming_of, Stands, HasFront, room_of}
+use Rattle.ctf_stream.specs.ReadState.{coming_of, Stands, HasShared, room_of}
 use Rattle.ctf_stream.proofs.read_state.ReadState.advance.Given as goal
 
 abbrev pub invariant-loop-fault : goal.invariant-loop-fault
@@ -11,7 +11,7 @@ invariant-loop-fault g l = record {
   forward : l.initial.self.taken ≤ l.self.taken;
   trace : l.self.cut.trace ≡ l.initial.self.cut.trace;
   stands : Stands l.self;
-  front : HasFront l.self;
+  shared : HasShared l.self;
   writes : l.self.writes ≡ l.initial.self.writes;
   room : room_of l.self ≤ room_of l.initial.self;
 }

@@ -23,12 +23,12 @@ returns-in-Ok-None-clause-steps c = λ ending left.
     c.reached_after-reached.ensures c.leave.ensures.trace c.leave.ensures.shift c.leave.ensures.reached (c.leave.ensures.at ∙ stands.here) in
     (over ∙ ap (coming_at new.cut ending left new.scopes new.buffer) (sym c.leave.ensures.packet), c.leave.ensures.packet)
 
-pub returns-in-Ok-None-clause-front : goal.returns-in-Ok-None-clause-front
-returns-in-Ok-None-clause-front c =
+pub returns-in-Ok-None-clause-shared : goal.returns-in-Ok-None-clause-shared
+returns-in-Ok-None-clause-shared c =
     let old = c.args.self.now in
     let new = c.leave.new.self in
     let values : packet_values (values_of new.scopes) ≡ packet_values (values_of old.scopes) = ap (λ k. packet_values (values_of k)) c.leave.ensures.scopes ∙ c.in-Ok-None.ensures.packet in
     record {
       part = subst (IsPartOf (packet_values (values_of new.scopes)) new.line.part) (sym c.leave.ensures.packet) tt;
-      header = still_known old.cut.trace.now new.cut.trace.now old.packet_scratch new.packet_scratch (packet_values (values_of old.scopes)) (packet_values (values_of new.scopes)) (ap (λ t. t.now) c.leave.ensures.trace) c.leave.ensures.scratch values c.requires.front.header;
+      header = still_known old.cut.trace.now new.cut.trace.now old.packet_scratch new.packet_scratch (packet_values (values_of old.scopes)) (packet_values (values_of new.scopes)) (ap (λ t. t.now) c.leave.ensures.trace) c.leave.ensures.scratch values c.requires.shared.header;
     }
