@@ -1,4 +1,4 @@
--- Elements that are plain bytes (own).
+-- Elements that are bytes (own).
 use Rattle.std.specs.Prelude.{◌≡◌, ℕ, ◌+◌, ◌*◌, ◌%◌, ◌≤◌, false}
 use Rattle.ctf_class.specs.Integers.{bits_of}
 use Rattle.ctf_decode.specs.Forms.{Form, integer}

@@ -1,4 +1,4 @@
-//! Arrays of plain bytes: they are copied at once, where other elements are decoded one by one.
+//! Arrays of bytes: they are copied at once, where other elements are decoded one by one.
 
 ghost use Rattle.std.specs.Prelude.{◌≡◌, ◌+◌, ◌*◌, ◌/◌, ◌%◌, ◌≤◌, [], length, map, IsTrue, IfOk};
 ghost use Rattle.ctf_decode.specs.Values.{unsigned, list, vals_of};

@@ -1,5 +1,5 @@
-//! Unsigned integers that begin at bytes. Mostly all members of a packet's context are such, so they are decoded one after
-//! another before other members are told apart.
+//! Plain members: unsigned integers that begin at bytes. Mostly all members of a packet's context are plain, so
+//! they are decoded one after another before other members are told apart.
 
 ghost use Rattle.std.specs.Prelude.{◌≡◌, ◌+◌, ◌*◌, ◌≤◌, ◌<◌, [], ℕ, length, map, take, drop, IsTrue, IfSome, Ok};
 ghost use Rattle.ctf_decode.specs.Forms.{parts_of};
@@ -14,9 +14,9 @@ use crate::value::Value;
 use ctf_bits::uint_at_byte;
 use ctf_class::{Class, Kind, Member};
 
-/// Makes the first members of a structure the values, as far as they are unsigned integers that begin at bytes, and gives
-/// how many these are. What holds for all of them is looked at once: that so many values may be begun, and that there are
-/// bytes after the content, so that each integer has a whole word.
+/// Makes the first members of a structure the values, as far as they are plain, and gives how many these are. What
+/// holds for all of them is looked at once: that so many values may be begun, and that there are bytes after the
+/// content, so that each integer has a whole word.
 #[inline(always)]
 pub fn plain_members_into(
     members: &[Member],
@@ -54,8 +54,8 @@ fn is_padded(packet: &Packet<'_>) -> bool
     (packet.content + 71) / 8 <= packet.bytes.len() as u64
 }
 
-/// Makes the first members of a structure the values, as far as they are unsigned integers that begin at bytes. How many
-/// these are, and where the last one ends.
+/// Makes the first members of a structure the values, as far as they are plain. How many these are, and where the
+/// last one ends.
 #[inline(always)]
 fn plain_run(
     members: &[Member],
@@ -86,8 +86,8 @@ fn plain_run(
     (members.len(), end)
 }
 
-/// Makes the unsigned integer at a place the value, where it begins at a byte, and gives its end. `None` where the class
-/// or the place is another one, or the content ends before; the value is then unspecified.
+/// Makes the plain integer after a place the value, and gives its end. `None` where the class is another one, where
+/// it does not begin at a byte, or where the content ends before; the value is then unspecified.
 #[inline(always)]
 fn plain_into(class: &Class, packet: &Packet<'_>, place: u64, value: &mut Value) -> Option<u64>
     requires start { place ≤ packet.now.content }
