@@ -1,5 +1,5 @@
 -- What jiff's civil times show.
-use Rattle.std.proofs.Common.{◌≡◌, ◌≢◌, ℕ, zero, suc, ◌+◌, ◌-◌, ◌/◌, ◌%◌, ◌<◌, ◌≤◌, ℤ, pos, ◌-ℤ◌, ◌+ℤ◌, unsigned_abs, nat_le, true, false, [], ◌∷◌, ◌++◌, ◌⊎◌, inl, inr, refl, sym, ap, ◌∙◌, arith}
+use Rattle.std.proofs.Common.{◌≡◌, ℕ, zero, suc, ◌+◌, ◌-◌, ◌/◌, ◌%◌, ◌<◌, ◌≤◌, ℤ, pos, ◌-ℤ◌, ◌+ℤ◌, unsigned_abs, nat_le, true, false, [], ◌∷◌, ◌++◌, ◌⊎◌, inl, inr, refl, sym, ap, ◌∙◌, arith}
 use Rattle.std.specs.Int.{int_div_euclid, int_rem_euclid}
 use Rattle.std.proofs.lemmas.Bool.Decides.{nat_tests, leb_tells}
 use Rattle.std.proofs.lemmas.Int.{ints}
@@ -112,11 +112,10 @@ date_same a b c x y z e f g = cc
 pub head_dated : (clock : ClockStyle) (dt : DateTime) (n : ℤ) → clock ≡ Clock.Date → civil_nanos dt ≡ n → (shown_date dt.date ++ 32 ∷ []) ++ shown_time dt.time ≡ head_at clock (second_of n)
 head_dated clock dt n c e = date_shown dt n e ∙ ap (λ k. head_at k (second_of n)) (sym c)
 
-pub head_undated : (clock : ClockStyle) (dt : DateTime) (n : ℤ) → clock ≢ Clock.Date → civil_nanos dt ≡ n → shown_time dt.time ≡ head_at clock (second_of n)
-head_undated Clock.Date dt n c e = absurd (c refl)
-head_undated Clock.Time dt n c e = time_shown dt n e
-head_undated Clock.Seconds dt n c e = time_shown dt n e
-head_undated Clock.Cycles dt n c e = time_shown dt n e
+pub head_undated : (clock : ClockStyle) (dt : DateTime) (n : ℤ) → (clock ≡ Clock.Time) ⊎ ((clock ≡ Clock.Seconds) ⊎ (clock ≡ Clock.Cycles)) → civil_nanos dt ≡ n → shown_time dt.time ≡ head_at clock (second_of n)
+head_undated clock dt n (inl c) e = time_shown dt n e ∙ ap (λ k. head_at k (second_of n)) (sym c)
+head_undated clock dt n (inr (inl c)) e = time_shown dt n e ∙ ap (λ k. head_at k (second_of n)) (sym c)
+head_undated clock dt n (inr (inr c)) e = time_shown dt n e ∙ ap (λ k. head_at k (second_of n)) (sym c)
 
 -- and the nanoseconds
 nanos_within : (dt : DateTime) (n : ℤ) → civil_nanos dt ≡ n → within_second n ≡ dt.time.subsec_nanosecond

@@ -59,6 +59,8 @@ pub(crate) fn put_head(style: &Style, time: i64, line: &mut [u8], at: usize) -> 
             let at = put_byte(b' ', line, at);
             put_clock(civil.time, line, at)
         }
-        _ => put_clock(civil.time, line, at),
+        ClockStyle::Time | ClockStyle::Seconds | ClockStyle::Cycles => {
+            put_clock(civil.time, line, at)
+        }
     }
 }

@@ -86,13 +86,11 @@ impl Stamper {
         ensures short { result ≤ at + MOST_STAMP }
         ensures style { self.new ≡ self.old }
     {
-        if let ClockStyle::Seconds = self.style.clock {
-            return put_signed(moment.time, line, at);
+        match self.style.clock {
+            ClockStyle::Time | ClockStyle::Date => self.put_civil(moment.time, line, at),
+            ClockStyle::Seconds => put_signed(moment.time, line, at),
+            ClockStyle::Cycles => put_twenty(moment.cycles, line, at),
         }
-        if let ClockStyle::Cycles = self.style.clock {
-            return put_twenty(moment.cycles, line, at);
-        }
-        self.put_civil(moment.time, line, at)
     }
 
     /// Writes the stamp of a time in a civil style.

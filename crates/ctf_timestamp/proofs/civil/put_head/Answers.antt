@@ -17,13 +17,13 @@ returns-in-Date-clause-put c =
 pub returns-in-Date-clause-steady : goal.returns-in-Date-clause-steady
 returns-in-Date-clause-steady c = steady_head c.args.style.now c.args.time c.civil.ensures.kind
 
-pub returns-in_default : goal.returns-in_default
-returns-in_default c =
+pub returns-in-Time : goal.returns-in-Time
+returns-in-Time c =
     let fits : FitsSigned w64 c.args.time = c.ranges.time in
     let same : civil_nanos c.civil.result ≡ civil_at c.args.style.now.zone c.args.time = simp to_z-of_z at c.civil.ensures.civil in
-    let short : c.put_clock-in_default.result ≤ c.args.at + 19 = omega (arith, c.put_clock-in_default.ensures.end) in
+    let short : c.put_clock-in-Time.result ≤ c.args.at + 19 = omega (arith, c.put_clock-in-Time.ensures.end) in
     record {
-      put = put_as c.put_clock-in_default.ensures.put (head_undated c.args.style.now.clock c.to_plain-civil.result (civil_at c.args.style.now.zone c.args.time) c.in_default.not-Date (ap civil_nanos c.to_plain-civil.ensures ∙ same));
+      put = put_as c.put_clock-in-Time.ensures.put (head_undated c.args.style.now.clock c.to_plain-civil.result (civil_at c.args.style.now.zone c.args.time) c.in-Time.is (ap civil_nanos c.to_plain-civil.ensures ∙ same));
       short = short;
       steady = steady_head c.args.style.now c.args.time c.civil.ensures.kind;
     }
