@@ -57,10 +57,7 @@ fn in_scope<'a>(scopes: &'a Scopes, scope: Scope, steps: &[u32]) -> Option<&'a V
     ensures { option_map val (option_copied result) ≡
         option_and_then (values.down steps.now) (earlier scopes.now scope) }
 {
-    match scopes.get(scope) {
-        None => None,
-        Some(value) => down(steps, value),
-    }
+    down(steps, scopes.get(scope)?)
 }
 
 /// The value that some steps lead to among the earlier members of one structure.
@@ -95,10 +92,7 @@ pub fn find<'a>(route: &Route, scopes: &'a Scopes, frame: &'a Frame<'a>) -> Opti
     let steps = route.steps.as_slice();
     match route.origin {
         Origin::Earlier(scope) => in_scope(scopes, scope, steps),
-        Origin::Enclosing(out) => match around(frame, out) {
-            None => None,
-            Some(members) => inside(members, steps),
-        },
+        Origin::Enclosing(out) => inside(around(frame, out)?, steps),
     }
 }
 
@@ -172,11 +166,6 @@ pub fn option_at(
 ) -> Option<usize>
     ensures { result ≡ routes.option_at tag.now choices.now (earlier scopes.now) (env frame.now) }
 {
-    match find(tag, scopes, frame) {
-        None => None,
-        Some(value) => match tag_of(value) {
-            None => None,
-            Some(number) => choices.option(number),
-        },
-    }
+    let value = find(tag, scopes, frame)?;
+    choices.option(tag_of(value)?)
 }
