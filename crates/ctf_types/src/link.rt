@@ -47,10 +47,7 @@ impl<'a> KnownText<'a> {
             stream: None,
             event: None,
         };
-        match self.class(alloc, &home, Scope::PacketHeader) {
-            Ok(class) => Ok(class),
-            Err(fault) => Err(fault),
-        }
+        self.class(alloc, &home, Scope::PacketHeader)
     }
 
     /// A stream class without its events, by a stream block.

@@ -36,10 +36,8 @@ pub fn resolve(alloc: Global, tree: &Tree) -> Result<TraceClass, ResolveFault>
     ensures { MatchResult result (Denotes tree.now) (λ f. (f ≡ fault.NoMemory) ⊎
         Faulty tree.now f) }
 {
-    match scope_classes(alloc, tree) {
-        Ok(rows) => resolve_walked(alloc, tree.declarations.as_slice(), rows.as_slice()),
-        Err(fault) => Err(fault),
-    }
+    let rows = scope_classes(alloc, tree)?;
+    resolve_walked(alloc, tree.declarations.as_slice(), rows.as_slice())
 }
 
 /// The trace class of declarations without faults of their own.
@@ -66,10 +64,8 @@ fn resolve_walked(
         trace: number_of(trace),
         host,
     };
-    match text.link(alloc, declarations) {
-        Ok(parts) => trace_class_of(alloc, trace, host, parts),
-        Err(fault) => Err(fault),
-    }
+    let parts = text.link(alloc, declarations)?;
+    trace_class_of(alloc, trace, host, parts)
 }
 
 /// The native byte order. Without a trace block any serves.
@@ -86,10 +82,7 @@ fn order_of(trace: Option<TraceAt>) -> Order
 fn number_of(trace: Option<TraceAt>) -> Option<usize>
     ensures { result ≡ option_map (λ t. t.number) trace }
 {
-    match trace {
-        Some(trace) => Some(trace.number),
-        None => None,
-    }
+    Some(trace?.number)
 }
 
 /// The trace class from its parts.
@@ -165,8 +158,5 @@ fn join_events(
 fn header_of(headers: List<Option<Class>>) -> Option<Class>
     ensures { result ≡ option_and_then (λ h. h) (first headers) }
 {
-    match headers.into_vec().into_iter().next() {
-        Some(header) => header,
-        None => None,
-    }
+    headers.into_vec().into_iter().next()?
 }

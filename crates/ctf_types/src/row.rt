@@ -51,10 +51,7 @@ impl<'a> KnownText<'a> {
                     kind: *kind,
                     entries: entries.as_slice(),
                 };
-                match self.block_row(alloc, &block, ids) {
-                    Ok(row) => Ok(row),
-                    Err(fault) => Err(fault),
-                }
+                self.block_row(alloc, &block, ids)
             }
             Declaration::Table { .. } => Ok(Linked::Other),
             Declaration::Types(_) => Ok(Linked::Other),
@@ -81,21 +78,12 @@ impl<'a> KnownText<'a> {
     {
         let number = block.number;
         match block.kind {
-            BlockKind::Trace => match self.header(alloc, number) {
-                Ok(header) => Ok(Linked::Trace(header)),
-                Err(fault) => Err(fault),
-            },
-            BlockKind::Stream => match stream_id(block.entries) {
-                Ok(id) => match self.head(alloc, number, id) {
-                    Ok(head) => Ok(Linked::Stream(head)),
-                    Err(fault) => Err(fault),
-                },
-                Err(fault) => Err(fault),
-            },
-            BlockKind::Event => match self.event_row(alloc, number, block.entries, ids) {
-                Ok(row) => Ok(row),
-                Err(fault) => Err(fault),
-            },
+            BlockKind::Trace => Ok(Linked::Trace(self.header(alloc, number)?)),
+            BlockKind::Stream => {
+                let id = stream_id(block.entries)?;
+                Ok(Linked::Stream(self.head(alloc, number, id)?))
+            }
+            BlockKind::Event => self.event_row(alloc, number, block.entries, ids),
         }
     }
 }

@@ -101,9 +101,7 @@ impl<'a> KnownText<'a> {
             order: self.order,
             clocks: self.clocks,
         };
-        match scope_class(&linker, scope, before.as_slice(), known.shape()) {
-            Ok(class) => Ok(Some(class)),
-            Err(fault) => Err(fault),
-        }
+        let class = scope_class(&linker, scope, before.as_slice(), known.shape())?;
+        Ok(Some(class))
     }
 }

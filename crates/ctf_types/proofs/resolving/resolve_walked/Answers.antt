@@ -1,15 +1,14 @@
-use Rattle.std.proofs.Common.{◌≡◌, map, sym, ap, ◌∙◌, subst, inl, inr, ◌⊎◌}
-use Rattle.std.specs.Prelude.{Contains}
-use Rattle.ctf_meaning.specs.declared.fault.ResolveFault.TheVariants as fault
+use Rattle.std.proofs.Common.{map, sym, ap, ◌∙◌, subst}
+use Rattle.std.proofs.lemmas.Result.{err_from_is_err_and}
 use Rattle.ctf_meaning.specs.Blocks.{clocks_of}
 use Rattle.ctf_meaning.specs.Denotes.{host_of}
-use Rattle.ctf_meaning.specs.Faults.{faults}
 use Rattle.ctf_meaning.specs.Reading.{declaration_of}
 use Rattle.ctf_meaning.specs.Streams.{streams, trace_of}
 use Rattle.ctf_declarations.specs.DeclaredSoFar.{placed_seen}
 use Rattle.ctf_types.specs.Whole.{AreSettled, ArePlaced, IsTraceOf, stream_at}
 use Rattle.ctf_types.proofs.Distinct.{settled}
 use Rattle.ctf_types.proofs.Firsts.{link_told}
+use Rattle.ctf_types.proofs.Heads.{widened}
 use Rattle.ctf_types.proofs.Starting as starting
 use Rattle.ctf_types.proofs.resolving.resolve_walked.Goals as goal
 
@@ -51,11 +50,12 @@ trace_class_of-requires g c = record {
   hosted = c.host-host.ensures ∙ ap host_of (sym c.requires.0);
   order = c.order_of.result;
   ordered = c.order_of.ensures;
-  given = c.in-Ok.ensures;
+  given = c.in_ok-parts.ensures;
 }
 
-pub returns : goal.returns
-returns g c = elim c.in-Err.ensures as (λ _. (c.in-Err.fault ≡ fault.NoMemory) ⊎ Contains (faults g.text) c.in-Err.fault) [
-  | inl none ↦ inl none
-  | inr told ↦ inr (link_told g.text (starting.own g.text (map (map placed_seen) c.args.rows.now) c.requires.1) c.in-Err.fault told)
-]
+pub returns-in_err-parts : goal.returns-in_err-parts
+returns-in_err-parts g c =
+    let p = err_from_is_err_and c.from_residual-in_err-parts.result c.from_residual-in_err-parts.ensures.1 in rw (p.1, p.2)
+    (widened c.in_err-parts.field-0.0
+    (link_told g.text (starting.own g.text (map (map placed_seen) c.args.rows.now) c.requires.1) c.in_err-parts.field-0.0)
+    c.in_err-parts.ensures)
