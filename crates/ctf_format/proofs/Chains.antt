@@ -1,5 +1,8 @@
 -- Texts written one after the other.
-use Rattle.std.proofs.Common.{◌≡◌, ℕ, List, ◌++◌, ap, ◌∙◌, append_assoc}
+use Rattle.std.proofs.Common.{◌≡◌, ℕ, List, ◌++◌, take, ap, ◌∙◌, append_assoc, Vec, Result, IfOk}
+use Rattle.std.specs.declared.alloc.Global.{Global}
+use Rattle.std.proofs.lemmas.Result.{IfOk-weaker}
+use Rattle.ctf_format.specs.Put.{IsPut}
 
 pub two : (old a b first second : List ℕ) → first ≡ old ++ a → second ≡ first ++ b → second ≡ old ++ (a ++ b)
 two old a b first second wrote more = more ∙ ap (λ xs. xs ++ b) wrote ∙ append_assoc old a b
@@ -7,3 +10,11 @@ two old a b first second wrote more = more ∙ ap (λ xs. xs ++ b) wrote ∙ app
 pub three : (old a b c first second third : List ℕ) → first ≡ old ++ a → second ≡ first ++ b → third ≡ second ++ c → third ≡ old ++ (a ++ (b ++ c))
 three old a b c first second third wrote more last =
     two old a (b ++ c) first third wrote (two first b c second third more last)
+
+-- what is put after a text is put after what this follows, together with it
+pub put_after : {E : Type 0} (before mid after : Vec ℕ Global) (at then : ℕ) (piece all : List ℕ) (result : Result ℕ E) → take then mid.items ++ piece ≡ take at before.items ++ all → IfOk result (IsPut mid then piece after) → IfOk result (IsPut before at all after)
+put_after before mid after at then piece all result joined =
+    IfOk-weaker result (IsPut mid then piece after) (IsPut before at all after) (λ end put. record {
+      text = put.text ∙ joined;
+      held = put.held;
+    })

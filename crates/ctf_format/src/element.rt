@@ -2,6 +2,7 @@
 
 ghost use Rattle.std.specs.Prelude.{◌≡◌, ◌+◌, ◌++◌, ◌∷◌, [], ◌≤◌, length, take, vec_len, codes, IfOk};
 ghost use Rattle.std.specs.Fmt.{decimal};
+ghost use Rattle.ctf_format.specs.Put.{IsPut};
 
 use crate::decimal::put_unsigned;
 use crate::mark::{put_bytes, put_lead};
@@ -27,8 +28,8 @@ pub(crate) fn put_index(
     at: usize,
 ) -> Result<usize, NoMemory>
     requires { at ≤ vec_len buffer.old }
-    ensures text { IfOk result (λ end. take end buffer.new.items ≡
-        take at buffer.old.items ++ (lead.mark ∷ 32 ∷ 91 ∷ (decimal lead.index ++ codes "] = "))) }
+    ensures put { let piece = lead.mark ∷ 32 ∷ 91 ∷ (decimal lead.index ++ codes "] = ") in
+        IfOk result (IsPut buffer.old at piece buffer.new) }
     ensures room { IfOk result (λ end. end + LONGEST_NUMBER ≤ vec_len buffer.new) }
 {
     with_room(LONGEST_NUMBER + 27, buffer, at)?;

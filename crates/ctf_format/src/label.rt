@@ -5,6 +5,7 @@ ghost use Rattle.ctf_class.specs.Labels.{label_at};
 ghost use Rattle.ctf_class.specs.Names.{label_text};
 ghost use Rattle.ctf_format.specs.Numbers.{number_text};
 ghost use Rattle.ctf_format.specs.Labels.{names_of, names_text, labelled_text};
+ghost use Rattle.ctf_format.specs.Put.{IsPut};
 ghost use Rattle.ctf_format.specs.Rows.{row};
 
 use crate::mark::{put_bytes, put_end, put_lead, put_ready};
@@ -23,9 +24,8 @@ pub fn put_labelled(
     at: usize,
 ) -> Result<usize, NoMemory>
     requires { at ≤ vec_len buffer.old }
-    ensures text { IfOk result (λ end. take end buffer.new.items ≡
-        take at buffer.old.items ++ labelled_text container.now labels.now number) }
-    ensures held { IfOk result (λ end. end ≤ vec_len buffer.new) }
+    ensures { let piece = labelled_text container.now labels.now number in
+        IfOk result (IsPut buffer.old at piece buffer.new) }
 {
     let end = put_names(labels, number, buffer, at)?;
     with_room(LONGEST_NUMBER + 20, buffer, end)?;
@@ -53,9 +53,8 @@ fn put_names(
     at: usize,
 ) -> Result<usize, NoMemory>
     requires { at ≤ vec_len buffer.old }
-    ensures text { IfOk result (λ end. take end buffer.new.items ≡
-        take at buffer.old.items ++ (codes "( " ++ names_text (names_of labels.now number))) }
-    ensures held { IfOk result (λ end. end ≤ vec_len buffer.new) }
+    ensures { let piece = codes "( " ++ names_text (names_of labels.now number) in
+        IfOk result (IsPut buffer.old at piece buffer.new) }
 {
     match labels.next_shown(0, number) {
         None => put_unknown(buffer, at),
@@ -68,9 +67,7 @@ fn put_names(
 
 fn put_unknown(buffer: &mut Vec<u8>, at: usize) -> Result<usize, NoMemory>
     requires { at ≤ vec_len buffer.old }
-    ensures text { IfOk result (λ end. take end buffer.new.items ≡
-        take at buffer.old.items ++ codes "( <unknown>") }
-    ensures held { IfOk result (λ end. end ≤ vec_len buffer.new) }
+    ensures { IfOk result (IsPut buffer.old at (codes "( <unknown>") buffer.new) }
 {
     with_room(11, buffer, at)?;
     Ok(put_bytes(b"( <unknown>", buffer.as_mut_slice(), at))
@@ -83,10 +80,9 @@ fn put_several(
     at: usize,
 ) -> Result<usize, NoMemory>
     requires { at ≤ vec_len buffer.old }
-    ensures text { IfOk result (λ end. take end buffer.new.items ≡
-        take at buffer.old.items ++
-        (codes "( " ++ (row 123 (map label_text (names_of labels.now number)) ++ codes " }"))) }
-    ensures held { IfOk result (λ end. end ≤ vec_len buffer.new) }
+    ensures { let names = map label_text (names_of labels.now number) in
+        let piece = codes "( " ++ (row 123 names ++ codes " }") in
+        IfOk result (IsPut buffer.old at piece buffer.new) }
 {
     with_room(2, buffer, at)?;
     let begin = put_lead(b'(', buffer.as_mut_slice(), at);
@@ -103,9 +99,8 @@ fn put_each_name(
     at: usize,
 ) -> Result<usize, NoMemory>
     requires { at ≤ vec_len buffer.old }
-    ensures text { IfOk result (λ end. take end buffer.new.items ≡
-        take at buffer.old.items ++ row mark (map label_text (names_of labels.now number))) }
-    ensures held { IfOk result (λ end. end ≤ vec_len buffer.new) }
+    ensures { let piece = row mark (map label_text (names_of labels.now number)) in
+        IfOk result (IsPut buffer.old at piece buffer.new) }
 {
     let mut end = at;
     let mut lead = mark;
@@ -129,9 +124,8 @@ fn put_name(
 ) -> Result<usize, NoMemory>
     requires within { place < length labels.now }
     requires index { at ≤ vec_len buffer.old }
-    ensures text { IfOk result (λ end. take end buffer.new.items ≡
-        take at buffer.old.items ++ (mark ∷ 32 ∷ label_text (label_at labels.now place).name)) }
-    ensures held { IfOk result (λ end. end ≤ vec_len buffer.new) }
+    ensures { let piece = mark ∷ 32 ∷ label_text (label_at labels.now place).name in
+        IfOk result (IsPut buffer.old at piece buffer.new) }
 {
     let label = &labels.as_slice()[place];
     put_ready(mark, label.name.ready(), 0, buffer, at)

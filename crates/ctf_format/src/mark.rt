@@ -1,6 +1,7 @@
 //! What is around texts.
 
 ghost use Rattle.std.specs.Prelude.{◌≡◌, ◌+◌, ◌*◌, ◌++◌, ◌∷◌, [], ◌≤◌, length, take, vec_len, IfOk};
+ghost use Rattle.ctf_format.specs.Put.{IsPut};
 
 use crate::room::with_room;
 use ctf_class::PreparedText;
@@ -106,8 +107,7 @@ pub fn put_ready(
 ) -> Result<usize, NoMemory>
     requires index { at ≤ vec_len buffer.old }
     requires few { more ≤ 100 }
-    ensures text { IfOk result (λ end. take end buffer.new.items ≡
-        take at buffer.old.items ++ (mark ∷ 32 ∷ ready.now)) }
+    ensures put { IfOk result (IsPut buffer.old at (mark ∷ 32 ∷ ready.now) buffer.new) }
     ensures room { IfOk result (λ end. end + more ≤ vec_len buffer.new) }
 {
     with_room(ready.len() + more + 26, buffer, at)?;
@@ -120,9 +120,7 @@ pub fn put_ready(
 #[inline(always)]
 pub fn put_end(mark: u8, buffer: &mut Vec<u8>, at: usize) -> Result<usize, NoMemory>
     requires { at ≤ vec_len buffer.old }
-    ensures text { IfOk result (λ end. take end buffer.new.items ≡
-        take at buffer.old.items ++ (32 ∷ mark ∷ [])) }
-    ensures held { IfOk result (λ end. end ≤ vec_len buffer.new) }
+    ensures { IfOk result (IsPut buffer.old at (32 ∷ mark ∷ []) buffer.new) }
 {
     with_room(2, buffer, at)?;
     let line = buffer.as_mut_slice();
@@ -134,9 +132,7 @@ pub fn put_end(mark: u8, buffer: &mut Vec<u8>, at: usize) -> Result<usize, NoMem
 /// Writes two marks that have nothing between them.
 pub fn put_nothing(left: u8, right: u8, buffer: &mut Vec<u8>, at: usize) -> Result<usize, NoMemory>
     requires { at ≤ vec_len buffer.old }
-    ensures text { IfOk result (λ end. take end buffer.new.items ≡
-        take at buffer.old.items ++ (left ∷ 32 ∷ right ∷ [])) }
-    ensures held { IfOk result (λ end. end ≤ vec_len buffer.new) }
+    ensures { IfOk result (IsPut buffer.old at (left ∷ 32 ∷ right ∷ []) buffer.new) }
 {
     with_room(3, buffer, at)?;
     let line = buffer.as_mut_slice();

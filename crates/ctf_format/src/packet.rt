@@ -1,10 +1,11 @@
 //! The part of a line that the event records of a packet share.
 
-ghost use Rattle.std.specs.Prelude.{◌≡◌, ◌+◌, ◌++◌, ◌∷◌, ◌≤◌, take, map, vec_len, option_map, option_copied, IfOk};
+ghost use Rattle.std.specs.Prelude.{◌≤◌, map, vec_len, option_map, option_copied, IfOk};
 ghost use Rattle.ctf_class.specs.Fronts.{members_of};
 ghost use Rattle.ctf_decode.specs.Values.{vals_of};
 ghost use Rattle.ctf_decode.specs.Views.{val};
 ghost use Rattle.ctf_format.specs.Lines as lines;
+ghost use Rattle.ctf_format.specs.Put.{IsPut};
 ghost use Rattle.ctf_format.specs.Rows.{row};
 
 use crate::mark::put_end;
@@ -26,10 +27,9 @@ pub fn put_packet_part(
     at: usize,
 ) -> Result<usize, NoMemory>
     requires { at ≤ vec_len buffer.old }
-    ensures text { IfOk result (λ end. take end buffer.new.items ≡
-        take at buffer.old.items ++ lines.packet_part (option_copied class.entry)
-        (option_map val (option_copied value.entry))) }
-    ensures held { IfOk result (λ end. end ≤ vec_len buffer.new) }
+    ensures { let shown = option_map val (option_copied value.entry) in
+        let piece = lines.packet_part (option_copied class.entry) shown in
+        IfOk result (IsPut buffer.old at piece buffer.new) }
 {
     match class {
         None => Ok(at),
@@ -48,10 +48,9 @@ fn put_context(
     at: usize,
 ) -> Result<usize, NoMemory>
     requires { at ≤ vec_len buffer.old }
-    ensures text { IfOk result (λ end. take end buffer.new.items ≡
-        take at buffer.old.items ++ lines.context_text
-        (lines.shown_members (members_of class.now) (vals_of (map val values.now)))) }
-    ensures held { IfOk result (λ end. end ≤ vec_len buffer.new) }
+    ensures { let members = members_of class.now in let vs = vals_of (map val values.now) in
+        let piece = lines.context_text (lines.shown_members members vs) in
+        IfOk result (IsPut buffer.old at piece buffer.new) }
 {
     let end = put_shown(class, values, buffer, at)?;
     if end == at {
@@ -68,10 +67,9 @@ fn put_shown(
     at: usize,
 ) -> Result<usize, NoMemory>
     requires { at ≤ vec_len buffer.old }
-    ensures text { IfOk result (λ end. take end buffer.new.items ≡
-        take at buffer.old.items ++ row 123
-        (lines.shown_members (members_of class.now) (vals_of (map val values.now)))) }
-    ensures held { IfOk result (λ end. end ≤ vec_len buffer.new) }
+    ensures { let members = members_of class.now in let vs = vals_of (map val values.now) in
+        let piece = row 123 (lines.shown_members members vs) in
+        IfOk result (IsPut buffer.old at piece buffer.new) }
 {
     let mut end = at;
     let mut lead = b'{';

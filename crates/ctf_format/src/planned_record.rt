@@ -1,12 +1,13 @@
 //! Texts of event records by their plans.
 
-ghost use Rattle.std.specs.Prelude.{List, ℕ, [], ◌∷◌, ◌≡◌, ◌+◌, ◌*◌, ◌/◌, ◌^◌, ◌-◌, ◌++◌, ◌<◌, ◌≤◌, length, pos, false, take, vec_len, Option, None, IfSome};
+ghost use Rattle.std.specs.Prelude.{List, ℕ, [], ◌∷◌, ◌≡◌, ◌+◌, ◌/◌, ◌-◌, ◌++◌, ◌<◌, ◌≤◌, length, pos, false, take, vec_len, Option, None, IfSome};
 ghost use Rattle.std.specs.List.{All, flat_map};
 ghost use Rattle.ctf_class.specs.Records.{After, Slot, AreIntegers, AreRuns, IsField, IsPlanOf, numbers_room, room_of};
 ghost use Rattle.ctf_class.specs.declared.class.Class.{Class};
 ghost use Rattle.ctf_class.specs.declared.class.Member.{Member};
 ghost use Rattle.ctf_class.specs.declared.record_plan.Many.TheVariants.{One};
 ghost use Rattle.ctf_decode.specs.Views.{form};
+ghost use Rattle.ctf_format.specs.Put.{IsPut};
 ghost use Rattle.ctf_format.specs.RunNumbers.{IsInside, number_at, place_in, run_text};
 ghost use Rattle.ctf_format.specs.Records.{BeginsAt, IsNear, IsLastNumber, PutsField, PutsFields, PutsOther, PutsScopes, TakesRun, after_number, reached};
 ghost use Rattle.ctf_format.specs.Texts as texts;
@@ -162,8 +163,8 @@ fn put_run(
     put_placed_run(placed, reach, buffer, at)
 }
 
-/// Writes the fields of a run with special numbers, and gives the index after them; `reach` says how far they came then.
-/// It is out of the way of other runs.
+/// Writes the fields of a run with special numbers, and gives the index after them; `reach` says how far they came
+/// then. It is out of the way of other runs.
 #[inline(never)]
 fn put_special_run(
     placed: PlacedRun<'_>,
@@ -219,10 +220,10 @@ fn put_placed_run(
 #[inline(always)]
 fn put_run_numbers(placed: PlacedRun<'_>, buffer: &mut Vec<u8>, at: usize) -> usize
     requires room { at + numbers_room placed.run.now.numbers ≤ vec_len buffer.old }
-    ensures text { let run = placed.entry.run.now in
+    ensures put { let run = placed.entry.run.now in
         let first = (placed.entry.end - run.span) / 8 in
-        take result buffer.new.items ≡ take at buffer.old.items ++
-        flat_map (run_text placed.entry.packet.now.bytes.now first) run.numbers }
+        let piece = flat_map (run_text placed.entry.packet.now.bytes.now first) run.numbers in
+        IsPut buffer.old at piece buffer.new result }
     ensures near { result + 24 ≤ at + numbers_room placed.entry.run.now.numbers }
     ensures length { vec_len buffer.new ≡ vec_len buffer.old }
 {
@@ -271,7 +272,7 @@ fn put_run_field(
 #[inline(always)]
 fn put_before(ready: &PreparedText, buffer: &mut Vec<u8>, at: usize) -> usize
     requires { at + length ready.now + 24 ≤ vec_len buffer.old }
-    ensures text { take result buffer.new.items ≡ take at buffer.old.items ++ ready.now }
+    ensures put { IsPut buffer.old at ready.now buffer.new result }
     ensures end { result ≡ at + length ready.now }
     ensures length { vec_len buffer.new ≡ vec_len buffer.old }
 {

@@ -1,10 +1,11 @@
 //! What is in an event record's line after its stamp.
 
-ghost use Rattle.std.specs.Prelude.{◌≡◌, ◌+◌, ◌++◌, ◌∷◌, [], ◌≤◌, length, take, vec_len, codes, option_map, option_copied, Some, IfOk};
+ghost use Rattle.std.specs.Prelude.{◌++◌, ◌≤◌, vec_len, codes, option_map, option_copied, Some, IfOk};
 ghost use Rattle.std.specs.List.{flat_map};
 ghost use Rattle.ctf_class.specs.HostAndName.{heading_text};
 ghost use Rattle.ctf_decode.specs.Views.{val};
 ghost use Rattle.ctf_format.specs.Lines as lines;
+ghost use Rattle.ctf_format.specs.Put.{IsPut};
 
 use crate::mark::{put_lead, put_short_bytes};
 use crate::room::with_room;
@@ -38,12 +39,12 @@ pub fn put_record(
     at: usize,
 ) -> Result<usize, NoMemory>
     requires { at ≤ vec_len buffer.old }
-    ensures text { let shown = scopes.now in IfOk result (λ end. take end buffer.new.items ≡
-        take at buffer.old.items ++ lines.record_text shown.packet.now stream.now event.now
-        (option_map val (option_copied shown.stream_context))
-        (option_map val (option_copied shown.event_context))
-        (val shown.fields.now)) }
-    ensures held { IfOk result (λ end. end ≤ vec_len buffer.new) }
+    ensures { let shown = scopes.now in
+        let stream_context = option_map val (option_copied shown.stream_context) in
+        let event_context = option_map val (option_copied shown.event_context) in
+        let piece = lines.record_text shown.packet.now stream.now event.now stream_context
+        event_context (val shown.fields.now) in
+        IfOk result (IsPut buffer.old at piece buffer.new) }
 {
     let end = put_front(&event.heading, scopes.packet, buffer, at)?;
     let end = put_scope(stream.event_context(), scopes.stream_context, buffer, end)?;
@@ -64,10 +65,8 @@ pub fn put_front(
     at: usize,
 ) -> Result<usize, NoMemory>
     requires { at ≤ vec_len buffer.old }
-    ensures text { IfOk result (λ end. take end buffer.new.items ≡
-        take at buffer.old.items ++ (heading_text heading.now ++ flat_map
-        (λ text. text ++ codes ", ") (lines.if_shown packet.now))) }
-    ensures held { IfOk result (λ end. end ≤ vec_len buffer.new) }
+    ensures { let shared = flat_map (λ text. text ++ codes ", ") (lines.if_shown packet.now) in
+        IfOk result (IsPut buffer.old at (heading_text heading.now ++ shared) buffer.new) }
 {
     let end = put_heading(heading, buffer, at)?;
     put_shared_part(packet, buffer, end)
@@ -77,9 +76,7 @@ pub fn put_front(
 #[inline(always)]
 fn put_heading(heading: &Heading, buffer: &mut Vec<u8>, at: usize) -> Result<usize, NoMemory>
     requires { at ≤ vec_len buffer.old }
-    ensures text { IfOk result (λ end. take end buffer.new.items ≡
-        take at buffer.old.items ++ heading_text heading.now) }
-    ensures held { IfOk result (λ end. end ≤ vec_len buffer.new) }
+    ensures { IfOk result (IsPut buffer.old at (heading_text heading.now) buffer.new) }
 {
     let ready = heading.ready();
     with_room(ready.len() + 24, buffer, at)?;
@@ -90,10 +87,8 @@ fn put_heading(heading: &Heading, buffer: &mut Vec<u8>, at: usize) -> Result<usi
 #[inline(always)]
 fn put_shared_part(bytes: &[u8], buffer: &mut Vec<u8>, at: usize) -> Result<usize, NoMemory>
     requires { at ≤ vec_len buffer.old }
-    ensures text { IfOk result (λ end. take end buffer.new.items ≡
-        take at buffer.old.items ++ flat_map (λ text. text ++ codes ", ")
-        (lines.if_shown bytes.now)) }
-    ensures held { IfOk result (λ end. end ≤ vec_len buffer.new) }
+    ensures { let piece = flat_map (λ text. text ++ codes ", ") (lines.if_shown bytes.now) in
+        IfOk result (IsPut buffer.old at piece buffer.new) }
 {
     if bytes.is_empty() {
         return Ok(at);
@@ -113,11 +108,10 @@ fn put_scope(
     at: usize,
 ) -> Result<usize, NoMemory>
     requires { at ≤ vec_len buffer.old }
-    ensures text { IfOk result (λ end. take end buffer.new.items ≡
-        take at buffer.old.items ++ flat_map (λ text. text ++ codes ", ")
-        (lines.scope_texts (option_copied class.entry)
-        (option_map val (option_copied value.entry)))) }
-    ensures held { IfOk result (λ end. end ≤ vec_len buffer.new) }
+    ensures { let shown = option_map val (option_copied value.entry) in
+        let texts = lines.scope_texts (option_copied class.entry) shown in
+        let piece = flat_map (λ text. text ++ codes ", ") texts in
+        IfOk result (IsPut buffer.old at piece buffer.new) }
 {
     match class {
         None => Ok(at),
@@ -137,10 +131,9 @@ fn put_followed(
     at: usize,
 ) -> Result<usize, NoMemory>
     requires { at ≤ vec_len buffer.old }
-    ensures text { IfOk result (λ end. take end buffer.new.items ≡
-        take at buffer.old.items ++ flat_map (λ text. text ++ codes ", ")
-        (lines.scope_texts (Some class.now) (Some (val value.now)))) }
-    ensures held { IfOk result (λ end. end ≤ vec_len buffer.new) }
+    ensures { let texts = lines.scope_texts (Some class.now) (Some (val value.now)) in
+        let piece = flat_map (λ text. text ++ codes ", ") texts in
+        IfOk result (IsPut buffer.old at piece buffer.new) }
 {
     let end = put_value(class, value, buffer, at)?;
     put_comma(buffer, end)
@@ -152,9 +145,7 @@ fn put_followed(
 #[inline(always)]
 pub fn put_comma(buffer: &mut Vec<u8>, at: usize) -> Result<usize, NoMemory>
     requires { at ≤ vec_len buffer.old }
-    ensures text { IfOk result (λ end. take end buffer.new.items ≡
-        take at buffer.old.items ++ codes ", ") }
-    ensures held { IfOk result (λ end. end ≤ vec_len buffer.new) }
+    ensures { IfOk result (IsPut buffer.old at (codes ", ") buffer.new) }
 {
     with_room(2, buffer, at)?;
     Ok(put_lead(b',', buffer.as_mut_slice(), at))

@@ -1,6 +1,6 @@
 //! Texts of values, straight from the packet's bits.
 
-ghost use Rattle.std.specs.Prelude.{ℕ, List, pos, ◌≡◌, true, false, ◌+◌, ◌*◌, ◌^◌, ◌++◌, ◌∷◌, ◌≤◌, ◌<◌, Some, length, nat_eq, not, position, take, vec_len, IfOk, IfSome, IsTrue};
+ghost use Rattle.std.specs.Prelude.{ℕ, List, pos, ◌≡◌, true, false, ◌+◌, ◌*◌, ◌^◌, ◌++◌, ◌≤◌, ◌<◌, Some, length, nat_eq, not, position, take, vec_len, IfOk, IfSome, IsTrue};
 ghost use Rattle.std.specs.Int.{next_multiple_of};
 ghost use Rattle.std.specs.List.{take_while};
 ghost use Rattle.ctf_bits.specs.Number.{number, signed_number};
@@ -9,6 +9,7 @@ ghost use Rattle.ctf_class.specs.Names.{label_text};
 ghost use Rattle.ctf_class.specs.declared.route.Length.TheVariants.{Fixed};
 ghost use Rattle.ctf_decode.specs.Forms as forms;
 ghost use Rattle.ctf_format.specs.Numbers.{number_text};
+ghost use Rattle.ctf_format.specs.Put.{IsPut};
 ghost use Rattle.ctf_format.specs.RunNumbers.{number_at};
 ghost use Rattle.ctf_format.specs.Standing.{PutsOne, StandsAsNumber};
 ghost use Rattle.ctf_format.specs.Texts as texts;
@@ -239,12 +240,11 @@ pub(crate) fn put_string(
 fn put_longer_string(bytes: &[u8], begin: u64, buffer: &mut Vec<u8>, at: usize) -> Option<Position>
     requires bounded { begin + 8 * length bytes.now ≤ 2 ^ 62 }
     requires index { at ≤ vec_len buffer.old }
-    ensures puts { let before = take at buffer.old.items in IfSome result (λ e.
+    ensures puts { IfSome result (λ e.
         (n : ℕ) × (position (λ x. nat_eq x 0) bytes.now ≡ Some n) ×
         (e.place ≡ begin + 8 * (n + 1)) ×
-        (take e.text buffer.new.items ≡ before ++ label_text (take n bytes.now))) }
+        IsPut buffer.old at (label_text (take n bytes.now)) buffer.new e.text) }
     ensures within { IfSome result (λ e. e.place ≤ begin + 8 * length bytes.now) }
-    ensures held { IfSome result (λ e. e.text ≤ vec_len buffer.new) }
 {
     if let Some(count) = count_longer(bytes, buffer.len() - at) {
         let place = begin + 8 * (count as u64 + 1);
@@ -260,12 +260,11 @@ fn put_longer_string(bytes: &[u8], begin: u64, buffer: &mut Vec<u8>, at: usize) 
 fn put_long_string(bytes: &[u8], begin: u64, buffer: &mut Vec<u8>, at: usize) -> Option<Position>
     requires bounded { begin + 8 * length bytes.now ≤ 2 ^ 62 }
     requires index { at ≤ vec_len buffer.old }
-    ensures puts { let before = take at buffer.old.items in IfSome result (λ e.
+    ensures puts { IfSome result (λ e.
         (n : ℕ) × (position (λ x. nat_eq x 0) bytes.now ≡ Some n) ×
         (e.place ≡ begin + 8 * (n + 1)) ×
-        (take e.text buffer.new.items ≡ before ++ label_text (take n bytes.now))) }
+        IsPut buffer.old at (label_text (take n bytes.now)) buffer.new e.text) }
     ensures within { IfSome result (λ e. e.place ≤ begin + 8 * length bytes.now) }
-    ensures held { IfSome result (λ e. e.text ≤ vec_len buffer.new) }
 {
     if let Some(count) = count_long(bytes) {
         let place = begin + 8 * (count as u64 + 1);
@@ -329,9 +328,8 @@ pub(crate) fn put_fixed_text(
 #[inline(never)]
 fn put_longer_text(bytes: &[u8], buffer: &mut Vec<u8>, at: usize) -> Result<usize, NoMemory>
     requires { at ≤ vec_len buffer.old }
-    ensures text { let shown = take_while (λ x. not (nat_eq x 0)) bytes.now in IfOk result (λ end.
-        take end buffer.new.items ≡ take at buffer.old.items ++ label_text shown) }
-    ensures held { IfOk result (λ end. end ≤ vec_len buffer.new) }
+    ensures { let shown = take_while (λ x. not (nat_eq x 0)) bytes.now in
+        IfOk result (IsPut buffer.old at (label_text shown) buffer.new) }
 {
     if let Some(count) = count_longer(bytes, buffer.len() - at) {
         return Ok(put_longer(bytes, count, buffer, at));

@@ -4,6 +4,7 @@ ghost use Rattle.std.specs.Prelude.{◌≡◌, ◌+◌, ◌*◌, ◌++◌, ◌�
 ghost use Rattle.std.specs.List.{All};
 ghost use Rattle.ctf_class.specs.Escapes.{escaped, shown_byte, hex_digit};
 ghost use Rattle.ctf_class.specs.Names.{label_text};
+ghost use Rattle.ctf_format.specs.Put.{IsPut};
 
 use crate::mark::{put_both_ends, put_bytes};
 use crate::room::{holds_text, with_room_for_text};
@@ -14,9 +15,7 @@ use ctf_list::NoMemory;
 /// before the index is kept. It fails where an allocation fails, and the buffer is then unspecified.
 pub fn put_quoted(bytes: &[u8], buffer: &mut Vec<u8>, at: usize) -> Result<usize, NoMemory>
     requires { at ≤ vec_len buffer.old }
-    ensures text { IfOk result (λ end.
-        take end buffer.new.items ≡ take at buffer.old.items ++ label_text bytes.now) }
-    ensures held { IfOk result (λ end. end ≤ vec_len buffer.new) }
+    ensures { IfOk result (IsPut buffer.old at (label_text bytes.now) buffer.new) }
 {
     if holds_text(bytes.len(), buffer.len() - at) {
         return Ok(put_in_quotes(bytes, buffer.as_mut_slice(), at));
@@ -30,9 +29,7 @@ pub fn put_quoted(bytes: &[u8], buffer: &mut Vec<u8>, at: usize) -> Result<usize
 #[inline(never)]
 fn put_with_room(bytes: &[u8], buffer: &mut Vec<u8>, at: usize) -> Result<usize, NoMemory>
     requires { at ≤ vec_len buffer.old }
-    ensures text { IfOk result (λ end.
-        take end buffer.new.items ≡ take at buffer.old.items ++ label_text bytes.now) }
-    ensures held { IfOk result (λ end. end ≤ vec_len buffer.new) }
+    ensures { IfOk result (IsPut buffer.old at (label_text bytes.now) buffer.new) }
 {
     with_room_for_text(bytes.len(), buffer, at)?;
     Ok(put_in_quotes(bytes, buffer.as_mut_slice(), at))

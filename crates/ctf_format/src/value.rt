@@ -1,12 +1,10 @@
 //! Values of classes.
 
-ghost use Rattle.std.specs.Prelude.{◌≡◌, ◌+◌, ◌++◌, ◌∷◌, ◌≤◌, length, take, map, vec_len, slice_get, option_map, IfOk};
-ghost use Rattle.std.specs.Fmt.{decimal};
-ghost use Rattle.std.specs.Option.{option_copied};
-ghost use Rattle.ctf_class.specs.Names.{field_text};
+ghost use Rattle.std.specs.Prelude.{◌≡◌, ◌+◌, ◌++◌, ◌∷◌, ◌≤◌, length, take, map, vec_len, slice_get, IfOk};
 ghost use Rattle.ctf_decode.specs.Values.{vals_of};
 ghost use Rattle.ctf_decode.specs.Fields as fields;
 ghost use Rattle.ctf_decode.specs.Views.{val};
+ghost use Rattle.ctf_format.specs.Put.{IsPut};
 ghost use Rattle.ctf_format.specs.Rows.{row, enclosed};
 ghost use Rattle.ctf_format.specs.Texts as texts;
 ghost use Rattle.ctf_format.specs.Texts.{member_part, member_texts, element_texts, part_text, option_text};
@@ -34,9 +32,8 @@ pub fn put_value(
     at: usize,
 ) -> Result<usize, NoMemory>
     requires { at ≤ vec_len buffer.old }
-    ensures text { IfOk result (λ end. take end buffer.new.items ≡
-        take at buffer.old.items ++ texts.value_text class.now (val value.now)) }
-    ensures held { IfOk result (λ end. end ≤ vec_len buffer.new) }
+    ensures { let piece = texts.value_text class.now (val value.now) in
+        IfOk result (IsPut buffer.old at piece buffer.new) }
 {
     match &class.kind {
         Kind::Structure { members } => {
@@ -59,9 +56,8 @@ fn put_part(
     at: usize,
 ) -> Result<usize, NoMemory>
     requires { at + LONGEST_NUMBER ≤ vec_len buffer.old }
-    ensures text { IfOk result (λ end. take end buffer.new.items ≡
-        take at buffer.old.items ++ texts.value_text class.now (val value.now)) }
-    ensures held { IfOk result (λ end. end ≤ vec_len buffer.new) }
+    ensures { let piece = texts.value_text class.now (val value.now) in
+        IfOk result (IsPut buffer.old at piece buffer.new) }
 {
     if let Kind::Integer(integer) = &class.kind {
         return Ok(put_integer(integer, value, buffer.as_mut_slice(), at));
@@ -83,9 +79,8 @@ fn put_field(
     at: usize,
 ) -> Result<usize, NoMemory>
     requires { at + LONGEST_NUMBER ≤ vec_len buffer.old }
-    ensures text { IfOk result (λ end. take end buffer.new.items ≡
-        take at buffer.old.items ++ texts.value_text class.now (val value.now)) }
-    ensures held { IfOk result (λ end. end ≤ vec_len buffer.new) }
+    ensures { let piece = texts.value_text class.now (val value.now) in
+        IfOk result (IsPut buffer.old at piece buffer.new) }
 {
     if let Kind::Text { length } = &class.kind {
         return put_string(value, buffer, at);
@@ -101,9 +96,8 @@ fn put_field(
 #[inline(never)]
 fn put_any(class: &Class, value: &Value, buffer: &mut Vec<u8>, at: usize) -> Result<usize, NoMemory>
     requires { at + LONGEST_NUMBER ≤ vec_len buffer.old }
-    ensures text { IfOk result (λ end. take end buffer.new.items ≡
-        take at buffer.old.items ++ texts.value_text class.now (val value.now)) }
-    ensures held { IfOk result (λ end. end ≤ vec_len buffer.new) }
+    ensures { let piece = texts.value_text class.now (val value.now) in
+        IfOk result (IsPut buffer.old at piece buffer.new) }
 {
     match &class.kind {
         Kind::Integer(integer) => Ok(put_integer(integer, value, buffer.as_mut_slice(), at)),
@@ -153,10 +147,8 @@ fn put_enumeration(
     at: usize,
 ) -> Result<usize, NoMemory>
     requires { at ≤ vec_len buffer.old }
-    ensures text { IfOk result (λ end. take end buffer.new.items ≡
-        take at buffer.old.items ++ texts.enumeration_text container.now labels.now
-        (val value.now)) }
-    ensures held { IfOk result (λ end. end ≤ vec_len buffer.new) }
+    ensures { let piece = texts.enumeration_text container.now labels.now (val value.now) in
+        IfOk result (IsPut buffer.old at piece buffer.new) }
 {
     match value {
         Value::Label(number) => put_labelled(container, labels, *number, buffer, at),
@@ -172,9 +164,7 @@ fn put_enumeration(
 /// Writes a string or an array of characters.
 fn put_string(value: &Value, buffer: &mut Vec<u8>, at: usize) -> Result<usize, NoMemory>
     requires { at ≤ vec_len buffer.old }
-    ensures text { IfOk result (λ end. take end buffer.new.items ≡
-        take at buffer.old.items ++ texts.string_text (val value.now)) }
-    ensures held { IfOk result (λ end. end ≤ vec_len buffer.new) }
+    ensures { IfOk result (IsPut buffer.old at (texts.string_text (val value.now)) buffer.new) }
 {
     if let Value::Text(bytes) = value {
         return put_quoted(bytes.as_slice(), buffer, at);
@@ -192,10 +182,9 @@ fn put_structure(
     at: usize,
 ) -> Result<usize, NoMemory>
     requires { at ≤ vec_len buffer.old }
-    ensures text { IfOk result (λ end. take end buffer.new.items ≡
-        take at buffer.old.items ++ enclosed 123 125
-        (member_texts (map member_part members.now) (vals_of (map val values.now)))) }
-    ensures held { IfOk result (λ end. end ≤ vec_len buffer.new) }
+    ensures { let vs = vals_of (map val values.now) in
+        let piece = enclosed 123 125 (member_texts (map member_part members.now) vs) in
+        IfOk result (IsPut buffer.old at piece buffer.new) }
 {
     if members.is_empty() {
         return put_nothing(b'{', b'}', buffer, at);
@@ -216,10 +205,9 @@ fn put_members(
     at: usize,
 ) -> Result<usize, NoMemory>
     requires { at ≤ vec_len buffer.old }
-    ensures text { IfOk result (λ end. take end buffer.new.items ≡
-        take at buffer.old.items ++ row 123
-        (member_texts (map member_part members.now) (vals_of (map val values.now)))) }
-    ensures held { IfOk result (λ end. end ≤ vec_len buffer.new) }
+    ensures { let vs = vals_of (map val values.now) in
+        let piece = row 123 (member_texts (map member_part members.now) vs) in
+        IfOk result (IsPut buffer.old at piece buffer.new) }
 {
     let mut end = at;
     let mut lead = b'{';
@@ -244,10 +232,8 @@ pub fn put_member(
     at: usize,
 ) -> Result<usize, NoMemory>
     requires { at ≤ vec_len buffer.old }
-    ensures text { IfOk result (λ end. take end buffer.new.items ≡
-        take at buffer.old.items ++ (lead ∷ 32 ∷ part_text (member_part member.now)
-        (val value.now))) }
-    ensures held { IfOk result (λ end. end ≤ vec_len buffer.new) }
+    ensures { let piece = lead ∷ 32 ∷ part_text (member_part member.now) (val value.now) in
+        IfOk result (IsPut buffer.old at piece buffer.new) }
 {
     let begin = put_ready(lead, member.name.ready(), LONGEST_NUMBER, buffer, at)?;
     put_part(&member.class, value, buffer, begin)
@@ -263,10 +249,9 @@ fn put_choice(
     at: usize,
 ) -> Result<usize, NoMemory>
     requires { at ≤ vec_len buffer.old }
-    ensures text { IfOk result (λ end. take end buffer.new.items ≡
-        take at buffer.old.items ++ texts.chosen_text (map member_part options.now)
-        (fields.choice_in (val value.now))) }
-    ensures held { IfOk result (λ end. end ≤ vec_len buffer.new) }
+    ensures { let choice = fields.choice_in (val value.now) in
+        let piece = texts.chosen_text (map member_part options.now) choice in
+        IfOk result (IsPut buffer.old at piece buffer.new) }
 {
     match choice_in(value) {
         None => Ok(at),
@@ -284,10 +269,8 @@ fn put_option(
     at: usize,
 ) -> Result<usize, NoMemory>
     requires { at ≤ vec_len buffer.old }
-    ensures text { IfOk result (λ end. take end buffer.new.items ≡
-        take at buffer.old.items ++ option_text (slice_get (map member_part options.now) i)
-        (val value.now)) }
-    ensures held { IfOk result (λ end. end ≤ vec_len buffer.new) }
+    ensures { let option = slice_get (map member_part options.now) i in
+        IfOk result (IsPut buffer.old at (option_text option (val value.now)) buffer.new) }
 {
     if i >= options.len() {
         return Ok(at);
@@ -306,10 +289,9 @@ fn put_array(
     at: usize,
 ) -> Result<usize, NoMemory>
     requires { at ≤ vec_len buffer.old }
-    ensures text { IfOk result (λ end. take end buffer.new.items ≡
-        take at buffer.old.items ++ enclosed 91 93
-        (element_texts (texts.value_text element.now) 0 (vals_of (map val values.now)))) }
-    ensures held { IfOk result (λ end. end ≤ vec_len buffer.new) }
+    ensures { let shown = texts.value_text element.now in let vs = vals_of (map val values.now) in
+        let piece = enclosed 91 93 (element_texts shown 0 vs) in
+        IfOk result (IsPut buffer.old at piece buffer.new) }
 {
     if values.is_empty() {
         return put_nothing(b'[', b']', buffer, at);
@@ -327,10 +309,9 @@ fn put_elements(
     at: usize,
 ) -> Result<usize, NoMemory>
     requires { at ≤ vec_len buffer.old }
-    ensures text { IfOk result (λ end. take end buffer.new.items ≡
-        take at buffer.old.items ++ row 91
-        (element_texts (texts.value_text element.now) 0 (vals_of (map val values.now)))) }
-    ensures held { IfOk result (λ end. end ≤ vec_len buffer.new) }
+    ensures { let shown = texts.value_text element.now in let vs = vals_of (map val values.now) in
+        let piece = row 91 (element_texts shown 0 vs) in
+        IfOk result (IsPut buffer.old at piece buffer.new) }
 {
     let mut end = at;
     let mut mark = b'[';
@@ -352,10 +333,9 @@ fn put_element(
     at: usize,
 ) -> Result<usize, NoMemory>
     requires { at ≤ vec_len buffer.old }
-    ensures text { IfOk result (λ end. take end buffer.new.items ≡
-        take at buffer.old.items ++ (lead.mark ∷ 32 ∷
-        texts.element_text (texts.value_text element.now) lead.index (val value.now))) }
-    ensures held { IfOk result (λ end. end ≤ vec_len buffer.new) }
+    ensures { let shown = texts.value_text element.now in
+        let piece = lead.mark ∷ 32 ∷ texts.element_text shown lead.index (val value.now) in
+        IfOk result (IsPut buffer.old at piece buffer.new) }
 {
     let begin = put_index(lead, buffer, at)?;
     put_part(element, value, buffer, begin)

@@ -6,6 +6,7 @@ ghost use Rattle.std.specs.List.{All, take_while};
 ghost use Rattle.std.specs.Simd.Lanes.{mask_l};
 ghost use Rattle.ctf_class.specs.Escapes.{shown_byte};
 ghost use Rattle.ctf_class.specs.Names.{label_text};
+ghost use Rattle.ctf_format.specs.Put.{IsPut};
 
 use crate::mark::put_bytes;
 use crate::room::with_room;
@@ -184,9 +185,8 @@ pub fn put_short(bytes: &[u8], count: usize, buffer: &mut Vec<u8>, at: usize) ->
     requires few { count ≤ WINDOW }
     requires window { WINDOW ≤ length bytes.now }
     requires room { at + WINDOW + 2 ≤ vec_len buffer.old }
-    ensures text { let shown = take count bytes.now in
-        take result buffer.new.items ≡ take at buffer.old.items ++ label_text shown }
-    ensures held { result ≤ vec_len buffer.new }
+    ensures { let shown = take count bytes.now in
+        IsPut buffer.old at (label_text shown) buffer.new result }
 {
     let line = buffer.as_mut_slice();
     line[at] = b'"';
@@ -202,9 +202,8 @@ pub fn put_longer(bytes: &[u8], count: usize, buffer: &mut Vec<u8>, at: usize) -
     requires many { WINDOW ≤ count }
     requires window { 2 * WINDOW ≤ length bytes.now }
     requires room { at + 2 * WINDOW + 2 ≤ vec_len buffer.old }
-    ensures text { let shown = take count bytes.now in
-        take result buffer.new.items ≡ take at buffer.old.items ++ label_text shown }
-    ensures held { result ≤ vec_len buffer.new }
+    ensures { let shown = take count bytes.now in
+        IsPut buffer.old at (label_text shown) buffer.new result }
 {
     let line = buffer.as_mut_slice();
     line[at] = b'"';
@@ -226,9 +225,8 @@ pub fn put_long(
     requires plain { All (λ byte. shown_byte byte ≡ byte ∷ []) (take count bytes.now) }
     requires within { count ≤ length bytes.now }
     requires index { at ≤ vec_len buffer.old }
-    ensures text { let shown = take count bytes.now in IfOk result (λ end.
-        take end buffer.new.items ≡ take at buffer.old.items ++ label_text shown) }
-    ensures held { IfOk result (λ end. end ≤ vec_len buffer.new) }
+    ensures { let shown = take count bytes.now in
+        IfOk result (IsPut buffer.old at (label_text shown) buffer.new) }
 {
     with_room(count + 2, buffer, at)?;
     Ok(put_between_quotes(&bytes[..count], buffer, at))
@@ -240,8 +238,7 @@ pub fn put_long(
 fn put_between_quotes(bytes: &[u8], buffer: &mut Vec<u8>, at: usize) -> usize
     requires plain { All (λ byte. shown_byte byte ≡ byte ∷ []) bytes.now }
     requires room { at + length bytes.now + 2 ≤ vec_len buffer.old }
-    ensures text { take result buffer.new.items ≡ take at buffer.old.items ++ label_text bytes.now }
-    ensures held { result ≤ vec_len buffer.new }
+    ensures { IsPut buffer.old at (label_text bytes.now) buffer.new result }
 {
     let line = buffer.as_mut_slice();
     line[at] = b'"';

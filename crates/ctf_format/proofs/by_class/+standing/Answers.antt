@@ -65,7 +65,7 @@ put_member-returns-clause-puts t c =
     let lead = c.args.lead in
     let name = c.ready-name.result.now in
     writes_after c.put_part.result c.args.seen.now (form m.class) (value_text m.class) (λ v. lead ∷ 32 ∷ part_text (member_part m) v) c.args.from.place (take c.args.from.text c.args.buffer.now.items) (take c.in-Ok.text c.put_ready.new.buffer.items) c.put_part.new.buffer.items (lead ∷ 32 ∷ name)
-    c.in-Ok.ensures.text (λ v. member_after m lead name v c.ready-name.ensures) c.put_part.ensures.puts
+    c.in-Ok.ensures.put.text (λ v. member_after m lead name v c.ready-name.ensures) c.put_part.ensures.puts
 
 pub put_part-returns-in-Integer-clause-puts : goal.put_part-returns-in-Integer-clause-puts
 put_part-returns-in-Integer-clause-puts t c =
@@ -179,4 +179,4 @@ put_item-returns-clause-puts t c =
     let k = c.args.element.now in
     let lead = c.args.lead.mark in
     writes_after c.put_part.result c.args.seen.now (form k) (value_text k) (λ v. lead ∷ 32 ∷ element_text (value_text k) c.args.lead.index v) c.args.from.place (take c.args.from.text c.args.buffer.now.items) (take c.in-Ok.text c.put_index.new.buffer.items) c.put_part.new.buffer.items (lead ∷ 32 ∷ 91 ∷ (decimal c.args.lead.index ++ codes "] = "))
-    c.in-Ok.ensures.text (λ v. element_after (value_text k) lead c.args.lead.index v) c.put_part.ensures.puts
+    c.in-Ok.ensures.put.text (λ v. element_after (value_text k) lead c.args.lead.index v) c.put_part.ensures.puts

@@ -16,10 +16,13 @@ loop-place-preserved c =
       text = row_next_name labels z c.loop-place.begin c.in-Some.place (take c.loop-place.end c.loop-place.buffer.items) (take c.in_ok-end.end c.put_name.new.buffer.items) (take c.args.at c.args.buffer.now.items) c.loop-place.lead c.args.mark (map label_text (names_of labels z)) next so_far.text c.in_ok-end.ensures.text;
     })
 
-pub returns-clause-text : goal.returns-clause-text
-returns-clause-text c =
+pub returns : goal.returns
+returns c =
     let labels = c.args.labels.now in
     let z = c.args.number in
     let so_far = rw (to_z-of_z c.ranges.number) at c.loop-place.invariant in
     let none = rw (to_z-of_z c.ranges.number) at c.in_default.ensures.next in
-    row_all_names labels z c.loop-place.begin (take c.loop-place.end c.loop-place.buffer.items) (take c.args.at c.args.buffer.now.items) c.loop-place.lead c.args.mark (map label_text (names_of labels z)) none so_far.text
+    record {
+      held = c.loop-place.invariant.held;
+      text = row_all_names labels z c.loop-place.begin (take c.loop-place.end c.loop-place.buffer.items) (take c.args.at c.args.buffer.now.items) c.loop-place.lead c.args.mark (map label_text (names_of labels z)) none so_far.text;
+    }

@@ -24,8 +24,8 @@ loop-i-preserved-then-hidden-i c =
       text = hidden_same ms vs c.loop-i.i (take c.loop-i.end c.loop-i.buffer.items) (take c.args.at c.args.buffer.now.items) c.loop-i.lead 123 _ in_ms in_vs (sym (ap (λ h. get_or h c.loop-i.i false) same) ∙ c.if-hidden-i.true) c.loop-i.invariant.text;
     }
 
-pub returns-clause-text : goal.returns-clause-text
-returns-clause-text c =
+pub returns : goal.returns
+returns c =
     let ms = c.members-members.result.now in
     let vs = c.args.values.now in
     let hs = c.hidden-hidden.result.now in
@@ -39,5 +39,8 @@ returns-clause-text c =
     let more : c.loop-i.i + 1 ≤ min (length hs) (length vs) = le-min in_hs in_vs in
     omega (arith, c.loop-i-test.false, c.min-count.ensures, more)
     in
-    shown_all ms vs c.loop-i.i (take c.loop-i.end c.loop-i.buffer.items) before c.loop-i.lead 123 _ past c.loop-i.invariant.text
-    ∙ ap (λ (xs : List Member). before ++ row 123 (shown_members xs (vals_of (map val vs)))) c.members-members.ensures
+    record {
+      held = c.loop-i.invariant.held;
+      text = shown_all ms vs c.loop-i.i (take c.loop-i.end c.loop-i.buffer.items) before c.loop-i.lead 123 _ past c.loop-i.invariant.text
+          ∙ ap (λ (xs : List Member). before ++ row 123 (shown_members xs (vals_of (map val vs)))) c.members-members.ensures;
+    }

@@ -24,7 +24,7 @@ returns-in_ok-ends-in-String-clause-puts c = λ slot is.
     let after = take ends.text c.put_string.new.buffer.items in
     let puts = as_one (forms.string class.align) (form class) string_text (value_text class) bytes content begin ends.place line after after (form_string class string) (text_string class string) refl (c.in_ok-ends-in-String.ensures.puts class.align) in
     let within : begin ≤ content = omega (arith, c.if-place-packet.false) in
-    (None, no_number c.args.placed.run.now.numbers bytes ((c.args.placed.end - c.args.placed.run.now.span) / 8), field_alone slot c.args.field.now bytes content begin c.args.reach.now.place c.args.reach.now.more ends.place None (take c.args.at c.args.buffer.now.items) line after is c.up-place.ensures.value within c.put_before-text.ensures.text puts)
+    (None, no_number c.args.placed.run.now.numbers bytes ((c.args.placed.end - c.args.placed.run.now.span) / 8), field_alone slot c.args.field.now bytes content begin c.args.reach.now.place c.args.reach.now.more ends.place None (take c.args.at c.args.buffer.now.items) line after is c.up-place.ensures.value within c.put_before-text.ensures.put.text puts)
 
 pub returns-in_ok-ends-in-Text-clause-puts : goal.returns-in_ok-ends-in-Text-clause-puts
 returns-in_ok-ends-in-Text-clause-puts c = λ slot is.
@@ -39,7 +39,7 @@ returns-in_ok-ends-in-Text-clause-puts c = λ slot is.
     let after = take ends.text c.put_fixed_text.new.buffer.items in
     let puts = as_one (forms.text class.align many) (form class) string_text (value_text class) bytes content begin ends.place line after after (form_text class many text) (text_text class many text) refl (c.in_ok-ends-in-Text.ensures.puts class.align) in
     let within : begin ≤ content = omega (arith, c.if-place-packet.false) in
-    (None, no_number c.args.placed.run.now.numbers bytes ((c.args.placed.end - c.args.placed.run.now.span) / 8), field_alone slot c.args.field.now bytes content begin c.args.reach.now.place c.args.reach.now.more ends.place None (take c.args.at c.args.buffer.now.items) line after is c.up-place.ensures.value within c.put_before-text.ensures.text puts)
+    (None, no_number c.args.placed.run.now.numbers bytes ((c.args.placed.end - c.args.placed.run.now.span) / 8), field_alone slot c.args.field.now bytes content begin c.args.reach.now.place c.args.reach.now.more ends.place None (take c.args.at c.args.buffer.now.items) line after is c.up-place.ensures.value within c.put_before-text.ensures.put.text puts)
 
 pub returns-in_ok-end-in-Integers-clause-puts : goal.returns-in_ok-end-in-Integers-clause-puts
 returns-in_ok-end-in-Integers-clause-puts c = λ slot is.
@@ -52,7 +52,7 @@ returns-in_ok-end-in-Integers-clause-puts c = λ slot is.
     let after = take c.in_ok-end-in-Integers.end c.put_other.new.buffer.items in
     let within : begin ≤ content = omega (arith, c.if-place-packet.false) in
     let p = c.in_ok-end-in-Integers.ensures.puts slot.index slot.member (subst (IsShown slot.index slot.member) c.in-Integers.is is.shown) in
-    let field = field_next slot c.args.field.now bytes content begin c.args.reach.now.place c.args.reach.now.more p.2.0 to.place p.0 before line after is c.up-place.ensures.value within c.put_before-text.ensures.text p.2.2 in
+    let field = field_next slot c.args.field.now bytes content begin c.args.reach.now.place c.args.reach.now.more p.2.0 to.place p.0 before line after is c.up-place.ensures.value within c.put_before-text.ensures.put.text p.2.2 in
     (p.0, p.1, subst (λ n. PutsField slot bytes content (numbers_to c.args.reach.now.place c.args.reach.now.more p.0 before) (numbers_to to.place n None after)) (sym p.2.1) field)
 
 pub returns-in_ok-ends-in-CountedText-clause-puts : goal.returns-in_ok-ends-in-CountedText-clause-puts
@@ -76,7 +76,7 @@ returns-in_ok-ends-in-CountedText-clause-puts c = λ slot is.
     let first = (c.args.placed.end - c.args.placed.run.now.span) / 8 in
     let last : IsLastNumber known c.args.placed.run.now.numbers bytes first = search rules in
     let none : c.args.reach.now.more + 0 ≡ c.args.reach.now.more = omega arith in
-    let field = field_next slot c.args.field.now bytes content begin c.args.reach.now.place c.args.reach.now.more 0 ends.place known (take c.args.at c.args.buffer.now.items) line (take ends.text items) is c.up-place.ensures.value within c.put_before-text.ensures.text (forget before (form class) (value_text class) bytes content begin line (record { place = ends.place; text = ends.text; more = 0; last = lasts.Unknown }) (take ends.text items) puts) in
+    let field = field_next slot c.args.field.now bytes content begin c.args.reach.now.place c.args.reach.now.more 0 ends.place known (take c.args.at c.args.buffer.now.items) line (take ends.text items) is c.up-place.ensures.value within c.put_before-text.ensures.put.text (forget before (form class) (value_text class) bytes content begin line (record { place = ends.place; text = ends.text; more = 0; last = lasts.Unknown }) (take ends.text items) puts) in
     (known, last, subst (λ n. PutsField slot bytes content (numbers_to c.args.reach.now.place c.args.reach.now.more known (take c.args.at c.args.buffer.now.items)) (numbers_to ends.place n None (take ends.text items))) none field)
 
 pub returns-in_ok-next-in-Labelled-clause-puts : goal.returns-in_ok-next-in-Labelled-clause-puts
@@ -101,5 +101,5 @@ returns-in_ok-next-in-Labelled-clause-puts c = λ slot is.
     let within : begin ≤ content = omega (arith, c.if-place-packet.false) in
     let more = c.args.reach.now.more in
     let none : more + next.more ≡ more = omega (arith, alone) in
-    let field = field_next slot c.args.field.now bytes content begin c.args.reach.now.place more next.more next.place None from line (take next.text items) is c.up-place.ensures.value within c.put_before-text.ensures.text (forget before (form class) (value_text class) bytes content begin line next (take next.text items) puts) in
+    let field = field_next slot c.args.field.now bytes content begin c.args.reach.now.place more next.more next.place None from line (take next.text items) is c.up-place.ensures.value within c.put_before-text.ensures.put.text (forget before (form class) (value_text class) bytes content begin line next (take next.text items) puts) in
     (None, no_number c.args.placed.run.now.numbers bytes ((c.args.placed.end - c.args.placed.run.now.span) / 8), subst (λ n. PutsField slot bytes content (numbers_to c.args.reach.now.place more None from) (numbers_to next.place n None (take next.text items))) none field)

@@ -32,7 +32,7 @@ returns-clause-puts c = λ slots others takes.
     let within : place + run.span ≤ content = omega (arith, ends, c.args.placed.within) in
     let mid : Option ℕ → Reached = λ last. numbers_to end more last text in
     let numbers : (last : Option ℕ) → IsLastNumber last run.numbers bytes first → (used : List Slot) × (slots ≡ used ++ takes.0) × PutsFields used bytes content (numbers_to at more None before) (mid last) = λ last is.
-    let all = run_numbers run.align slots takes.0 run.numbers run.numbers at run.span first place content more last bytes before before text takes.1 refl is begins.least begins.value starts within refl c.put_run_numbers-text.ensures.text in
+    let all = run_numbers run.align slots takes.0 run.numbers run.numbers at run.span first place content more last bytes before before text takes.1 refl is begins.least begins.value starts within refl c.put_run_numbers-text.ensures.put.text in
     (all.0, all.1, subst (λ p. PutsFields all.0 bytes content (numbers_to at more None before) (numbers_to p more last text)) ends all.2)
     in
     run_joined slots takes.0 others run.numbers bytes content first (numbers_to at more None before) mid c.put_run_field.result (λ t. reached c.put_run_field.new.reach (take t c.put_run_field.new.buffer.items)) numbers (c.put_run_field.ensures.puts takes.0 others takes.2)
