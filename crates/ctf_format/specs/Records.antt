@@ -1,11 +1,13 @@
 -- Event records that are written by their plan (all own).
-use Rattle.std.specs.Prelude.{◌≡◌, ℕ, zero, suc, pos, ◌+◌, ◌%◌, ◌^◌, ◌<◌, ◌≤◌, false, length, List, [], ◌∷◌, ◌++◌, Option, None, IfSome, codes}
+use Rattle.std.specs.Prelude.{◌≡◌, ℕ, zero, suc, pos, ◌+◌, ◌-◌, ◌/◌, ◌%◌, ◌^◌, ◌<◌, ◌≤◌, false, length, take, List, [], ◌∷◌, ◌++◌, Option, None, IfSome, codes}
 use Rattle.std.specs.Int.{next_multiple_of}
 use Rattle.std.specs.List.{All}
 use Rattle.ctf_bits.specs.Align.{IsLeastMultiple}
 use Rattle.ctf_class.specs.Integers.{bits_of}
-use Rattle.ctf_class.specs.Records.{Slot, TakesNumbers, After, have_special, room_of}
+use Rattle.ctf_class.specs.Records.{Slot, TakesNumbers, After, AreIntegers, have_special, room_of}
 use Rattle.ctf_class.specs.declared.class.Class.{Class}
+use Rattle.ctf_class.specs.declared.class.Member.{Member}
+use Rattle.ctf_class.specs.declared.record_plan.Integers.{Integers}
 use Rattle.ctf_class.specs.declared.record_plan.PlannedRun.{PlannedRun}
 use Rattle.ctf_class.specs.declared.planned_number.PlannedNumber.{PlannedNumber}
 use Rattle.ctf_decode.specs.Views.{form}
@@ -13,6 +15,8 @@ use Rattle.ctf_format.specs.RunNumbers.{number_at, place_in, IsPlaced}
 use Rattle.ctf_format.specs.Standing.{Before, Puts, PutsNext, StandsAsNumber, known}
 use Rattle.ctf_decode.specs.Forms.{Form}
 use Rattle.ctf_format.specs.Texts.{Shown, value_text, part_text, member_part}
+use Rattle.ctf_format.specs.declared.content.Content.{Content}
+use Rattle.ctf_format.specs.declared.placed_run.PlacedRun.{PlacedRun}
 use Rattle.ctf_format.specs.declared.planned_record.Reach.{Reach}
 
 -- How far fields came: where the next one could begin, how many values were begun in arrays, the number that comes
@@ -70,11 +74,36 @@ IsLastNumber last (n ∷ []) packet first =
     (n.integer.is_signed ≡ false) × (number_at n.integer packet (place_in first n) ≡ pos v))
 IsLastNumber last (n ∷ (m ∷ ns)) packet first = IsLastNumber last (m ∷ ns) packet first
 
+-- such a number of a run in a packet
+abbrev pub IsLastOf : PlacedRun → Option ℕ → Type 0
+IsLastOf placed last =
+    IsLastNumber last placed.run.now.numbers placed.packet.now.bytes.now
+    ((placed.end - placed.run.now.span) / 8)
+
+-- integers after the numbers of a run, if they were written, come after others from where these came to where the
+-- buffer says now
+abbrev pub PutsIntegers : Option ℕ → Integers → PlacedRun → Reach → List ℕ → Reach → List ℕ
+    → Type 0
+PutsIntegers result are placed from before to items =
+    (index : ℕ) (member : Member) → AreIntegers index member are.integer are.align are.many
+    → IfSome result (λ text.
+    (last : Option ℕ) × IsLastOf placed last
+    × PutsOther index last (form member.class) (value_text member.class)
+    placed.packet.now.bytes.now placed.packet.now.end from before to (take text items))
+
 -- a run takes the first of these fields, and these are left
 abbrev pub TakesRun : List Slot → PlannedRun → List Slot → Type 0
 TakesRun ss r others =
     (rest : List Slot) × TakesNumbers r.align ss r.numbers r.span rest
     × After rest r.field (λ xs. xs ≡ others)
+
+-- the fields of a run, if they were written, come after others from where these came to where the buffer says now
+abbrev pub PutsRun : Option ℕ → PlannedRun → Content → Reached → Reach → List ℕ → Type 0
+PutsRun result r packet from to items =
+    (slots others : List Slot) → TakesRun slots r others
+    → IfSome result (λ text.
+    (used : List Slot) × (slots ≡ used ++ others)
+    × PutsFields used packet.bytes.now packet.end from (reached to (take text items)))
 
 -- What is known of each run of a plan: how much room its text takes, that its span is short, whether it has special
 -- numbers, that all its numbers are within its span, and that their windows are those of their integers.

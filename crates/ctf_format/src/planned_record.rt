@@ -9,7 +9,7 @@ ghost use Rattle.ctf_class.specs.declared.record_plan.Many.TheVariants.{One};
 ghost use Rattle.ctf_decode.specs.Views.{form};
 ghost use Rattle.ctf_format.specs.Put.{IsPut};
 ghost use Rattle.ctf_format.specs.RunNumbers.{IsInside, number_at, place_in, run_text};
-ghost use Rattle.ctf_format.specs.Records.{BeginsAt, IsNear, IsLastNumber, PutsField, PutsFields, PutsOther, PutsScopes, TakesRun, after_number, reached};
+ghost use Rattle.ctf_format.specs.Records.{BeginsAt, IsNear, IsLastOf, PutsField, PutsFields, PutsIntegers, PutsOther, PutsRun, PutsScopes, after_number, reached};
 ghost use Rattle.ctf_format.specs.Texts as texts;
 
 use crate::array::put_integers;
@@ -131,11 +131,8 @@ fn put_run(
     requires start { reach.old.place ≤ packet.now.end }
     requires few { reach.old.more ≤ MOST_VALUES }
     requires index { at ≤ vec_len buffer.old }
-    ensures puts { (slots others : List Slot) → TakesRun slots run.now others →
-        IfSome result (λ text. (used : List Slot) × (slots ≡ used ++ others) ×
-        PutsFields used packet.now.bytes.now packet.now.end
-        (reached reach.old (take at buffer.old.items))
-        (reached reach.new (take text buffer.new.items))) }
+    ensures puts { let from = reached reach.old (take at buffer.old.items) in
+        PutsRun result run.now packet.now from reach.new buffer.new.items }
     ensures within { IfSome result (λ _. reach.new.place ≤ packet.now.end) }
     ensures few { IfSome result (λ _. reach.new.more ≤ MOST_VALUES) }
     ensures held { IfSome result (λ text. text ≤ vec_len buffer.new) }
@@ -176,12 +173,9 @@ fn put_special_run(
     requires begins { BeginsAt reach.old.place placed.run.now (placed.end - placed.run.now.span) }
     requires few { reach.old.more ≤ MOST_VALUES }
     requires room { at + placed.run.now.room ≤ vec_len buffer.old }
-    ensures puts { let packet = placed.entry.packet.now in
-        (slots others : List Slot) → TakesRun slots placed.entry.run.now others →
-        IfSome result (λ text. (used : List Slot) × (slots ≡ used ++ others) ×
-        PutsFields used packet.bytes.now packet.end
-        (reached reach.old (take at buffer.old.items))
-        (reached reach.new (take text buffer.new.items))) }
+    ensures puts { let from = reached reach.old (take at buffer.old.items) in
+        let run = placed.entry.run.now in let packet = placed.entry.packet.now in
+        PutsRun result run packet from reach.new buffer.new.items }
     ensures within { IfSome result (λ _. reach.new.place ≤ placed.entry.packet.now.end) }
     ensures few { IfSome result (λ _. reach.new.more ≤ MOST_VALUES) }
     ensures held { IfSome result (λ text. text ≤ vec_len buffer.new) }
@@ -202,12 +196,9 @@ fn put_placed_run(
     requires begins { BeginsAt reach.old.place placed.run.now (placed.end - placed.run.now.span) }
     requires few { reach.old.more ≤ MOST_VALUES }
     requires room { at + placed.run.now.room ≤ vec_len buffer.old }
-    ensures puts { let packet = placed.entry.packet.now in
-        (slots others : List Slot) → TakesRun slots placed.entry.run.now others →
-        IfSome result (λ text. (used : List Slot) × (slots ≡ used ++ others) ×
-        PutsFields used packet.bytes.now packet.end
-        (reached reach.old (take at buffer.old.items))
-        (reached reach.new (take text buffer.new.items))) }
+    ensures puts { let from = reached reach.old (take at buffer.old.items) in
+        let run = placed.entry.run.now in let packet = placed.entry.packet.now in
+        PutsRun result run packet from reach.new buffer.new.items }
     ensures within { IfSome result (λ _. reach.new.place ≤ placed.entry.packet.now.end) }
     ensures few { IfSome result (λ _. reach.new.more ≤ MOST_VALUES) }
     ensures held { IfSome result (λ text. text ≤ vec_len buffer.new) }
@@ -250,8 +241,7 @@ fn put_run_field(
     requires room { at + room_of [] placed.run.now.field ≤ vec_len buffer.old }
     ensures puts { let packet = placed.entry.packet.now in let run = placed.entry.run.now in
         (slots others : List Slot) → After slots run.field (λ xs. xs ≡ others) →
-        IfSome result (λ text. (last : Option ℕ) ×
-        IsLastNumber last run.numbers packet.bytes.now ((placed.entry.end - run.span) / 8) ×
+        IfSome result (λ text. (last : Option ℕ) × IsLastOf placed.entry last ×
         (used : List Slot) × (slots ≡ used ++ others) ×
         PutsFields used packet.bytes.now packet.end
         (after_number (record reach.old { place = placed.entry.end }) last
@@ -293,9 +283,7 @@ fn put_field(
     requires few { reach.old.more ≤ MOST_VALUES }
     requires room { at + length field.now.ready + 90 ≤ vec_len buffer.old }
     ensures puts { let packet = placed.entry.packet.now in (slot : Slot) → IsField slot field.now →
-        IfSome result (λ text. (last : Option ℕ) ×
-        IsLastNumber last placed.entry.run.now.numbers packet.bytes.now
-        ((placed.entry.end - placed.entry.run.now.span) / 8) ×
+        IfSome result (λ text. (last : Option ℕ) × IsLastOf placed.entry last ×
         PutsField slot packet.bytes.now packet.end
         (after_number reach.old last (take at buffer.old.items))
         (reached reach.new (take text buffer.new.items))) }
@@ -337,59 +325,48 @@ fn put_field(
             reach.place = next.place;
             Some(next.text)
         }
-        Shown::Integers(are) => {
-            // A copy, so that the others do not go through memory.
-            let mut to = Reach {
-                place,
-                more: reach.more,
-            };
-            let end = put_other(are, placed, &mut to, buffer, text)?;
-            *reach = to;
-            Some(end)
-        }
+        Shown::Integers(are) => put_other(are, placed, from, reach, buffer),
     }
 }
 
-/// Writes integers that are after the numbers of a run and none of these, and gives the index after them.
+/// Writes integers that are after the numbers of a run and none of these, and gives the index after them; `reach` says
+/// how far they came then.
 #[inline(always)]
 fn put_other(
     are: &Integers,
     placed: PlacedRun<'_>,
+    from: Position,
     reach: &mut Reach,
     buffer: &mut Vec<u8>,
-    at: usize,
 ) -> Option<usize>
-    requires start { reach.old.place ≤ placed.packet.now.end }
+    requires start { from.place ≤ placed.packet.now.end }
     requires few { reach.old.more ≤ MOST_VALUES }
-    requires room { at + 66 ≤ vec_len buffer.old }
-    ensures puts { let packet = placed.entry.packet.now in (index : ℕ) (member : Member) →
-        AreIntegers index member are.now.integer are.now.align are.now.many →
-        IfSome result (λ text. (last : Option ℕ) ×
-        IsLastNumber last placed.entry.run.now.numbers packet.bytes.now
-        ((placed.entry.end - placed.entry.run.now.span) / 8) ×
-        PutsOther index last (form member.class) (texts.value_text member.class)
-        packet.bytes.now packet.end reach.old (take at buffer.old.items) reach.new
-        (take text buffer.new.items)) }
+    requires room { from.text + 66 ≤ vec_len buffer.old }
+    ensures puts { let begin = record reach.old { place = from.place } in
+        let before = take from.text buffer.old.items in
+        PutsIntegers result are.now placed.entry begin before reach.new buffer.new.items }
     ensures within { IfSome result (λ _. reach.new.place ≤ placed.entry.packet.now.end) }
     ensures few { IfSome result (λ _. reach.new.more ≤ MOST_VALUES) }
     ensures held { IfSome result (λ text. text ≤ vec_len buffer.new) }
 {
-    if let Many::One = are.many {
-        return put_lone(are, placed.packet, reach, buffer, at);
-    }
-    // A copy, so that the run of other fields does not go through memory.
+    // Copies, so that neither other fields nor their run go through memory.
+    let mut to = Reach {
+        place: from.place,
+        more: reach.more,
+    };
     let placed = PlacedRun {
         run: placed.run,
         packet: placed.packet,
         end: placed.end,
     };
-    put_array(are, placed, reach, buffer, at)
+    let end = put_one_or_many(are, placed, &mut to, buffer, from.text)?;
+    *reach = to;
+    Some(end)
 }
 
-/// Writes integers that are after the numbers of a run and none of these, mostly an array, and gives the index after
-/// them.
+/// Writes such integers, mostly an array, and gives the index after them.
 #[inline(never)]
-fn put_array(
+fn put_one_or_many(
     are: &Integers,
     placed: PlacedRun<'_>,
     reach: &mut Reach,
@@ -399,14 +376,8 @@ fn put_array(
     requires start { reach.old.place ≤ placed.packet.now.end }
     requires few { reach.old.more ≤ MOST_VALUES }
     requires room { at + 66 ≤ vec_len buffer.old }
-    ensures puts { let packet = placed.entry.packet.now in (index : ℕ) (member : Member) →
-        AreIntegers index member are.now.integer are.now.align are.now.many →
-        IfSome result (λ text. (last : Option ℕ) ×
-        IsLastNumber last placed.entry.run.now.numbers packet.bytes.now
-        ((placed.entry.end - placed.entry.run.now.span) / 8) ×
-        PutsOther index last (form member.class) (texts.value_text member.class)
-        packet.bytes.now packet.end reach.old (take at buffer.old.items) reach.new
-        (take text buffer.new.items)) }
+    ensures puts { let before = take at buffer.old.items in
+        PutsIntegers result are.now placed.entry reach.old before reach.new buffer.new.items }
     ensures within { IfSome result (λ _. reach.new.place ≤ placed.entry.packet.now.end) }
     ensures few { IfSome result (λ _. reach.new.more ≤ MOST_VALUES) }
     ensures held { IfSome result (λ text. text ≤ vec_len buffer.new) }
@@ -472,9 +443,7 @@ fn put_lone(
 /// The last of the numbers of a run, if it is unsigned.
 #[inline(always)]
 fn last_number(placed: PlacedRun<'_>) -> Option<u64>
-    ensures { let bytes = placed.entry.packet.now.bytes.now in
-        IsLastNumber result placed.entry.run.now.numbers bytes
-        ((placed.entry.end - placed.entry.run.now.span) / 8) }
+    ensures { IsLastOf placed.entry result }
 {
     let run = placed.run;
     let first = ((placed.end - run.span) / 8) as usize;

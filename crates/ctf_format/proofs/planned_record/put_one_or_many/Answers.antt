@@ -10,8 +10,8 @@ use Rattle.ctf_format.specs.declared.standing.Next.{Next}
 use Rattle.ctf_format.proofs.ByClassLemmas.{forget}
 use Rattle.ctf_format.proofs.ArrayLemmas.{next_class, form_array, text_array}
 use Rattle.ctf_format.proofs.RecordsLemmas.{no_number, after_no_number, counts_after}
-use Rattle.ctf_format.proofs.planned_record.put_array.Goals as goal
-use Rattle.ctf_format.proofs.planned_record.put_array.Goals.{in-Fixed, in-Counted+in_ok-count-in-Counted}
+use Rattle.ctf_format.proofs.planned_record.put_one_or_many.Goals as goal
+use Rattle.ctf_format.proofs.planned_record.put_one_or_many.Goals.{in-Fixed, in-Counted+in_ok-count-in-Counted}
 
 pub returns-in-One-clause-puts : goal.returns-in-One-clause-puts
 returns-in-One-clause-puts c = λ index member are.
