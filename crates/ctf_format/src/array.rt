@@ -1,9 +1,10 @@
 //! Texts of arrays of integers, straight from the packet's bits.
 
-ghost use Rattle.std.specs.Prelude.{◌≡◌, ◌+◌, ◌*◌, ◌^◌, ◌∷◌, [], ◌<◌, ◌≤◌, length, take, vec_len, ℕ, IfSome};
+ghost use Rattle.std.specs.Prelude.{◌≡◌, ◌∷◌, ◌≤◌, take, ℕ, IfSome};
 ghost use Rattle.std.specs.Int.{next_multiple_of};
 ghost use Rattle.ctf_class.specs.declared.route.Length.{Length};
 ghost use Rattle.ctf_decode.specs.Forms as forms;
+ghost use Rattle.ctf_format.specs.Put.{IsWithin};
 ghost use Rattle.ctf_format.specs.Rows.{row, enclosed};
 ghost use Rattle.ctf_format.specs.Standing.{Before, PutsOne, PutsElements, Counts, Writes, elements_text};
 ghost use Rattle.ctf_format.specs.Texts as texts;
@@ -24,15 +25,13 @@ pub(crate) fn put_integers(
     from: Position,
     buffer: &mut Vec<u8>,
 ) -> Option<Next>
-    requires start { from.place ≤ packet.now.end }
-    requires index { from.text ≤ vec_len buffer.old }
+    requires { IsWithin packet.now from.place buffer.old from.text }
     ensures puts { let line = take from.text buffer.old.items in
         let integer = class.now.integer.now in let shown = elements_text integer in
         (before : Before) (many : Length) (a : ℕ) → Counts many before count →
         let k = forms.array a many (forms.integer class.now.align integer) in
         Writes result before k shown packet.now from.place line buffer.new.items }
-    ensures within { IfSome result (λ n. n.place ≤ packet.now.end) }
-    ensures held { IfSome result (λ n. n.text ≤ vec_len buffer.new) }
+    ensures within { IfSome result (λ n. IsWithin packet.now n.place buffer.new n.text) }
     ensures few { IfSome result (λ n. n.more ≤ MOST_VALUES) }
 {
     if count > MOST_VALUES {
@@ -74,14 +73,12 @@ fn put_elements(
     from: Position,
     buffer: &mut Vec<u8>,
 ) -> Option<Position>
-    requires start { from.place ≤ packet.now.end }
-    requires index { from.text ≤ vec_len buffer.old }
+    requires { IsWithin packet.now from.place buffer.old from.text }
     ensures puts { let line = take from.text buffer.old.items in IfSome result
         (λ e. PutsElements (enclosed 91 93) class.now.align class.now.integer.now count
         packet.now.bytes.now packet.now.end from.place e.place line
         (take e.text buffer.new.items)) }
-    ensures within { IfSome result (λ e. e.place ≤ packet.now.end) }
-    ensures held { IfSome result (λ e. e.text ≤ vec_len buffer.new) }
+    ensures within { IfSome result (λ e. IsWithin packet.now e.place buffer.new e.text) }
 {
     if count == 0 {
         let Ok(text) = put_nothing(b'[', b']', buffer, from.text) else {
@@ -110,13 +107,11 @@ fn put_row(
     from: Position,
     buffer: &mut Vec<u8>,
 ) -> Option<Position>
-    requires start { from.place ≤ packet.now.end }
-    requires index { from.text ≤ vec_len buffer.old }
+    requires { IsWithin packet.now from.place buffer.old from.text }
     ensures puts { let line = take from.text buffer.old.items in IfSome result
         (λ e. PutsElements (row 91) class.now.align class.now.integer.now count packet.now.bytes.now
         packet.now.end from.place e.place line (take e.text buffer.new.items)) }
-    ensures within { IfSome result (λ e. e.place ≤ packet.now.end) }
-    ensures held { IfSome result (λ e. e.text ≤ vec_len buffer.new) }
+    ensures within { IfSome result (λ e. IsWithin packet.now e.place buffer.new e.text) }
 {
     // A copy, so that it does not go through memory at each element.
     let class = AlignedInteger {
@@ -142,16 +137,14 @@ fn put_element(
     from: Position,
     buffer: &mut Vec<u8>,
 ) -> Option<Position>
-    requires start { from.place ≤ packet.now.end }
-    requires index { from.text ≤ vec_len buffer.old }
+    requires { IsWithin packet.now from.place buffer.old from.text }
     ensures puts { let line = take from.text buffer.old.items in
         let integer = class.now.integer.now in IfSome result
         (λ e. PutsOne (forms.integer class.now.align integer)
         (λ v. lead.mark ∷ 32 ∷ texts.element_text (texts.integer_text integer) lead.index v)
         packet.now.bytes.now packet.now.end from.place e.place line
         (take e.text buffer.new.items)) }
-    ensures within { IfSome result (λ e. e.place ≤ packet.now.end) }
-    ensures held { IfSome result (λ e. e.text ≤ vec_len buffer.new) }
+    ensures within { IfSome result (λ e. IsWithin packet.now e.place buffer.new e.text) }
 {
     let Ok(text) = put_index(lead, buffer, from.text) else {
         return None;

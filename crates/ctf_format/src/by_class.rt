@@ -1,15 +1,15 @@
 //! Texts of values of any class, straight from the packet's bits.
 
-ghost use Rattle.std.specs.Prelude.{ℕ, List, [], ◌≡◌, ◌+◌, ◌∷◌, ◌≤◌, map, take, vec_len, IfSome};
+ghost use Rattle.std.specs.Prelude.{ℕ, List, [], ◌+◌, ◌∷◌, ◌≤◌, map, take, vec_len, IfSome};
 ghost use Rattle.ctf_class.specs.declared.route.Length.{Length};
 ghost use Rattle.ctf_class.specs.declared.route.Route.{Route};
 ghost use Rattle.ctf_class.specs.declared.span.Choice.{Choice};
-ghost use Rattle.ctf_decode.specs.Fields.{choice_in};
 ghost use Rattle.ctf_decode.specs.Forms as forms;
 ghost use Rattle.ctf_decode.specs.Forms.{parts_of};
 ghost use Rattle.ctf_decode.specs.Values.{Val};
 ghost use Rattle.ctf_decode.specs.Views.{form, member_part};
 ghost use Rattle.ctf_format.specs.Around.{ChoosesIn, CountsIn, MembersAre, PutsItems, PutsWith, WritesIn, WritesMembers, known_in};
+ghost use Rattle.ctf_format.specs.Put.{IsWithin};
 ghost use Rattle.ctf_format.specs.Rows.{row, enclosed};
 ghost use Rattle.ctf_format.specs.Standing.{array_text, structure_text, variant_text};
 ghost use Rattle.ctf_format.specs.Texts as texts;
@@ -90,13 +90,12 @@ fn put_enclosed(
     buffer: &mut Vec<u8>,
 ) -> Option<MembersEnd>
     requires none { MembersAre before.old [] }
-    requires start { from.place ≤ outside.now.packet.now.end }
-    requires index { from.text ≤ vec_len buffer.old }
+    requires within { IsWithin outside.now.packet.now from.place buffer.old from.text }
     ensures puts { let line = take from.text buffer.old.items in
         WritesMembers (enclosed 123 125) result outside.now before.new members.now from.place
         line buffer.new.items }
-    ensures within { IfSome result (λ e. e.place ≤ outside.now.packet.now.end) }
-    ensures held { IfSome result (λ e. e.text ≤ vec_len buffer.new) }
+    ensures within { IfSome result
+        (λ e. IsWithin outside.now.packet.now e.place buffer.new e.text) }
     ensures few { IfSome result (λ e. e.more ≤ MOST_VALUES) }
 {
     if members.is_empty() {
@@ -130,13 +129,12 @@ fn put_members(
     buffer: &mut Vec<u8>,
 ) -> Option<MembersEnd>
     requires none { MembersAre before.old [] }
-    requires start { from.place ≤ outside.now.packet.now.end }
-    requires index { from.text ≤ vec_len buffer.old }
+    requires within { IsWithin outside.now.packet.now from.place buffer.old from.text }
     ensures puts { let line = take from.text buffer.old.items in
         WritesMembers (row 123) result outside.now before.new members.now from.place line
         buffer.new.items }
-    ensures within { IfSome result (λ e. e.place ≤ outside.now.packet.now.end) }
-    ensures held { IfSome result (λ e. e.text ≤ vec_len buffer.new) }
+    ensures within { IfSome result
+        (λ e. IsWithin outside.now.packet.now e.place buffer.new e.text) }
     ensures few { IfSome result (λ e. e.more ≤ MOST_VALUES) }
 {
     let mut at = from;
@@ -177,13 +175,11 @@ fn put_member(
     from: Position,
     buffer: &mut Vec<u8>,
 ) -> Option<Next>
-    requires start { from.place ≤ seen.now.packet.now.end }
-    requires index { from.text ≤ vec_len buffer.old }
+    requires { IsWithin seen.now.packet.now from.place buffer.old from.text }
     ensures puts { let line = take from.text buffer.old.items in let m = member.now in
         let shown = λ (v : Val). lead ∷ 32 ∷ texts.part_text (texts.member_part m) v in
         WritesIn result seen.now (form m.class) shown from.place line buffer.new.items }
-    ensures within { IfSome result (λ n. n.place ≤ seen.now.packet.now.end) }
-    ensures held { IfSome result (λ n. n.text ≤ vec_len buffer.new) }
+    ensures within { IfSome result (λ n. IsWithin seen.now.packet.now n.place buffer.new n.text) }
     ensures few { IfSome result (λ n. n.more ≤ MOST_VALUES) }
 {
     let name = member.name.ready();
@@ -203,8 +199,7 @@ fn put_part(class: &Class, seen: &Seen<'_>, from: Position, buffer: &mut Vec<u8>
     ensures puts { let line = take from.text buffer.old.items in let k = class.now in
         WritesIn result seen.now (form k) (texts.value_text k) from.place line
         buffer.new.items }
-    ensures within { IfSome result (λ n. n.place ≤ seen.now.packet.now.end) }
-    ensures held { IfSome result (λ n. n.text ≤ vec_len buffer.new) }
+    ensures within { IfSome result (λ n. IsWithin seen.now.packet.now n.place buffer.new n.text) }
     ensures few { IfSome result (λ n. n.more ≤ MOST_VALUES) }
 {
     if let Kind::Integer(integer) = &class.kind {
@@ -224,8 +219,7 @@ fn put_any(class: &Class, seen: &Seen<'_>, from: Position, buffer: &mut Vec<u8>)
     ensures puts { let line = take from.text buffer.old.items in let k = class.now in
         WritesIn result seen.now (form k) (texts.value_text k) from.place line
         buffer.new.items }
-    ensures within { IfSome result (λ n. n.place ≤ seen.now.packet.now.end) }
-    ensures held { IfSome result (λ n. n.text ≤ vec_len buffer.new) }
+    ensures within { IfSome result (λ n. IsWithin seen.now.packet.now n.place buffer.new n.text) }
     ensures few { IfSome result (λ n. n.more ≤ MOST_VALUES) }
 {
     let packet = seen.packet;
@@ -275,13 +269,11 @@ fn put_structure(
     from: Position,
     buffer: &mut Vec<u8>,
 ) -> Option<Next>
-    requires start { from.place ≤ seen.now.packet.now.end }
-    requires index { from.text ≤ vec_len buffer.old }
+    requires { IsWithin seen.now.packet.now from.place buffer.old from.text }
     ensures puts { let line = take from.text buffer.old.items in let ms = members.now in
         let k = forms.structure align (parts_of (map member_part ms)) in
         WritesIn result seen.now k (structure_text ms) from.place line buffer.new.items }
-    ensures within { IfSome result (λ n. n.place ≤ seen.now.packet.now.end) }
-    ensures held { IfSome result (λ n. n.text ≤ vec_len buffer.new) }
+    ensures within { IfSome result (λ n. IsWithin seen.now.packet.now n.place buffer.new n.text) }
     ensures few { IfSome result (λ n. n.more ≤ MOST_VALUES) }
 {
     let around = OuterMembers::Within(&*seen.members, &*seen.around);
@@ -317,14 +309,12 @@ fn put_option(
     from: Position,
     buffer: &mut Vec<u8>,
 ) -> Option<Next>
-    requires start { from.place ≤ seen.now.packet.now.end }
-    requires index { from.text ≤ vec_len buffer.old }
+    requires { IsWithin seen.now.packet.now from.place buffer.old from.text }
     ensures puts { let line = take from.text buffer.old.items in let ms = options.now in
         (a : ℕ) (tag : Route) (choices : List Choice) → ChoosesIn seen.now tag choices option →
         let k = forms.variant a tag choices (parts_of (map member_part ms)) in
         WritesIn result seen.now k (variant_text ms) from.place line buffer.new.items }
-    ensures within { IfSome result (λ n. n.place ≤ seen.now.packet.now.end) }
-    ensures held { IfSome result (λ n. n.text ≤ vec_len buffer.new) }
+    ensures within { IfSome result (λ n. IsWithin seen.now.packet.now n.place buffer.new n.text) }
     ensures few { IfSome result (λ n. n.more ≤ MOST_VALUES) }
 {
     if option >= options.len() {
@@ -355,15 +345,13 @@ fn put_array(
     from: Position,
     buffer: &mut Vec<u8>,
 ) -> Option<Next>
-    requires start { from.place ≤ seen.now.packet.now.end }
-    requires index { from.text ≤ vec_len buffer.old }
+    requires { IsWithin seen.now.packet.now from.place buffer.old from.text }
     ensures puts { let line = take from.text buffer.old.items in
         let shown = texts.value_text element.now in
         (a : ℕ) (many : Length) → CountsIn seen.now many count →
         let k = forms.array a many (form element.now) in
         WritesIn result seen.now k (array_text shown) from.place line buffer.new.items }
-    ensures within { IfSome result (λ n. n.place ≤ seen.now.packet.now.end) }
-    ensures held { IfSome result (λ n. n.text ≤ vec_len buffer.new) }
+    ensures within { IfSome result (λ n. IsWithin seen.now.packet.now n.place buffer.new n.text) }
     ensures few { IfSome result (λ n. n.more ≤ MOST_VALUES) }
 {
     if let Kind::Integer(integer) = &element.kind {
@@ -384,15 +372,13 @@ fn put_items(
     from: Position,
     buffer: &mut Vec<u8>,
 ) -> Option<Next>
-    requires start { from.place ≤ seen.now.packet.now.end }
-    requires index { from.text ≤ vec_len buffer.old }
+    requires { IsWithin seen.now.packet.now from.place buffer.old from.text }
     ensures puts { let line = take from.text buffer.old.items in
         let shown = texts.value_text element.now in
         (a : ℕ) (many : Length) → CountsIn seen.now many count →
         let k = forms.array a many (form element.now) in
         WritesIn result seen.now k (array_text shown) from.place line buffer.new.items }
-    ensures within { IfSome result (λ n. n.place ≤ seen.now.packet.now.end) }
-    ensures held { IfSome result (λ n. n.text ≤ vec_len buffer.new) }
+    ensures within { IfSome result (λ n. IsWithin seen.now.packet.now n.place buffer.new n.text) }
     ensures few { IfSome result (λ n. n.more ≤ MOST_VALUES) }
 {
     if count > MOST_VALUES {
@@ -425,13 +411,11 @@ fn put_bracketed(
     from: Position,
     buffer: &mut Vec<u8>,
 ) -> Option<MembersEnd>
-    requires start { from.place ≤ seen.now.packet.now.end }
-    requires index { from.text ≤ vec_len buffer.old }
+    requires { IsWithin seen.now.packet.now from.place buffer.old from.text }
     ensures puts { let line = take from.text buffer.old.items in let k = element.now in
         let shown = texts.value_text k in IfSome result (λ e. PutsItems (enclosed 91 93) seen.now
         (form k) shown count from.place line e (take e.text buffer.new.items)) }
-    ensures within { IfSome result (λ e. e.place ≤ seen.now.packet.now.end) }
-    ensures held { IfSome result (λ e. e.text ≤ vec_len buffer.new) }
+    ensures within { IfSome result (λ e. IsWithin seen.now.packet.now e.place buffer.new e.text) }
     ensures few { IfSome result (λ e. e.more ≤ MOST_VALUES) }
 {
     if count == 0 {
@@ -464,13 +448,11 @@ fn put_row(
     from: Position,
     buffer: &mut Vec<u8>,
 ) -> Option<MembersEnd>
-    requires start { from.place ≤ seen.now.packet.now.end }
-    requires index { from.text ≤ vec_len buffer.old }
+    requires { IsWithin seen.now.packet.now from.place buffer.old from.text }
     ensures puts { let line = take from.text buffer.old.items in let k = element.now in
         let shown = texts.value_text k in IfSome result (λ e. PutsItems (row 91) seen.now
         (form k) shown count from.place line e (take e.text buffer.new.items)) }
-    ensures within { IfSome result (λ e. e.place ≤ seen.now.packet.now.end) }
-    ensures held { IfSome result (λ e. e.text ≤ vec_len buffer.new) }
+    ensures within { IfSome result (λ e. IsWithin seen.now.packet.now e.place buffer.new e.text) }
     ensures few { IfSome result (λ e. e.more ≤ MOST_VALUES) }
 {
     let mut at = from;
@@ -506,14 +488,12 @@ fn put_item(
     from: Position,
     buffer: &mut Vec<u8>,
 ) -> Option<Next>
-    requires start { from.place ≤ seen.now.packet.now.end }
-    requires index { from.text ≤ vec_len buffer.old }
+    requires { IsWithin seen.now.packet.now from.place buffer.old from.text }
     ensures puts { let line = take from.text buffer.old.items in let k = element.now in
         let shown = λ (v : Val).
         lead.mark ∷ 32 ∷ texts.element_text (texts.value_text k) lead.index v in
         WritesIn result seen.now (form k) shown from.place line buffer.new.items }
-    ensures within { IfSome result (λ n. n.place ≤ seen.now.packet.now.end) }
-    ensures held { IfSome result (λ n. n.text ≤ vec_len buffer.new) }
+    ensures within { IfSome result (λ n. IsWithin seen.now.packet.now n.place buffer.new n.text) }
     ensures few { IfSome result (λ n. n.more ≤ MOST_VALUES) }
 {
     let Ok(text) = put_index(lead, buffer, from.text) else {

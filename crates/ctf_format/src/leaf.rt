@@ -5,6 +5,7 @@ ghost use Rattle.ctf_bits.specs.Number.{number, signed_number};
 ghost use Rattle.ctf_class.specs.declared.route.Length.{Length};
 ghost use Rattle.ctf_class.specs.Integers.{bits_of};
 ghost use Rattle.ctf_decode.specs.Forms as forms;
+ghost use Rattle.ctf_format.specs.Put.{IsWithin};
 ghost use Rattle.ctf_format.specs.Standing.{Before, Counts, Writes, ValueIs, known_of};
 ghost use Rattle.ctf_decode.specs.Values.{label};
 ghost use Rattle.ctf_format.specs.Texts as texts;
@@ -32,8 +33,7 @@ pub(crate) fn put_one(
         let k = forms.integer class.now.align i in let shown = texts.integer_text i in
         (before : Before) →
         Writes result before k shown packet.now from.place line buffer.new.items }
-    ensures within { IfSome result (λ n. n.place ≤ packet.now.end) }
-    ensures held { IfSome result (λ n. n.text ≤ vec_len buffer.new) }
+    ensures within { IfSome result (λ n. IsWithin packet.now n.place buffer.new n.text) }
     ensures few { IfSome result (λ n. n.more ≡ 0) }
 {
     let ends = put_integer(class, packet, from, buffer.as_mut_slice())?;
@@ -63,13 +63,11 @@ pub(crate) fn put_string_value(
     from: Position,
     buffer: &mut Vec<u8>,
 ) -> Option<Next>
-    requires start { from.place ≤ packet.now.end }
-    requires index { from.text ≤ vec_len buffer.old }
+    requires { IsWithin packet.now from.place buffer.old from.text }
     ensures puts { let line = take from.text buffer.old.items in let shown = texts.string_text in
         (before : Before) (a : ℕ) →
         Writes result before (forms.string a) shown packet.now from.place line buffer.new.items }
-    ensures within { IfSome result (λ n. n.place ≤ packet.now.end) }
-    ensures held { IfSome result (λ n. n.text ≤ vec_len buffer.new) }
+    ensures within { IfSome result (λ n. IsWithin packet.now n.place buffer.new n.text) }
     ensures few { IfSome result (λ n. n.more ≡ 0) }
 {
     let ends = put_string(packet, from, buffer)?;
@@ -88,14 +86,12 @@ pub(crate) fn put_text_value(
     from: Position,
     buffer: &mut Vec<u8>,
 ) -> Option<Next>
-    requires start { from.place ≤ packet.now.end }
-    requires index { from.text ≤ vec_len buffer.old }
+    requires { IsWithin packet.now from.place buffer.old from.text }
     ensures puts { let line = take from.text buffer.old.items in let shown = texts.string_text in
         (before : Before) (a : ℕ) (many : Length) → Counts many before count →
         let k = forms.text a many in
         Writes result before k shown packet.now from.place line buffer.new.items }
-    ensures within { IfSome result (λ n. n.place ≤ packet.now.end) }
-    ensures held { IfSome result (λ n. n.text ≤ vec_len buffer.new) }
+    ensures within { IfSome result (λ n. IsWithin packet.now n.place buffer.new n.text) }
     ensures few { IfSome result (λ n. n.more ≡ 0) }
 {
     let ends = put_fixed_text(count, packet, from, buffer)?;
@@ -116,14 +112,12 @@ pub(crate) fn put_enumeration(
     from: Position,
     buffer: &mut Vec<u8>,
 ) -> Option<Next>
-    requires start { from.place ≤ packet.now.end }
-    requires index { from.text ≤ vec_len buffer.old }
+    requires { IsWithin packet.now from.place buffer.old from.text }
     ensures puts { let line = take from.text buffer.old.items in
         let i = container.now.integer.now in let k = forms.enumeration container.now.align i in
         let shown = texts.enumeration_text i labels.now in (before : Before) →
         Writes result before k shown packet.now from.place line buffer.new.items }
-    ensures within { IfSome result (λ n. n.place ≤ packet.now.end) }
-    ensures held { IfSome result (λ n. n.text ≤ vec_len buffer.new) }
+    ensures within { IfSome result (λ n. IsWithin packet.now n.place buffer.new n.text) }
     ensures few { IfSome result (λ n. n.more ≡ 0) }
 {
     let integer = container.integer;

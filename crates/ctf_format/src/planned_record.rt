@@ -7,7 +7,7 @@ ghost use Rattle.ctf_class.specs.declared.class.Class.{Class};
 ghost use Rattle.ctf_class.specs.declared.class.Member.{Member};
 ghost use Rattle.ctf_class.specs.declared.record_plan.Many.TheVariants.{One};
 ghost use Rattle.ctf_decode.specs.Views.{form};
-ghost use Rattle.ctf_format.specs.Put.{IsPut};
+ghost use Rattle.ctf_format.specs.Put.{IsPut, IsWithin};
 ghost use Rattle.ctf_format.specs.RunNumbers.{IsInside, number_at, place_in, run_text};
 ghost use Rattle.ctf_format.specs.Records.{BeginsAt, IsNear, IsLastOf, PutsField, PutsFields, PutsIntegers, PutsOther, PutsRun, PutsScopes, after_number, reached};
 ghost use Rattle.ctf_format.specs.Texts as texts;
@@ -92,17 +92,15 @@ fn put_runs(
     at: usize,
 ) -> Option<usize>
     requires near { All IsNear runs.now }
-    requires start { reach.old.place ≤ packet.now.end }
+    requires within { IsWithin packet.now reach.old.place buffer.old at }
     requires few { reach.old.more ≤ MOST_VALUES }
-    requires index { at ≤ vec_len buffer.old }
     ensures puts { (slots : List Slot) → AreRuns slots runs.now →
         IfSome result (λ text. (line : List ℕ) ×
         PutsFields slots packet.now.bytes.now packet.now.end
         (reached reach.old (take at buffer.old.items)) (reached reach.new line) ×
         (take text buffer.new.items ≡ line ++ (32 ∷ 125 ∷ []))) }
-    ensures within { IfSome result (λ _. reach.new.place ≤ packet.now.end) }
+    ensures within { IfSome result (IsWithin packet.now reach.new.place buffer.new) }
     ensures few { IfSome result (λ _. reach.new.more ≤ MOST_VALUES) }
-    ensures held { IfSome result (λ text. text ≤ vec_len buffer.new) }
 {
     let mut so_far = *reach;
     let mut text = at;
@@ -128,14 +126,12 @@ fn put_run(
     at: usize,
 ) -> Option<usize>
     requires near { IsNear run.now }
-    requires start { reach.old.place ≤ packet.now.end }
+    requires within { IsWithin packet.now reach.old.place buffer.old at }
     requires few { reach.old.more ≤ MOST_VALUES }
-    requires index { at ≤ vec_len buffer.old }
     ensures puts { let from = reached reach.old (take at buffer.old.items) in
         PutsRun result run.now packet.now from reach.new buffer.new.items }
-    ensures within { IfSome result (λ _. reach.new.place ≤ packet.now.end) }
+    ensures within { IfSome result (IsWithin packet.now reach.new.place buffer.new) }
     ensures few { IfSome result (λ _. reach.new.more ≤ MOST_VALUES) }
-    ensures held { IfSome result (λ text. text ≤ vec_len buffer.new) }
 {
     let begin = run.align.up(reach.place);
     if begin > packet.end || (begin % 8 != 0 && !run.numbers.is_empty()) {
@@ -176,9 +172,8 @@ fn put_special_run(
     ensures puts { let from = reached reach.old (take at buffer.old.items) in
         let run = placed.entry.run.now in let packet = placed.entry.packet.now in
         PutsRun result run packet from reach.new buffer.new.items }
-    ensures within { IfSome result (λ _. reach.new.place ≤ placed.entry.packet.now.end) }
+    ensures within { IfSome result (IsWithin placed.entry.packet.now reach.new.place buffer.new) }
     ensures few { IfSome result (λ _. reach.new.more ≤ MOST_VALUES) }
-    ensures held { IfSome result (λ text. text ≤ vec_len buffer.new) }
 {
     put_placed_run(placed, reach, buffer, at)
 }
@@ -199,9 +194,8 @@ fn put_placed_run(
     ensures puts { let from = reached reach.old (take at buffer.old.items) in
         let run = placed.entry.run.now in let packet = placed.entry.packet.now in
         PutsRun result run packet from reach.new buffer.new.items }
-    ensures within { IfSome result (λ _. reach.new.place ≤ placed.entry.packet.now.end) }
+    ensures within { IfSome result (IsWithin placed.entry.packet.now reach.new.place buffer.new) }
     ensures few { IfSome result (λ _. reach.new.more ≤ MOST_VALUES) }
-    ensures held { IfSome result (λ text. text ≤ vec_len buffer.new) }
 {
     let text = put_run_numbers(placed, buffer, at);
     put_run_field(placed, reach, buffer, text)
@@ -247,9 +241,8 @@ fn put_run_field(
         (after_number (record reach.old { place = placed.entry.end }) last
         (take at buffer.old.items))
         (reached reach.new (take text buffer.new.items))) }
-    ensures within { IfSome result (λ _. reach.new.place ≤ placed.entry.packet.now.end) }
+    ensures within { IfSome result (IsWithin placed.entry.packet.now reach.new.place buffer.new) }
     ensures few { IfSome result (λ _. reach.new.more ≤ MOST_VALUES) }
-    ensures held { IfSome result (λ text. text ≤ vec_len buffer.new) }
 {
     reach.place = placed.end;
     match &placed.run.field {
@@ -287,9 +280,8 @@ fn put_field(
         PutsField slot packet.bytes.now packet.end
         (after_number reach.old last (take at buffer.old.items))
         (reached reach.new (take text buffer.new.items))) }
-    ensures within { IfSome result (λ _. reach.new.place ≤ placed.entry.packet.now.end) }
+    ensures within { IfSome result (IsWithin placed.entry.packet.now reach.new.place buffer.new) }
     ensures few { IfSome result (λ _. reach.new.more ≤ MOST_VALUES) }
-    ensures held { IfSome result (λ text. text ≤ vec_len buffer.new) }
 {
     let packet = placed.packet;
     let place = field.align.up(reach.place);
@@ -345,9 +337,8 @@ fn put_other(
     ensures puts { let begin = record reach.old { place = from.place } in
         let before = take from.text buffer.old.items in
         PutsIntegers result are.now placed.entry begin before reach.new buffer.new.items }
-    ensures within { IfSome result (λ _. reach.new.place ≤ placed.entry.packet.now.end) }
+    ensures within { IfSome result (IsWithin placed.entry.packet.now reach.new.place buffer.new) }
     ensures few { IfSome result (λ _. reach.new.more ≤ MOST_VALUES) }
-    ensures held { IfSome result (λ text. text ≤ vec_len buffer.new) }
 {
     // Copies, so that neither other fields nor their run go through memory.
     let mut to = Reach {
@@ -378,9 +369,8 @@ fn put_one_or_many(
     requires room { at + 66 ≤ vec_len buffer.old }
     ensures puts { let before = take at buffer.old.items in
         PutsIntegers result are.now placed.entry reach.old before reach.new buffer.new.items }
-    ensures within { IfSome result (λ _. reach.new.place ≤ placed.entry.packet.now.end) }
+    ensures within { IfSome result (IsWithin placed.entry.packet.now reach.new.place buffer.new) }
     ensures few { IfSome result (λ _. reach.new.more ≤ MOST_VALUES) }
-    ensures held { IfSome result (λ text. text ≤ vec_len buffer.new) }
 {
     let count = match are.many {
         Many::One => return put_lone(are, placed.packet, reach, buffer, at),
@@ -423,9 +413,8 @@ fn put_lone(
         PutsOther index None (form member.class) (texts.value_text member.class)
         content.bytes.now content.end reach.old (take at buffer.old.items) reach.new
         (take text buffer.new.items)) }
-    ensures within { IfSome result (λ _. reach.new.place ≤ packet.now.end) }
+    ensures within { IfSome result (IsWithin packet.now reach.new.place buffer.new) }
     ensures few { IfSome result (λ _. reach.new.more ≤ MOST_VALUES) }
-    ensures held { IfSome result (λ text. text ≤ vec_len buffer.new) }
 {
     let class = AlignedInteger {
         integer: &are.integer,

@@ -9,7 +9,7 @@ ghost use Rattle.ctf_class.specs.Names.{label_text};
 ghost use Rattle.ctf_class.specs.declared.route.Length.TheVariants.{Fixed};
 ghost use Rattle.ctf_decode.specs.Forms as forms;
 ghost use Rattle.ctf_format.specs.Numbers.{number_text};
-ghost use Rattle.ctf_format.specs.Put.{IsPut};
+ghost use Rattle.ctf_format.specs.Put.{IsPut, IsWithin};
 ghost use Rattle.ctf_format.specs.RunNumbers.{number_at};
 ghost use Rattle.ctf_format.specs.Standing.{PutsOne, StandsAsNumber};
 ghost use Rattle.ctf_format.specs.Texts as texts;
@@ -212,13 +212,11 @@ pub(crate) fn put_string(
     from: Position,
     buffer: &mut Vec<u8>,
 ) -> Option<Position>
-    requires start { from.place ≤ packet.now.end }
-    requires index { from.text ≤ vec_len buffer.old }
+    requires { IsWithin packet.now from.place buffer.old from.text }
     ensures puts { let content = packet.now in let before = take from.text buffer.old.items in
         IfSome result (λ e. (a : ℕ) → PutsOne (forms.string a) texts.string_text
         content.bytes.now content.end from.place e.place before (take e.text buffer.new.items)) }
-    ensures within { IfSome result (λ e. e.place ≤ packet.now.end) }
-    ensures held { IfSome result (λ e. e.text ≤ vec_len buffer.new) }
+    ensures within { IfSome result (λ e. IsWithin packet.now e.place buffer.new e.text) }
 {
     let at = from.text;
     let begin = up(from.place, 8);
@@ -291,13 +289,11 @@ pub(crate) fn put_fixed_text(
     from: Position,
     buffer: &mut Vec<u8>,
 ) -> Option<Position>
-    requires start { from.place ≤ packet.now.end }
-    requires index { from.text ≤ vec_len buffer.old }
+    requires { IsWithin packet.now from.place buffer.old from.text }
     ensures puts { let content = packet.now in let before = take from.text buffer.old.items in
         IfSome result (λ e. (a : ℕ) → PutsOne (forms.text a (Fixed count)) texts.string_text
         content.bytes.now content.end from.place e.place before (take e.text buffer.new.items)) }
-    ensures within { IfSome result (λ e. e.place ≤ packet.now.end) }
-    ensures held { IfSome result (λ e. e.text ≤ vec_len buffer.new) }
+    ensures within { IfSome result (λ e. IsWithin packet.now e.place buffer.new e.text) }
 {
     let at = from.text;
     let begin = up(from.place, 8);

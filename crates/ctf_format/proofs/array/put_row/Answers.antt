@@ -9,7 +9,6 @@ loop-i-preserved c =
     let ends = c.in_ok-at.at in
     record {
       within = c.in_ok-at.ensures.within;
-      held = c.in_ok-at.ensures.held;
       marked = mark_next 91 c.loop-i.i;
       going = going_on c.args.class.now.align c.args.class.now.integer.now c.args.count c.args.packet.now.bytes.now c.args.packet.now.end c.args.from.place before c.loop-i.i c.loop-i.at.place ends.place c.loop-i.mark (take c.loop-i.at.text c.loop-i.buffer.items) (take ends.text c.put_element.new.buffer.items) c.loop-i-test.true c.loop-i.invariant.marked c.loop-i.invariant.going c.in_ok-at.ensures.puts;
     }

@@ -24,8 +24,7 @@ put_enclosed-returns-clause-puts t c =
 pub put_members-loop-i-init : goal.put_members-loop-i-init
 put_members-loop-i-init t c =
     record {
-      within = c.requires.start;
-      held = c.requires.index;
+      within = c.requires.within;
       few = search (rules, arith);
       marked = refl;
       going = members.going_begins (Agrees (sight c.args.outside.now.around.now)) c.args.members.now c.args.outside.now.packet.now.bytes.now c.args.outside.now.packet.now.end c.args.from.place (take c.args.from.text c.args.buffer.now.items) (MembersAre c.args.before.now) c.requires.none;
@@ -40,7 +39,6 @@ put_members-loop-i-preserved t c =
     let packet = c.args.outside.now.packet.now in
     record {
       within = c.in_ok-next.ensures.within;
-      held = c.in_ok-next.ensures.held;
       few = search (rules, arith);
       marked = mark_next 123 l.i;
       going = members.going_on (Agrees (sight c.args.outside.now.around.now)) c.args.members.now packet.bytes.now packet.end c.args.from.place (take c.args.from.text c.args.buffer.now.items) l.i l.at.place l.more (MembersAre l.before) (MembersAre c.push.new.self) c.index-members-i.result l.lead line next after c.loop-i-test.true c.index-members-i.is l.invariant.marked l.invariant.going
@@ -159,7 +157,6 @@ put_row-loop-i-preserved t c =
     let next = c.in_ok-next.next in
     record {
       within = c.in_ok-next.ensures.within;
-      held = c.in_ok-next.ensures.held;
       few = search (rules, arith);
       marked = mark_next 91 l.i;
       going = items.going_on c.args.seen.now (form k) (value_text k) c.args.count c.args.from.place (take c.args.from.text c.args.buffer.now.items) l.i l.at.place l.more l.mark (take l.at.text l.buffer.items) next (take next.text c.put_item.new.buffer.items) c.loop-i-test.true l.invariant.marked l.invariant.going c.in_ok-next.ensures.puts;

@@ -1,7 +1,8 @@
-use Rattle.std.proofs.Common.{◌≡◌, ◌≤◌, take, vec_len}
+use Rattle.std.proofs.Common.{◌≡◌, ◌≤◌, take}
 use Rattle.ctf_decode.specs.Views.{form}
 use Rattle.ctf_decode.specs.declared.scopes.TheConstants.{MOST_VALUES}
 use Rattle.ctf_format.specs.Around.{Agrees, MembersAre, sight}
+use Rattle.ctf_format.specs.Put.{IsWithin}
 use Rattle.ctf_format.specs.Standing.{mark_at}
 use Rattle.ctf_format.specs.Texts.{value_text}
 use Rattle.ctf_format.proofs.ByClassLemmas as items
@@ -10,8 +11,7 @@ use Rattle.ctf_format.proofs.by_class.+standing.Given as goal
 
 abbrev pub invariant-put_members-loop-i : goal.invariant-put_members-loop-i
 invariant-put_members-loop-i l = record {
-  within : l.at.place ≤ l.outside.packet.now.end;
-  held : l.at.text ≤ vec_len l.buffer;
+  within : IsWithin l.outside.packet.now l.at.place l.buffer l.at.text;
   few : l.more ≤ MOST_VALUES;
   marked : l.lead ≡ mark_at 123 l.i;
   going : members.Going (Agrees (sight l.outside.around.now)) l.members l.outside.packet.now.bytes.now l.outside.packet.now.end l.fn.from.place l.i l.at.place l.more (MembersAre l.before) (take l.fn.from.text l.fn.buffer.items) (take l.at.text l.buffer.items);
@@ -19,8 +19,7 @@ invariant-put_members-loop-i l = record {
 
 abbrev pub invariant-put_row-loop-i : goal.invariant-put_row-loop-i
 invariant-put_row-loop-i l = record {
-  within : l.at.place ≤ l.seen.packet.now.end;
-  held : l.at.text ≤ vec_len l.buffer;
+  within : IsWithin l.seen.packet.now l.at.place l.buffer l.at.text;
   few : l.more ≤ MOST_VALUES;
   marked : l.mark ≡ mark_at 91 l.i;
   going : items.Going l.seen (form l.element) (value_text l.element) l.count l.fn.from.place l.i l.at.place l.more (take l.fn.from.text l.fn.buffer.items) (take l.at.text l.buffer.items);

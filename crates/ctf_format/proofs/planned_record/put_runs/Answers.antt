@@ -20,7 +20,6 @@ loop-run-preserved c =
     record {
       within = c.in_ok-text.ensures.within;
       few = c.in_ok-text.ensures.few;
-      held = c.in_ok-text.ensures.held;
       puts = λ slots are.
           let w = l.invariant.puts slots are in
           let first = takes_first w.1 run (drop (k + 1) runs) (subst (AreRuns w.1) (here runs k run c.loop-run-test.true c.run-item.is) w.3) in
