@@ -1,6 +1,9 @@
 //! What a packet leaves for the next one.
 
-ghost use Rattle.std.specs.Prelude.{◌≡◌, None};
+ghost use Rattle.std.specs.Prelude.{Option};
+ghost use Rattle.ctf_class.specs.declared.trace.TraceClass.{TraceClass};
+ghost use Rattle.ctf_decode.specs.Values.{Val};
+ghost use Rattle.ctf_fetch.specs.Headers.{KnowsHeader};
 
 use crate::known_header::KnownHeader;
 use ctf_decode::Value;
@@ -17,7 +20,7 @@ pub struct PacketScratch<'a> {
 impl<'a> PacketScratch<'a> {
     /// Scratch without memory, by which no header is known. Nothing is allocated.
     pub fn new() -> PacketScratch<'a>
-        ensures { result.known ≡ None }
+        ensures { (trace : TraceClass) (value : Option Val) → KnowsHeader trace result value }
     {
         PacketScratch {
             header: Value::Unsigned(0),

@@ -50,7 +50,7 @@ impl<'a> ReadState<'a> {
         ensures cut { result.cut ≡ cut.entry }
         ensures packet { result.packet ≡ None }
         ensures buffer { result.buffer ≡ [] }
-        ensures known { result.packet_scratch.known ≡ None }
+        ensures shared { HasShared result }
         ensures taken { result.taken ≡ cut.entry.at }
         ensures writes { result.writes ≡ false }
     {
