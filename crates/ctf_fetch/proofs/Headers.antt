@@ -1,5 +1,5 @@
 -- Headers that are known.
-use Rattle.std.proofs.Common.{◌≡◌, ◌==◌, ℕ, List, [], ◌++◌, length, take, drop, take-append-drop, append_assoc, Bool, true, false, Option, Some, None, Ok, if◌then◌else◌, refl, sym, ap, subst, ◌∙◌}
+use Rattle.std.proofs.Common.{◌≡◌, ◌==◌, ℕ, List, [], ◌++◌, length, take, drop, take-append-drop, append_assoc, Bool, true, false, Option, Some, None, is_some, Ok, if◌then◌else◌, refl, sym, ap, subst, ◌∙◌}
 use Rattle.std.proofs.lemmas.Bool.{eq-eqb}
 use Rattle.std.specs.Option.{option_and_then}
 use Rattle.std.specs.Prelude.{codes, IfSome}
@@ -41,37 +41,42 @@ module _ (trace : TraceForm Classes) where
       let named = stream_named trace.streams (number_in (role (codes "stream_id") trace.packet_header header)) in
       by_checks (is_magic (role (codes "magic") trace.packet_header header)) (is_of_trace trace.uuid (uuid_field trace.packet_header header)) named r s same checked
 
--- the header that was decoded of these bytes
-module _ (trace : TraceClass) (reached : Option Reached) (bytes : List ℕ) (headed : FoundHeader) (known : Known) where
-  abbrev pub Decoded : Type 0
-  Decoded = (shift : Shift) (more : List ℕ) → IsHeaded shift trace reached (bytes ++ more) headed known
+-- no packet was before
+pub no_packet : (reached : Option Reached) → is_some reached ≡ false → reached ≡ None
+no_packet None is = refl
+no_packet (Some r) is = absurd (cc)
 
-  stood : (shift : Shift) (more : List ℕ) → IsHeaded shift trace reached (bytes ++ more) headed known
-      → asked_at {C = Classes} (trace_form shift trace).packet_header (front (bytes ++ more) no_values) 0 0 ≡ Ok (record { value = (values_of known).packet_header; end = headed.end; spent = known.spent })
+-- the header that was decoded of these bytes
+module _ (trace : TraceClass) (reached : Option Reached) (bytes : List ℕ) (found : FoundHeader) (known : Known) where
+  abbrev pub Decoded : Type 0
+  Decoded = (shift : Shift) (more : List ℕ) → IsHeaded shift trace reached (bytes ++ more) found known
+
+  stood : (shift : Shift) (more : List ℕ) → IsHeaded shift trace reached (bytes ++ more) found known
+      → asked_at {C = Classes} (trace_form shift trace).packet_header (front (bytes ++ more) no_values) 0 0 ≡ Ok (record { value = (values_of known).packet_header; end = found.end; spent = known.spent })
   stood shift more is =
       let h = is.header in
       h.1 ∙ (λ i. Ok (record { value = (sym h.4 i).packet_header; end = sym h.2 i; spent = sym h.3 i }))
 
   -- it is known from then on, if no packet was before
-  pub learnt : (o : Option KnownHeader) → IfSome o (λ _. reached ≡ None) → IfSome o (λ k. k.bytes.items ≡ bytes) → IfSome o (λ k. k.headed ≡ headed) → IfSome o (λ k. k.spent ≡ known.spent) → Decoded
+  pub learnt : Decoded → (o : Option KnownHeader) → reached ≡ None → IfSome o (λ k. k.bytes.items ≡ bytes) → IfSome o (λ k. k.found ≡ found) → IfSome o (λ k. k.spent ≡ known.spent)
       → IfSome o (λ k. IsHeader trace k (values_of known).packet_header)
-  learnt None first bytes_are headed_is spent_is decoded = tt
-  learnt (Some k) first bytes_are headed_is spent_is decoded = record {
+  learnt decoded None first bytes_are found_is spent_is = tt
+  learnt decoded (Some k) first bytes_are found_is spent_is = record {
     stood = λ shift more.
         ap (λ b. asked_at {C = Classes} (trace_form shift trace).packet_header (front (b ++ more) no_values) 0 0) bytes_are
         ∙ stood shift more (decoded shift more)
-        ∙ (λ i. Ok (record { value = (values_of known).packet_header; end = (sym headed_is i).end; spent = sym spent_is i }));
+        ∙ (λ i. Ok (record { value = (values_of known).packet_header; end = (sym found_is i).end; spent = sym spent_is i }));
     stream = λ shift r same.
-        let none = subst (λ o. stream_checked (trace_form shift trace) o (values_of known).packet_header ≡ Ok (stream_form shift headed.stream.now)) first ((decoded shift []).stream) in
-        checked_also (trace_form shift trace) (values_of known).packet_header r (stream_form shift k.headed.stream.now) same
-        (none ∙ (λ i. Ok (stream_form shift (sym headed_is i).stream.now)));
+        let none = subst (λ o. stream_checked (trace_form shift trace) o (values_of known).packet_header ≡ Ok (stream_form shift found.stream.now)) first ((decoded shift []).stream) in
+        checked_also (trace_form shift trace) (values_of known).packet_header r (stream_form shift k.found.stream.now) same
+        (none ∙ (λ i. Ok (stream_form shift (sym found_is i).stream.now)));
   }
 
 -- a packet that begins with the bytes of a known header has it
 pub headed_by : (trace : TraceClass) (k : KnownHeader) (shift : Shift) (r : Reached) (bytes more : List ℕ) (known after : Known) → IsHeader trace k (values_of known).packet_header
-    → r.stream ≡ (stream_form shift k.headed.stream.now).id → take (length k.bytes.items) bytes ≡ k.bytes.items
+    → r.stream ≡ (stream_form shift k.found.stream.now).id → take (length k.bytes.items) bytes ≡ k.bytes.items
     → after ≡ with_spent (record nothing_known { packet_header = known.packet_header }) k.spent
-    → IsHeaded shift trace (Some r) (bytes ++ more) k.headed after
+    → IsHeaded shift trace (Some r) (bytes ++ more) k.found after
 headed_by trace k shift r bytes more known after is same begins after_is =
     let n = length k.bytes.items in
     let v = (values_of known).packet_header in

@@ -7,5 +7,6 @@ mod Opening
 mod Sizing
 mod Fetched
 mod Fronts
+mod Begun
 mod Headers
 pub mod Longer

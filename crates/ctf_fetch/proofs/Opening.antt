@@ -32,7 +32,8 @@ use Rattle.ctf_packet_demand.proofs.Beginning as beginning
 use Rattle.ctf_packet_demand.proofs.Telling.{wants_tell}
 use Rattle.ctf_fetch.specs.Fetching.{OrNoMemory}
 use Rattle.ctf_fetch.specs.Demand.{there, Failed}
-use Rattle.ctf_fetch.specs.Asking.{scope_asked, scope_found, FailsAs}
+use Rattle.ctf_fetch.specs.Asking.{scope_asked, scope_found}
+use Rattle.ctf_fetch.specs.Failing.{FailsAs}
 use Rattle.ctf_fetch.specs.declared.scope.NextScope.{NextScope}
 use Rattle.ctf_fetch.proofs.Parts.{found_more}
 

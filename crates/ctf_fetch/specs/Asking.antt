@@ -1,5 +1,5 @@
 -- What is in the scope of a packet that comes next.
-use Rattle.std.specs.Prelude.{◌≡◌, List, ℕ, option_map, option_copied, Result, Err}
+use Rattle.std.specs.Prelude.{List, ℕ, option_map, option_copied, Result}
 use Rattle.ctf_bits.specs.declared.source.Ending.{Ending}
 use Rattle.ctf_decode.specs.Known.{Known}
 use Rattle.ctf_decode.specs.Views.{form}
@@ -22,7 +22,3 @@ abbrev pub scope_found : Ending → NextScope → List ℕ → Known → Result 
 scope_found ending next bytes known =
     scope_at (fault_in_front ending) (option_map form (option_copied next.class))
     (front bytes (values_of known)) next.end known.spent
-
--- this is its fault
-abbrev pub FailsAs : Result Stood StreamFault → StreamFault → Type 0
-FailsAs found fault = found ≡ Err fault

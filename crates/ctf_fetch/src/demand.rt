@@ -2,10 +2,11 @@
 //! where it is known how many they are, others once they are needed, and decoding goes on where it stopped for them, so
 //! that the time is linear in the bytes.
 
-ghost use Rattle.std.specs.Prelude.{◌≡◌, ◌+◌, ◌*◌, ◌≤◌, ◌++◌, min, max, length, take, IsTrue, IfOk, IfErr};
+ghost use Rattle.std.specs.Prelude.{◌≡◌, ◌+◌, ◌*◌, ◌≤◌, min, max, length, take, IfOk};
 ghost use Rattle.ctf_packet.specs.Scopes.{longest};
 ghost use Rattle.ctf_fetch.specs.Demand.{found_at, members_at, elements_at, options_at, IsFound, Failed};
-ghost use Rattle.ctf_fetch.specs.Fetching.{longest_bytes, OrNoMemory};
+ghost use Rattle.ctf_fetch.specs.Failing.{IfFault};
+ghost use Rattle.ctf_fetch.specs.Fetching.{longest_bytes};
 ghost use Rattle.ctf_fetch.specs.Keeping.{Keeps};
 
 use crate::intake::Intake;
@@ -47,10 +48,8 @@ pub(crate) fn value_on_demand<S: Source>(
     ensures forward { IfOk result (λ d. place.now.end ≤ d.end) }
     ensures near { IfOk result (λ d.
         8 * length intake.new.buffer.now ≤ max (8 * length intake.old.buffer.now) (d.end + 7)) }
-    ensures faulty { let all = intake.new.buffer.now ++ S.left intake.new.source.now in
-        IsTrue (S.tells intake.old.source.now) →
-        IfErr result (OrNoMemory
-        (Failed (S.ending intake.old.source.now) (found_at class.now place.now all))) }
+    ensures faulty { IfFault S.Source intake.old intake.new result
+        (λ ending all. Failed ending (found_at class.now place.now all)) }
 {
     if let Some(end) = least_end(class, place) {
         return whole_on_demand(class, end, place, intake);
@@ -97,10 +96,8 @@ fn members_on_demand<S: Source>(
     ensures forward { IfOk result (λ d. place.now.end ≤ d.end) }
     ensures near { IfOk result (λ d.
         8 * length intake.new.buffer.now ≤ max (8 * length intake.old.buffer.now) (d.end + 7)) }
-    ensures faulty { let all = intake.new.buffer.now ++ S.left intake.new.source.now in
-        IsTrue (S.tells intake.old.source.now) →
-        IfErr result (OrNoMemory
-        (Failed (S.ending intake.old.source.now) (members_at members.now place.now all))) }
+    ensures faulty { IfFault S.Source intake.old intake.new result
+        (λ ending all. Failed ending (members_at members.now place.now all)) }
 {
     let mut values = List::new(place.alloc);
     let mut end = place.end;
@@ -143,10 +140,8 @@ fn elements_on_demand<S: Source>(
     ensures forward { IfOk result (λ d. place.now.end ≤ d.end) }
     ensures near { IfOk result (λ d.
         8 * length intake.new.buffer.now ≤ max (8 * length intake.old.buffer.now) (d.end + 7)) }
-    ensures faulty { let all = intake.new.buffer.now ++ S.left intake.new.source.now in
-        IsTrue (S.tells intake.old.source.now) →
-        IfErr result (OrNoMemory
-        (Failed (S.ending intake.old.source.now) (elements_at element.now count place.now all))) }
+    ensures faulty { IfFault S.Source intake.old intake.new result
+        (λ ending all. Failed ending (elements_at element.now count place.now all)) }
 {
     let mut values = List::new(place.alloc);
     let mut end = place.end;
@@ -188,10 +183,8 @@ fn option_on_demand<S: Source>(
     ensures forward { IfOk result (λ d. place.now.end ≤ d.end) }
     ensures near { IfOk result (λ d.
         8 * length intake.new.buffer.now ≤ max (8 * length intake.old.buffer.now) (d.end + 7)) }
-    ensures faulty { let all = intake.new.buffer.now ++ S.left intake.new.source.now in
-        IsTrue (S.tells intake.old.source.now) →
-        IfErr result (OrNoMemory
-        (Failed (S.ending intake.old.source.now) (options_at options.now chosen place.now all))) }
+    ensures faulty { IfFault S.Source intake.old intake.new result
+        (λ ending all. Failed ending (options_at options.now chosen place.now all)) }
 {
     if place.spent >= MOST_VALUES {
         return Err(StreamFault::TooManyValues);

@@ -11,7 +11,7 @@ use std::alloc::Global;
 /// The longest header that is kept, in bytes.
 const LONGEST_KEPT: usize = 64;
 
-/// A packet whose header was decoded, or is known: its stream class, and the bit at which the header ends.
+/// The header of a packet, which was decoded or is known: the stream class that it gives, and the bit at which it ends.
 #[derive(Clone, Copy)]
 pub(crate) struct FoundHeader<'a> {
     pub(crate) stream: &'a StreamClass,
@@ -22,25 +22,26 @@ pub(crate) struct FoundHeader<'a> {
 #[derive(Drop)]
 pub(crate) struct KnownHeader<'a> {
     pub(crate) bytes: Vec<u8>,
-    pub(crate) headed: FoundHeader<'a>,
+    pub(crate) found: FoundHeader<'a>,
     /// How many values were begun in it.
     pub(crate) spent: u64,
-    ghost within: { headed.end ≤ min (8 * length bytes.items) longest },
+    ghost within: { found.end ≤ min (8 * length bytes.items) longest },
     ghost few: { spent ≤ MOST_VALUES },
 }
 
 impl<'a> KnownHeader<'a> {
-    /// Keeps a header, unless it is long or an allocation fails.
+    /// Keeps the header that was decoded of these bytes, in which so many values were begun, unless it is long or an
+    /// allocation fails.
     pub(crate) fn new(
         alloc: Global,
         bytes: &[u8],
-        headed: FoundHeader<'a>,
+        found: FoundHeader<'a>,
         spent: u64,
     ) -> Option<KnownHeader<'a>>
-        requires within { headed.end ≤ min (8 * length bytes.now) longest }
+        requires within { found.end ≤ min (8 * length bytes.now) longest }
         requires few { spent ≤ MOST_VALUES }
         ensures bytes { IfSome result (λ k. k.bytes.items ≡ bytes.now) }
-        ensures headed { IfSome result (λ k. k.headed ≡ headed.entry) }
+        ensures found { IfSome result (λ k. k.found ≡ found.entry) }
         ensures spent { IfSome result (λ k. k.spent ≡ spent) }
     {
         if bytes.len() > LONGEST_KEPT {
@@ -50,7 +51,7 @@ impl<'a> KnownHeader<'a> {
             Err(_) => None,
             Ok(bytes) => Some(KnownHeader {
                 bytes,
-                headed,
+                found,
                 spent,
             }),
         }

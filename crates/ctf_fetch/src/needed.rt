@@ -1,13 +1,14 @@
 //! Values that have no parts, and openings of those that have, once their bytes came.
 
-ghost use Rattle.std.specs.Prelude.{◌≡◌, ◌+◌, ◌*◌, ◌/◌, ◌≤◌, ◌<◌, ◌++◌, min, max, length, take, get_or, Err, IsTrue, IfOk, IfErr, OnOk, ℕ};
+ghost use Rattle.std.specs.Prelude.{◌≡◌, ◌+◌, ◌*◌, ◌/◌, ◌≤◌, ◌<◌, min, max, length, take, get_or, Err, IfOk, OnOk, ℕ};
 ghost use Rattle.std.specs.Int.{next_multiple_of};
 ghost use Rattle.ctf_decode.specs.Breaks.{past};
 ghost use Rattle.ctf_decode.specs.Decoding.{Decodes};
 ghost use Rattle.ctf_packet.specs.Scopes.{longest};
 ghost use Rattle.ctf_class.specs.declared.class.Kind.TheVariants.{String};
 ghost use Rattle.ctf_fetch.specs.Demand.{found_at, text_at, IsFound, Failed, IsOpened, FailsToOpen, EndsNear, EndsAtLeast};
-ghost use Rattle.ctf_fetch.specs.Fetching.{longest_bytes, OrNoMemory};
+ghost use Rattle.ctf_fetch.specs.Failing.{IfFault};
+ghost use Rattle.ctf_fetch.specs.Fetching.{longest_bytes};
 ghost use Rattle.ctf_fetch.specs.Keeping.{Keeps};
 
 use crate::demand::ValuePlace;
@@ -36,11 +37,8 @@ pub(crate) fn opening_end<'a, S: Source>(
     ensures forward { IfOk result (λ inner. place.now.end ≤ inner.end) }
     ensures near { IfOk result (λ inner.
         8 * length intake.new.buffer.now ≤ max (8 * length intake.old.buffer.now) (inner.end + 7)) }
-    ensures faulty { let all = intake.new.buffer.now ++ S.left intake.new.source.now in
-        IsTrue (S.tells intake.old.source.now) →
-        IfErr result (OrNoMemory
-        (FailsToOpen (S.ending intake.old.source.now) place.now
-        (next_multiple_of place.now.end align) all)) }
+    ensures faulty { IfFault S.Source intake.old intake.new result
+        (λ ending all. FailsToOpen ending place.now (next_multiple_of place.now.end align) all) }
 {
     if place.spent >= MOST_VALUES {
         return Err(StreamFault::TooManyValues);
@@ -73,10 +71,8 @@ pub(crate) fn leaf_on_demand<S: Source>(
     ensures forward { IfOk result (λ d. place.now.end ≤ d.end) }
     ensures near { IfOk result (λ d.
         8 * length intake.new.buffer.now ≤ max (8 * length intake.old.buffer.now) (d.end + 7)) }
-    ensures faulty { let all = intake.new.buffer.now ++ S.left intake.new.source.now in
-        IsTrue (S.tells intake.old.source.now) →
-        IfErr result (OrNoMemory
-        (Failed (S.ending intake.old.source.now) (found_at class.now place.now all))) }
+    ensures faulty { IfFault S.Source intake.old intake.new result
+        (λ ending all. Failed ending (found_at class.now place.now all)) }
 {
     loop {
         match decode_at(class, place, intake.as_slice()) {
@@ -107,10 +103,8 @@ pub(crate) fn whole_on_demand<S: Source>(
     ensures forward { IfOk result (λ d. place.now.end ≤ d.end) }
     ensures near { IfOk result (λ d.
         8 * length intake.new.buffer.now ≤ max (8 * length intake.old.buffer.now) (d.end + 7)) }
-    ensures faulty { let all = intake.new.buffer.now ++ S.left intake.new.source.now in
-        let found = found_at class.now place.now all in
-        IsTrue (S.tells intake.old.source.now) →
-        IfErr result (OrNoMemory (Failed (S.ending intake.old.source.now) found)) }
+    ensures faulty { IfFault S.Source intake.old intake.new result
+        (λ ending all. Failed ending (found_at class.now place.now all)) }
 {
     fill_ahead(intake, end)?;
     leaf_on_demand(class, place, intake)
@@ -150,10 +144,8 @@ pub(crate) fn string_on_demand<S: Source>(
     ensures forward { IfOk result (λ d. place.now.end ≤ d.end) }
     ensures near { IfOk result (λ d.
         8 * length intake.new.buffer.now ≤ max (8 * length intake.old.buffer.now) (d.end + 7)) }
-    ensures faulty { let all = intake.new.buffer.now ++ S.left intake.new.source.now in
-        IsTrue (S.tells intake.old.source.now) →
-        IfErr result (OrNoMemory
-        (Failed (S.ending intake.old.source.now) (found_at class.now place.now all))) }
+    ensures faulty { IfFault S.Source intake.old intake.new result
+        (λ ending all. Failed ending (found_at class.now place.now all)) }
 {
     if place.spent >= MOST_VALUES {
         return Err(StreamFault::TooManyValues);
@@ -174,10 +166,8 @@ fn take_text<S: Source>(
     ensures few { length intake.new.buffer.now ≤ longest_bytes }
     ensures near { OnOk result
         (EndsNear place.now (length intake.old.buffer.now) intake.new.buffer.now) }
-    ensures faulty { let all = intake.new.buffer.now ++ S.left intake.new.source.now in
-        IsTrue (S.tells intake.old.source.now) →
-        IfErr result (OrNoMemory
-        (Failed (S.ending intake.old.source.now) (text_at place.now all))) }
+    ensures faulty { IfFault S.Source intake.old intake.new result
+        (λ ending all. Failed ending (text_at place.now all)) }
 {
     let mut next = (up(place.end, 8) / 8) as usize;
     while text_byte(place, next, intake)? != 0 {
@@ -203,10 +193,8 @@ fn text_byte<S: Source>(
     ensures there { OnOk result (next < length intake.new.buffer.now) }
     ensures near { (before : ℕ) → EndsNear place.now before intake.old.buffer.now →
         OnOk result (EndsNear place.now before intake.new.buffer.now) }
-    ensures faulty { let all = intake.new.buffer.now ++ S.left intake.new.source.now in
-        IsTrue (S.tells intake.old.source.now) →
-        IfErr result (OrNoMemory
-        (Failed (S.ending intake.old.source.now) (text_at place.now all))) }
+    ensures faulty { IfFault S.Source intake.old intake.new result
+        (λ ending all. Failed ending (text_at place.now all)) }
 {
     if next < intake.len() {
         return Ok(intake.as_slice()[next]);

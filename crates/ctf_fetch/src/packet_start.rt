@@ -9,12 +9,12 @@ ghost use Rattle.ctf_packet.specs.Items.{from_bytes};
 ghost use Rattle.ctf_packet.specs.Gives.{Fitting};
 ghost use Rattle.ctf_packet.specs.Views.{values_of, packet_values};
 ghost use Rattle.ctf_packet_demand.specs.Wants as wants;
-ghost use Rattle.ctf_fetch.specs.Fetching.{longest_bytes, OrNoMemory, Fetches, FetchedAt, FetchesAt};
+ghost use Rattle.ctf_fetch.specs.Failing.{FailsAs, IfFault};
+ghost use Rattle.ctf_fetch.specs.Fetching.{longest_bytes, Fetches, FetchedAt, FetchesAt};
 ghost use Rattle.ctf_packet.specs.declared.fault.StreamFault.TheVariants.{NoMemory};
-ghost use Rattle.ctf_decode.specs.declared.scopes.TheConstants.{MOST_VALUES};
 ghost use Rattle.ctf_packet.specs.Scopes.{longest};
 ghost use Rattle.ctf_fetch.specs.Demand.{FrontTakes};
-ghost use Rattle.ctf_fetch.specs.Headers.{IsHeaded, KnowsHeader};
+ghost use Rattle.ctf_fetch.specs.Headers.{FindsHeader, KnowsHeaderIn};
 ghost use Rattle.ctf_fetch.specs.Openings.{want_of, FitsOpening, TakesWhole, TakesRest, TakesSized, Opens};
 ghost use Rattle.ctf_fetch.specs.Keeping.{Keeps};
 
@@ -154,8 +154,7 @@ impl<'a> PacketStart<'a> {
     ) -> Result<Option<OpenPacket<'a>>, StreamFault>
         requires at { self.now.at ≤ 2 ^ 61 }
         requires empty { buffer.old ≡ [] }
-        requires knows { KnowsHeader self.now.trace.now scratch.old
-            (values_of scopes.old).packet_header }
+        requires knows { KnowsHeaderIn self.now.trace.now scratch.old scopes.old }
         ensures tells { IsTrue (S.tells source.old) → IsTrue (S.tells source.new) }
         ensures same_end { IsTrue (S.tells source.old) → S.ending source.new ≡ S.ending source.old }
         ensures kept { IsTrue (S.tells source.old) →
@@ -169,8 +168,7 @@ impl<'a> PacketStart<'a> {
             (S.left source.new) result }
         ensures at { FetchesAt self.now.at buffer.new self.now.shift result }
         ensures begins { IfOk result (λ packet. self.now.at ≤ 2 ^ 60 ⊎ (packet ≡ None)) }
-        ensures knows { OnOk result
-            (KnowsHeader self.now.trace.now scratch.new (values_of scopes.new).packet_header) }
+        ensures knows { OnOk result (KnowsHeaderIn self.now.trace.now scratch.new scopes.new) }
         ensures few { length buffer.new ≤ longest_bytes + 1 }
         ensures last { 2 ^ 60 < self.now.at → length buffer.new ≤ 1 }
     {
@@ -230,11 +228,9 @@ impl<'a> PacketStart<'a> {
         requires at { self.now.at ≤ 2 ^ 60 }
         requires some { 0 < length intake.old.buffer.now }
         requires few { length intake.old.buffer.now ≤ max 1 self.now.least }
-        requires knows { KnowsHeader self.now.trace.now scratch.old
-            (values_of scopes.old).packet_header }
+        requires knows { KnowsHeaderIn self.now.trace.now scratch.old scopes.old }
         ensures keeps { Keeps S.Source intake.old intake.new }
-        ensures knows { OnOk result
-            (KnowsHeader self.now.trace.now scratch.new (values_of scopes.new).packet_header) }
+        ensures knows { OnOk result (KnowsHeaderIn self.now.trace.now scratch.new scopes.new) }
         ensures opens { let cut = self.now in
             IsTrue (S.tells intake.old.source.now) →
             Opens cut.shift scopes.new
@@ -271,29 +267,20 @@ impl<'a> PacketStart<'a> {
         scratch: &mut PacketScratch<'a>,
     ) -> Result<FoundHeader<'a>, StreamFault>
         requires few { length intake.old.buffer.now ≤ longest_bytes }
-        requires knows { KnowsHeader self.now.trace.now scratch.old
-            (values_of scopes.old).packet_header }
+        requires knows { KnowsHeaderIn self.now.trace.now scratch.old scopes.old }
         ensures keeps { Keeps S.Source intake.old intake.new }
-        ensures headed { let cut = self.now in
-            (more : List ℕ) →
-            let bytes = intake.new.buffer.now ++ more in
-            IfOk result (λ h. IsHeaded cut.shift cut.trace.now cut.reached bytes h scopes.new) }
-        ensures knows { OnOk result
-            (KnowsHeader self.now.trace.now scratch.new (values_of scopes.new).packet_header) }
-        ensures within { IfOk result (λ h. h.end ≤ min (8 * length intake.new.buffer.now) longest) }
-        ensures near { IfOk result (λ h.
-            8 * length intake.new.buffer.now ≤
-            max (8 * length intake.old.buffer.now) (h.end + 7)) }
+        ensures finds { let cut = self.now in
+            let finds = FindsHeader cut.shift cut.trace.now cut.reached in
+            IfOk result (finds intake.old.buffer.now intake.new.buffer.now scopes.new) }
+        ensures knows { OnOk result (KnowsHeaderIn self.now.trace.now scratch.new scopes.new) }
         ensures faulty { let cut = self.now in
-            IsTrue (S.tells intake.old.source.now) →
-            IfErr result (OrNoMemory
-            (λ fault. open_at (trace_form cut.shift cut.trace.now)
-            (S.ending intake.old.source.now) cut.reached cut.at
-            (intake.new.buffer.now ++ S.left intake.new.source.now) ≡ Err fault)) }
+            let trace = trace_form cut.shift cut.trace.now in
+            IfFault S.Source intake.old intake.new result
+            (λ ending all. FailsAs (open_at trace ending cut.reached cut.at all)) }
         ensures few { length intake.new.buffer.now ≤ longest_bytes }
     {
         match self.known_header(intake.as_slice(), scopes, scratch) {
-            Some(headed) => Ok(headed),
+            Some(found) => Ok(found),
             None => self.header_on_demand(alloc, intake, scopes, scratch),
         }
     }
@@ -307,18 +294,14 @@ impl<'a> PacketStart<'a> {
         scopes: &mut Scopes,
         scratch: &mut PacketScratch<'a>,
     ) -> Option<FoundHeader<'a>>
-        requires knows { KnowsHeader self.now.trace.now scratch.old
-            (values_of scopes.old).packet_header }
-        ensures headed { let cut = self.now in
-            (more : List ℕ) →
-            let all = bytes.now ++ more in
-            IfSome result (λ h. IsHeaded cut.shift cut.trace.now cut.reached all h scopes.new) }
-        ensures knows { KnowsHeader self.now.trace.now scratch.new
-            (values_of scopes.new).packet_header }
-        ensures within { IfSome result (λ h. h.end ≤ min (8 * length bytes.now) longest) }
+        requires knows { KnowsHeaderIn self.now.trace.now scratch.old scopes.old }
+        ensures finds { let cut = self.now in
+            let finds = FindsHeader cut.shift cut.trace.now cut.reached in
+            IfSome result (finds bytes.now bytes.now scopes.new) }
+        ensures knows { KnowsHeaderIn self.now.trace.now scratch.new scopes.new }
     {
         let known = match (&scratch.known, &self.reached) {
-            (Some(known), Some(reached)) if known.headed.stream.id() == reached.stream => known,
+            (Some(known), Some(reached)) if known.found.stream.id() == reached.stream => known,
             _ => return None,
         };
         if !known.is_front_of(bytes) {
@@ -326,7 +309,7 @@ impl<'a> PacketStart<'a> {
         }
         leave_packet(scopes, &mut scratch.context);
         scopes.set_spent(known.spent);
-        Some(known.headed)
+        Some(known.found)
     }
 
     /// Takes bytes until the header of a packet is there. That of a stream's first packet is known from then on, until
@@ -342,22 +325,14 @@ impl<'a> PacketStart<'a> {
     ) -> Result<FoundHeader<'a>, StreamFault>
         requires few { length intake.old.buffer.now ≤ longest_bytes }
         ensures keeps { Keeps S.Source intake.old intake.new }
-        ensures headed { let cut = self.now in
-            (more : List ℕ) →
-            let bytes = intake.new.buffer.now ++ more in
-            IfOk result (λ h. IsHeaded cut.shift cut.trace.now cut.reached bytes h scopes.new) }
-        ensures knows { OnOk result
-            (KnowsHeader self.now.trace.now scratch.new (values_of scopes.new).packet_header) }
-        ensures within { IfOk result (λ h. h.end ≤ min (8 * length intake.new.buffer.now) longest) }
-        ensures near { IfOk result (λ h.
-            8 * length intake.new.buffer.now ≤
-            max (8 * length intake.old.buffer.now) (h.end + 7)) }
+        ensures finds { let cut = self.now in
+            let finds = FindsHeader cut.shift cut.trace.now cut.reached in
+            IfOk result (finds intake.old.buffer.now intake.new.buffer.now scopes.new) }
+        ensures knows { OnOk result (KnowsHeaderIn self.now.trace.now scratch.new scopes.new) }
         ensures faulty { let cut = self.now in
-            IsTrue (S.tells intake.old.source.now) →
-            IfErr result (OrNoMemory
-            (λ fault. open_at (trace_form cut.shift cut.trace.now)
-            (S.ending intake.old.source.now) cut.reached cut.at
-            (intake.new.buffer.now ++ S.left intake.new.source.now) ≡ Err fault)) }
+            let trace = trace_form cut.shift cut.trace.now in
+            IfFault S.Source intake.old intake.new result
+            (λ ending all. FailsAs (open_at trace ending cut.reached cut.at all)) }
         ensures few { length intake.new.buffer.now ≤ longest_bytes }
     {
         forget(scopes, scratch);
@@ -370,31 +345,12 @@ impl<'a> PacketStart<'a> {
         let end = scope_on_demand(&header, intake, &mut scratch.header, scopes)?;
         let reached = self.reached.as_ref();
         let stream = stream_checked(self.trace, reached, scopes.get(Scope::PacketHeader))?;
-        let headed = FoundHeader { stream, end };
-        scratch.known = self.first_header(alloc, intake.as_slice(), headed, scopes.spent());
-        Ok(headed)
-    }
-
-    /// The header that was decoded of these bytes, in which so many values were begun, to be known. `None` of a later
-    /// packet: of the first one no bytes are asked for but those that its header needs, so others begin with them too.
-    fn first_header(
-        &self,
-        alloc: Global,
-        bytes: &[u8],
-        headed: FoundHeader<'a>,
-        spent: u64,
-    ) -> Option<KnownHeader<'a>>
-        requires within { headed.end ≤ min (8 * length bytes.now) longest }
-        requires few { spent ≤ MOST_VALUES }
-        ensures first { IfSome result (λ _. self.now.reached ≡ None) }
-        ensures bytes { IfSome result (λ k. k.bytes.items ≡ bytes.now) }
-        ensures headed { IfSome result (λ k. k.headed ≡ headed.entry) }
-        ensures spent { IfSome result (λ k. k.spent ≡ spent) }
-    {
-        match &self.reached {
-            None => KnownHeader::new(alloc, bytes, headed, spent),
-            Some(_) => None,
+        let found = FoundHeader { stream, end };
+        // With the header of a later packet come bytes of its context, and hardly another packet begins with those.
+        if self.reached.is_none() {
+            scratch.known = KnownHeader::new(alloc, intake.as_slice(), found, scopes.spent());
         }
+        Ok(found)
     }
 
     /// Takes bytes until the header and context of a packet are there.
@@ -407,21 +363,17 @@ impl<'a> PacketStart<'a> {
     ) -> Result<Opening<'a>, StreamFault>
         requires some { 0 < length intake.old.buffer.now }
         requires few { length intake.old.buffer.now ≤ max 1 self.now.least }
-        requires knows { KnowsHeader self.now.trace.now scratch.old
-            (values_of scopes.old).packet_header }
+        requires knows { KnowsHeaderIn self.now.trace.now scratch.old scopes.old }
         ensures keeps { Keeps S.Source intake.old intake.new }
-        ensures knows { OnOk result
-            (KnowsHeader self.now.trace.now scratch.new (values_of scopes.new).packet_header) }
+        ensures knows { OnOk result (KnowsHeaderIn self.now.trace.now scratch.new scopes.new) }
         ensures asks { let cut = self.now in
             IfOk result (λ opening.
             wants.wanted (trace_form cut.shift cut.trace.now) cut.reached intake.new.buffer.now ≡
             want_of cut.shift scopes.new opening opening.sizes) }
         ensures faulty { let cut = self.now in
-            IsTrue (S.tells intake.old.source.now) →
-            IfErr result (OrNoMemory
-            (λ fault. open_at (trace_form cut.shift cut.trace.now)
-            (S.ending intake.old.source.now) cut.reached cut.at
-            (intake.new.buffer.now ++ S.left intake.new.source.now) ≡ Err fault)) }
+            let trace = trace_form cut.shift cut.trace.now in
+            IfFault S.Source intake.old intake.new result
+            (λ ending all. FailsAs (open_at trace ending cut.reached cut.at all)) }
         ensures fits { IfOk result
             (λ opening. FitsOpening (length intake.new.buffer.now) opening.sizes) }
         ensures first { IfOk result
@@ -429,12 +381,12 @@ impl<'a> PacketStart<'a> {
         ensures some { 0 < length intake.new.buffer.now }
         ensures few { length intake.new.buffer.now ≤ longest_bytes }
     {
-        let headed = self.header(alloc, intake, scopes, scratch)?;
-        let stream = headed.stream;
+        let found = self.header(alloc, intake, scopes, scratch)?;
+        let stream = found.stream;
         let context = NextScope {
             class: stream.packet_context(),
             scope: Scope::PacketContext,
-            end: headed.end,
+            end: found.end,
             alloc,
         };
         let first = scope_on_demand(&context, intake, &mut scratch.context, scopes)?;

@@ -1,11 +1,12 @@
 //! The header and the context of a packet, decoded while their bytes come.
 
-ghost use Rattle.std.specs.Prelude.{◌≡◌, ◌+◌, ◌*◌, ◌≤◌, ◌++◌, min, max, length, take, option_map, option_copied, IsTrue, IfOk, IfErr, IfSome, IfNone, Some, ℕ, List};
+ghost use Rattle.std.specs.Prelude.{◌≡◌, ◌+◌, ◌*◌, ◌≤◌, ◌++◌, min, max, length, take, option_map, option_copied, IfOk, IfSome, IfNone, Some, ℕ, List};
 ghost use Rattle.ctf_packet.specs.Scopes.{longest};
 ghost use Rattle.ctf_packet.specs.Views.{values_of};
 ghost use Rattle.ctf_packet_demand.specs.Gives.{PutsAsked};
-ghost use Rattle.ctf_fetch.specs.Asking.{scope_asked, scope_found, FailsAs};
-ghost use Rattle.ctf_fetch.specs.Fetching.{longest_bytes, OrNoMemory};
+ghost use Rattle.ctf_fetch.specs.Asking.{scope_asked, scope_found};
+ghost use Rattle.ctf_fetch.specs.Failing.{FailsAs, IfFault};
+ghost use Rattle.ctf_fetch.specs.Fetching.{longest_bytes};
 ghost use Rattle.ctf_fetch.specs.Keeping.{Keeps};
 
 use crate::buffer::Buffer;
@@ -51,9 +52,8 @@ pub(crate) fn scope_on_demand<S: Source>(
     ensures forward { IfOk result (λ end. next.now.end ≤ end) }
     ensures near { IfOk result (λ end.
         8 * length intake.new.buffer.now ≤ max (8 * length intake.old.buffer.now) (end + 7)) }
-    ensures faulty { let found = scope_found (S.ending intake.old.source.now) next.now
-        (intake.new.buffer.now ++ S.left intake.new.source.now) scopes.old in
-        IsTrue (S.tells intake.old.source.now) → IfErr result (OrNoMemory (FailsAs found)) }
+    ensures faulty { IfFault S.Source intake.old intake.new result
+        (λ ending all. FailsAs (scope_found ending next.now all scopes.old)) }
 {
     match next.class {
         None => {
@@ -131,9 +131,8 @@ fn class_on_demand<S: Source>(
     ensures forward { IfOk result (λ end. next.now.end ≤ end) }
     ensures near { IfOk result (λ end.
         8 * length intake.new.buffer.now ≤ max (8 * length intake.old.buffer.now) (end + 7)) }
-    ensures faulty { let found = scope_found (S.ending intake.old.source.now) next.now
-        (intake.new.buffer.now ++ S.left intake.new.source.now) scopes.old in
-        IsTrue (S.tells intake.old.source.now) → IfErr result (OrNoMemory (FailsAs found)) }
+    ensures faulty { IfFault S.Source intake.old intake.new result
+        (λ ending all. FailsAs (scope_found ending next.now all scopes.old)) }
 {
     let place = ValuePlace {
         alloc: next.alloc,
@@ -173,9 +172,8 @@ fn parts_on_demand<S: Source>(
     ensures forward { IfOk result (λ end. next.now.end ≤ end) }
     ensures near { IfOk result (λ end.
         8 * length intake.new.buffer.now ≤ max (8 * length intake.old.buffer.now) (end + 7)) }
-    ensures faulty { let found = scope_found (S.ending intake.old.source.now) next.now
-        (intake.new.buffer.now ++ S.left intake.new.source.now) scopes.old in
-        IsTrue (S.tells intake.old.source.now) → IfErr result (OrNoMemory (FailsAs found)) }
+    ensures faulty { IfFault S.Source intake.old intake.new result
+        (λ ending all. FailsAs (scope_found ending next.now all scopes.old)) }
 {
     *spare = Value::Unsigned(0);
     let place = ValuePlace {

@@ -5,7 +5,8 @@ use Rattle.ctf_decode.specs.Walk.{walk}
 use Rattle.ctf_decode.specs.declared.place.Frame.TheVariants.{Top}
 use Rattle.ctf_decode.proofs.Views.{env-Top}
 use Rattle.ctf_packet.proofs.Standing.{form_of}
-use Rattle.ctf_fetch.specs.Asking.{scope_found, FailsAs}
+use Rattle.ctf_fetch.specs.Asking.{scope_found}
+use Rattle.ctf_fetch.specs.Failing.{FailsAs}
 use Rattle.ctf_fetch.specs.Demand.{there, Failed}
 use Rattle.ctf_fetch.specs.Fetching.{OrNoMemory}
 use Rattle.ctf_fetch.proofs.Parts.{found_more, few_values}
