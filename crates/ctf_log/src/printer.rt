@@ -2,8 +2,10 @@
 
 ghost use Rattle.std.specs.Prelude.{◌≡◌, ◌+◌, ◌++◌, ◌≤◌, ℕ, List, [], length, take, vec_len, IfOk, OnOk, OnErr};
 ghost use Rattle.ctf_class.specs.declared.trace.TraceClass.{TraceClass};
+ghost use Rattle.ctf_format.specs.Put.{IsPut};
 ghost use Rattle.ctf_record_text.specs.Texts.{body_text, event_text};
 ghost use Rattle.ctf_log.specs.Lines as lines;
+ghost use Rattle.ctf_log.specs.Texts.{event_text_of};
 ghost use Rattle.ctf_packet.specs.Classes.{Classes};
 ghost use Rattle.ctf_packet.specs.Items as items;
 ghost use Rattle.ctf_timestamp.specs.Stamps.{stamp_part};
@@ -139,10 +141,9 @@ fn put_event(
     last: Option<i64>,
     line: &mut Vec<u8>,
 ) -> Result<usize, NoMemory>
-    ensures line { PartIsRight event.now →
-        IfOk result (λ end. take end line.new.items ≡
-        lines.event_line stamper.old last (event_of event.now 0 0)) }
-    ensures held { IfOk result (λ end. end ≤ vec_len line.new) }
+    ensures put { let stamp = stamp_part stamper.old event.now.moment last in
+        let piece = stamp ++ (event_text_of event.now ++ lines.newline) in
+        IfOk result (IsPut line.old 0 piece line.new) }
     ensures style { stamper.new ≡ stamper.old }
 {
     with_room(MOST_PART, line, 0)?;
@@ -160,9 +161,9 @@ fn put_text(
     last: Option<i64>,
     line: &mut Vec<u8>,
 ) -> Result<usize, NoMemory>
-    ensures line { IfOk result (λ end. take end line.new.items ≡
-        stamp_part stamper.old event.now.moment last ++ (event.now.text.now ++ lines.newline)) }
-    ensures held { IfOk result (λ end. end ≤ vec_len line.new) }
+    ensures put { let stamp = stamp_part stamper.old event.now.moment last in
+        let piece = stamp ++ (event.now.text.now ++ lines.newline) in
+        IfOk result (IsPut line.old 0 piece line.new) }
     ensures style { stamper.new ≡ stamper.old }
 {
     with_room(MOST_PART, line, 0)?;
@@ -197,10 +198,7 @@ fn put_after_stamp(
     at: usize,
 ) -> Result<usize, NoMemory>
     requires { at ≤ vec_len line.old }
-    ensures text { PartIsRight event.now →
-        IfOk result (λ end. take end line.new.items ≡
-        take at line.old.items ++ event_text (event_of event.now 0 0)) }
-    ensures held { IfOk result (λ end. end ≤ vec_len line.new) }
+    ensures { IfOk result (IsPut line.old at (event_text_of event.now) line.new) }
 {
     if let Some(part) = event.part {
         return put_body(event, part, line, at);
@@ -217,9 +215,8 @@ fn put_with_part(
     at: usize,
 ) -> Result<usize, NoMemory>
     requires { at ≤ vec_len line.old }
-    ensures text { IfOk result (λ end. take end line.new.items ≡
-        take at line.old.items ++ event_text (event_of event.now 0 0)) }
-    ensures held { IfOk result (λ end. end ≤ vec_len line.new) }
+    ensures { let piece = event_text (event_of event.now 0 0) in
+        IfOk result (IsPut line.old at piece line.new) }
 {
     let context = event.value(Scope::PacketContext);
     let shared = put_packet_part(event.stream.context_front(), context, packet, 0)?;
@@ -235,9 +232,8 @@ fn put_body(
     at: usize,
 ) -> Result<usize, NoMemory>
     requires { at ≤ vec_len line.old }
-    ensures text { IfOk result (λ end. take end line.new.items ≡
-        take at line.old.items ++ body_text packet.now (event_of event.now 0 0)) }
-    ensures held { IfOk result (λ end. end ≤ vec_len line.new) }
+    ensures { let piece = body_text packet.now (event_of event.now 0 0) in
+        IfOk result (IsPut line.old at piece line.new) }
 {
     let stream_context = event.value(Scope::StreamEventContext);
     let event_context = event.value(Scope::EventContext);
