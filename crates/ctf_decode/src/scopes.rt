@@ -133,6 +133,21 @@ impl Scopes {
         }
     }
 
+    /// Leaves no value in a scope. Its memory is kept there.
+    #[inline(always)]
+    pub fn hide(&mut self, scope: Scope)
+        ensures { self.new ≡ without_value self.old scope }
+    {
+        match scope {
+            Scope::PacketHeader => self.packet_header.hide(),
+            Scope::PacketContext => self.packet_context.hide(),
+            Scope::EventHeader => self.event_header.hide(),
+            Scope::StreamEventContext => self.stream_event_context.hide(),
+            Scope::EventContext => self.event_context.hide(),
+            Scope::EventFields => self.event_fields.hide(),
+        }
+    }
+
     /// Leaves the values of the packet alone. The memory of those of an event record is kept.
     pub fn leave_record(&mut self)
         ensures { self.new ≡ without_record self.old }

@@ -15,6 +15,8 @@ pub struct PacketScratch<'a> {
     pub(crate) header: Value,
     pub(crate) context: Value,
     pub(crate) known: Option<KnownHeader<'a>>,
+    /// Whether the packet's header and context have many values.
+    pub(crate) is_large: bool,
 }
 
 impl<'a> PacketScratch<'a> {
@@ -26,6 +28,7 @@ impl<'a> PacketScratch<'a> {
             header: Value::Unsigned(0),
             context: Value::Unsigned(0),
             known: None,
+            is_large: false,
         }
     }
 }

@@ -38,6 +38,9 @@ use std::alloc::Global;
 /// The longest packet, in bytes.
 const LONGEST_BYTES: usize = 268_435_456;
 
+/// A header and context of more values are large.
+const MOST_KEPT_TWICE: u64 = 256;
+
 /// The longest stream, in bytes.
 const LONGEST_STREAM: u64 = 1 << 60;
 
@@ -135,8 +138,8 @@ impl<'a> PacketStart<'a> {
     }
 
     /// The packet that begins here, out of a source (CTF 1.8.3, section 5); its bytes are in `buffer` then, and the
-    /// values of its header and context in `scopes`, made in the memory of `scratch`. `None` where the stream ends here.
-    /// `scratch` is new, or that of the packet before, whose header is still in `scopes` then.
+    /// values of its header and context in `scopes`, made in the memory of `scratch`. `None` where the stream ends
+    /// here. `scratch` is new, or that of the packet before, whose header is still in `scopes` then.
     ///
     /// It takes the bytes that each header and context ask for, one at least, then those that this header and this
     /// context ask for, then the rest of the packet: 2^28 bytes at the most, and one more of a stream whose rest is
@@ -307,7 +310,7 @@ impl<'a> PacketStart<'a> {
         if !known.is_front_of(bytes) {
             return None;
         }
-        leave_packet(scopes, &mut scratch.context);
+        leave_packet(scopes, &mut scratch.context, scratch.is_large);
         scopes.set_spent(known.spent);
         Some(known.found)
     }
@@ -390,6 +393,7 @@ impl<'a> PacketStart<'a> {
             alloc,
         };
         let first = scope_on_demand(&context, intake, &mut scratch.context, scopes)?;
+        scratch.is_large = scopes.spent() > MOST_KEPT_TWICE;
         match judge_sizes(Begun { stream, first }, scopes.get(Scope::PacketContext))? {
             Want::Rest(begun) => Ok(Opening { begun, sizes: None }),
             Want::Whole(begun, sizes) => {
@@ -408,16 +412,20 @@ fn forget(scopes: &mut Scopes, scratch: &mut PacketScratch<'_>)
 {
     scratch.known = None;
     scopes.leave(Scope::PacketHeader, &mut scratch.header);
-    leave_packet(scopes, &mut scratch.context);
+    leave_packet(scopes, &mut scratch.context, scratch.is_large);
 }
 
-/// Removes all values from the scopes but that of the packet's header. `context` gets that of the packet's context, for
-/// its memory.
+/// Removes all values from the scopes but that of the packet's header. The memory of the packet's context stays in its
+/// scope, unless it is large: then `context` gets it for the next one, so that there is never that of two.
 #[inline(always)]
-fn leave_packet(scopes: &mut Scopes, context: &mut Value)
+fn leave_packet(scopes: &mut Scopes, context: &mut Value, is_large: bool)
     ensures { scopes.new ≡ record nothing_known { packet_header = scopes.old.packet_header } }
 {
-    scopes.leave(Scope::PacketContext, context);
+    if is_large {
+        scopes.leave(Scope::PacketContext, context);
+    } else {
+        scopes.hide(Scope::PacketContext);
+    }
     if scopes.get(Scope::EventContext).is_some() || scopes.get(Scope::EventFields).is_some() {
         drop_body(scopes);
     }

@@ -31,19 +31,18 @@ opened stream start values first sizes before clock until lost dropped discarded
     }
 
 -- what a packet's context says of it
-pub record Says {C : Type 0} (stream : StreamForm C) (reached : Option Reached) (context : Option Val) (clock until : Option Moment) (lost dropped discarded number : Option ℕ) : Type 0 where
-  pub to : until ≡ clock_until stream.line clock (role (codes "timestamp_end") stream.packet_context context)
+pub record Says {C : Type 0} (stream : StreamForm C) (reached : Option Reached) (context : Option Val) (lost dropped discarded number : Option ℕ) : Type 0 where
   pub gone : lost ≡ since lost_between (option_and_then (λ (r : Reached). r.number) reached) (role (codes "packet_seq_num") stream.packet_context context)
   pub left_out : dropped ≡ since discarded_between (option_and_then (λ (r : Reached). r.discarded) reached) (role (codes "events_discarded") stream.packet_context context)
   pub count : discarded ≡ number_in (role (codes "events_discarded") stream.packet_context context)
   pub sequence : number ≡ number_in (role (codes "packet_seq_num") stream.packet_context context)
 
-pub placed_ok : {C : Type 0} (stream : StreamForm C) (reached : Option Reached) (start : ℕ) (values : Values) (first : ℕ) (sizes : Sizes) (context : Option Val) (before clock until : Option Moment) (lost dropped discarded number : Option ℕ)
+pub placed_ok : {C : Type 0} (stream : StreamForm C) (reached : Option Reached) (start : ℕ) (values : Values) (first : ℕ) (sizes : Sizes) (context : Option Val) (before clock : Option Moment) (lost dropped discarded number : Option ℕ)
     → values.packet_context ≡ context → Ok before ≡ clock_before stream.line reached → Ok clock ≡ clock_after stream.line before (moves stream.packet_context context)
-    → Says stream reached context clock until lost dropped discarded number
-    → placed stream reached start values first sizes ≡ Ok (opened stream start values first sizes before clock until lost dropped discarded number)
+    → Says stream reached context lost dropped discarded number
+    → placed stream reached start values first sizes ≡ Ok (opened stream start values first sizes before clock (clock_until stream.line clock (role (codes "timestamp_end") stream.packet_context values.packet_context)) lost dropped discarded number)
 unfolding placed
-placed_ok {C} stream reached start values first sizes context before clock until lost dropped discarded number e f g h =
+placed_ok {C} stream reached start values first sizes context before clock lost dropped discarded number e f g h =
     let last = λ (x : Option Val) (b k : Option Moment).
     let result : Result (Opened C) StreamFault = Ok (opened stream start values first sizes b k
     (clock_until stream.line k (role (codes "timestamp_end") stream.packet_context x))
@@ -56,4 +55,4 @@ placed_ok {C} stream reached start values first sizes context before clock until
     ap whole e
     ∙ (ap (λ r. r >>= (λ b. second context b)) (sym f)
     ∙ (ap (λ r. r >>= (λ k. last context before k)) (sym g)
-    ∙ (λ i. Ok (opened stream start values first sizes before clock (sym h.to i) (sym h.gone i) (sym h.left_out i) (sym h.count i) (sym h.sequence i)))))
+    ∙ (λ i. Ok (opened stream start values first sizes before clock (clock_until stream.line clock (role (codes "timestamp_end") stream.packet_context (sym e i))) (sym h.gone i) (sym h.left_out i) (sym h.count i) (sym h.sequence i)))))

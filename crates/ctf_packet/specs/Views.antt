@@ -1,5 +1,5 @@
 -- What the code's values and packets say.
-use Rattle.std.specs.Prelude.{◌≡◌, ℕ, Some, option_map, Result, Ok, Err, ◌⊎◌}
+use Rattle.std.specs.Prelude.{◌≡◌, ℕ, Some, option_map, Result, Ok, Err, ◌⊎◌, codes}
 use Rattle.ctf_class.specs.declared.route.Scope.{Scope}
 use Rattle.ctf_clock.specs.declared.moment.Shift.{Shift}
 use Rattle.ctf_decode.specs.Values.{Val}
@@ -17,7 +17,8 @@ use Rattle.ctf_packet.specs.Scopes.{Values, no_values, Stood, put}
 use Rattle.ctf_packet.specs.Records.{Headed, Body, Recorded}
 use Rattle.ctf_packet.specs.declared.record.Head.{Head}
 use Rattle.ctf_packet.specs.declared.record.EventRecord.{EventRecord}
-use Rattle.ctf_packet.specs.Packets.{Opened}
+use Rattle.ctf_packet.specs.Packets.{Opened, clock_until}
+use Rattle.ctf_packet.specs.Roles.{role}
 use Rattle.ctf_packet.specs.declared.packet.OpenPacket.{OpenPacket}
 use Rattle.ctf_packet.specs.declared.fault.StreamFault.{StreamFault}
 use Rattle.ctf_packet.specs.declared.fault.StreamFault.TheVariants as faults
@@ -37,8 +38,9 @@ values_of known =
 -- a packet with the values of its header and context
 abbrev pub opened_of : Shift → Values → OpenPacket → Opened Classes
 opened_of shift values o =
+    let stream = stream_form shift o.stream.now in
     record {
-      stream = stream_form shift o.stream.now;
+      stream = stream;
       values = values;
       start = o.start;
       end = o.end;
@@ -46,7 +48,8 @@ opened_of shift values o =
       content = o.content;
       before = o.before;
       clock = o.clock;
-      until = o.until;
+      until = clock_until stream.line o.clock
+          (role (codes "timestamp_end") stream.packet_context values.packet_context);
       lost = o.lost;
       dropped = o.dropped;
       discarded = o.discarded;

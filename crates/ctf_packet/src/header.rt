@@ -163,8 +163,8 @@ fn octet(value: &Value) -> u64
     }
 }
 
-/// The stream class of a packet: that of the number in its header, or without a number the only one of the trace. `None`
-/// where there is no such class, and where the packets before are of another one.
+/// The stream class of a packet: that of the number in its header, or without a number the only one of the trace.
+/// `None` where there is no such class, and where the packets before are of another one.
 fn stream_of<'a>(
     trace: &'a TraceClass,
     reached: Option<&Reached>,

@@ -24,7 +24,7 @@ pub use field::UnsignedField;
 pub use header::stream_checked;
 pub use laws::{clock_goes_by_moving, packets_go_on, records_go_on, walk_finds_what_stands};
 pub use moves::{moment_after, moved_by_integer};
-pub use packet::{OpenPacket, packet_of_sizes};
+pub use packet::{OpenPacket, clock_at_end, packet_of_sizes};
 pub use packet_place::PacketPlace;
 pub use reached::Reached;
 pub use record::{EventRecord, Head, event_named, next_head, next_record, planned_named, put_body};

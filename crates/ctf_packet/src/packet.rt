@@ -36,8 +36,6 @@ pub struct OpenPacket<'a> {
     pub before: Option<Moment>,
     /// The clock after its context.
     pub clock: Option<Moment>,
-    /// The clock at its end, as far as it says.
-    pub until: Option<Moment>,
     /// How many packets were lost before it.
     pub lost: Option<u64>,
     /// How many event records were discarded before it.
@@ -62,20 +60,14 @@ fn timeline_of(stream: &StreamClass, shift: Shift) -> Option<Timeline>
 fn number_before(reached: Option<&Reached>) -> Option<u64>
     ensures { result ≡ option_and_then (λ r. r.number) (option_copied reached.entry) }
 {
-    match reached {
-        None => None,
-        Some(reached) => reached.number,
-    }
+    reached?.number
 }
 
 /// The last packet's count of discarded event records.
 fn discarded_before(reached: Option<&Reached>) -> Option<u64>
     ensures { result ≡ option_and_then (λ r. r.discarded) (option_copied reached.entry) }
 {
-    match reached {
-        None => None,
-        Some(reached) => reached.discarded,
-    }
+    reached?.discarded
 }
 
 /// The packet of these sizes, in bits, at a place of its stream. Its context has this value and ends at the bit `first`
@@ -107,9 +99,7 @@ pub fn packet_of_sizes<'a>(
     let class = stream.packet_context();
     let clock = clock_after(timeline.as_ref(), before, class, context)?;
     let front = stream.context_front();
-    let end = field_of_role(front, context, Role::TimestampEnd);
     let counts = fields_of_roles(front, context, Role::SequenceNumber, Role::EventsDiscarded);
-    let until = clock_until(timeline.as_ref(), clock, end);
     let sequence = number_of(&counts.0);
     let discarded = number_of(&counts.1);
     Ok(OpenPacket {
@@ -121,10 +111,25 @@ pub fn packet_of_sizes<'a>(
         content: sizes.content,
         before,
         clock,
-        until,
         lost: lost_since(number_before(reached), counts.0),
         dropped: discarded_since(discarded_before(reached), counts.1),
         discarded,
         number: sequence,
     })
+}
+
+/// The clock at the end of a packet, as far as its context says, which has this value. It is asked for where event
+/// records were discarded, and so is not looked for in each packet.
+pub fn clock_at_end(
+    packet: &OpenPacket<'_>,
+    shift: Shift,
+    context: Option<&Value>,
+) -> Option<Moment>
+    ensures { (values : Values) →
+        values.packet_context ≡ option_map val (option_copied context.entry) →
+        result ≡ (opened_of shift values packet.now).until }
+{
+    let timeline = timeline_of(packet.stream, shift);
+    let end = field_of_role(packet.stream.context_front(), context, Role::TimestampEnd);
+    clock_until(timeline.as_ref(), packet.clock, end)
 }

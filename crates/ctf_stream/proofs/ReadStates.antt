@@ -17,7 +17,7 @@ use Rattle.ctf_stream.specs.Coming.{opened_in, left_in, item_in, TakesItem}
 use Rattle.ctf_fetch.specs.Fetching.{OrNoMemory, after_packet}
 use Rattle.ctf_stream.specs.Reader.{after_ahead, with_ahead}
 use Rattle.ctf_stream.specs.Standing.{item_at}
-use Rattle.ctf_stream.specs.ReadState.{trace_of, coming_at, Inside, StandsAt, coming_of, StepsWithin, Enters, Advances}
+use Rattle.ctf_stream.specs.ReadState.{trace_of, coming_at, Inside, StandsAt, coming_of, between, stepped, StepsWithin, Enters, Advances}
 use Rattle.ctf_stream.specs.declared.read_state.ReadState.{ReadState}
 use Rattle.ctf_fetch.specs.Headers.{KnowsHeader}
 use Rattle.ctf_fetch.specs.declared.packet_scratch.PacketScratch.{PacketScratch}
@@ -63,10 +63,17 @@ module _ (cut : PacketStart) (ending : Ending) (left : List ℕ) (bytes : List �
       ∙ ap (λ t. from_bytes t ending next.reached next.at left) forms
 
 -- an item after steps that kept what is to come
-pub advanced : (old middle new : Run Classes) (cut : PacketStart) (known : Known) (bytes : List ℕ) (packet : Option PacketReader) (left : List ℕ) (found : Option PacketItem) (front : PacketItem) → old ≡ middle → found ≡ Some front
-    → StepsWithin middle new cut known bytes packet (Ok found) → Advances old new cut known bytes packet left (Ok (Some front))
-advanced old middle new cut known bytes (Some p) left found front same is steps = same ∙ subst (λ o. StepsWithin middle new cut known bytes (Some p) (Ok o)) is steps
-advanced old middle new cut known bytes None left found front same is steps = absurd (subst (λ o. StepsWithin middle new cut known bytes None (Ok o)) is steps)
+pub advanced : (old middle new : Run Classes) (cut : PacketStart) (known : Known) (bytes : List ℕ) (packet : Option PacketReader) (left : List ℕ) (front : PacketItem) → old ≡ middle
+    → StepsWithin middle new cut known bytes packet (Ok (Some front)) → Advances old new cut known bytes packet left (Ok (Some front))
+advanced old middle new cut known bytes (Some p) left front same steps = same ∙ steps
+advanced old middle new cut known bytes None left front same steps = absurd steps
+
+-- the state after steps that found an item
+pub found_at : (ending : Ending) (rest : List ℕ) (start : Run Classes) (c : ReadState) (found : Option PacketItem) (front : PacketItem) → found ≡ Some front
+    → (let new = stepped (Ok found) c in StepsWithin start (coming_of ending rest new) new.cut new.scopes new.buffer new.packet (Ok found))
+    → StepsWithin start (coming_of ending rest c) c.cut c.scopes c.buffer c.packet (Ok (Some front))
+found_at ending rest start c found front is steps =
+    subst (λ o. let new = stepped (Ok o) c in StepsWithin start (coming_of ending rest new) new.cut new.scopes new.buffer new.packet (Ok o)) is steps
 
 -- steps that kept what is to come, before steps that give the item
 pub also_before : (old middle new : Run Classes) (cut : PacketStart) (known : Known) (bytes : List ℕ) (packet : Option PacketReader) (left : List ℕ) (front : PacketItem) → old ≡ middle → Advances middle new cut known bytes packet left (Ok (Some front)) → Advances old new cut known bytes packet left (Ok (Some front))
@@ -90,9 +97,11 @@ comes old new c (Some p) left front at goes = sym goes
 comes old new c None left front at goes = absurd goes
 
 -- nothing was left of the packet at hand
-pub stepped : (old middle new : Run Classes) (cut : PacketStart) (known : Known) (bytes : List ℕ) (packet : Option PacketReader) (found : Option PacketItem) → old ≡ middle → found ≡ None → StepsWithin middle new cut known bytes packet (Ok found) → (old ≡ new) × (packet ≡ None)
-stepped old middle new cut known bytes packet found same is steps =
-    let took = subst (λ o. StepsWithin middle new cut known bytes packet (Ok o)) is steps in (same ∙ took.0, took.1)
+pub left_over : (ending : Ending) (rest : List ℕ) (old start : Run Classes) (c : ReadState) (found : Option PacketItem) → old ≡ start → found ≡ None
+    → (let new = stepped (Ok found) c in StepsWithin start (coming_of ending rest new) new.cut new.scopes new.buffer new.packet (Ok found))
+    → old ≡ coming_of ending rest (between c)
+left_over ending rest old start c found same is steps =
+    let took = subst (λ o. let new = stepped (Ok o) c in StepsWithin start (coming_of ending rest new) new.cut new.scopes new.buffer new.packet (Ok o)) is steps in same ∙ took.0
 
 pub at_fault : (old middle : Run Classes) (at : ℕ) (fault : StreamFault) → old ≡ middle → OrNoMemory (λ f. middle ≡ stops (Some f) at) fault → OrNoMemory (λ f. old ≡ stops (Some f) at) fault
 at_fault old middle at fault same told = elim told [ inl refused ↦ inl refused | inr is ↦ inr (same ∙ is) ]

@@ -1,5 +1,5 @@
 -- How far a stream was read.
-use Rattle.std.specs.Prelude.{◌≡◌, ℕ, ◌+◌, ◌-◌, ◌*◌, ◌^◌, ◌≤◌, ◌<◌, Bool, true, false, List, [], ◌∷◌, Option, IsSome, Some, None, Result, Ok, Err}
+use Rattle.std.specs.Prelude.{◌≡◌, ℕ, ◌+◌, ◌-◌, ◌*◌, ◌^◌, ◌≤◌, ◌<◌, Bool, true, false, List, [], ◌∷◌, Option, IsSome, Some, None, IfSome, IfNone, Result, Ok, Err}
 use Rattle.ctf_bits.specs.declared.source.Ending.{Ending}
 use Rattle.ctf_class.specs.declared.trace.TraceClass.{TraceClass}
 use Rattle.ctf_decode.specs.Known.{Known}
@@ -91,6 +91,16 @@ room_within (Some p) = room_in p
 abbrev pub room_of : ReadState → ℕ
 room_of c = 11 * (most_taken - c.taken) + room_within c.packet
 
+-- between two packets, whatever is kept of the one before
+abbrev pub between : ReadState → ReadState
+between c = record c { packet = None }
+
+-- after steps within a packet: where they gave nothing, it is over
+abbrev pub stepped : Result (Option PacketItem) StreamFault → ReadState → ReadState
+stepped (Ok (Some front)) c = c
+stepped (Ok None) c = between c
+stepped (Err fault) c = c
+
 -- the items of the packet at hand give the next one, and the rest is to come; or they are over, and what is to come
 -- stays; or a fault is in the packet
 abbrev pub StepsWithin : Run Classes → Run Classes → PacketStart → Known → List ℕ
@@ -129,3 +139,19 @@ Advances old new cut known bytes packet left (Err fault) =
 abbrev pub IsOfPacket : Option PacketReader → Option PacketItem → Type 0
 IsOfPacket packet (Some front) = IsSome packet
 IsOfPacket packet None = packet ≡ None
+
+-- an event record was read and its text written, and the rest is to come; or only the line is another one
+pub record WritesNext (old new : ReadState) (result : Option PacketItem) : Type 0 where
+  pub advances : (ending : Ending) (left : List ℕ) → IfSome result (λ front.
+      Advances (coming_of ending left old) (coming_of ending left new) new.cut new.scopes new.buffer
+      new.packet left (Ok (Some front)))
+  pub stands : Stands new
+  pub shared : HasShared new
+  pub found : IfSome result (λ _. IsSome new.packet)
+  pub holds : IfSome result (HoldsIn new new.packet)
+  pub room : IfSome result (λ _. room_of new < room_of old)
+  pub taken : new.taken ≡ old.taken
+  pub writes : new.writes ≡ old.writes
+  pub cut : new.cut ≡ old.cut
+  pub buffer : new.buffer ≡ old.buffer
+  pub none : IfNone result (new ≡ record old { line = new.line })

@@ -18,7 +18,7 @@ use ctf_class::{Scope, StreamClass, TraceClass};
 use ctf_clock::Moment;
 use ctf_decode::Scopes;
 use ctf_list::{NoMemory, Text};
-use ctf_packet::{EventRecord, OpenPacket, RecordPlace, Scratch, next_record};
+use ctf_packet::{EventRecord, OpenPacket, RecordPlace, Scratch, clock_at_end, next_record};
 use std::alloc::Global;
 
 impl<'a> ReadState<'a> {
@@ -77,7 +77,11 @@ impl<'a> ReadState<'a> {
             PacketItem::Discarded(count) => Ok(OwnedItem::Discarded(gap(
                 opened,
                 *count,
-                opened.until,
+                clock_at_end(
+                    opened,
+                    self.cut.shift,
+                    self.scopes.get(Scope::PacketContext),
+                ),
                 name,
             )?)),
             PacketItem::Lost(count) => Ok(OwnedItem::Lost(gap(

@@ -5,12 +5,12 @@ ghost use Rattle.ctf_bits.specs.declared.source.Ending.{Ending};
 ghost use Rattle.ctf_clock.specs.declared.moment.Shift.{Shift};
 ghost use Rattle.ctf_packet.specs.Packets as packets;
 ghost use Rattle.ctf_packet.specs.Scopes.{Values};
-ghost use Rattle.ctf_packet.specs.Views.{opened_of};
+ghost use Rattle.ctf_packet.specs.Views.{values_of, packet_values, opened_of};
 ghost use Rattle.ctf_stream.specs.Coming.{TakesRoom};
 ghost use Rattle.ctf_stream.specs.Shown.{Tells, IsMadeTold, IsAsked};
 ghost use Rattle.ctf_stream.specs.Standing.{item_at};
 ghost use Rattle.ctf_fetch.specs.Fetching.{longest_bytes, most_taken};
-ghost use Rattle.ctf_stream.specs.ReadState.{coming_of, Stands, room_of, StepsWithin, Enters, EntersRoom, Advances, IsOfPacket, HasShared, HoldsIn, HoldsFound};
+ghost use Rattle.ctf_stream.specs.ReadState.{coming_of, Stands, room_of, StepsWithin, Enters, EntersRoom, Advances, IsOfPacket, HasShared, IsPartOf, HoldsIn, HoldsFound, WritesNext, between, stepped};
 
 use crate::item::{CurrentItem, Event, EventText, Gap, Item};
 use crate::packet::{PacketInput, PacketItem, PacketReader};
@@ -18,7 +18,7 @@ use ctf_bits::Source;
 use ctf_class::{HasId, Scope};
 use ctf_decode::Scopes;
 use ctf_fetch::{Buffer, PacketScratch, PacketStart};
-use ctf_packet::{OpenPacket, Reached, Scratch, StreamFault};
+use ctf_packet::{OpenPacket, Reached, Scratch, StreamFault, clock_at_end};
 use ctf_record_text::LineBuffer;
 use std::alloc::Global;
 
@@ -92,20 +92,7 @@ impl<'a> ReadState<'a> {
     pub(crate) fn next_written(&mut self, alloc: Global, by_class: bool) -> Option<PacketItem<'a>>
         requires stands { Stands self.old }
         requires shared { HasShared self.old }
-        ensures advances { (ending : Ending) (left : List ℕ) →
-            IfSome result (λ front.
-            Advances (coming_of ending left self.old) (coming_of ending left self.new) self.new.cut
-            self.new.scopes self.new.buffer self.new.packet left (Ok (Some front))) }
-        ensures stands { Stands self.new }
-        ensures shared { HasShared self.new }
-        ensures taken { self.new.taken ≡ self.old.taken }
-        ensures room { IfSome result (λ _. room_of self.new < room_of self.old) }
-        ensures found { IfSome result (λ _. IsSome self.new.packet) }
-        ensures holds { IfSome result (HoldsIn self.new self.new.packet) }
-        ensures writes { self.new.writes ≡ self.old.writes }
-        ensures cut { self.new.cut ≡ self.old.cut }
-        ensures buffer { self.new.buffer ≡ self.old.buffer }
-        ensures none { IfNone result (self.new ≡ record self.old { line = self.new.line }) }
+        ensures { WritesNext self.old self.new result }
     {
         let packet = match &mut self.packet {
             None => return None,
@@ -117,6 +104,18 @@ impl<'a> ReadState<'a> {
             writes: self.writes,
         };
         packet.next_written(input, &self.scopes, by_class, &mut self.line)
+    }
+
+    /// The next item, as `next_written` gives it by the class of its header. Mostly that is told by its plan, so this is
+    /// kept out of the way.
+    #[cold]
+    #[inline(never)]
+    fn next_by_class(&mut self, alloc: Global) -> Option<PacketItem<'a>>
+        requires stands { Stands self.old }
+        requires shared { HasShared self.old }
+        ensures { WritesNext self.old self.new result }
+    {
+        self.next_written(alloc, true)
     }
 
     /// The next item, out of a source, where `next_written` gave none `by_class`. `None` where the stream ends.
@@ -166,23 +165,22 @@ impl<'a> ReadState<'a> {
             if let Some(front) = self.next_written(alloc, false) {
                 return Ok(Some(front));
             }
-            if let Some(front) = self.next_written(alloc, true) {
+            if let Some(front) = self.next_by_class(alloc) {
                 return Ok(Some(front));
             }
         }
     }
 
-    /// Fetches the next packet. Whether there is one.
+    /// Fetches the next packet, in place of the one before. Whether there is one.
     #[inline(always)]
     fn enter<S: Source>(&mut self, alloc: Global, source: &mut S) -> Result<bool, StreamFault>
-        requires between { self.old.packet ≡ None }
-        requires stands { Stands self.old }
-        requires shared { HasShared self.old }
+        requires stands { Stands (between self.old) }
+        requires shared { HasShared (between self.old) }
         ensures tells { IsTrue (S.tells source.old) → IsTrue (S.tells source.new) }
         ensures same_end { IsTrue (S.tells source.old) → S.ending source.new ≡ S.ending source.old }
         ensures enters { let ending = S.ending source.old in
             IsTrue (S.tells source.old) →
-            Enters (coming_of ending (S.left source.old) self.old)
+            Enters (coming_of ending (S.left source.old) (between self.old))
             (coming_of ending (S.left source.new) self.new) self.new.cut
             (S.left source.new) result }
         ensures counted { IsTrue (S.tells source.old) →
@@ -191,7 +189,7 @@ impl<'a> ReadState<'a> {
         ensures stands { OnOk result (Stands self.new) }
         ensures shared { OnOk result (HasShared self.new) }
         ensures none { IfOk result (λ found. found ≡ false → self.new.packet ≡ None) }
-        ensures room { EntersRoom (room_of self.old) (room_of self.new) result }
+        ensures room { EntersRoom (room_of (between self.old)) (room_of self.new) result }
         ensures writes { self.new.writes ≡ self.old.writes }
         ensures cut { self.new.cut ≡ self.old.cut }
         ensures after { self.old.taken ≤ self.new.taken }
@@ -208,7 +206,10 @@ impl<'a> ReadState<'a> {
         self.taken += self.buffer.len() as u64;
         match fetched {
             Err(fault) => Err(fault),
-            Ok(None) => Ok(false),
+            Ok(None) => {
+                self.packet = None;
+                Ok(false)
+            }
             Ok(Some(opened)) => {
                 let context = self.scopes.get(Scope::PacketContext);
                 match self.line.part.make(opened.stream.context_front(), context) {
@@ -227,19 +228,21 @@ impl<'a> ReadState<'a> {
         }
     }
 
-    /// The next item of the packet at hand. `None` where there is none, and the packet is left then.
+    /// The next item of the packet at hand. `None` where there is none: then the packet is left, and what is kept of it
+    /// means nothing. It is not cleared, since mostly the next one is put there at once.
     fn step_within(&mut self, alloc: Global) -> Result<Option<PacketItem<'a>>, StreamFault>
         requires stands { Stands self.old }
         requires shared { HasShared self.old }
         ensures steps { (ending : Ending) (left : List ℕ) →
-            StepsWithin (coming_of ending left self.old) (coming_of ending left self.new)
-            self.new.cut self.new.scopes self.new.buffer self.new.packet result }
-        ensures stands { OnOk result (Stands self.new) }
-        ensures shared { OnOk result (HasShared self.new) }
+            let new = stepped result self.new in
+            StepsWithin (coming_of ending left self.old) (coming_of ending left new)
+            new.cut new.scopes new.buffer new.packet result }
+        ensures stands { OnOk result (Stands (stepped result self.new)) }
+        ensures shared { OnOk result (HasShared (stepped result self.new)) }
         ensures taken { self.new.taken ≡ self.old.taken }
-        ensures room { TakesRoom (room_of self.old) (room_of self.new) result }
+        ensures room { TakesRoom (room_of self.old) (room_of (stepped result self.new)) result }
         ensures cut { OnErr result (self.new.cut ≡ self.old.cut) }
-        ensures found { IfOk result (IsOfPacket self.new.packet) }
+        ensures found { IfOk result (IsOfPacket (stepped result self.new).packet) }
         ensures holds { IfOk result (HoldsFound self.new) }
         ensures writes { self.new.writes ≡ self.old.writes }
         ensures trace { self.new.cut.trace ≡ self.old.cut.trace }
@@ -270,7 +273,8 @@ impl<'a> ReadState<'a> {
         front: &'r PacketItem<'a>,
         name: &'r str,
     ) -> Option<CurrentItem<'r>>
-        requires shared { HasShared self.now }
+        requires part { IsPartOf (packet_values (values_of self.now.scopes)) self.now.line.part
+            self.now.packet }
         requires holds { HoldsIn self.now self.now.packet front.now }
         ensures tells { Tells self.now.cut.trace.now name.now
             (item_at self.now self.now.packet front.now) result }
@@ -299,7 +303,11 @@ impl<'a> ReadState<'a> {
                 count: *count,
                 moment: opened.clock,
                 from: opened.before,
-                to: opened.until,
+                to: clock_at_end(
+                    opened,
+                    self.cut.shift,
+                    self.scopes.get(Scope::PacketContext),
+                ),
                 name,
             }))),
             PacketItem::Lost(count) => Some(CurrentItem::Item(Item::Lost(Gap {
@@ -312,10 +320,9 @@ impl<'a> ReadState<'a> {
         }
     }
 
-    /// Goes past the packet at hand.
+    /// Goes past the packet at hand, which stays in its place.
     #[inline(always)]
     fn leave(&mut self, reached: Reached)
-        ensures packet { self.new.packet ≡ None }
         ensures trace { self.new.cut.trace ≡ self.old.cut.trace }
         ensures shift { self.new.cut.shift ≡ self.old.cut.shift }
         ensures reached { self.new.cut.reached ≡ Some reached }
@@ -326,7 +333,6 @@ impl<'a> ReadState<'a> {
         ensures taken { self.new.taken ≡ self.old.taken }
         ensures writes { self.new.writes ≡ self.old.writes }
     {
-        self.packet = None;
         self.cut.go_on(reached, self.taken);
         self.buffer.clear();
     }

@@ -3,7 +3,7 @@
 ghost use Rattle.std.specs.Prelude.{◌≡◌, true, false, ◌+◌, ◌<◌, ◌≤◌, ◌⊎◌, IsTrue, IfSome, length};
 ghost use Rattle.ctf_packet.specs.Classes.{trace_form};
 ghost use Rattle.ctf_packet.specs.Items.{run_of};
-ghost use Rattle.ctf_stream.specs.declared.reader.ReaderHead.TheVariants.{Ended, Fault};
+ghost use Rattle.ctf_stream.specs.declared.reader.ReaderHead.TheVariants.{Start, Ended, Fault};
 ghost use Rattle.ctf_stream.specs.Shown.{ShowsValues, Tells, IsMade, IsMadeTold, IsAsked};
 ghost use Rattle.ctf_stream.specs.Reader.{start, fault_ahead, coming, rest_of, OrRefused, IsFetched, IsLast, IsOnLine, IsAllTaken, RoomTaken};
 ghost use Rattle.ctf_stream.specs.Owned.{Gives, GivesAhead, GivesOf, GivesRoom, KeepsAfter, ahead_after};
@@ -146,7 +146,7 @@ impl<'a, S: Source + Drop> StreamReader<'a, S> {
             self.head = ReaderHead::Item(front);
             return;
         }
-        self.head = ReaderHead::Start;
+        start(&mut self.head);
         self.advance();
     }
 
@@ -336,6 +336,14 @@ impl<'a, S: Source + Drop> StreamReader<'a, S> {
     {
         self.name.as_str()
     }
+}
+
+/// Makes nothing current. It is put there in a call, so that `go_on` clears no room for each event record.
+#[inline(never)]
+fn start(head: &mut ReaderHead<'_>)
+    ensures { head.new ≡ Start }
+{
+    *head = ReaderHead::Start;
 }
 
 /// Gives the end of a stream next. It is put there in a call, so that no room is cleared for a large value that is

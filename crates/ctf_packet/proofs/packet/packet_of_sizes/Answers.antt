@@ -16,13 +16,11 @@ returns-clause-exactly c = λ values e.
     let front : option_copied c.context_front-front.result ≡ c.args.stream.now.packet_context = c.context_front-front.ensures in
     let line : option_copied c.as_ref.result ≡ s.line = c.as_ref.ensures.value ∙ c.timeline_of-timeline.ensures in
     let line-2 : option_copied c.as_ref-2.result ≡ s.line = c.as_ref-2.ensures.value ∙ c.timeline_of-timeline.ensures in
-    let line-3 : option_copied c.as_ref-3.result ≡ s.line = c.as_ref-3.ensures.value ∙ c.timeline_of-timeline.ensures in
     let role = λ (name : List ℕ). ap (λ k. roles.role name (option_map form k) context) front in
     let before = c.in_ok-before.ensures ∙ ap (λ l. packets.clock_before l (option_copied place.reached)) line in
     let clock = c.in_ok-clock.ensures ∙ (λ i. packets.clock_after (line-2 i) c.in_ok-before.before (packets.moves (option_map form (class i)) context)) in
-    let to = c.clock_until-until.ensures ∙ (λ i. packets.clock_until (line-3 i) c.in_ok-clock.clock ((c.field_of_role-end.ensures ∙ role (codes "timestamp_end")) i)) in
     let gone = c.lost_since.ensures ∙ (λ i. packets.since counting.lost_between (c.number_before.ensures i) ((c.fields_of_roles-counts.ensures.first ∙ role (codes "packet_seq_num")) i)) in
     let left_out = c.discarded_since.ensures ∙ (λ i. packets.since counting.discarded_between (c.discarded_before.ensures i) ((c.fields_of_roles-counts.ensures.second ∙ role (codes "events_discarded")) i)) in
     let count = c.number_of-discarded.ensures ∙ ap roles.number_in (c.fields_of_roles-counts.ensures.second ∙ role (codes "events_discarded")) in
     let sequence = c.number_of-sequence.ensures ∙ ap roles.number_in (c.fields_of_roles-counts.ensures.first ∙ role (codes "packet_seq_num")) in
-    placed_ok s (option_copied place.reached) place.start values c.args.first c.args.sizes context c.in_ok-before.before c.in_ok-clock.clock c.clock_until-until.result c.lost_since.result c.discarded_since.result c.number_of-discarded.result c.number_of-sequence.result e before clock (record { to = to; gone = gone; left_out = left_out; count = count; sequence = sequence })
+    placed_ok s (option_copied place.reached) place.start values c.args.first c.args.sizes context c.in_ok-before.before c.in_ok-clock.clock c.lost_since.result c.discarded_since.result c.number_of-discarded.result c.number_of-sequence.result e before clock (record { gone = gone; left_out = left_out; count = count; sequence = sequence })
