@@ -15,7 +15,7 @@ pub struct PacketScratch<'a> {
     pub(crate) header: Value,
     pub(crate) context: Value,
     pub(crate) known: Option<KnownHeader<'a>>,
-    /// Whether the packet's header and context have many values.
+    /// Whether the packet's header and context are long, or have many values.
     pub(crate) is_large: bool,
 }
 

@@ -38,8 +38,10 @@ use std::alloc::Global;
 /// The longest packet, in bytes.
 const LONGEST_BYTES: usize = 268_435_456;
 
-/// A header and context of more values are large.
-const MOST_KEPT_TWICE: u64 = 256;
+/// A header and context that take more bits, or have more values, are large.
+const LONGEST_SMALL: u64 = 32_768;
+
+const MOST_SMALL: u64 = 256;
 
 /// The longest stream, in bytes.
 const LONGEST_STREAM: u64 = 1 << 60;
@@ -393,7 +395,7 @@ impl<'a> PacketStart<'a> {
             alloc,
         };
         let first = scope_on_demand(&context, intake, &mut scratch.context, scopes)?;
-        scratch.is_large = scopes.spent() > MOST_KEPT_TWICE;
+        scratch.is_large = first > LONGEST_SMALL || scopes.spent() > MOST_SMALL;
         match judge_sizes(Begun { stream, first }, scopes.get(Scope::PacketContext))? {
             Want::Rest(begun) => Ok(Opening { begun, sizes: None }),
             Want::Whole(begun, sizes) => {

@@ -80,8 +80,8 @@ IsLastOf placed last =
     IsLastNumber last placed.run.now.numbers placed.packet.now.bytes.now
     ((placed.end - placed.run.now.span) / 8)
 
--- integers after the numbers of a run, if they were written, come after others from where these came to where the
--- buffer says now
+-- the texts of integers after a run's numbers, if they were written, are in the buffer from the index that was reached
+-- before them to the one that is reached then
 abbrev pub PutsIntegers : Option ℕ → Integers → PlacedRun → Reach → List ℕ → Reach → List ℕ
     → Type 0
 PutsIntegers result are placed from before to items =

@@ -118,8 +118,8 @@ pub fn packet_of_sizes<'a>(
     })
 }
 
-/// The clock at the end of a packet, as far as its context says, which has this value. It is asked for where event
-/// records were discarded, and so is not looked for in each packet.
+/// The clock at the end of a packet, as far as the value of its context says. It is asked for where event records were
+/// discarded, and so is not looked for in each packet.
 pub fn clock_at_end(
     packet: &OpenPacket<'_>,
     shift: Shift,

@@ -27,6 +27,7 @@ use std::alloc::Global;
 pub(crate) struct ReadState<'a> {
     /// Where the packet at hand begins, or the next one.
     pub(crate) cut: PacketStart<'a>,
+    /// The packet at hand; within `advance` also one that was left.
     pub(crate) packet: Option<PacketReader<'a>>,
     /// The bytes of the packet at hand.
     pub(crate) buffer: Buffer,
@@ -106,8 +107,8 @@ impl<'a> ReadState<'a> {
         packet.next_written(input, &self.scopes, by_class, &mut self.line)
     }
 
-    /// The next item, as `next_written` gives it by the class of its header. Mostly that is told by its plan, so this is
-    /// kept out of the way.
+    /// The next item, as `next_written` gives it by the class of its header. Mostly that is told by its plan, so this
+    /// is kept out of the way.
     #[cold]
     #[inline(never)]
     fn next_by_class(&mut self, alloc: Global) -> Option<PacketItem<'a>>
@@ -320,7 +321,7 @@ impl<'a> ReadState<'a> {
         }
     }
 
-    /// Goes past the packet at hand, which stays in its place.
+    /// Goes past the packet at hand. What is kept of it means nothing then.
     #[inline(always)]
     fn leave(&mut self, reached: Reached)
         ensures trace { self.new.cut.trace ≡ self.old.cut.trace }

@@ -146,7 +146,7 @@ impl<'a, S: Source + Drop> StreamReader<'a, S> {
             self.head = ReaderHead::Item(front);
             return;
         }
-        start(&mut self.head);
+        clear(&mut self.head);
         self.advance();
     }
 
@@ -340,7 +340,7 @@ impl<'a, S: Source + Drop> StreamReader<'a, S> {
 
 /// Makes nothing current. It is put there in a call, so that `go_on` clears no room for each event record.
 #[inline(never)]
-fn start(head: &mut ReaderHead<'_>)
+fn clear(head: &mut ReaderHead<'_>)
     ensures { head.new ≡ Start }
 {
     *head = ReaderHead::Start;
