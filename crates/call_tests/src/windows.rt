@@ -1,15 +1,38 @@
-//! Integers whose place is known beforehand.
+//! Integers that are read at once.
 //!
 //! `window PLACE SIZE KIND FIRST BYTES` is an integer, `u` or in two's complement `i`, whose place is counted from the
 //! end of the first FIRST bytes: its place, its end, its number if that is not below zero, and that of its bits in
-//! two's complement.
+//! two's complement. `short PLACE SIZE BYTES` is one that is little endian, whose place is counted from the first bit:
+//! its number.
 
 use crate::row::Row;
-use ctf_bits::Window;
+use ctf_bits::{ShortInteger, Window};
 
-/// Puts what comes of a row of windows.
+/// Puts what comes of a row of integers.
 pub fn put_row(row: &mut Row<'_>) {
-    row.word();
+    if row.word() == "short" {
+        put_short(row);
+    } else {
+        put_any_window(row);
+    }
+}
+
+/// Puts what comes of a short integer, if it is one and there are enough bytes.
+fn put_short(row: &mut Row<'_>) {
+    let place = row.long();
+    let size = row.number();
+    let bytes = row.bytes();
+    if size == 0 || u128::from(place) / 8 + 8 > bytes.len() as u128 {
+        return;
+    }
+    match ShortInteger::new(size) {
+        Some(short) => row.put_number(b"", short.number(&bytes, place) as i128),
+        None => row.put(b"none"),
+    }
+}
+
+/// Puts what comes of a window.
+fn put_any_window(row: &mut Row<'_>) {
     let place = row.long();
     let size = row.number();
     if size == 0 || size > 64 {

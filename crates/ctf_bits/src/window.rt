@@ -119,7 +119,7 @@ impl Window {
 
 /// The first eight bytes as one number, little endian.
 #[inline(always)]
-fn word(bytes: &[u8]) -> u64
+pub(crate) fn word(bytes: &[u8]) -> u64
     requires { 8 ≤ length bytes.now }
     ensures { result ≡ number Le bytes.now 0 64 }
 {
