@@ -1,99 +1,146 @@
--- Headers of event records whose class is looked at beforehand.
-use Rattle.std.specs.Prelude.{◌≡◌, ℕ, pos, ◌<◌, ◌≤◌, ◌+◌, ◌%◌, ◌^◌, true, false, List, [], ◌∷◌, length, get_or, Option, Some, None, codes}
+-- Event headers, as far as they are known before they are read (all own).
+use Rattle.std.specs.Prelude.{◌≡◌, ℕ, ℤ, pos, ◌<◌, ◌≤◌, ◌+◌, ◌%◌, ◌^◌, true, false, if◌then◌else◌, List, [], ◌∷◌, length, get_or, Option, Some, None, IfSome, codes}
 use Rattle.std.specs.Int.{next_multiple_of}
 use Rattle.std.specs.Str.{bytes_eq}
 use Rattle.ctf_bits.specs.declared.number.Order.TheVariants.{Le}
 use Rattle.ctf_class.specs.declared.class.Class.{Class}
 use Rattle.ctf_class.specs.declared.class.Kind as kind
 use Rattle.ctf_class.specs.declared.class.Member.{Member}
+use Rattle.ctf_class.specs.declared.header_plan.HeaderIntegers.{HeaderIntegers}
+use Rattle.ctf_class.specs.declared.header_plan.HeaderNumber.{HeaderNumber}
 use Rattle.ctf_class.specs.declared.header_plan.HeaderPlan.{HeaderPlan}
-use Rattle.ctf_class.specs.declared.integer.Integer.{Integer}
+use Rattle.ctf_class.specs.declared.header_plan.HeaderTag.{HeaderTag}
 use Rattle.ctf_class.specs.declared.route.Origin.TheVariants.{Enclosing}
 use Rattle.ctf_class.specs.declared.route.Route.{Route}
 use Rattle.ctf_class.specs.declared.span.Choice.{Choice}
 use Rattle.ctf_class.specs.declared.span.Label.{Label}
+use Rattle.ctf_class.specs.Choices.{chosen}
 use Rattle.ctf_class.specs.Integers.{bits_of}
 
--- a member is an enumeration named `id`, of this unsigned integer (own)
-pub record IsTagOf (m : Member) (i : Integer) : Type 0 where
+-- an integer is read at once only where it is little endian, and by its own size
+abbrev pub IsRead : HeaderNumber → Type 0
+IsRead n = IfSome n.short (λ size. (size ≡ bits_of n.integer) × (n.integer.order ≡ Le))
+
+-- A member is this integer, and at this distance wherever its structure begins. None with a sign is named `id` or sets
+-- the clock, and none before it sets the clock too.
+pub record IsLaid (m : Member) (n : HeaderNumber) (before : HeaderIntegers) : Type 0 where
+  pub is : m.class.kind ≡ kind.Integer n.integer
+  pub divides : before.align % m.class.align ≡ 0
+  pub distance : n.distance ≡ next_multiple_of before.span m.class.align
+  pub id : bytes_eq m.name (codes "id") ≡ true → n.integer.is_signed ≡ false
+  pub stamp : n.integer.is_moving ≡ true → n.integer.is_signed ≡ false
+  pub alone : n.integer.is_moving ≡ true → before.stamp ≡ None
+
+-- what is known with one integer more
+abbrev pub with_member : Member → HeaderNumber → HeaderIntegers → HeaderIntegers
+with_member m n before = record {
+  align = before.align;
+  skipped = before.skipped;
+  id = if bytes_eq m.name (codes "id") then Some n else before.id;
+  stamp = if n.integer.is_moving then Some n else before.stamp;
+  span = n.distance + bits_of n.integer;
+  values = before.values + 1;
+}
+
+-- a member follows integers, and with it this is known
+abbrev pub Follows : Member → HeaderIntegers → HeaderIntegers → Type 0
+Follows m from to = (n : HeaderNumber) × IsLaid m n from × (to ≡ with_member m n from)
+
+-- members are integers, and with them this is known
+abbrev pub AreLaid : List Member → HeaderIntegers → HeaderIntegers → Type 0
+AreLaid [] from to = from ≡ to
+AreLaid (m ∷ ms) from to =
+    (n : HeaderNumber) × IsLaid m n from × AreLaid ms (with_member m n from) to
+
+-- a structure of this alignment begins after so many bits of its header, as the last of so many values
+abbrev pub no_integers : ℕ → ℕ → ℕ → HeaderIntegers
+no_integers align skipped values = record {
+  align = align;
+  skipped = skipped;
+  id = None;
+  stamp = None;
+  span = 0;
+  values = values;
+}
+
+-- an integer ends within so many bits, and is read as it is
+pub record EndsIn (span : ℕ) (n : HeaderNumber) : Type 0 where
+  pub within : n.distance + bits_of n.integer ≤ span
+  pub read : IsRead n
+
+-- integers are near the begin of their header, however far that is rounded up, and few
+pub record AreNear (are : HeaderIntegers) : Type 0 where
+  pub skipped : are.skipped ≤ 64
+  pub id : IfSome are.id (EndsIn are.span)
+  pub stamp : IfSome are.stamp (EndsIn are.span)
+  pub near : are.span ≤ 2 ^ 40
+  pub few : are.values ≤ 2 ^ 17
+
+-- a class is a structure of integers of which this is known
+pub record AreIntegers (k : Class) (skipped values : ℕ) (are : HeaderIntegers) : Type 0 where
+  pub members : List Member
+  pub is : k.kind ≡ kind.Structure members
+  pub laid : AreLaid members (no_integers k.align skipped values) are
+
+-- after a tag of so many bits, an option of a header's variant is a structure of integers: the values before them are
+-- the header, the tag, the variant and the option
+pub record IsOption (tag : ℕ) (options : List Member) (i : ℕ) (are : HeaderIntegers)
+    : Type 0 where
+  pub option : Member
+  pub within : i < length options
+  pub is : option ≡ get_or options i option
+  pub integers : AreIntegers option.class tag 4 are
+
+-- a number of a tag chooses such an option
+pub record Chooses (tag : ℕ) (choices : List Choice) (options : List Member) (z : ℤ)
+    (are : HeaderIntegers) : Type 0 where
+  pub i : ℕ
+  pub chooses : chosen choices z ≡ Some i
+  pub option : IsOption tag options i are
+
+-- a header is an unsigned enumeration named `id` and a variant on it, whose options for these numbers are such
+pub record IsTagged (k : Class) (tag : HeaderTag) (plan : HeaderPlan) : Type 0 where
+  pub member : Member
+  pub variant : Member
   pub labels : List Label
-  pub is : m.class.kind ≡ kind.Enumeration i labels
-  pub unsigned : i.is_signed ≡ false
-  pub named : bytes_eq m.name (codes "id") ≡ true
-
--- a class is a structure of this unsigned integer alone, which has this alignment, sets the clock and is not named `id`
--- (own)
-pub record IsStampOf (k : Class) (align : ℕ) (i : Integer) : Type 0 where
-  pub stamp : Member
-  pub is : k.kind ≡ kind.Structure (stamp ∷ [])
-  pub of_integer : stamp.class.kind ≡ kind.Integer i
-  pub aligned : stamp.class.align ≡ align
-  pub unsigned : i.is_signed ≡ false
-  pub moves : i.is_moving ≡ true
-  pub named : bytes_eq stamp.name (codes "id") ≡ false
-
--- the first choice, where the innermost structure's first member makes it
-pub record IsFirstChoice (tag : Route) (choices : List Choice) (choice : Choice) : Type 0 where
-  pub origin : tag.origin ≡ Enclosing 0
-  pub steps : tag.steps ≡ 0 ∷ []
-  pub others : List Choice
-  pub is : choices ≡ choice ∷ others
-
--- a class is a variant on the first member of the innermost structure, and its first choice is this option, for the
--- numbers from `low` to `high` (own)
-pub record IsFirstOption (variant : Class) (option : Member) (low high : ℕ) : Type 0 where
   pub route : Route
   pub choices : List Choice
   pub options : List Member
-  pub choice : Choice
-  pub of_variant : variant.kind ≡ kind.Variant route choices options
-  pub first_choice : IsFirstChoice route choices choice
-  pub first : choice.span.first ≡ pos low
-  pub last : choice.span.last ≡ pos high
-  pub within : choice.option < length options
-  pub chosen : option ≡ get_or options choice.option option
+  pub is : k.kind ≡ kind.Structure (member ∷ variant ∷ [])
+  pub of_tag : member.class.kind ≡ kind.Enumeration tag.number.integer labels
+  pub named : bytes_eq member.name (codes "id") ≡ true
+  pub unsigned : tag.number.integer.is_signed ≡ false
+  pub divides : k.align % member.class.align ≡ 0
+  pub of_variant : variant.class.kind ≡ kind.Variant route choices options
+  pub origin : route.origin ≡ Enclosing 0
+  pub steps : route.steps ≡ 0 ∷ []
+  pub usual : (n : ℕ) → tag.first ≤ n → n ≤ tag.last
+      → Chooses (bits_of tag.number.integer) choices options (pos n) plan.usual
+  pub other : IfSome plan.other
+      (Chooses (bits_of tag.number.integer) choices options (pos (tag.last + 1)))
 
--- wherever a header begins, a tag of so many bits is right there, and the stamp of an option after it at this distance:
--- their alignments divide the header's (own)
-pub record IsStampPlace (header tag size option stamp place : ℕ) : Type 0 where
-  pub tag_divides : header % tag ≡ 0
-  pub option_divides : header % option ≡ 0
-  pub stamp_divides : header % stamp ≡ 0
-  pub is : place ≡ next_multiple_of (next_multiple_of size option) stamp
+-- what a plan says of headers of a class, by its tag
+abbrev pub IsChosenBy : Class → HeaderPlan → Option HeaderTag → Type 0
+IsChosenBy k plan None = AreIntegers k 0 1 plan.usual
+IsChosenBy k plan (Some tag) = IsTagged k tag plan
 
--- a tag and a stamp lie within the header, one after the other, and its end is near, however far its begin is rounded
--- up (own)
-pub record EndsNear (plan : HeaderPlan) : Type 0 where
-  pub tag : bits_of plan.tag ≤ plan.stamp_place
-  pub stamp : plan.stamp_place + bits_of plan.stamp ≡ plan.end
-  pub near : plan.align + plan.end ≤ 2 ^ 40
+-- a tag is where its header begins, and before other integers
+pub record IsTagNear (plan : HeaderPlan) (tag : HeaderTag) : Type 0 where
+  pub begin : tag.number.distance ≡ 0
+  pub usual : EndsIn plan.usual.skipped tag.number
+  pub other : IfSome plan.other (λ are. EndsIn are.skipped tag.number)
 
--- a header begins at a byte, and its tag and its stamp are unsigned integers, little endian, that are read so after it
--- (own)
-pub record AreWindows (plan : HeaderPlan) : Type 0 where
-  pub whole : plan.align % 8 ≡ 0
-  pub tag : plan.tag_window ≡ record { place = 0; size = bits_of plan.tag; is_signed = false }
-  pub tag_order : plan.tag.order ≡ Le
-  pub stamp : plan.stamp_window
-      ≡ record { place = plan.stamp_place; size = bits_of plan.stamp; is_signed = false }
-  pub stamp_order : plan.stamp.order ≡ Le
+-- what a plan names is near the begin of a header
+pub record IsNear (plan : HeaderPlan) : Type 0 where
+  pub tag : IfSome plan.tag (IsTagNear plan)
+  pub usual : AreNear plan.usual
+  pub other : IfSome plan.other AreNear
 
--- a header's class is a tag and a variant on it, and this is read of them as long as the tag makes the first choice
--- (own)
-pub record IsHeaderPlan (plan : HeaderPlan) (class : Class) : Type 0 where
-  pub tag : Member
-  pub variant : Member
-  pub option : Member
-  pub stamp_align : ℕ
-  pub align : class.align ≡ plan.align
-  pub is : class.kind ≡ kind.Structure (tag ∷ variant ∷ [])
-  pub of_option : IsFirstOption variant.class option plan.first plan.last
-  pub of_tag : IsTagOf tag plan.tag
-  pub of_stamp : IsStampOf option.class stamp_align plan.stamp
-  pub placed : IsStampPlace plan.align tag.class.align (bits_of plan.tag) option.class.align
-      stamp_align plan.stamp_place
-  pub near : EndsNear plan
-  pub read : AreWindows plan
+-- a plan is that of headers of a class
+pub record IsHeaderPlan (plan : HeaderPlan) (k : Class) : Type 0 where
+  pub align : plan.align ≡ k.align
+  pub chosen : IsChosenBy k plan plan.tag
+  pub near : IsNear plan
 
 -- what is known of event headers of a class, if there is one and anything is
 abbrev pub IsHeaderPlanOf : Option Class → Option HeaderPlan → Type 0

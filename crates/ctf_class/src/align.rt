@@ -65,6 +65,7 @@ impl Align {
         ensures value { result ≡ next_multiple_of place self }
         ensures least { IsLeastMultiple place self result }
         ensures near { result < place + self }
+        ensures bounded { result ≤ place + 2 ^ 32 }
     {
         let unit = u64::from(self.bits);
         cut(place + (unit - 1), unit)

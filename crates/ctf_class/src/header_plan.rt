@@ -1,63 +1,87 @@
-//! Headers of event records whose class is looked at beforehand.
+//! Event headers, as far as they are known before they are read.
 
-ghost use Rattle.std.specs.Prelude.{◌≡◌, ◌≤◌, ◌<◌, ◌+◌, ◌%◌, ◌^◌, codes, false, pos, IfSome, IsTrue, option_copied};
+ghost use Rattle.std.specs.Prelude.{◌≡◌, ◌≤◌, ◌+◌, ◌%◌, ◌^◌, [], ◌∷◌, codes, pos, true, false, None, Some, if◌then◌else◌, IfSome, IsTrue, option_copied};
+ghost use Rattle.std.specs.Int.{next_multiple_of};
 ghost use Rattle.std.specs.Str.{bytes_eq};
-ghost use Rattle.ctf_bits.specs.declared.number.Order.TheVariants.{Le};
-ghost use Rattle.ctf_class.specs.HeaderPlans.{IsHeaderPlan, IsHeaderPlanOf, IsTagOf, IsStampOf, IsStampPlace, IsFirstChoice, IsFirstOption};
+ghost use Rattle.ctf_class.specs.HeaderPlans.{IsHeaderPlan, IsHeaderPlanOf, AreIntegers, AreNear, Chooses, Follows, IsOption, IsRead};
 ghost use Rattle.ctf_class.specs.Integers.{bits_of};
+ghost use Rattle.ctf_class.specs.declared.class.Class.{Class};
+ghost use Rattle.ctf_class.specs.declared.class.Kind as kinds;
+ghost use Rattle.ctf_class.specs.declared.route.Origin.TheVariants as origins;
 
 use crate::align::Align;
 use crate::choices::Choices;
 use crate::class::{Class, Kind, Member};
 use crate::integer::Integer;
 use crate::route::{Origin, Route};
-use crate::span::Choice;
-use ctf_bits::{Order, Window};
+use ctf_bits::{Order, ShortInteger};
 
-/// What is read of the usual header of tracers such as LTTng (CTF 1.8.3, section 6.1): of an enumeration named `id` and
-/// a variant on it whose first choice is a structure of one integer that sets the clock. Such a header is then decoded
-/// without a look at its class.
-///
-/// The alignments of its parts divide its own, and it begins at a byte. So these are at fixed places after its begin,
-/// and the tag right there. Both integers are little endian and lie in eight bytes.
+/// The farthest end of integers, in bits, after which there may be one more.
+const FARTHEST: u64 = 1 << 32;
+
+/// The most values of a header with which there may be one more.
+const MOST_BEFORE: u64 = 1 << 16;
+
+/// An integer of an event header.
+#[derive(Clone, Copy)]
+pub struct HeaderNumber {
+    /// Where it begins, in bits from the begin of its structure, wherever that is.
+    pub distance: u64,
+    pub integer: Integer,
+    /// How it is read, where it is little endian and short.
+    pub short: Option<ShortInteger>,
+}
+
+/// What an event header is read for in the structure of integers that it is, or ends with (CTF 1.8.3, section 6.1).
+/// These are one after the other at fixed distances from its begin, since their alignments divide its own.
+#[derive(Clone, Copy)]
+pub struct HeaderIntegers {
+    /// The alignment of the structure.
+    pub align: Align,
+    /// How many bits of the header are before it, with which no padding is counted.
+    pub skipped: u64,
+    /// The last integer named `id`, which is unsigned.
+    pub id: Option<HeaderNumber>,
+    /// The integer that sets the clock, which is unsigned.
+    pub stamp: Option<HeaderNumber>,
+    /// Where they end, in bits from the structure's begin.
+    pub span: u64,
+    /// How many values the header has.
+    pub values: u64,
+}
+
+/// An unsigned enumeration named `id`, with which a header begins. A variant on it ends the header, as LTTng has it.
+#[derive(Drop)]
+pub struct HeaderTag {
+    pub number: HeaderNumber,
+    /// The first and the last number of the variant's first choice.
+    pub first: u64,
+    pub last: u64,
+}
+
+/// How event headers are read without a look at their class (CTF 1.8.3, section 6.1).
 #[derive(Drop)]
 pub struct HeaderPlan {
     /// The alignment of the header.
     pub align: Align,
-    pub tag: Integer,
-    /// How the tag is read.
-    pub tag_window: Window,
-    /// The first and the last of the tag's numbers for which the plan holds.
-    pub first: u64,
-    pub last: u64,
-    /// The integer that sets the clock.
-    pub stamp: Integer,
-    /// Where the stamp begins, in bits from the header's first one.
-    pub stamp_place: u64,
-    /// How the stamp is read.
-    pub stamp_window: Window,
-    /// Where the header ends, in bits from its first one.
-    pub end: u64,
+    /// The tag that chooses among the integers, if there is one.
+    pub tag: Option<HeaderTag>,
+    /// The integers of a header without a tag, or those of the first choice.
+    pub usual: HeaderIntegers,
+    /// Those that the number after the first choice chooses.
+    pub other: Option<HeaderIntegers>,
 }
 
-/// An unsigned integer, and its alignment.
+/// A tag, and the variant on it.
 #[derive(Clone, Copy)]
-struct HeaderInteger {
-    align: Align,
-    integer: Integer,
+struct TaggedOptions<'a> {
+    tag: &'a Integer,
+    choices: &'a Choices,
+    options: &'a [Member],
 }
 
-/// The option that the first choice of a variant names, and for which numbers of the tag.
-#[derive(Clone, Copy)]
-struct FirstOption<'a> {
-    option: &'a Member,
-    /// The first and the last of the tag's numbers that choose it.
-    first: u64,
-    last: u64,
-}
-
-/// The plan for event headers of a class; `None` where there is no class, or it is not of the form that `HeaderPlan`
-/// names.
+/// The plan for event headers of a class; `None` where there is no class, or it is of another form than those that
+/// `HeaderPlan` has.
 pub(crate) fn header_plan(class: Option<&Class>) -> Option<HeaderPlan>
     ensures { IsHeaderPlanOf (option_copied class.entry) result }
 {
@@ -67,77 +91,213 @@ pub(crate) fn header_plan(class: Option<&Class>) -> Option<HeaderPlan>
     }
 }
 
-/// The plan for headers of this class; `None` where it is not of the form that `HeaderPlan` names.
+/// The plan for headers of this class; `None` where it is of another form than those that `HeaderPlan` has.
 fn plan_of(class: &Class) -> Option<HeaderPlan>
     ensures { IfSome result (λ plan. IsHeaderPlan plan class.now) }
 {
     let Kind::Structure { members } = &class.kind else {
         return None;
     };
-    let [tag, variant] = members.as_slice() else {
-        return None;
-    };
-    let chosen = option_of(&variant.class)?;
-    let option = &chosen.option.class;
-    let integer = tag_of(tag)?;
-    let stamp = stamp_of(option)?;
-    let stamp_place = stamp_place(
-        class.align,
-        tag.class.align,
-        &integer,
-        option.align,
-        stamp.align,
-    )?;
-    let end = stamp_place + size_of(&stamp.integer);
-    let tag_window = window_of(&integer, 0)?;
-    let stamp_window = window_of(&stamp.integer, stamp_place)?;
+    if let [tag, variant] = members.as_slice() {
+        if let Some(plan) = tagged_plan(class.align, tag, variant) {
+            return Some(plan);
+        }
+    }
     Some(HeaderPlan {
         align: class.align,
-        tag: integer,
-        tag_window,
-        first: chosen.first,
-        last: chosen.last,
-        stamp: stamp.integer,
-        stamp_place,
-        stamp_window,
-        end,
+        tag: None,
+        usual: HeaderIntegers::of(class, 0, 1)?,
+        other: None,
     })
 }
 
-/// Where the stamp begins, in bits from the header's first one; `None` where that depends on where the header is.
-fn stamp_place(
-    header: Align,
-    tag: Align,
-    integer: &Integer,
-    option: Align,
-    stamp: Align,
-) -> Option<u64>
-    ensures is { IfSome result (IsStampPlace header tag (bits_of integer.now) option stamp) }
-    ensures after { IfSome result (λ place. bits_of integer.now ≤ place) }
-    ensures near { IfSome result (λ place. header + place < 2 ^ 39) }
-    ensures whole { IfSome result (λ _. header % 8 ≡ 0) }
+/// The plan for headers of this alignment that are an enumeration and a variant on it.
+fn tagged_plan(align: Align, tag: &Member, variant: &Member) -> Option<HeaderPlan>
+    ensures { IfSome result (λ plan. (k : Class) → k.align ≡ align →
+        k.kind ≡ kinds.Structure (tag.now ∷ variant.now ∷ []) → IsHeaderPlan plan k) }
 {
-    if header.bits() % 8 != 0 {
+    let Kind::Enumeration { container, labels } = &tag.class.kind else {
+        return None;
+    };
+    let Kind::Variant {
+        tag: route,
+        choices,
+        options,
+    } = &variant.class.kind
+    else {
+        return None;
+    };
+    if container.is_signed || !is_id(tag.name.as_slice()) {
         return None;
     }
-    if !divides(tag, header) || !divides(option, header) || !divides(stamp, header) {
+    if !divides(tag.class.align, align) || !leads_to_first(route) {
         return None;
     }
-    Some(stamp.up(option.up(size_of(integer))))
+    let choice = choices.first()?;
+    let last = unsigned(choice.span.last)?;
+    let variant = TaggedOptions {
+        tag: container,
+        choices,
+        options: options.as_slice(),
+    };
+    Some(HeaderPlan {
+        align,
+        tag: Some(HeaderTag {
+            number: numbered(0, container),
+            first: unsigned(choice.span.first)?,
+            last,
+        }),
+        usual: variant.integers(choice.option)?,
+        other: variant.integers_after(last),
+    })
 }
 
-/// How an unsigned integer is read that begins `place` bits after a byte's first bit; `None` where it is not little
-/// endian or reaches a ninth byte.
-fn window_of(integer: &Integer, place: u64) -> Option<Window>
-    ensures is { IfSome result
-        (λ window. window ≡
-        record { place = place; size = bits_of integer.now; is_signed = false }) }
-    ensures little { IfSome result (λ _. integer.now.order ≡ Le) }
+/// Whether a route leads to the first member of the innermost structure.
+fn leads_to_first(route: &Route) -> bool
+    ensures origin { IsTrue result → route.now.origin ≡ origins.Enclosing 0 }
+    ensures steps { IsTrue result → route.now.steps ≡ 0 ∷ [] }
 {
-    if integer.order != Order::Le {
+    let Origin::Enclosing(out) = route.origin else {
+        return false;
+    };
+    let [step] = route.steps.as_slice() else {
+        return false;
+    };
+    out == 0 && *step == 0
+}
+
+impl TaggedOptions<'_> {
+    /// The integers of the option that the number after another one chooses, if it is a structure of integers.
+    fn integers_after(&self, last: u64) -> Option<HeaderIntegers>
+        ensures chooses { IfSome result (Chooses (bits_of self.now.tag.now) self.now.choices.now
+            self.now.options.now (pos (last + 1))) }
+        ensures near { IfSome result AreNear }
+        ensures after { IfSome result (λ are. bits_of self.now.tag.now ≤ are.skipped) }
+    {
+        let number = i128::from(last) + 1;
+        self.integers(self.choices.option(number)?)
+    }
+
+    /// The integers of an option, if it is a structure of integers.
+    fn integers(&self, option: usize) -> Option<HeaderIntegers>
+        ensures is { IfSome result (IsOption (bits_of self.now.tag.now) self.now.options.now
+            option) }
+        ensures near { IfSome result AreNear }
+        ensures after { IfSome result (λ are. bits_of self.now.tag.now ≤ are.skipped) }
+    {
+        if option >= self.options.len() {
+            return None;
+        }
+        let option = &self.options[option];
+        HeaderIntegers::of(&option.class, size_of(self.tag), 4)
+    }
+}
+
+impl HeaderIntegers {
+    /// The integers of a class after so many bits of a header, if it is a structure of integers, which is the last of
+    /// so many values.
+    fn of(class: &Class, skipped: u64, values: u64) -> Option<HeaderIntegers>
+        requires near { skipped ≤ 64 }
+        requires few { values ≤ 4 }
+        ensures are { IfSome result (AreIntegers class.now skipped values) }
+        ensures near { IfSome result AreNear }
+        ensures skipped { IfSome result (λ are. are.skipped ≡ skipped) }
+    {
+        let Kind::Structure { members } = &class.kind else {
+            return None;
+        };
+        let mut integers = HeaderIntegers {
+            align: class.align,
+            skipped,
+            id: None,
+            stamp: None,
+            span: 0,
+            values,
+        };
+        for member in members.as_slice() {
+            integers = integers.and_member(member)?;
+        }
+        Some(integers)
+    }
+
+    /// These integers and a member after them. `None` where that is no integer, is too far away, or has a sign and is
+    /// named `id` or sets the clock; and where it is a second one that sets the clock.
+    fn and_member(&self, member: &Member) -> Option<HeaderIntegers>
+        requires near { AreNear self.now }
+        ensures follows { IfSome result (Follows member.now self.now) }
+        ensures near { IfSome result AreNear }
+        ensures skipped { IfSome result (λ are. are.skipped ≡ self.now.skipped) }
+    {
+        let Kind::Integer(integer) = &member.class.kind else {
+            return None;
+        };
+        let align = member.class.align;
+        if !divides(align, self.align) || !self.takes(integer, member.name.as_slice()) {
+            return None;
+        }
+        let distance = next_place(align, self.span)?;
+        let number = numbered(distance, integer);
+        let is_id = is_id(member.name.as_slice());
+        Some(HeaderIntegers {
+            align: self.align,
+            skipped: self.skipped,
+            id: if is_id { Some(number) } else { self.id },
+            stamp: if integer.is_moving {
+                Some(number)
+            } else {
+                self.stamp
+            },
+            span: distance + size_of(integer),
+            values: self.values + 1,
+        })
+    }
+
+    /// Whether an integer of this name may follow.
+    fn takes(&self, integer: &Integer, name: &[u8]) -> bool
+        ensures id { IsTrue result → bytes_eq name.now (codes "id") ≡ true →
+            integer.now.is_signed ≡ false }
+        ensures stamp { IsTrue result → integer.now.is_moving ≡ true →
+            integer.now.is_signed ≡ false }
+        ensures alone { IsTrue result → integer.now.is_moving ≡ true → self.now.stamp ≡ None }
+        ensures few { IsTrue result → self.now.values ≤ MOST_BEFORE }
+    {
+        if self.values > MOST_BEFORE {
+            return false;
+        }
+        if integer.is_moving {
+            return !integer.is_signed && self.stamp.is_none();
+        }
+        !integer.is_signed || !is_id(name)
+    }
+}
+
+/// Where an integer of this alignment begins that could begin at a place, if that is near.
+fn next_place(align: Align, place: u64) -> Option<u64>
+    ensures is { IfSome result (λ next. next ≡ next_multiple_of place align) }
+    ensures near { IfSome result (λ next. next ≤ 2 ^ 33) }
+    ensures after { IfSome result (λ next. place ≤ next) }
+{
+    if place > FARTHEST {
         return None;
     }
-    Window::new(place, integer.size.bits(), false)
+    Some(align.up(place))
+}
+
+/// An integer at a distance.
+fn numbered(distance: u64, integer: &Integer) -> HeaderNumber
+    ensures distance { result.distance ≡ distance }
+    ensures integer { result.integer ≡ integer.now }
+    ensures read { IsRead result }
+{
+    let short = match integer.order {
+        Order::Le => ShortInteger::new(integer.size.bits()),
+        Order::Be => None,
+    };
+    HeaderNumber {
+        distance,
+        integer: *integer,
+        short,
+    }
 }
 
 /// Whether an alignment divides another one.
@@ -153,85 +313,6 @@ fn size_of(integer: &Integer) -> u64
     ensures few { result ≤ 64 }
 {
     u64::from(integer.size.bits())
-}
-
-/// The integer of a member that is an unsigned enumeration named `id`; `None` of any other member.
-fn tag_of(member: &Member) -> Option<Integer>
-    ensures { IfSome result (IsTagOf member.now) }
-{
-    let Kind::Enumeration { container, labels } = &member.class.kind else {
-        return None;
-    };
-    if container.is_signed || !is_id(member.name.as_slice()) {
-        return None;
-    }
-    Some(*container)
-}
-
-/// The only member of a structure, if it is an unsigned integer that sets the clock and is not named `id`.
-fn stamp_of(class: &Class) -> Option<HeaderInteger>
-    ensures { IfSome result (λ stamp. IsStampOf class.now stamp.align stamp.integer) }
-{
-    let Kind::Structure { members } = &class.kind else {
-        return None;
-    };
-    let [stamp] = members.as_slice() else {
-        return None;
-    };
-    let Kind::Integer(integer) = &stamp.class.kind else {
-        return None;
-    };
-    if integer.is_signed || !integer.is_moving || is_id(stamp.name.as_slice()) {
-        return None;
-    }
-    Some(HeaderInteger {
-        align: stamp.class.align,
-        integer: *integer,
-    })
-}
-
-/// The option of the first choice, if that is made by the first member of the innermost structure, with numbers that
-/// 64 bits hold.
-fn option_of(variant: &Class) -> Option<FirstOption<'_>>
-    ensures { IfSome result
-        (λ chosen. IsFirstOption variant.now chosen.option.now chosen.first chosen.last) }
-{
-    let Kind::Variant {
-        tag,
-        choices,
-        options,
-    } = &variant.kind
-    else {
-        return None;
-    };
-    let choice = first_choice(tag, choices)?;
-    let options = options.as_slice();
-    if choice.option >= options.len() {
-        return None;
-    }
-    let first = unsigned(choice.span.first)?;
-    let last = unsigned(choice.span.last)?;
-    Some(FirstOption {
-        option: &options[choice.option],
-        first,
-        last,
-    })
-}
-
-/// The first choice, if it is made by the first member of the innermost structure.
-fn first_choice(tag: &Route, choices: &Choices) -> Option<Choice>
-    ensures { IfSome result (IsFirstChoice tag.now choices.now) }
-{
-    let Origin::Enclosing(out) = tag.origin else {
-        return None;
-    };
-    let [step] = tag.steps.as_slice() else {
-        return None;
-    };
-    if out != 0 || *step != 0 {
-        return None;
-    }
-    choices.first()
 }
 
 /// A number as one of 64 bits without a sign, if it is one.

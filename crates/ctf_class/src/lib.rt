@@ -41,7 +41,7 @@ pub use escape::escaped;
 pub use field_name::FieldName;
 pub use frequency::Frequency;
 pub use front_class::FrontClass;
-pub use header_plan::HeaderPlan;
+pub use header_plan::{HeaderIntegers, HeaderNumber, HeaderPlan, HeaderTag};
 pub use heading::Heading;
 pub use indexed::{HasId, Indexed};
 pub use integer::{Base, Integer};

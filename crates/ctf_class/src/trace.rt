@@ -60,7 +60,7 @@ pub struct StreamParts {
 #[derive(Drop)]
 pub struct StreamClass {
     parts: StreamParts,
-    /// The plan of event headers, where they are of the usual form.
+    /// The plan of event headers, where they are of a form that has one.
     header_plan: Option<HeaderPlan>,
     /// In the order of the event classes.
     plans: List<RecordPlan>,

@@ -10,5 +10,4 @@ pub mod Needs
 pub mod Beyond
 pub mod Numbered
 pub mod Moved
-pub mod Pairs
 pub mod ByteRows

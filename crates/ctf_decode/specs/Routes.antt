@@ -44,9 +44,3 @@ tag_of _ = None
 abbrev pub option_at : Route → List Choice → (Scope → Option Val) → Env → Option ℕ
 option_at tag choices earlier env =
     option_and_then (chosen choices) (tag_of (found tag earlier env))
-
--- whatever was decoded before, this option is named where the only member before it is an enumeration with this number
-abbrev pub FirstChooses : Route → List Choice → ℤ → ℕ → Type 0
-FirstChooses tag choices number i =
-    (earlier : Scope → Option Val) (outer : Env)
-    → option_at tag choices earlier ((label number ∷ []) ∷ outer) ≡ Some i

@@ -1,8 +1,7 @@
 //! What a route finds: lengths, tags and options.
 
-ghost use Rattle.std.specs.Prelude.{◌≡◌, [], ◌∷◌, map, option_map, option_and_then, slice_get, Some, IfSome, IsTrue};
+ghost use Rattle.std.specs.Prelude.{◌≡◌, map, option_map, option_and_then, slice_get, Some};
 ghost use Rattle.std.specs.Option.{option_copied};
-ghost use Rattle.ctf_class.specs.declared.route.Origin.TheVariants.{Enclosing};
 ghost use Rattle.ctf_decode.specs.Values as values;
 ghost use Rattle.ctf_decode.specs.Views.{val, env, earlier};
 ghost use Rattle.ctf_decode.specs.Routes as routes;
@@ -127,34 +126,6 @@ pub(crate) fn tag_of(value: &Value) -> Option<i128>
         return Some(*tag);
     }
     None
-}
-
-/// The option that a number chooses, where it is that of the only member before the variant and the variant's tag is
-/// that member.
-#[inline(always)]
-pub fn chosen_by_first(tag: &Route, choices: &Choices, number: i128) -> Option<usize>
-    ensures { IfSome result (routes.FirstChooses tag.now choices.now number) }
-{
-    if is_first(tag) {
-        choices.option(number)
-    } else {
-        None
-    }
-}
-
-/// Whether a route leads to the first member of the innermost structure.
-#[inline(always)]
-fn is_first(route: &Route) -> bool
-    ensures origin { IsTrue result → route.now.origin ≡ Enclosing 0 }
-    ensures steps { IsTrue result → route.now.steps ≡ 0 ∷ [] }
-{
-    let Origin::Enclosing(out) = route.origin else {
-        return false;
-    };
-    let [first] = route.steps.as_slice() else {
-        return false;
-    };
-    out == 0 && *first == 0
 }
 
 /// The option that a variant's tag names.

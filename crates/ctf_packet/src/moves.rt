@@ -273,7 +273,7 @@ fn set_by(timeline: &Timeline, integer: &Integer, value: &Value, told: &mut IdAn
 /// The moment that is reached where an integer of this value sets the clock, if it is one that sets it. `None` exactly
 /// where it is refused.
 #[inline(always)]
-pub fn moved_by_integer(
+fn moved_by_integer(
     timeline: &Timeline,
     integer: &Integer,
     value: &Value,

@@ -1,7 +1,6 @@
 //! Event records.
 
-ghost use Rattle.std.specs.Prelude.{◌≡◌, ◌<◌, ◌≤◌, ◌*◌, ◌^◌, map, length, Some, option_map, option_copied, IfOk, IfSome, OnOk};
-ghost use Rattle.ctf_class.specs.Records.{IsPlanOf, scopes_of};
+ghost use Rattle.std.specs.Prelude.{◌≡◌, ◌<◌, ◌≤◌, ◌*◌, ◌^◌, map, length, option_map, option_copied, IfOk, OnOk};
 ghost use Rattle.ctf_clock.specs.declared.moment.Shift.{Shift};
 ghost use Rattle.ctf_decode.specs.Known.{without_record};
 ghost use Rattle.ctf_decode.specs.Views.{form, val};
@@ -16,7 +15,7 @@ use crate::record_place::RecordPlace;
 use crate::scope::{ScopePlace, record_scope};
 use crate::scratch::Scratch;
 use crate::told::told_by;
-use ctf_class::{EventClass, PlannedEvent, Scope, StreamClass};
+use ctf_class::{EventClass, Scope, StreamClass};
 use ctf_clock::Moment;
 use ctf_decode::{Scopes, Value};
 use std::alloc::Global;
@@ -57,22 +56,6 @@ pub fn event_named(stream: &StreamClass, id: Option<i128>) -> Option<&EventClass
             }
             stream.event(id as u64)
         }
-    }
-}
-
-/// The event class that `event_named` gives, with the plan of its records.
-#[inline(always)]
-pub fn planned_named(stream: &StreamClass, id: Option<i128>) -> Option<PlannedEvent<'_>>
-    ensures event { IfSome result
-        (λ p. records.event_named (map (event_form stream.now) stream.now.events) id ≡
-        Some (event_form stream.now p.event.now)) }
-    ensures plan { IfSome result
-        (λ p. IsPlanOf (scopes_of stream.now.event_context p.event.now.context p.event.now.fields)
-        p.plan.now) }
-{
-    match id {
-        None => stream.planned_only(),
-        Some(id) => stream.planned_event(u64::try_from(id).ok()?),
     }
 }
 

@@ -1,5 +1,5 @@
 -- The header of an event record, from what was decoded of it.
-use Rattle.std.proofs.Common.{◌≡◌, ℕ, List, [], Option, Some, None, Result, Ok, option_map, refl, ap, subst, ◌∙◌}
+use Rattle.std.proofs.Common.{◌≡◌, ℕ, List, [], Option, Some, None, Result, Ok, option_map, pos, refl, ap, ◌∙◌}
 use Rattle.std.specs.List.{last_or}
 use Rattle.ctf_class.specs.declared.class.Class.{Class}
 use Rattle.ctf_class.specs.Streams.{StreamClass}
@@ -12,7 +12,7 @@ use Rattle.ctf_decode.specs.Values.{Val}
 use Rattle.ctf_decode.specs.Views.{form}
 use Rattle.ctf_decode.specs.Walk.{walk}
 use Rattle.ctf_record_text.specs.Headers.{Tells, TellsHead}
-use Rattle.ctf_record_text.specs.declared.header.Telling.{Telling}
+use Rattle.ctf_record_text.specs.declared.planned_header.HeaderRead.{HeaderRead}
 use Rattle.ctf_record_text.specs.declared.header.ToldHead.{ToldHead}
 use Rattle.ctf_packet.specs.Classes.{Classes, StreamForm, EventForm, stream_form, event_form}
 use Rattle.ctf_packet.specs.Moved.{moved}
@@ -56,34 +56,32 @@ module _ (stream : StreamForm Classes) (bytes : List ℕ) (content : ℕ) (value
       ∙ ap (λ r. stood fault_in_record r >>= (λ header. Ok None >>= after_clock (Some k) header)) stands
       ∙ ap (λ o. or_fault faults.UnknownEvent o >>= (λ event. Ok (record { event = event; clock = None; header = s }))) named
 
-pub tells_head : (class : StreamClass) (shift : Shift) (k : Class) (line : Line) (clock : Moment) (bytes : List ℕ) (content place : ℕ) (from to : Telling) (told : ToldHead)
-    → class.event_header ≡ Some k → (stream_form shift class).line ≡ Some line → from ≡ record { id = None; clock = clock; place = place; spent = 0 } → Tells (Some line) (form k) bytes content from to
-    → event_named (stream_form shift class).events to.id ≡ Some (event_form class told.head.event.now) → told.head.clock ≡ Some to.clock → told.head.end ≡ to.place → told.spent ≡ to.spent
+pub tells_head : (class : StreamClass) (shift : Shift) (k : Class) (line : Line) (clock : Moment) (bytes : List ℕ) (content place : ℕ) (to : HeaderRead) (told : ToldHead)
+    → class.event_header ≡ Some k → (stream_form shift class).line ≡ Some line → Tells (Some line) (form k) bytes content clock place to
+    → event_named (stream_form shift class).events (option_map pos to.id) ≡ Some (event_form class told.head.event.now) → told.head.clock ≡ Some to.clock → told.head.end ≡ to.place → told.spent ≡ to.values
     → TellsHead class (stream_form shift class) bytes content (Some clock) place told
-tells_head class shift k line clock bytes content place from to told has_class has_line begins tells named clock_is end_is spent_is values =
-    let start : Telling = record { id = None; clock = clock; place = place; spent = 0 } in
-    let t = subst (λ (x : Telling). Tells (Some line) (form k) bytes content x to) begins tells (value_in values) [] in
+tells_head class shift k line clock bytes content place to told has_class has_line tells named clock_is end_is spent_is values =
+    let t = tells (value_in values) [] in
     let id = ap (event_named (stream_form shift class).events) t.3 ∙ named in
-    let header : Stood = record { value = Some t.0; end = to.place; spent = to.spent } in (
+    let header : Stood = record { value = Some t.0; end = to.place; spent = to.values } in (
       record { event = event_form class told.head.event.now; clock = Some to.clock; header = header },
-      headed_is (stream_form shift class) bytes content values place (form k) line clock to.clock t.0 to.place to.spent (event_form class told.head.event.now) (ap (option_map form) has_class) has_line t.1 t.2 id,
+      headed_is (stream_form shift class) bytes content values place (form k) line clock to.clock t.0 to.place to.values (event_form class told.head.event.now) (ap (option_map form) has_class) has_line t.1 t.2 id,
       refl,
       clock_is,
       end_is,
       spent_is,
     )
 
-pub tells_untimed : (class : StreamClass) (shift : Shift) (k : Class) (clock : Option Moment) (start : Moment) (bytes : List ℕ) (content place : ℕ) (from to : Telling) (told : ToldHead)
-    → class.event_header ≡ Some k → (stream_form shift class).line ≡ None → from ≡ record { id = None; clock = start; place = place; spent = 0 } → Tells None (form k) bytes content from to
-    → event_named (stream_form shift class).events to.id ≡ Some (event_form class told.head.event.now) → told.head.clock ≡ None → told.head.end ≡ to.place → told.spent ≡ to.spent
+pub tells_untimed : (class : StreamClass) (shift : Shift) (k : Class) (clock : Option Moment) (start : Moment) (bytes : List ℕ) (content place : ℕ) (to : HeaderRead) (told : ToldHead)
+    → class.event_header ≡ Some k → (stream_form shift class).line ≡ None → Tells None (form k) bytes content start place to
+    → event_named (stream_form shift class).events (option_map pos to.id) ≡ Some (event_form class told.head.event.now) → told.head.clock ≡ None → told.head.end ≡ to.place → told.spent ≡ to.values
     → TellsHead class (stream_form shift class) bytes content clock place told
-tells_untimed class shift k clock start bytes content place from to told has_class no_line begins tells named clock_is end_is spent_is values =
-    let at : Telling = record { id = None; clock = start; place = place; spent = 0 } in
-    let t = subst (λ (x : Telling). Tells None (form k) bytes content x to) begins tells (value_in values) [] in
+tells_untimed class shift k clock start bytes content place to told has_class no_line tells named clock_is end_is spent_is values =
+    let t = tells (value_in values) [] in
     let id = ap (event_named (stream_form shift class).events) t.3 ∙ named in
-    let header : Stood = record { value = Some t.0; end = to.place; spent = to.spent } in (
+    let header : Stood = record { value = Some t.0; end = to.place; spent = to.values } in (
       record { event = event_form class told.head.event.now; clock = None; header = header },
-      untimed_is (stream_form shift class) bytes content values place (form k) clock t.0 to.place to.spent (event_form class told.head.event.now) (ap (option_map form) has_class) no_line t.1 id,
+      untimed_is (stream_form shift class) bytes content values place (form k) clock t.0 to.place to.values (event_form class told.head.event.now) (ap (option_map form) has_class) no_line t.1 id,
       refl,
       clock_is,
       end_is,

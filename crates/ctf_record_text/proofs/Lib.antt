@@ -1,6 +1,7 @@
+pub mod Bare
+pub mod Chosen
+pub mod Heading
+pub mod Planned
+pub mod Records
 pub mod Scopes
 pub mod Telling
-pub mod Heading
-pub mod Records
-pub mod Planned
-pub mod Bare

@@ -1,82 +1,55 @@
-//! Headers of event records that are decoded in place, without values in scopes.
+//! Headers of event records that are read without values in scopes.
 
-ghost use Rattle.std.specs.Prelude.{◌≡◌, ℕ, List, None, ◌<◌, ◌≤◌, ◌+◌, ◌*◌, ◌^◌, [], ◌∷◌, Some, length, IfSome, option_copied};
-ghost use Rattle.std.specs.Int.{next_multiple_of};
-ghost use Rattle.ctf_class.specs.Integers.{bits_of};
+ghost use Rattle.std.specs.Prelude.{◌≡◌, ◌≤◌, None, Some, map, option_map, option_copied, pos, IfSome};
+ghost use Rattle.ctf_class.specs.HeaderPlans.{IsHeaderPlan, IsHeaderPlanOf, IsNear};
 ghost use Rattle.ctf_class.specs.Records.{IsPlanOf, scopes_of};
-ghost use Rattle.ctf_decode.specs.Views.{form, val};
-ghost use Rattle.ctf_record_text.specs.Headers.{Tells, TellsMember, TellsMembers, TellsNumber, TellsAt, PlansRecords, StandsAsTag, begun, set_by};
-ghost use Rattle.ctf_record_text.specs.Planned.{begins_telling};
-ghost use Rattle.ctf_packet.specs.Moved.{moved_in};
+ghost use Rattle.ctf_class.specs.declared.class.Class.{Class};
+ghost use Rattle.ctf_packet.specs.Classes.{event_form};
+ghost use Rattle.ctf_packet.specs.Records as records;
+ghost use Rattle.ctf_decode.specs.Views.{form};
+ghost use Rattle.ctf_record_text.specs.Headers.{PlansRecords, Tells, TellsAt};
 
-use crate::planned_header::{PLANNED_VALUES, tell_planned};
-use ctf_bits::{sint_within, uint_within};
-use ctf_class::{Align, Class, Integer, Kind, Member, PlannedEvent, RecordPlan};
+use crate::planned_header::{HeaderRead, read_other, read_usual};
+use ctf_class::{HeaderPlan, PlannedEvent, RecordPlan, StreamClass};
 use ctf_clock::{Moment, Timeline};
-use ctf_decode::{MOST_VALUES, Value, chosen_by_first, named_id};
+use ctf_decode::MOST_VALUES;
 use ctf_format::Content;
-use ctf_packet::{Head, RecordPlace, moved_by_integer, planned_named};
+use ctf_packet::{Head, RecordPlace};
 
-/// How far a header was decoded.
-#[derive(Clone, Copy)]
-struct Telling {
-    /// The last number of a member named `id`.
-    id: Option<i128>,
-    clock: Moment,
-    /// In bits from the packet's first one.
-    place: u64,
-    /// How many values were begun.
-    spent: u64,
-}
-
-/// The number of a tag, and where it ends, in bits from the packet's first one.
-#[derive(Clone, Copy)]
-struct HeaderTag {
-    number: i128,
-    place: u64,
-}
-
-/// Where an integer begins and ends, in bits from the packet's first one.
-#[derive(Clone, Copy)]
-struct IntegerSpan {
-    begin: u64,
-    end: u64,
-}
-
-/// A header that was decoded, and how many values were begun for it.
+/// A header that was read, and how many values it has.
 #[derive(Clone, Copy)]
 pub(crate) struct ToldHead<'a> {
     pub(crate) head: Head<'a>,
     pub(crate) spent: u64,
 }
 
-/// A header that was decoded, with the plan of the records of its event class.
+/// A header that was read, with the plan of the records of its event class.
 #[derive(Clone, Copy)]
 pub(crate) struct PlannedHead<'a> {
     pub(crate) told: ToldHead<'a>,
     pub(crate) plan: &'a RecordPlan,
 }
 
-/// The header of the event record at a place (CTF 1.8.3, section 6.1), by its plan, or `by_class`. `None` where it
-/// can't be decoded so, and where it has a fault.
+/// The header of the event record at a place (CTF 1.8.3, section 6.1), by its plan. A usual one is of the plan's usual
+/// integers, has an `id`, and is in a packet with a clock. Where `unusual` is set, another one is asked for. `None`
+/// where the header is not such a one, where it has no plan, and where it has a fault.
 #[inline(always)]
-pub(crate) fn told_head<'a>(at: &RecordPlace<'_, 'a>, by_class: bool) -> Option<PlannedHead<'a>>
+pub(crate) fn told_head<'a>(at: &RecordPlace<'_, 'a>, unusual: bool) -> Option<PlannedHead<'a>>
     ensures tells { IfSome result (λ p. TellsAt at.now p.told) }
     ensures plan { IfSome result (PlansRecords at.now.packet.now) }
     ensures within { IfSome result (λ p. p.told.head.end ≤ at.now.packet.now.content) }
     ensures few { IfSome result (λ p. p.told.spent ≤ MOST_VALUES) }
 {
-    if by_class {
-        told_by_class(at)
+    if unusual {
+        told_unusual(at)
     } else {
-        told_by_plan(at)
+        told_usual(at)
     }
 }
 
-/// The header of the event record at a place (CTF 1.8.3, section 6.1), by its plan. `None` where there is none, where
-/// it does not hold, and where the header has a fault.
+/// The header of the event record at a place, if it is a usual one.
 #[inline(always)]
-fn told_by_plan<'a>(at: &RecordPlace<'_, 'a>) -> Option<PlannedHead<'a>>
+fn told_usual<'a>(at: &RecordPlace<'_, 'a>) -> Option<PlannedHead<'a>>
     ensures tells { IfSome result (λ p. TellsAt at.now p.told) }
     ensures plan { IfSome result (PlansRecords at.now.packet.now) }
     ensures within { IfSome result (λ p. p.told.head.end ≤ at.now.packet.now.content) }
@@ -85,109 +58,145 @@ fn told_by_plan<'a>(at: &RecordPlace<'_, 'a>) -> Option<PlannedHead<'a>>
     let packet = at.packet;
     let plan = packet.stream.header_plan()?;
     let timeline = packet.timeline.as_ref()?;
+    if !has_id(plan) {
+        return None;
+    }
     let content = Content {
         bytes: at.bytes,
         end: packet.content,
     };
-    let to = tell_planned(timeline, plan, &content, at.clock?, at.place)?;
-    let planned = packet.stream.planned_event(to.id)?;
-    let head = Head {
-        event: planned.event,
-        clock: Some(to.clock),
-        end: to.place,
-    };
-    Some(PlannedHead {
-        told: ToldHead {
-            head,
-            spent: PLANNED_VALUES,
-        },
-        plan: planned.plan,
-    })
+    let to = read_usual(Some(timeline), plan, &content, at.clock?, at.place)?;
+    let planned = packet.stream.planned_event(to.id?)?;
+    Some(head_of(planned, to, Some(to.clock)))
 }
 
-/// The header of the event record at a place (CTF 1.8.3, section 6.1). Only structures of integers are decoded, and
-/// those of an enumeration and a variant on it whose option is such a structure; and records without a header. `None`
-/// where the class is another one, and where the header has a fault.
+/// The header of the event record at a place, if it is no usual one.
 #[inline(always)]
-pub(crate) fn told_by_class<'a>(at: &RecordPlace<'_, 'a>) -> Option<PlannedHead<'a>>
+fn told_unusual<'a>(at: &RecordPlace<'_, 'a>) -> Option<PlannedHead<'a>>
     ensures tells { IfSome result (λ p. TellsAt at.now p.told) }
     ensures plan { IfSome result (PlansRecords at.now.packet.now) }
     ensures within { IfSome result (λ p. p.told.head.end ≤ at.now.packet.now.content) }
     ensures few { IfSome result (λ p. p.told.spent ≤ MOST_VALUES) }
 {
-    let Some(class) = at.packet.stream.event_header() else {
+    if at.packet.stream.event_header().is_none() {
         return told_bare(at);
-    };
+    }
+    let plan = at.packet.stream.header_plan()?;
     match &at.packet.timeline {
-        Some(timeline) => told_timed(at, class, timeline),
-        None => told_untimed(at, class),
+        None => told_untimed(at, plan),
+        Some(timeline) => told_timed(at, plan, timeline),
     }
 }
 
-/// The header of this class, where the packet has a clock.
+/// The header of the event record at a place in a packet with a clock.
 #[inline(always)]
 fn told_timed<'a>(
     at: &RecordPlace<'_, 'a>,
-    class: &Class,
+    plan: &HeaderPlan,
     timeline: &Timeline,
 ) -> Option<PlannedHead<'a>>
-    requires class { at.now.packet.now.stream.now.event_header ≡ Some class.now }
+    requires plan { IsHeaderPlanOf at.now.packet.now.stream.now.event_header (Some plan.now) }
     requires timeline { at.now.packet.now.timeline ≡ Some timeline.now }
     ensures tells { IfSome result (λ p. TellsAt at.now p.told) }
     ensures plan { IfSome result (PlansRecords at.now.packet.now) }
     ensures within { IfSome result (λ p. p.told.head.end ≤ at.now.packet.now.content) }
     ensures few { IfSome result (λ p. p.told.spent ≤ MOST_VALUES) }
 {
-    let from = begins_at(at.clock?, at.place);
-    let content = Content {
-        bytes: at.bytes,
-        end: at.packet.content,
-    };
-    let to = tell_header(Some(timeline), class, &content, from)?;
-    let planned = planned_named(at.packet.stream, to.id)?;
+    let to = read_unusual(at, plan, timeline, at.clock?)?;
+    let planned = planned_by(at.packet.stream, to.id)?;
     Some(head_of(planned, to, Some(to.clock)))
 }
 
-/// The header of this class, where the packet has no clock.
+/// The header of the event record at a place in a packet without a clock.
 #[inline(always)]
-fn told_untimed<'a>(at: &RecordPlace<'_, 'a>, class: &Class) -> Option<PlannedHead<'a>>
-    requires class { at.now.packet.now.stream.now.event_header ≡ Some class.now }
+fn told_untimed<'a>(at: &RecordPlace<'_, 'a>, plan: &HeaderPlan) -> Option<PlannedHead<'a>>
+    requires plan { IsHeaderPlanOf at.now.packet.now.stream.now.event_header (Some plan.now) }
     requires timeline { at.now.packet.now.timeline ≡ None }
     ensures tells { IfSome result (λ p. TellsAt at.now p.told) }
     ensures plan { IfSome result (PlansRecords at.now.packet.now) }
     ensures within { IfSome result (λ p. p.told.head.end ≤ at.now.packet.now.content) }
     ensures few { IfSome result (λ p. p.told.spent ≤ MOST_VALUES) }
 {
-    let from = begins_at(Moment { cycles: 0, time: 0 }, at.place);
+    let to = read_untimed(at, plan)?;
+    let planned = planned_by(at.packet.stream, to.id)?;
+    Some(head_of(planned, to, None))
+}
+
+/// Reads the header of the event record at a place in a packet with a clock, which came so far, if it is no usual one.
+#[inline(always)]
+fn read_unusual(
+    at: &RecordPlace<'_, '_>,
+    plan: &HeaderPlan,
+    timeline: &Timeline,
+    clock: Moment,
+) -> Option<HeaderRead>
+    requires near { IsNear plan.now }
+    ensures tells { IfSome result (λ to. (k : Class) → IsHeaderPlan plan.now k →
+        Tells (Some timeline.now) (form k) at.now.bytes.now at.now.packet.now.content clock
+        at.now.place to) }
+    ensures within { IfSome result (λ to. to.place ≤ at.now.packet.now.content) }
+    ensures few { IfSome result (λ to. to.values ≤ MOST_VALUES) }
+{
     let content = Content {
         bytes: at.bytes,
         end: at.packet.content,
     };
-    let to = tell_header(None, class, &content, from)?;
-    let planned = planned_named(at.packet.stream, to.id)?;
-    Some(head_of(planned, to, None))
+    if has_id(plan) {
+        return read_other(Some(timeline), plan, &content, clock, at.place);
+    }
+    read_usual(Some(timeline), plan, &content, clock, at.place)
 }
 
-/// What is decoded of the header at a place before its first member: nothing. `clock` is how far the clock came.
+/// Reads the header of the event record at a place in a packet without a clock.
 #[inline(always)]
-fn begins_at(clock: Moment, place: u64) -> Telling
-    ensures { result ≡ begins_telling clock place }
+fn read_untimed(at: &RecordPlace<'_, '_>, plan: &HeaderPlan) -> Option<HeaderRead>
+    requires near { IsNear plan.now }
+    ensures tells { IfSome result (λ to. (k : Class) → IsHeaderPlan plan.now k →
+        Tells None (form k) at.now.bytes.now at.now.packet.now.content
+        (record { cycles = 0; time = pos 0 }) at.now.place to) }
+    ensures within { IfSome result (λ to. to.place ≤ at.now.packet.now.content) }
+    ensures few { IfSome result (λ to. to.values ≤ MOST_VALUES) }
 {
-    Telling {
-        id: None,
-        clock,
-        place,
-        spent: 0,
+    let content = Content {
+        bytes: at.bytes,
+        end: at.packet.content,
+    };
+    let start = Moment { cycles: 0, time: 0 };
+    if let Some(to) = read_usual(None, plan, &content, start, at.place) {
+        return Some(to);
+    }
+    read_other(None, plan, &content, start, at.place)
+}
+
+/// Whether usual headers of a plan have a class number.
+#[inline(always)]
+fn has_id(plan: &HeaderPlan) -> bool {
+    plan.tag.is_some() || plan.usual.id.is_some()
+}
+
+/// The event class that a header names, with the plan of its records.
+#[inline(always)]
+fn planned_by(stream: &StreamClass, id: Option<u64>) -> Option<PlannedEvent<'_>>
+    ensures event { IfSome result
+        (λ p. records.event_named (map (event_form stream.now) stream.now.events)
+        (option_map pos id) ≡ Some (event_form stream.now p.event.now)) }
+    ensures plan { IfSome result
+        (λ p. IsPlanOf (scopes_of stream.now.event_context p.event.now.context p.event.now.fields)
+        p.plan.now) }
+{
+    match id {
+        Some(id) => stream.planned_event(id),
+        None => stream.planned_only(),
     }
 }
 
-/// The header that was decoded, of an event class, with the clock after it.
+/// The header that was read, of an event class, with the clock after it.
 #[inline(always)]
-fn head_of<'a>(planned: PlannedEvent<'a>, to: Telling, clock: Option<Moment>) -> PlannedHead<'a>
+fn head_of<'a>(planned: PlannedEvent<'a>, to: HeaderRead, clock: Option<Moment>) -> PlannedHead<'a>
     ensures event { result.told.head.event ≡ planned.entry.event }
     ensures clock { result.told.head.clock ≡ clock }
     ensures end { result.told.head.end ≡ to.place }
-    ensures spent { result.told.spent ≡ to.spent }
+    ensures spent { result.told.spent ≡ to.values }
     ensures plan { result.plan ≡ planned.entry.plan }
 {
     let head = Head {
@@ -198,7 +207,7 @@ fn head_of<'a>(planned: PlannedEvent<'a>, to: Telling, clock: Option<Moment>) ->
     PlannedHead {
         told: ToldHead {
             head,
-            spent: to.spent,
+            spent: to.values,
         },
         plan: planned.plan,
     }
@@ -213,7 +222,7 @@ fn told_bare<'a>(at: &RecordPlace<'_, 'a>) -> Option<PlannedHead<'a>>
     ensures within { IfSome result (λ p. p.told.head.end ≤ at.now.packet.now.content) }
     ensures few { IfSome result (λ p. p.told.spent ≤ MOST_VALUES) }
 {
-    let planned = planned_named(at.packet.stream, None)?;
+    let planned = planned_by(at.packet.stream, None)?;
     let clock = match &at.packet.timeline {
         Some(_timeline) => at.clock,
         None => None,
@@ -227,258 +236,4 @@ fn told_bare<'a>(at: &RecordPlace<'_, 'a>) -> Option<PlannedHead<'a>>
         told: ToldHead { head, spent: 0 },
         plan: planned.plan,
     })
-}
-
-/// Decodes the structure of a header.
-#[inline(always)]
-fn tell_header(
-    timeline: Option<&Timeline>,
-    class: &Class,
-    packet: &Content<'_>,
-    from: Telling,
-) -> Option<Telling>
-    requires start { from.place ≤ packet.now.end }
-    ensures tells { let content = packet.now in IfSome result
-        (Tells (option_copied timeline.entry) (form class.now) content.bytes.now content.end from) }
-    ensures within { IfSome result (λ to. (to.place ≤ packet.now.end) × (to.spent ≤ MOST_VALUES)) }
-{
-    let Kind::Structure { members } = &class.kind else {
-        return None;
-    };
-    let members = members.as_slice();
-    let at = begin(class.align, packet, from)?;
-    if let [tag, variant] = members {
-        if let Some(to) = tell_pair(timeline, tag, variant, packet, at) {
-            return Some(to);
-        }
-    }
-    tell_integers(timeline, members, packet, at)
-}
-
-/// Decodes a structure of integers.
-#[inline(always)]
-fn tell_structure(
-    timeline: Option<&Timeline>,
-    class: &Class,
-    packet: &Content<'_>,
-    from: Telling,
-) -> Option<Telling>
-    requires start { from.place ≤ packet.now.end }
-    ensures tells { let content = packet.now in IfSome result
-        (Tells (option_copied timeline.entry) (form class.now) content.bytes.now content.end from) }
-    ensures within { IfSome result (λ to. (to.place ≤ packet.now.end) × (to.spent ≤ MOST_VALUES)) }
-{
-    let Kind::Structure { members } = &class.kind else {
-        return None;
-    };
-    let at = begin(class.align, packet, from)?;
-    tell_integers(timeline, members.as_slice(), packet, at)
-}
-
-/// Begins a structure of this alignment.
-#[inline(always)]
-fn begin(align: Align, packet: &Content<'_>, from: Telling) -> Option<Telling>
-    requires start { from.place ≤ packet.now.end }
-    ensures begins { IfSome result (λ at. at ≡ begun align from) }
-    ensures few { IfSome result (λ at. at.spent ≤ MOST_VALUES) }
-    ensures within { IfSome result (λ at. at.place ≤ packet.now.end) }
-{
-    if from.spent >= MOST_VALUES {
-        return None;
-    }
-    let place = align.up(from.place);
-    if place > packet.end {
-        return None;
-    }
-    Some(Telling {
-        id: from.id,
-        clock: from.clock,
-        place,
-        spent: from.spent + 1,
-    })
-}
-
-/// Decodes an enumeration and a variant on it.
-#[inline(always)]
-fn tell_pair(
-    timeline: Option<&Timeline>,
-    tag: &Member,
-    variant: &Member,
-    packet: &Content<'_>,
-    from: Telling,
-) -> Option<Telling>
-    requires start { from.place ≤ packet.now.end }
-    requires few { from.spent ≤ MOST_VALUES }
-    ensures tells { let content = packet.now in IfSome result
-        (TellsMembers (option_copied timeline.entry) (tag.now ∷ variant.now ∷ [])
-        content.bytes.now content.end from) }
-    ensures within { IfSome result (λ to. (to.place ≤ packet.now.end) × (to.spent ≤ MOST_VALUES)) }
-{
-    let Kind::Enumeration { container, labels } = &tag.class.kind else {
-        return None;
-    };
-    let Kind::Variant {
-        tag: route,
-        choices,
-        options,
-    } = &variant.class.kind
-    else {
-        return None;
-    };
-    if from.spent + 1 >= MOST_VALUES {
-        return None;
-    }
-    let read = tag_at(container, tag.class.align, packet, from.place)?;
-    let i = chosen_by_first(route, choices, read.number)?;
-    let options = options.as_slice();
-    if i >= options.len() {
-        return None;
-    }
-    let mut id = from.id;
-    let value = Value::Label(read.number);
-    named_id(tag, &value, &mut id);
-    let at = Telling {
-        id,
-        clock: from.clock,
-        place: read.place,
-        spent: from.spent + 2,
-    };
-    tell_structure(timeline, &options[i].class, packet, at)
-}
-
-/// Reads the tag of a header's variant.
-#[inline(always)]
-fn tag_at(container: &Integer, align: Align, packet: &Content<'_>, place: u64) -> Option<HeaderTag>
-    requires start { place ≤ packet.now.end }
-    ensures stands { let content = packet.now in
-        IfSome result (StandsAsTag align container.now content.bytes.now content.end place) }
-    ensures within { IfSome result (λ tag. tag.place ≤ packet.now.end) }
-{
-    let bits = bits_at(container, align, packet, place)?;
-    let size = container.size.bits();
-    let number = if container.is_signed {
-        i128::from(sint_within(packet.bytes, bits.begin, size, container.order))
-    } else {
-        i128::from(uint_within(packet.bytes, bits.begin, size, container.order))
-    };
-    Some(HeaderTag {
-        number,
-        place: bits.end,
-    })
-}
-
-/// The bits of an integer that could begin at a place, if they lie within the content.
-#[inline(always)]
-fn bits_at(integer: &Integer, align: Align, packet: &Content<'_>, place: u64) -> Option<IntegerSpan>
-    requires start { place ≤ packet.now.end }
-    ensures begin { IfSome result (λ bits. bits.begin ≡ next_multiple_of place align) }
-    ensures end { IfSome result
-        (λ bits. bits.end ≡ next_multiple_of place align + bits_of integer.now) }
-    ensures within { IfSome result (λ bits. bits.end ≤ packet.now.end) }
-{
-    let begin = align.up(place);
-    let end = begin + u64::from(integer.size.bits());
-    if end > packet.end {
-        return None;
-    }
-    Some(IntegerSpan { begin, end })
-}
-
-/// Decodes members that are integers.
-#[inline(always)]
-fn tell_integers(
-    timeline: Option<&Timeline>,
-    members: &[Member],
-    packet: &Content<'_>,
-    from: Telling,
-) -> Option<Telling>
-    requires start { from.place ≤ packet.now.end }
-    requires few { from.spent ≤ MOST_VALUES }
-    ensures tells { let content = packet.now in IfSome result
-        (TellsMembers (option_copied timeline.entry) members.now content.bytes.now content.end
-        from) }
-    ensures within { IfSome result (λ to. (to.place ≤ packet.now.end) × (to.spent ≤ MOST_VALUES)) }
-{
-    let mut at = from;
-    for member in members {
-        at = tell_integer(timeline, member, packet, at)?;
-    }
-    Some(at)
-}
-
-/// Decodes a member, if it is an integer.
-#[inline(always)]
-fn tell_integer(
-    timeline: Option<&Timeline>,
-    member: &Member,
-    packet: &Content<'_>,
-    from: Telling,
-) -> Option<Telling>
-    requires start { from.place ≤ packet.now.end }
-    ensures tells { let content = packet.now in IfSome result
-        (TellsMember (option_copied timeline.entry) member.now content.bytes.now content.end from) }
-    ensures within { IfSome result (λ to. (to.place ≤ packet.now.end) × (to.spent ≤ MOST_VALUES)) }
-{
-    let Kind::Integer(integer) = &member.class.kind else {
-        return None;
-    };
-    if from.spent >= MOST_VALUES {
-        return None;
-    }
-    let bits = bits_at(integer, member.class.align, packet, from.place)?;
-    let size = integer.size.bits();
-    let after = Telling {
-        id: from.id,
-        clock: from.clock,
-        place: bits.end,
-        spent: from.spent + 1,
-    };
-    if integer.is_signed {
-        let value = Value::Signed(sint_within(packet.bytes, bits.begin, size, integer.order));
-        tell_number(timeline, member, integer, &value, after)
-    } else {
-        let value = Value::Unsigned(uint_within(packet.bytes, bits.begin, size, integer.order));
-        tell_number(timeline, member, integer, &value, after)
-    }
-}
-
-/// Takes in the value of a member that is this integer, after its bits.
-#[inline(always)]
-fn tell_number(
-    timeline: Option<&Timeline>,
-    member: &Member,
-    integer: &Integer,
-    value: &Value,
-    after: Telling,
-) -> Option<Telling>
-    ensures tells { IfSome result
-        (TellsNumber (option_copied timeline.entry) member.now integer.now (val value.now) after) }
-    ensures reached { IfSome result (λ to. (to.place ≡ after.place) × (to.spent ≡ after.spent)) }
-{
-    let mut id = after.id;
-    named_id(member, value, &mut id);
-    let clock = clock_after(timeline, integer, value, after.clock)?;
-    Some(Telling {
-        id,
-        clock,
-        place: after.place,
-        spent: after.spent,
-    })
-}
-
-/// The moment after an integer of this value, where there is a clock that it may set.
-#[inline(always)]
-fn clock_after(
-    timeline: Option<&Timeline>,
-    integer: &Integer,
-    value: &Value,
-    clock: Moment,
-) -> Option<Moment>
-    ensures { result ≡ set_by (option_copied timeline.entry) clock
-        (moved_in integer.now (val value.now)) }
-{
-    match timeline {
-        Some(timeline) => moved_by_integer(timeline, integer, value, clock),
-        None => Some(clock),
-    }
 }

@@ -11,7 +11,7 @@ ghost use Rattle.ctf_packet.specs.Views.{values_of, packet_values};
 ghost use Rattle.ctf_record_text.specs.Headers.{PlansRecords, TellsAt};
 ghost use Rattle.ctf_record_text.specs.Making.{Made, Makes, MakesValues, PutsBody, PutsRecord, PutsScope};
 
-use crate::header::{PlannedHead, ToldHead, told_by_class, told_head};
+use crate::header::{PlannedHead, ToldHead, told_head};
 use crate::part::PacketPart;
 use ctf_class::{Class, StreamClass};
 use ctf_decode::{MOST_VALUES, Scopes};
@@ -61,18 +61,18 @@ pub struct LineRecord<'a> {
 }
 
 /// The event record at a place (CTF 1.8.3, section 6), if it can be shown without its values. The values of the
-/// packet's header and context are in `scopes`. The header is decoded by its plan, or `by_class`. The text of the
-/// record is at the beginning of `line` then: the host, the name, the part that the lines of the packet share, and the
-/// scopes.
+/// packet's header and context are in `scopes`. The header is read by its plan: a usual one, or an `unusual` one. The
+/// text of the record is at the beginning of `line` then: the host, the name, the part that the lines of the packet
+/// share, and the scopes.
 ///
-/// `None` where the header can't be decoded so, where `put_standing` gives no text, where the record has a fault, and
+/// `None` where the header is not such a one, where `put_standing` gives no text, where the record has a fault, and
 /// where an allocation fails. The line is unspecified then.
 #[inline(always)]
 pub fn written_line<'a>(
     alloc: Global,
     at: &RecordPlace<'_, 'a>,
     scopes: &Scopes,
-    by_class: bool,
+    unusual: bool,
     line: &mut LineBuffer,
 ) -> Option<LineRecord<'a>>
     ensures makes { (shift : Shift) → IsTimed shift at.now.packet.now → IfSome result (λ r.
@@ -84,16 +84,16 @@ pub fn written_line<'a>(
     ensures text { IfSome result (λ r. IfSome r.text (λ end. end ≤ vec_len line.new.bytes)) }
 {
     keep_short(alloc, line);
-    let planned = told_head(at, by_class)?;
+    let planned = told_head(at, unusual)?;
     let head = planned.told.head;
     let standing = put_planned_body(at, planned, scopes, line)?;
     Some(with_text(head, standing))
 }
 
-/// The event record at a place (CTF 1.8.3, section 6), of which `written_line` made no text by its class. The values of
-/// the packet's header and context are in `scopes`. Where the class of the header alone was in the way, the text of the
-/// record is at the start of `line` then, as `written_line` makes it. Elsewhere the record's values are in `scopes`.
-/// The memory of `scratch` is used.
+/// The event record at a place (CTF 1.8.3, section 6), of which `written_line` made no text in either way. The values
+/// of the packet's header and context are in `scopes`. Where the header alone was in the way, the text of the record is
+/// at the start of `line` then, as `written_line` makes it. Elsewhere the record's values are in `scopes`. The memory of
+/// `scratch` is used.
 ///
 /// An error is the first fault of the record: F6 to F11, or `NoMemory`.
 #[inline(never)]
@@ -117,8 +117,8 @@ pub fn next_line<'a>(
     // A text that failed late keeps no long buffer beside the values.
     keep_short(alloc, line);
     let head = next_head(alloc, at, scratch, scopes)?;
-    // After a header that is decoded by its class, a text was tried before.
-    if told_by_class(at).is_none() {
+    // After a header that is read by its plan, a text was tried before.
+    if !is_planned(at) {
         let told = ToldHead {
             head,
             spent: scopes.spent(),
@@ -129,6 +129,12 @@ pub fn next_line<'a>(
     }
     let record = read_values(alloc, at, head, scratch, scopes)?;
     Ok(LineRecord { record, text: None })
+}
+
+/// Whether the header of the event record at a place is read by its plan.
+#[inline(never)]
+fn is_planned(at: &RecordPlace<'_, '_>) -> bool {
+    told_head(at, false).is_some() || told_head(at, true).is_some()
 }
 
 /// The event record of a header whose text was written.

@@ -69,7 +69,7 @@ pub(crate) struct WrittenRecord<'a> {
 impl<'a> PacketReader<'a> {
     /// The next item, if texts are asked for, and it is an event record that can be shown without its values: then its
     /// text is at the start of `line`. `scopes` has the values of the packet. Mostly that is the next item, so it is
-    /// apart from `next`. Its header is decoded by its plan, or `by_class`.
+    /// apart from `next`. Its header is a usual one, or an `unusual` one, as `written_line` tells them apart.
     ///
     /// `None` elsewhere: the packet is as it was then, and the line's text is unspecified.
     #[inline(always)]
@@ -77,7 +77,7 @@ impl<'a> PacketReader<'a> {
         &mut self,
         input: PacketInput<'_>,
         scopes: &Scopes,
-        by_class: bool,
+        unusual: bool,
         line: &mut LineBuffer,
     ) -> Option<PacketItem<'a>>
         requires within { Within input.buffer.now self.old }
@@ -97,7 +97,7 @@ impl<'a> PacketReader<'a> {
         ensures place { self.new.place ≤ self.new.opened.content }
         ensures none { IfNone result (self.new ≡ self.old) }
     {
-        if !input.writes || (!by_class && self.opened.stream.header_plan().is_none()) {
+        if !input.writes {
             return None;
         }
         if self.place >= self.opened.content {
@@ -114,7 +114,7 @@ impl<'a> PacketReader<'a> {
             clock: before,
             place: begin,
         };
-        let made = written_line(input.alloc, &at, scopes, by_class, line)?;
+        let made = written_line(input.alloc, &at, scopes, unusual, line)?;
         self.clock = made.record.clock;
         self.place = made.record.end;
         Some(front_of(made, before, begin))

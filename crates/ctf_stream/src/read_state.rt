@@ -87,10 +87,10 @@ impl<'a> ReadState<'a> {
     }
 
     /// The next item, if it is an event record of the packet at hand that can be shown without its values, where texts
-    /// are asked for: its header is decoded by its plan, or `by_class`. `None` elsewhere: then only the line is another
-    /// one.
+    /// are asked for: one with a usual header, or with an `unusual` one. `None` elsewhere: then only the line is
+    /// another one.
     #[inline(always)]
-    pub(crate) fn next_written(&mut self, alloc: Global, by_class: bool) -> Option<PacketItem<'a>>
+    pub(crate) fn next_written(&mut self, alloc: Global, unusual: bool) -> Option<PacketItem<'a>>
         requires stands { Stands self.old }
         requires shared { HasShared self.old }
         ensures { WritesNext self.old self.new result }
@@ -104,14 +104,14 @@ impl<'a> ReadState<'a> {
             buffer: &self.buffer,
             writes: self.writes,
         };
-        packet.next_written(input, &self.scopes, by_class, &mut self.line)
+        packet.next_written(input, &self.scopes, unusual, &mut self.line)
     }
 
-    /// The next item, as `next_written` gives it by the class of its header. Mostly that is told by its plan, so this
-    /// is kept out of the way.
+    /// The next item, as `next_written` gives it for an unusual header. Mostly that is a usual one, so this is kept out
+    /// of the way.
     #[cold]
     #[inline(never)]
-    fn next_by_class(&mut self, alloc: Global) -> Option<PacketItem<'a>>
+    fn next_unusual(&mut self, alloc: Global) -> Option<PacketItem<'a>>
         requires stands { Stands self.old }
         requires shared { HasShared self.old }
         ensures { WritesNext self.old self.new result }
@@ -119,7 +119,7 @@ impl<'a> ReadState<'a> {
         self.next_written(alloc, true)
     }
 
-    /// The next item, out of a source, where `next_written` gave none `by_class`. `None` where the stream ends.
+    /// The next item, out of a source, where `next_written` gave none in either way. `None` where the stream ends.
     ///
     /// An error is the fault of the stream after the items before, or `NoMemory`.
     #[inline(always)]
@@ -166,7 +166,7 @@ impl<'a> ReadState<'a> {
             if let Some(front) = self.next_written(alloc, false) {
                 return Ok(Some(front));
             }
-            if let Some(front) = self.next_by_class(alloc) {
+            if let Some(front) = self.next_unusual(alloc) {
                 return Ok(Some(front));
             }
         }

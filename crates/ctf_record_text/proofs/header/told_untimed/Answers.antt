@@ -5,8 +5,9 @@ use Rattle.ctf_record_text.proofs.header.told_untimed.Goals as goal
 
 pub returns-clause-tells : goal.returns-clause-tells
 returns-clause-tells c = λ shift has_line.
-    let class = c.args.at.now.packet.now.stream.now in
-    let to = c.in_ok-to.to in
+    let at = c.args.at.now in
+    let class = at.packet.now.stream.now in
+    let is = c.requires.plan in
     let h = c.head_of.ensures in
     let named = c.in_ok-planned.ensures.event ∙ ap (λ e. Some (event_form class e.now)) (sym h.event) in
-    tells_untimed class shift c.args.class.now c.args.at.now.clock (record { cycles = 0; time = pos 0 }) c.args.at.now.bytes.now c.args.at.now.packet.now.content c.args.at.now.place c.begins_at-from.result to c.head_of.result.told c.requires.class (sym has_line ∙ c.requires.timeline) c.begins_at-from.ensures c.in_ok-to.ensures.tells named h.clock h.end h.spent
+    tells_untimed class shift is.0 at.clock (record { cycles = 0; time = pos 0 }) at.bytes.now at.packet.now.content at.place c.in_ok-to.to c.head_of.result.told is.1 (sym has_line ∙ c.requires.timeline) (c.in_ok-to.ensures.tells is.0 is.2) named h.clock h.end h.spent

@@ -39,7 +39,7 @@ returns-in_err-record-clause-makes c = λ shift timed.
     let f = c.in_err-record.field-0.0 in
     let is : c.from_residual-in_err-record.result ≡ Err f = search rules in
     let known = c.next_head.new.scopes in
-    subst (λ r. Makes o.stream.now (record_there shift old at) c.args.line.now.part c.read_values.new.scopes c.if-is_none.line.bytes.items r) (sym is)
+    subst (λ r. Makes o.stream.now (record_there shift old at) c.args.line.now.part c.read_values.new.scopes c.if-not-is_planned.line.bytes.items r) (sym is)
     (fault_made shift o old at.bytes.now c.args.line.now.part at.clock at.place c.in_ok-head.head (values_of known) known.spent c.read_values.new.scopes f (c.in_ok-head.ensures.puts shift timed) c.in_err-record.ensures.values)
 
 pub returns-clause-makes : goal.returns-clause-makes
