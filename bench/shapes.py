@@ -99,6 +99,13 @@ LARGE = Header(
     " variant <id> { struct { stamp32 timestamp; } compact; struct { u32 id; stamp64 timestamp; } extended; } v;",
     lambda order, number, cycles: struct.pack("<HI", number, cycles % 2**32),
 )
+LARGE_ALIGNED = Header(
+    "enum : integer { size = 16; align = 16; } { compact = 0 ... 65534, extended = 65535 } id;"
+    " variant <id> { struct { integer { size = 32; align = 32; map = clock.m.value; } timestamp; } compact;"
+    " struct { wide32 id; integer { size = 64; align = 64; map = clock.m.value; } timestamp; } extended; } v;",
+    lambda order, number, cycles: struct.pack("<HxxI", number, cycles % 2**32),
+    2,
+)
 PLAIN = Header("u32 id; stamp64 timestamp;", lambda order, number, cycles: struct.pack("<IQ", number, cycles))
 OF_64_BITS = Header("u64 id; stamp64 timestamp;", lambda order, number, cycles: struct.pack("<QQ", number, cycles))
 STAMP_FIRST = Header("stamp48 timestamp; u16 id;", lambda order, number, cycles: struct.pack("<Q", cycles | number << 48), 8)
@@ -272,6 +279,7 @@ COMPOUNDS = [
 HEADERS = [
     Shape("the extended header of LTTng", THREE, EXTENDED),
     Shape("the large header of LTTng", THREE, LARGE),
+    Shape("the same, aligned on its integers", THREE, LARGE_ALIGNED),
     Shape("a plain header", THREE, PLAIN),
     Shape("a plain header of 64 bits, a string", text_of(24), OF_64_BITS),
     Shape("a stamp of 48 bits, then an id", words(2, "u64", "Q"), STAMP_FIRST),
