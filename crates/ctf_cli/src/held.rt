@@ -1,10 +1,13 @@
 //! Bytes that are held back.
 
-ghost use Rattle.std.specs.Prelude.{◌≡◌, ◌+◌, ◌++◌, ◌<◌, ◌≤◌, [], length, take, drop, IfOk, OnOk, OnErr};
+ghost use Rattle.std.specs.Prelude.{◌≡◌, ◌+◌, ◌++◌, ◌<◌, ◌≤◌, [], false, length, take, drop, IfOk, IsTrue, OnOk, OnErr};
 ghost use Rattle.std.specs.Io.KnownBytes.{Consumes, Keeps, IsAtEnd};
+ghost use Rattle.ctf_log.specs.Texts.{text_line};
 
 use crate::interrupts::read_uninterrupted;
 use ctf_list::NoMemory;
+use ctf_log::Printer;
+use ctf_stream::EventText;
 use std::alloc::Global;
 use std::io::{self, Read};
 use std::marker::Model;
@@ -86,6 +89,26 @@ impl Held {
     {
         put_bytes(bytes, &mut self.room, self.end);
         self.end += bytes.len();
+    }
+
+    /// Holds the line of an event record that a printer makes out of its text, if there is room for it. Whether it does.
+    #[inline(always)]
+    pub(crate) fn put_line(
+        &mut self,
+        printer: &mut Printer,
+        event: &EventText<'_>,
+        last: Option<i64>,
+    ) -> bool
+        ensures bytes { IsTrue result →
+            self.new.bytes ≡ self.old.bytes ++ text_line printer.old.style last event.now }
+        ensures none { result ≡ false → self.new ≡ self.old }
+        ensures style { printer.new.style ≡ printer.old.style }
+    {
+        let Some(end) = printer.put_line(event, last, &mut self.room, self.end) else {
+            return false;
+        };
+        self.end = end;
+        true
     }
 
     /// Holds what a reader gives at once, up to the room, where nothing is held, and answers how many bytes.

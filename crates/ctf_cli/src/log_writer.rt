@@ -11,7 +11,9 @@ use crate::held::Held;
 use crate::interrupts::Retrying;
 use ctf_bits::{Sink, SinkFault};
 use ctf_list::NoMemory;
+use ctf_log::Printer;
 use ctf_run::Log;
+use ctf_stream::EventText;
 use std::alloc::Global;
 use std::io::Write;
 
@@ -154,5 +156,15 @@ impl<O: Write + Drop> Log for LogWriter<O> {
             Ok(()) => Ok(()),
             Err(_) => Err(self.fail()),
         }
+    }
+
+    #[inline(always)]
+    fn put_line(
+        &mut self,
+        printer: &mut Printer,
+        event: &EventText<'_>,
+        last: Option<i64>,
+    ) -> bool {
+        self.held.put_line(printer, event, last)
     }
 }

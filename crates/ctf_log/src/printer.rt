@@ -1,13 +1,11 @@
 //! Lines of items.
 
-ghost use Rattle.std.specs.Prelude.{◌≡◌, ◌+◌, ◌++◌, ◌≤◌, ℕ, List, [], length, take, vec_len, IfOk, OnOk, OnErr};
+ghost use Rattle.std.specs.Prelude.{◌≡◌, ◌+◌, ◌++◌, ◌≤◌, ℕ, List, [], length, take, vec_len, IfNone, IfOk, IfSome, OnOk, OnErr};
 ghost use Rattle.ctf_class.specs.declared.trace.TraceClass.{TraceClass};
 ghost use Rattle.ctf_format.specs.Put.{IsPut};
 ghost use Rattle.ctf_record_text.specs.Texts.{body_text, event_text};
 ghost use Rattle.ctf_log.specs.Lines as lines;
-ghost use Rattle.ctf_log.specs.Texts.{event_text_of};
-ghost use Rattle.ctf_packet.specs.Classes.{Classes};
-ghost use Rattle.ctf_packet.specs.Items as items;
+ghost use Rattle.ctf_log.specs.Texts.{event_text_of, text_line};
 ghost use Rattle.ctf_timestamp.specs.Stamps.{stamp_part};
 ghost use Rattle.ctf_stream.specs.Shown.{event_of, gap_of, item_of, PartIsRight, IsOf};
 
@@ -20,6 +18,9 @@ use ctf_stream::{Event, EventText, Gap, Item};
 use ctf_timestamp::{MOST_PART, Stamper, Style};
 use std::alloc::Global;
 use std::marker::Model;
+
+/// How many bytes of a line are around the text of an event record at the most: the stamp and the newline.
+const AROUND_TEXT: usize = MOST_PART + 1;
 
 /// Makes the lines of items, one after the other, in memory that it keeps. Contracts see its style and the
 /// text of the last line.
@@ -82,16 +83,44 @@ impl Printer {
     /// Makes the line of an event record, with its newline, out of the text of the event record. At an error there is
     /// no text.
     pub fn print_text(&mut self, event: &EventText<'_>, last: Option<i64>) -> Result<(), NoMemory>
-        ensures line { (e : items.Event Classes) → event.now.moment ≡ e.clock →
-            event.now.text.now ≡ event_text e →
-            OnOk result (self.new.text ≡ lines.event_line self.old.style last e) }
+        ensures line { OnOk result
+            (self.new.text ≡ text_line self.old.style last event.now) }
         ensures refused { OnErr result (self.new.text ≡ []) }
         ensures style { self.new.style ≡ self.old.style }
     {
-        let stamper = &mut self.stamper;
         self.end = 0;
-        self.end = put_text(stamper, event, last, &mut self.line)?;
+        let Some(need) = event.text.len().checked_add(AROUND_TEXT) else {
+            return Err(NoMemory);
+        };
+        with_room(need, &mut self.line, 0)?;
+        self.end = put_text(&mut self.stamper, event, last, self.line.as_mut_slice(), 0);
         Ok(())
+    }
+
+    /// Makes the line of an event record, as `print_text` does, at an index of memory that another one has for lines,
+    /// and gives the index after it. What is before the index is kept. `None` where the memory may be too short; then
+    /// nothing is written.
+    #[inline(always)]
+    pub fn put_line(
+        &mut self,
+        event: &EventText<'_>,
+        last: Option<i64>,
+        memory: &mut [u8],
+        at: usize,
+    ) -> Option<usize>
+        requires { at ≤ length memory.old }
+        ensures line { IfSome result (λ end. take end memory.new ≡
+            take at memory.old ++ text_line self.old.style last event.now) }
+        ensures within { IfSome result (λ end. (at ≤ end) × (end ≤ length memory.new)) }
+        ensures length { length memory.new ≡ length memory.old }
+        ensures none { IfNone result (memory.new ≡ memory.old) }
+        ensures style { self.new.style ≡ self.old.style }
+    {
+        let room = memory.len() - at;
+        if room < AROUND_TEXT || event.text.len() > room - AROUND_TEXT {
+            return None;
+        }
+        Some(put_text(&mut self.stamper, event, last, memory, at))
     }
 
     /// The text of the last line.
@@ -154,27 +183,27 @@ fn put_event(
     Ok(end + 1)
 }
 
-/// Writes the line of an event record at the beginning of a buffer, out of its text, and gives its length.
+/// Writes the line of an event record, out of its text, at an index of a line that has room for it, and gives the index
+/// after it.
+#[inline(always)]
 fn put_text(
     stamper: &mut Stamper,
     event: &EventText<'_>,
     last: Option<i64>,
-    line: &mut Vec<u8>,
-) -> Result<usize, NoMemory>
-    ensures put { let stamp = stamp_part stamper.old event.now.moment last in
-        let piece = stamp ++ (event.now.text.now ++ lines.newline) in
-        IfOk result (IsPut line.old 0 piece line.new) }
+    line: &mut [u8],
+    at: usize,
+) -> usize
+    requires { at + length event.now.text.now + AROUND_TEXT ≤ length line.old }
+    ensures text { take result line.new ≡
+        take at line.old ++ text_line stamper.old last event.now }
+    ensures within { result ≤ length line.new }
+    ensures length { length line.new ≡ length line.old }
     ensures style { stamper.new ≡ stamper.old }
 {
-    with_room(MOST_PART, line, 0)?;
-    let begin = stamper.put_part(event.moment, last, line.as_mut_slice(), 0);
-    let Some(need) = event.text.len().checked_add(1) else {
-        return Err(NoMemory);
-    };
-    with_room(need, line, begin)?;
-    let after = put_bytes(event.text, line.as_mut_slice(), begin);
+    let begin = stamper.put_part(event.moment, last, line, at);
+    let after = put_bytes(event.text, line, begin);
     line[after] = b'\n';
-    Ok(after + 1)
+    after + 1
 }
 
 /// Writes bytes at an index of a line that has room for them, and gives the index after them.

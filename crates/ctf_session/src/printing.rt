@@ -60,6 +60,10 @@ pub(crate) fn print_text<W: Log>(
     ensures style { printer.new.style ≡ printer.old.style }
     ensures tells { IsTrue (W.tells out.old) → IsTrue (W.tells out.new) }
 {
+    // Mostly the line is made where the log holds it back, so that it is not copied there.
+    if out.put_line(printer, event, last) {
+        return None;
+    }
     match printer.print_text(event, last) {
         Ok(()) => stop_of(put_all(out, printer.text())),
         Err(_refused) => Some(Stop::NoMemory),
