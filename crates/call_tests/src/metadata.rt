@@ -9,6 +9,7 @@
 mod class;
 mod count;
 mod faults;
+mod header;
 mod integer;
 mod outcome;
 mod owners;

@@ -1,6 +1,7 @@
 //! Trace classes as lines.
 
 use crate::metadata::class::put_class;
+use crate::metadata::header::put_plan;
 use crate::row::Row;
 use ctf_class::{Class, Clock, EventClass, HasId, StreamClass, TraceClass};
 
@@ -31,7 +32,7 @@ fn put_stream(row: &mut Row<'_>, stream: &StreamClass) {
     }
     row.put(b"\n");
     put_scope(row, b"packet.context", stream.packet_context());
-    put_scope(row, b"event.header", stream.event_header());
+    put_event_header(row, stream);
     put_scope(row, b"event.context", stream.event_context());
     for event in stream.events() {
         put_event(row, event);
@@ -55,14 +56,28 @@ fn put_event(row: &mut Row<'_>, event: &EventClass) {
     put_scope(row, b"fields", Some(event.fields()));
 }
 
+/// Puts the line of the event headers, where they are declared.
+fn put_event_header(row: &mut Row<'_>, stream: &StreamClass) {
+    if let Some(class) = stream.event_header() {
+        put_scope_class(row, b"event.header", class);
+        put_plan(row, stream.header_plan());
+        row.put(b"\n");
+    }
+}
+
 /// Puts the line of a scope, where it is declared.
 fn put_scope(row: &mut Row<'_>, scope: &[u8], class: Option<&Class>) {
     if let Some(class) = class {
-        row.put(scope);
-        row.put_number(b" of depth ", class.depth as i128);
-        row.put_number(b" with ", class.nodes as i128);
-        row.put(b" classes: ");
-        put_class(row, class);
+        put_scope_class(row, scope, class);
         row.put(b"\n");
     }
+}
+
+/// Puts a scope and its class.
+fn put_scope_class(row: &mut Row<'_>, scope: &[u8], class: &Class) {
+    row.put(scope);
+    row.put_number(b" of depth ", class.depth as i128);
+    row.put_number(b" with ", class.nodes as i128);
+    row.put(b" classes: ");
+    put_class(row, class);
 }
