@@ -38,9 +38,10 @@ use std::alloc::Global;
 /// The longest packet, in bytes.
 const LONGEST_BYTES: usize = 268_435_456;
 
-/// A header and context that take more bits, or have more values, are large.
+/// A header and context that take more bits are large.
 const LONGEST_SMALL: u64 = 32_768;
 
+/// A header and context that have more values are large.
 const MOST_SMALL: u64 = 256;
 
 /// The longest stream, in bytes.
