@@ -16,7 +16,7 @@ pub use ctf_class::{Class, EventClass, Kind, Member, Scope, StreamClass, TraceCl
 pub use ctf_clock::{Moment, Shift};
 pub use ctf_decode::Value;
 pub use ctf_list::{List, NoMemory, Text};
-pub use ctf_log::line;
+pub use ctf_log::{Printer, line};
 pub use ctf_merge::Merge;
 pub use ctf_options::{Options, Usage, options_of, stream_names};
 pub use ctf_packet::StreamFault;

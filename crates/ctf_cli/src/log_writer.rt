@@ -21,7 +21,7 @@ use std::io::Write;
 #[derive(Drop)]
 pub struct LogWriter<O: Write + Drop> {
     writer: Retrying<O>,
-    /// What is held back from the writer. Mostly a line is only copied there.
+    /// What is held back from the writer. Mostly a line is made there.
     held: Held,
     failures: u64,
 }

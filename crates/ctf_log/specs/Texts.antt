@@ -1,4 +1,4 @@
--- The texts of event records by reference.
+-- The texts of event records by reference, and the lines of those that were read as texts.
 use Rattle.std.specs.Prelude.{ℕ, ℤ, List, ◌++◌, Option, unwrap_or, option_copied, option_map}
 use Rattle.ctf_decode.specs.Views.{val}
 use Rattle.ctf_format.specs.Lines.{packet_part}

@@ -23,7 +23,7 @@ use std::marker::Model;
 const AROUND_TEXT: usize = MOST_PART + 1;
 
 /// Makes the lines of items, one after the other, in memory that it keeps. Contracts see its style and the
-/// text of the last line.
+/// text of the last line there.
 #[derive(Drop)]
 pub struct Printer {
     alloc: Global,
@@ -123,7 +123,7 @@ impl Printer {
         Some(put_text(&mut self.stamper, event, last, memory, at))
     }
 
-    /// The text of the last line.
+    /// The text of the last line that was made in its memory.
     pub fn text(&self) -> &[u8]
         ensures { result.now ≡ self.now.text }
     {
