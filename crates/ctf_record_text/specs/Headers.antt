@@ -2,8 +2,11 @@
 use Rattle.std.specs.Prelude.{◌≡◌, ℕ, pos, List, Option, Some, None, Ok, option_map}
 use Rattle.std.specs.List.{last_or}
 use Rattle.ctf_class.specs.declared.route.Scope.{Scope}
+use Rattle.ctf_class.specs.HeaderPlans.{IsHeaderPlan}
 use Rattle.ctf_class.specs.Records.{IsPlanOf, scopes_of}
 use Rattle.ctf_class.specs.Streams.{StreamClass}
+use Rattle.ctf_class.specs.declared.class.Class.{Class}
+use Rattle.ctf_class.specs.declared.header_plan.HeaderPlan.{HeaderPlan}
 use Rattle.ctf_clock.specs.Clock.{Line, advanced_by}
 use Rattle.ctf_clock.specs.declared.moment.Moment.{Moment}
 use Rattle.ctf_clock.specs.declared.moment.Shift.{Shift}
@@ -11,6 +14,7 @@ use Rattle.ctf_decode.specs.Fields.{ids}
 use Rattle.ctf_decode.specs.Forms.{Form}
 use Rattle.ctf_decode.specs.Input.{Env}
 use Rattle.ctf_decode.specs.Values.{Val}
+use Rattle.ctf_decode.specs.Views.{form}
 use Rattle.ctf_decode.specs.Walk.{walk}
 use Rattle.ctf_record_text.specs.declared.header.PlannedHead.{PlannedHead}
 use Rattle.ctf_record_text.specs.declared.header.ToldHead.{ToldHead}
@@ -38,6 +42,11 @@ Tells line k packet content clock place to =
     × (walk k (among packet content earlier) env place 0 ≡ Ok (v, to.place, to.values))
     × (set_by line clock (moved k v) ≡ Some to.clock)
     × (last_or None (ids k v) ≡ option_map pos to.id)
+
+-- so of each header whose plan this is
+abbrev pub TellsPlanned : Option Line → HeaderPlan → List ℕ → ℕ → Moment → ℕ → HeaderRead → Type 0
+TellsPlanned line plan packet content clock place to =
+    (k : Class) → IsHeaderPlan plan k → Tells line (form k) packet content clock place to
 
 -- the clock of a stream that has one, where nothing sets it
 abbrev pub clock_kept : Option Line → Option Moment → Option Moment

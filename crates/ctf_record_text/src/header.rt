@@ -1,13 +1,11 @@
 //! Headers of event records that are read without values in scopes.
 
 ghost use Rattle.std.specs.Prelude.{◌≡◌, ◌≤◌, None, Some, map, option_map, option_copied, pos, IfSome};
-ghost use Rattle.ctf_class.specs.HeaderPlans.{IsHeaderPlan, IsHeaderPlanOf, IsNear};
+ghost use Rattle.ctf_class.specs.HeaderPlans.{IsHeaderPlanOf, IsNear};
 ghost use Rattle.ctf_class.specs.Records.{IsPlanOf, scopes_of};
-ghost use Rattle.ctf_class.specs.declared.class.Class.{Class};
 ghost use Rattle.ctf_packet.specs.Classes.{event_form};
 ghost use Rattle.ctf_packet.specs.Records as records;
-ghost use Rattle.ctf_decode.specs.Views.{form};
-ghost use Rattle.ctf_record_text.specs.Headers.{PlansRecords, Tells, TellsAt};
+ghost use Rattle.ctf_record_text.specs.Headers.{PlansRecords, TellsAt, TellsPlanned};
 
 use crate::planned_header::{HeaderRead, read_other, read_usual};
 use ctf_class::{HeaderPlan, PlannedEvent, RecordPlan, StreamClass};
@@ -131,9 +129,8 @@ fn read_unusual(
     clock: Moment,
 ) -> Option<HeaderRead>
     requires near { IsNear plan.now }
-    ensures tells { IfSome result (λ to. (k : Class) → IsHeaderPlan plan.now k →
-        Tells (Some timeline.now) (form k) at.now.bytes.now at.now.packet.now.content clock
-        at.now.place to) }
+    ensures tells { IfSome result (λ to. TellsPlanned (Some timeline.now) plan.now
+        at.now.bytes.now at.now.packet.now.content clock at.now.place to) }
     ensures within { IfSome result (λ to. to.place ≤ at.now.packet.now.content) }
     ensures few { IfSome result (λ to. to.values ≤ MOST_VALUES) }
 {
@@ -151,9 +148,8 @@ fn read_unusual(
 #[inline(always)]
 fn read_untimed(at: &RecordPlace<'_, '_>, plan: &HeaderPlan) -> Option<HeaderRead>
     requires near { IsNear plan.now }
-    ensures tells { IfSome result (λ to. (k : Class) → IsHeaderPlan plan.now k →
-        Tells None (form k) at.now.bytes.now at.now.packet.now.content
-        (record { cycles = 0; time = pos 0 }) at.now.place to) }
+    ensures tells { IfSome result (λ to. TellsPlanned None plan.now at.now.bytes.now
+        at.now.packet.now.content (record { cycles = 0; time = pos 0 }) at.now.place to) }
     ensures within { IfSome result (λ to. to.place ≤ at.now.packet.now.content) }
     ensures few { IfSome result (λ to. to.values ≤ MOST_VALUES) }
 {

@@ -2,12 +2,10 @@
 
 ghost use Rattle.std.specs.Prelude.{◌≡◌, ◌+◌, ◌*◌, ◌/◌, ◌%◌, ◌^◌, ◌≤◌, length, IfSome, option_copied};
 ghost use Rattle.std.specs.Int.{next_multiple_of};
-ghost use Rattle.ctf_class.specs.HeaderPlans.{AreNear, IsHeaderPlan, IsNear, IsRead};
+ghost use Rattle.ctf_class.specs.HeaderPlans.{AreNear, IsNear, IsRead};
 ghost use Rattle.ctf_class.specs.Integers.{bits_of};
-ghost use Rattle.ctf_class.specs.declared.class.Class.{Class};
-ghost use Rattle.ctf_decode.specs.Views.{form};
 ghost use Rattle.ctf_decode.specs.declared.scopes.TheConstants.{MOST_VALUES};
-ghost use Rattle.ctf_record_text.specs.Headers.{Tells};
+ghost use Rattle.ctf_record_text.specs.Headers.{TellsPlanned};
 ghost use Rattle.ctf_record_text.specs.Planned as planned;
 ghost use Rattle.ctf_record_text.specs.Planned.{ReadsIntegers};
 
@@ -51,9 +49,8 @@ pub(crate) fn read_usual(
     requires start { place ≤ packet.now.end }
     requires near { IsNear plan.now }
     ensures tells { let content = packet.now in
-        IfSome result (λ to. (k : Class) → IsHeaderPlan plan.now k →
-        Tells (option_copied timeline.entry) (form k) content.bytes.now content.end clock place
-        to) }
+        IfSome result (λ to. TellsPlanned (option_copied timeline.entry) plan.now
+        content.bytes.now content.end clock place to) }
     ensures within { IfSome result (λ to. to.place ≤ packet.now.end) }
     ensures few { IfSome result (λ to. to.values ≤ MOST_VALUES) }
 {
@@ -87,9 +84,8 @@ pub(crate) fn read_other(
     requires start { place ≤ packet.now.end }
     requires near { IsNear plan.now }
     ensures tells { let content = packet.now in
-        IfSome result (λ to. (k : Class) → IsHeaderPlan plan.now k →
-        Tells (option_copied timeline.entry) (form k) content.bytes.now content.end clock place
-        to) }
+        IfSome result (λ to. TellsPlanned (option_copied timeline.entry) plan.now
+        content.bytes.now content.end clock place to) }
     ensures within { IfSome result (λ to. to.place ≤ packet.now.end) }
     ensures few { IfSome result (λ to. to.values ≤ MOST_VALUES) }
 {
