@@ -260,6 +260,7 @@ COMPOUNDS = [
         words(4)._replace(text="struct { u32 a; struct { u32 b; struct { u32 c; } x; } y; } z; u32 d;"),
         COMPACT,
     ),
+    Shape("a structure of integers", words(4)._replace(text="struct { u32 a; u32 b; } x; u32 c; u32 d;"), COMPACT),
     Shape("an empty structure", words(1)._replace(text="struct { } a; u32 b;"), COMPACT),
     Shape("an array", words(4)._replace(text="u32 a[4];"), COMPACT),
     Shape("an array of structures", words(8)._replace(text="struct { u32 x; u32 y; } a[4];"), COMPACT),

@@ -8,9 +8,13 @@ use Rattle.ctf_class.specs.declared.class.Member.{Member}
 use Rattle.ctf_class.specs.declared.record_plan.PlannedField.{PlannedField}
 use Rattle.ctf_class.specs.declared.record_plan.PlanBuilder.{PlanBuilder}
 use Rattle.ctf_class.specs.declared.record_plan.PlannedRun.{PlannedRun}
+use Rattle.ctf_class.specs.declared.many.Many.{Many}
+use Rattle.ctf_class.specs.declared.many.Many.TheVariants as many
 use Rattle.ctf_class.specs.declared.planned_number.PlannedNumber.{PlannedNumber}
+use Rattle.ctf_class.specs.declared.route.Length.{Length}
+use Rattle.ctf_class.specs.declared.structures.Structures.{Structures}
 use Rattle.ctf_class.specs.PlanBuilding.{IsOpen, IsMade, IsMadeOf, before_scope, with_number, with_field}
-use Rattle.ctf_class.specs.Records.{Slot, Scoped, later, laters, slots, between, all_slots, values_in, AreScoped, and_scope, scopes_of, IsNumber, AreInRun, TakesNumbers, IsField, AreRuns, IsPlanOf, have_special, room_of}
+use Rattle.ctf_class.specs.Records.{Slot, Scoped, later, laters, slots, between, all_slots, values_in, AreScoped, and_scope, scopes_of, slots_of, IsNumber, AreInRun, TakesNumbers, IsLength, AreMany, IsStructure, IsField, AreRuns, IsPlanOf, have_special, numbers_room, room_of}
 
 -- one number more after the others
 numbers_more : (base from span : ℕ) (ss : List Slot) (ns : List PlannedNumber) (s : Slot) (rest : List Slot) (n : PlannedNumber) → AreInRun base from ss ns span (s ∷ rest) → IsNumber base span s n → AreInRun base from ss (ns ++ n ∷ []) (n.window.place + n.window.size) rest
@@ -188,3 +192,35 @@ scopes_are None None fields = refl
 scopes_are None (Some o) fields = refl
 scopes_are (Some s) None fields = refl
 scopes_are (Some s) (Some o) fields = refl
+
+-- an array of elements of such a class, of this length
+pub are_many : (Is : Class → Type 0) (index : ℕ) (m : Member) (length : Length) (k : Class) (several : Many) → m.class.kind ≡ kind.Array length k → IsLength index length several → Is k → AreMany Is index m several
+are_many Is index m length k many.One is long one = absurd long
+are_many Is index m length k (many.Fixed count) is long one = (k, is ∙ ap (λ l. kind.Array l k) long, one)
+are_many Is index m length k many.Counted is long one = (long.0, k, is ∙ ap (λ l. kind.Array l k) long.1, long.2, one)
+
+-- the room of numbers without a field
+room_plain : (ns : List PlannedNumber) → room_of ns None ≡ numbers_room ns
+room_plain [] = refl
+room_plain (n ∷ ns) = ap (λ r. length n.ready + 66 + r) (room_plain ns)
+
+-- the numbers of one structure alone
+abbrev pub NumbersOf : Class → PlanBuilder → Type 0
+NumbersOf k m =
+    (ms : List Member) × (k.kind ≡ kind.Structure ms) × (0 < length ms) × (m.count ≡ 1 + length ms) × TakesNumbers m.align (slots_of [] k.align ms) m.numbers m.span []
+
+numbers_alone : (k : Class) (m : PlanBuilder) (ss : List Scoped) → AreScoped (k ∷ []) ss → m.count ≡ values_in ss → IsMade (all_slots [] ss) m → m.runs ≡ [] → NumbersOf k m
+numbers_alone k m [] are count made none = absurd are
+numbers_alone k m (s ∷ (t ∷ ss)) are count made none = absurd are.3
+numbers_alone k m (s ∷ []) are count made none =
+    let full : made.full ≡ [] = sym (append-nil made.full) ∙ subst (λ rs. AreRuns (made.full ++ []) (rs ++ [])) none (made.whole [] [] refl) in
+    let fields = slots_of [] s.align s.members in
+    let now : made.now ≡ slots_of [] k.align s.members = sym (made.are ∙ ap (λ f. f ++ made.now) full) ∙ append-nil fields ∙ ap (λ a. slots_of [] a s.members) (sym are.1) in
+    let takes : TakesNumbers m.align made.now m.numbers m.span [] = subst (λ xs. TakesNumbers m.align xs m.numbers m.span []) (append-nil made.now) (made.last []) in
+    (s.members, are.0, are.2, omega (arith, count), subst (λ xs. TakesNumbers m.align xs m.numbers m.span []) now takes)
+
+pub structure_made : (k : Class) (m : PlanBuilder) (several : Many) → m.runs ≡ [] → m.align ≡ k.align → IsMadeOf (k ∷ []) m
+    → IsStructure k (record { align = m.align; numbers = m.numbers; has_special = have_special m.numbers; span = m.span; room = m.room; count = m.count; many = several })
+structure_made k m several none begins of =
+    let are = numbers_alone k m of.scopes of.are of.count of.made none in
+    record { members = are.0; is = are.1; begins = begins; some = are.2; count = are.3; numbers = are.4; room = of.made.room ∙ room_plain m.numbers; bounded = of.made.bounded; special = refl }

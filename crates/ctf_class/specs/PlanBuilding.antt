@@ -3,9 +3,19 @@ use Rattle.std.specs.Prelude.{◌≡◌, ℕ, zero, suc, ◌+◌, ◌^◌, ◌�
 use Rattle.ctf_class.specs.declared.class.Class.{Class}
 use Rattle.ctf_class.specs.declared.record_plan.PlannedField.{PlannedField}
 use Rattle.ctf_class.specs.declared.record_plan.PlanBuilder.{PlanBuilder}
+use Rattle.ctf_class.specs.declared.record_plan.ScopeMember.{ScopeMember}
 use Rattle.ctf_class.specs.declared.record_plan.PlannedRun.{PlannedRun}
 use Rattle.ctf_class.specs.declared.planned_number.PlannedNumber.{PlannedNumber}
 use Rattle.ctf_class.specs.Records.{Slot, Scoped, between, all_slots, values_in, AreScoped, TakesNumbers, AreRuns, have_special, room_of}
+
+-- the field of a member of a scope
+abbrev pub slot_of : ScopeMember → Slot
+slot_of next = record {
+  lead = next.lead.now;
+  align = next.align;
+  index = next.index;
+  member = next.member.now;
+}
 
 -- fields are these runs, whatever runs are after them
 abbrev pub RunsTo : List Slot → List PlannedRun → Type 0

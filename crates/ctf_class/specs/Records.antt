@@ -10,17 +10,19 @@ use Rattle.ctf_class.specs.declared.class.Class.{Class}
 use Rattle.ctf_class.specs.declared.class.Kind as kind
 use Rattle.ctf_class.specs.declared.class.Member.{Member}
 use Rattle.ctf_class.specs.declared.record_plan.PlannedField.{PlannedField}
-use Rattle.ctf_class.specs.declared.record_plan.Many.{Many}
-use Rattle.ctf_class.specs.declared.record_plan.Many.TheVariants as many
+use Rattle.ctf_class.specs.declared.many.Many.{Many}
+use Rattle.ctf_class.specs.declared.many.Many.TheVariants as many
 use Rattle.ctf_class.specs.declared.record_plan.RecordPlan.{RecordPlan}
 use Rattle.ctf_class.specs.declared.record_plan.PlannedRun.{PlannedRun}
 use Rattle.ctf_class.specs.declared.record_plan.Shown.{Shown}
 use Rattle.ctf_class.specs.declared.record_plan.Shown.TheVariants as shown
 use Rattle.ctf_class.specs.declared.integer.Integer.{Integer}
+use Rattle.ctf_class.specs.declared.route.Length.{Length}
 use Rattle.ctf_class.specs.declared.route.Length.TheVariants as lengths
 use Rattle.ctf_class.specs.declared.route.Origin.TheVariants.{Enclosing}
 use Rattle.ctf_class.specs.declared.route.Route.{Route}
 use Rattle.ctf_class.specs.declared.planned_number.PlannedNumber.{PlannedNumber}
+use Rattle.ctf_class.specs.declared.structures.Structures.{Structures}
 
 -- a field: what is printed between the value before it and its name, the alignment of the structure that it begins, or
 -- 1, how many members of its structure are before it, and the member that it is of
@@ -62,7 +64,7 @@ abbrev pub all_slots : List ℕ → List Scoped → List Slot
 all_slots before [] = []
 all_slots before (s ∷ ss) = slots before s ++ all_slots between ss
 
--- how many values structures have, themselves among them
+-- how many values structures have, themselves and their members
 abbrev pub values_in : List Scoped → ℕ
 values_in [] = 0
 values_in (s ∷ ss) = 1 + length s.members + values_in ss
@@ -124,18 +126,52 @@ LeadsBefore route index =
     (route.origin ≡ Enclosing 0)
     × ((step : ℕ) × (route.steps ≡ step ∷ []) × (index ≡ step + 1))
 
+-- some numbers are special: each that is not is usual
+abbrev pub have_special : List PlannedNumber → Bool
+have_special ns = list_any (λ n. n.is_special) ns
+
+-- How many bytes of a line must be free for numbers: for each the text before it and 66, the longest being `0b` and 64
+-- digits; and 24 after the last, as texts are copied in words.
+abbrev pub numbers_room : List PlannedNumber → ℕ
+numbers_room [] = 24
+numbers_room (n ∷ ns) = length n.ready + 66 + numbers_room ns
+
+-- an array of this length, as a member after so many others, has so many elements
+abbrev pub IsLength : ℕ → Length → Many → Type 0
+IsLength index length many.One = ⊥
+IsLength index length (many.Fixed count) = length ≡ lengths.Fixed count
+IsLength index length many.Counted =
+    (route : Route) × (length ≡ lengths.Field route) × LeadsBefore route index
+
+-- a member after so many others is of such a class, or an array of elements of such a class
+abbrev pub AreMany : (Class → Type 0) → ℕ → Member → Many → Type 0
+AreMany Is index m many.One = Is m.class
+AreMany Is index m (many.Fixed count) =
+    (k : Class) × (m.class.kind ≡ kind.Array (lengths.Fixed count) k) × Is k
+AreMany Is index m many.Counted =
+    (route : Route) × (k : Class) × (m.class.kind ≡ kind.Array (lengths.Field route) k)
+    × LeadsBefore route index × Is k
+
 -- a class is this integer of this alignment
 abbrev pub IsInteger : Class → Integer → ℕ → Type 0
 IsInteger k integer align = (k.kind ≡ kind.Integer integer) × (align ≡ k.align)
 
 -- a member after so many others is one integer, or an array of integers
 abbrev pub AreIntegers : ℕ → Member → Integer → ℕ → Many → Type 0
-AreIntegers index m integer align many.One = IsInteger m.class integer align
-AreIntegers index m integer align (many.Fixed count) =
-    (k : Class) × (m.class.kind ≡ kind.Array (lengths.Fixed count) k) × IsInteger k integer align
-AreIntegers index m integer align many.Counted =
-    (route : Route) × (k : Class) × (m.class.kind ≡ kind.Array (lengths.Field route) k)
-    × LeadsBefore route index × IsInteger k integer align
+AreIntegers index m integer align many = AreMany (λ k. IsInteger k integer align) index m many
+
+-- A class is a structure whose fields are these numbers, one after the other. So many values are one, and its text
+-- takes so many bytes at the most.
+pub record IsStructure (k : Class) (s : Structures) : Type 0 where
+  pub members : List Member
+  pub is : k.kind ≡ kind.Structure members
+  pub begins : s.align ≡ k.align
+  pub some : 0 < length members
+  pub count : s.count ≡ 1 + length members
+  pub numbers : TakesNumbers s.align (slots_of [] k.align members) s.numbers s.span []
+  pub room : s.room ≡ numbers_room s.numbers
+  pub bounded : s.span ≤ 2 ^ 33
+  pub special : s.has_special ≡ have_special s.numbers
 
 -- what a member after so many others is shown as
 abbrev pub IsShown : ℕ → Member → Shown → Type 0
@@ -144,6 +180,7 @@ IsShown index m (shown.Text count) = m.class.kind ≡ kind.Text (lengths.Fixed c
 IsShown index m shown.CountedText =
     (route : Route) × (m.class.kind ≡ kind.Text (lengths.Field route)) × LeadsBefore route index
 IsShown index m (shown.Integers are) = AreIntegers index m are.integer are.align are.many
+IsShown index m (shown.Structures are) = AreMany (λ k. IsStructure k are) index m are.many
 IsShown index m (shown.Labelled is) =
     (m.class.kind ≡ kind.Enumeration is.container is.labels) × (is.align ≡ m.class.align)
 
@@ -158,16 +195,6 @@ abbrev pub After : List Slot → Option PlannedField → (List Slot → Type 0) 
 After ss None Holds = Holds ss
 After [] (Some f) Holds = ⊥
 After (s ∷ ss) (Some f) Holds = IsField s f × Holds ss
-
--- some numbers are special: each that is not is usual
-abbrev pub have_special : List PlannedNumber → Bool
-have_special ns = list_any (λ n. n.is_special) ns
-
--- How many bytes of a line must be free for numbers: for each the text before it and 66, the longest being `0b` and 64
--- digits; and 24 after the last, as texts are copied in words.
-abbrev pub numbers_room : List PlannedNumber → ℕ
-numbers_room [] = 24
-numbers_room (n ∷ ns) = length n.ready + 66 + numbers_room ns
 
 -- so many for numbers and a field after them
 abbrev pub room_of : List PlannedNumber → Option PlannedField → ℕ

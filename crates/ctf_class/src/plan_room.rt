@@ -3,7 +3,7 @@
 ghost use Rattle.std.specs.Prelude.{◌≡◌, ◌+◌, ◌<◌, IsTrue, IsFalse};
 
 /// For how many classes of fields a trace has plans at the most. Tracers write far fewer. Metadata may have more that
-/// are made to take memory: a plan takes some 150 bytes for a string, and the plan of each event of a stream has the
+/// are made to take memory: a plan takes some 200 bytes for a string, and the plan of each event of a stream has the
 /// stream's event context in it.
 const MOST_PLANNED: u32 = 1 << 15;
 

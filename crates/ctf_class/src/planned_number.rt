@@ -8,7 +8,7 @@ use crate::integer::{Base, Integer};
 use crate::prepared_text::PreparedText;
 use ctf_bits::{Order, Window};
 
-/// An integer whose distance from the begin of its run is known (CTF 1.8.3, section 4.1.5).
+/// An integer whose distance from the begin of its run or structure is known (CTF 1.8.3, section 4.1.5).
 #[derive(Drop)]
 pub struct PlannedNumber {
     pub integer: Integer,

@@ -1,19 +1,21 @@
 //! What is known of event records before they are read.
 
-ghost use Rattle.std.specs.Prelude.{◌≡◌, ◌+◌, ◌%◌, ◌∷◌, ◌++◌, [], ◌^◌, ◌<◌, ◌≤◌, length, max, IsTrue, IfOk, IfSome, OnOk, option_copied};
+ghost use Rattle.std.specs.Prelude.{◌≡◌, ◌+◌, ◌%◌, ◌∷◌, ◌++◌, [], ◌^◌, ◌<◌, ◌≤◌, ℕ, length, max, IsTrue, IsFalse, IfOk, IfSome, OnOk, option_copied};
 ghost use Rattle.std.specs.Int.{next_multiple_of};
 ghost use Rattle.ctf_class.specs.Alignment.{IsLarger};
-ghost use Rattle.ctf_class.specs.PlanBuilding.{IsMade, IsMadeOf, before_scope, with_number, with_field};
-ghost use Rattle.ctf_class.specs.Records.{Slot, IsNumber, IsShown, IsPlanOf, laters, and_scope, scopes_of};
+ghost use Rattle.ctf_class.specs.PlanBuilding.{IsMade, IsMadeOf, before_scope, slot_of, with_number, with_field};
+ghost use Rattle.ctf_class.specs.Records.{Slot, AreMany, IsLength, IsShown, IsStructure, IsPlanOf, laters, and_scope, scopes_of};
 ghost use Rattle.ctf_class.specs.declared.class.Kind as kinds;
 
 use crate::align::{Align, one_bit};
 use crate::class::{Class, Kind, Member};
 use crate::integer::Integer;
 use crate::labels::Labels;
+use crate::many::{Many, many_of};
 use crate::planned_number::{PlannedNumber, have_special, is_special};
 use crate::prepared_text::PreparedText;
 use crate::route::Length;
+use crate::structures::Structures;
 use ctf_bits::Window;
 use ctf_list::{List, NoMemory, Shared};
 use std::alloc::Global;
@@ -38,6 +40,7 @@ pub enum Shown {
     /// As a text of as many bytes as the field before says.
     CountedText,
     Integers(Integers),
+    Structures(Structures),
     Labelled(Labelled),
 }
 
@@ -47,6 +50,7 @@ impl Shown {
         match self {
             Shown::String | Shown::Text(_) | Shown::CountedText => true,
             Shown::Integers(are) => are_bytes(&are.integer, are.align),
+            Shown::Structures(are) => are.span % 8 == 0,
             Shown::Labelled(labelled) => are_bytes(&labelled.container, labelled.align),
         }
     }
@@ -73,17 +77,6 @@ pub struct Integers {
     pub many: Many,
 }
 
-/// How many integers there are.
-#[derive(Clone, Copy)]
-pub enum Many {
-    /// One alone.
-    One,
-    /// An array of so many (CTF 1.8.3, section 4.2.3).
-    Fixed(u64),
-    /// An array of as many as the field before says (CTF 1.8.3, section 4.2.4).
-    Counted,
-}
-
 /// A field after the numbers of a run.
 #[derive(Drop)]
 pub struct PlannedField {
@@ -105,46 +98,46 @@ pub struct PlannedRun {
     pub has_special: bool,
     /// How many bits the numbers take.
     pub span: u64,
-    /// How many bytes of a line it takes at the most, a string and a text but for what is printed before them, and 24
+    /// How many bytes of a line its numbers take at the most, what is printed before its field, 66 after that, and 24
     /// more.
     pub room: usize,
     pub field: Option<PlannedField>,
 }
 
 /// The fields of an event record's scopes after its header (CTF 1.8.3, section 6), one after the other, if all of them
-/// are structures of integers, enumerations, strings, and texts and arrays of integers whose length is fixed or the
-/// field before; else nothing.
+/// are structures of integers, enumerations, strings, structures of integers, and texts and arrays of integers and of
+/// such structures whose length is fixed or the field before; else nothing.
 #[derive(Drop)]
 pub struct RecordPlan {
     pub runs: List<PlannedRun>,
-    /// How many values these scopes have, without the elements of arrays.
+    /// How many values these scopes have, without those in arrays and in structures within.
     pub count: u64,
 }
 
 /// A member of a scope, on its way into a plan.
 #[derive(Clone, Copy)]
-struct ScopeMember<'a> {
+pub(crate) struct ScopeMember<'a> {
     /// What is printed before its name.
-    lead: &'a [u8],
+    pub(crate) lead: &'a [u8],
     /// The alignment of the structure that it begins, or 1.
-    align: Align,
+    pub(crate) align: Align,
     /// How many members of its structure are before it.
-    index: usize,
-    member: &'a Member,
+    pub(crate) index: usize,
+    pub(crate) member: &'a Member,
 }
 
 /// A plan on its way.
 #[derive(Drop)]
-struct PlanBuilder {
+pub(crate) struct PlanBuilder {
     /// The runs that are whole.
-    runs: List<PlannedRun>,
+    pub(crate) runs: List<PlannedRun>,
     /// The alignment of the open run, and its numbers.
-    align: Align,
-    numbers: List<PlannedNumber>,
-    span: u64,
-    room: usize,
+    pub(crate) align: Align,
+    pub(crate) numbers: List<PlannedNumber>,
+    pub(crate) span: u64,
+    pub(crate) room: usize,
     /// How many values the scopes so far have.
-    count: u64,
+    pub(crate) count: u64,
 }
 
 impl RecordPlan {
@@ -183,8 +176,10 @@ impl RecordPlan {
 
 impl PlanBuilder {
     /// A plan of no scopes.
-    fn new(alloc: Global) -> PlanBuilder
+    pub(crate) fn new(alloc: Global) -> PlanBuilder
         ensures made { IsMadeOf [] result }
+        ensures runs { result.runs ≡ [] }
+        ensures count { result.count ≡ 0 }
         ensures few { result.room ≤ 2 ^ 18 }
         ensures near { result.span ≤ 2 ^ 33 }
     {
@@ -309,32 +304,17 @@ impl PlanBuilder {
         ensures near { IfOk result (λ took. IsTrue took → self.new.span ≤ 2 ^ 33) }
         ensures count { IfOk result (λ took. IsTrue took → self.new.count ≡ self.old.count) }
         ensures made { IfOk result (λ took. IsTrue took → (done : List Slot) →
-            IsMade done self.old →
-            IsMade (done ++ record {
-              lead = next.now.lead.now;
-              align = next.now.align;
-              index = next.now.index;
-              member = next.now.member.now;
-            } ∷ []) self.new) }
+            IsMade done self.old → IsMade (done ++ slot_of next.now ∷ []) self.new) }
     {
+        if self.add_integer(alloc, next)? {
+            return Ok(true);
+        }
         let member = next.member;
-        let align = next.align;
         let ready = member.name.after(alloc, next.lead)?;
         if ready.len() > LONGEST_TEXT {
             return Ok(false);
         }
-        let run_align = self.align_with(align, member.class.align);
-        if let Some((integer, window)) = self.as_number(&member.class, align, run_align) {
-            let number = PlannedNumber {
-                is_special: is_special(&integer),
-                integer,
-                window,
-                ready,
-            };
-            self.add_number(number, run_align)?;
-            return Ok(true);
-        }
-        let known = shown_of(&member.class, next.index)?;
+        let known = shown_of(alloc, &member.class, next.index)?;
         let Some(shown) = known else {
             return Ok(false);
         };
@@ -342,10 +322,46 @@ impl PlanBuilder {
             alloc,
             PlannedField {
                 ready,
-                align,
+                align: next.align,
                 shown,
             },
         )?;
+        Ok(true)
+    }
+
+    /// Adds a member as the next number of the open run, if it can be one. Whether it can.
+    pub(crate) fn add_integer(
+        &mut self,
+        alloc: Global,
+        next: &ScopeMember<'_>,
+    ) -> Result<bool, NoMemory>
+        requires few { self.old.room ≤ 2 ^ 18 }
+        requires near { self.old.span ≤ 2 ^ 33 }
+        ensures few { IfOk result (λ took. IsTrue took → self.new.room ≤ 2 ^ 18) }
+        ensures near { IfOk result (λ took. IsTrue took → self.new.span ≤ 2 ^ 33) }
+        ensures count { IfOk result (λ took. IsTrue took → self.new.count ≡ self.old.count) }
+        ensures runs { IfOk result (λ took. IsTrue took → self.new.runs ≡ self.old.runs) }
+        ensures made { IfOk result (λ took. IsTrue took → (done : List Slot) →
+            IsMade done self.old → IsMade (done ++ slot_of next.now ∷ []) self.new) }
+        ensures left { IfOk result (λ took. IsFalse took → self.new ≡ self.old) }
+    {
+        let member = next.member;
+        let align = next.align;
+        let run_align = self.align_with(align, member.class.align);
+        let Some((integer, window)) = self.as_number(&member.class, align, run_align) else {
+            return Ok(false);
+        };
+        let ready = member.name.after(alloc, next.lead)?;
+        if ready.len() > LONGEST_TEXT {
+            return Ok(false);
+        }
+        let number = PlannedNumber {
+            is_special: is_special(&integer),
+            integer,
+            window,
+            ready,
+        };
+        self.add_number(number, run_align)?;
         Ok(true)
     }
 
@@ -455,38 +471,35 @@ impl PlanBuilder {
     }
 }
 
-/// How a field of a class after so many others of its structure is shown after a run: an integer, an enumeration, a
-/// string, or a text or an array of integers whose length is fixed or the field before. It fails where no more owners
-/// of labels can be counted.
-fn shown_of(class: &Class, index: usize) -> Result<Option<Shown>, NoMemory>
+/// How a field of a class after so many others of its structure is shown after a run, if it can be: an integer, an
+/// enumeration, a string, a structure of integers, or a text or an array of integers or of such structures whose length
+/// is fixed or the field before. It fails where an allocation fails, and where no more owners of labels can be counted.
+fn shown_of(alloc: Global, class: &Class, index: usize) -> Result<Option<Shown>, NoMemory>
     ensures { IfOk result (λ shown. (m : Member) → m.class ≡ class.now →
         IfSome shown (IsShown index m)) }
 {
-    if let Kind::Enumeration { container, labels } = &class.kind {
-        let labels = labels.clone()?;
-        return Ok(Some(Shown::Labelled(Labelled {
-            container: *container,
-            align: class.align,
-            labels,
-        })));
-    }
-    Ok(unlabelled_shown_of(class, index))
-}
-
-/// How a field is shown that is no enumeration.
-fn unlabelled_shown_of(class: &Class, index: usize) -> Option<Shown>
-    ensures { (m : Member) → m.class ≡ class.now → IfSome result (IsShown index m) }
-{
     match &class.kind {
-        Kind::Integer(integer) => Some(Shown::Integers(Integers {
+        Kind::Integer(integer) => Ok(Some(Shown::Integers(Integers {
             integer: *integer,
             align: class.align,
             many: Many::One,
-        })),
-        Kind::String => Some(Shown::String),
-        Kind::Text { length } => text_of(length, index),
-        Kind::Array { length, element } => array_of(length, element.get(), index),
-        _ => None,
+        }))),
+        Kind::Enumeration { container, labels } => {
+            let labels = labels.clone()?;
+            Ok(Some(Shown::Labelled(Labelled {
+                container: *container,
+                align: class.align,
+                labels,
+            })))
+        }
+        Kind::String => Ok(Some(Shown::String)),
+        Kind::Structure { .. } => structures_of(alloc, class, Many::One),
+        Kind::Variant { .. } => Ok(None),
+        Kind::Array { length, element } => match many_of(length, index) {
+            Some(many) => array_of(alloc, element.get(), many),
+            None => Ok(None),
+        },
+        Kind::Text { length } => Ok(text_of(length, index)),
     }
 }
 
@@ -507,27 +520,30 @@ fn text_of(length: &Length, index: usize) -> Option<Shown>
     }
 }
 
-/// How an array of this length and this class of elements is shown.
-fn array_of(length: &Length, element: &Class, index: usize) -> Option<Shown>
-    ensures { (m : Member) → m.class.kind ≡ kinds.Array length.now element.now →
-        IfSome result (IsShown index m) }
+/// How an array of so many elements of this class is shown.
+fn array_of(alloc: Global, element: &Class, many: Many) -> Result<Option<Shown>, NoMemory>
+    ensures { IfOk result (λ shown. (index : ℕ) (m : Member) (length : Length) →
+        m.class.kind ≡ kinds.Array length element.now → IsLength index length many →
+        IfSome shown (IsShown index m)) }
 {
-    let Kind::Integer(integer) = &element.kind else {
-        return None;
-    };
-    let many = match length {
-        Length::Fixed(count) => Many::Fixed(*count),
-        Length::Field(route) => {
-            if route.leads_before(index) {
-                Many::Counted
-            } else {
-                return None;
-            }
-        }
-    };
-    Some(Shown::Integers(Integers {
-        integer: *integer,
-        align: element.align,
-        many,
-    }))
+    if let Kind::Integer(integer) = &element.kind {
+        return Ok(Some(Shown::Integers(Integers {
+            integer: *integer,
+            align: element.align,
+            many,
+        })));
+    }
+    structures_of(alloc, element, many)
+}
+
+/// How so many structures of this class are shown.
+fn structures_of(alloc: Global, class: &Class, many: Many) -> Result<Option<Shown>, NoMemory>
+    ensures { IfOk result (λ shown. (index : ℕ) (m : Member) →
+        ((are : Structures) → IsStructure class.now are →
+        AreMany (λ k. IsStructure k are) index m many) → IfSome shown (IsShown index m)) }
+{
+    match Structures::new(alloc, class, many)? {
+        Some(are) => Ok(Some(Shown::Structures(are))),
+        None => Ok(None),
+    }
 }

@@ -1,8 +1,10 @@
 -- Arrays that are shown where they are, one element more at a time.
-use Rattle.std.proofs.Common.{◌≡◌, ℕ, suc, ◌+◌, ◌-◌, ◌<◌, ◌≤◌, cond, List, [], ◌∷◌, ◌++◌, length, take, Option, Some, None, IfSome, Ok, Err, rules, refl, sym, ap, subst, ◌∙◌, arith, append_assoc, append-nil, length-append}
+use Rattle.std.proofs.Common.{◌≡◌, ℕ, suc, ◌+◌, ◌-◌, ◌*◌, ◌<◌, ◌≤◌, cond, List, [], ◌∷◌, ◌++◌, length, take, Option, Some, None, IfSome, Ok, Err, rules, refl, sym, ap, subst, ◌∙◌, arith, append_assoc, append-nil, length-append}
 use Rattle.std.specs.Prelude.{slice_get}
 use Rattle.std.specs.Int.{next_multiple_of}
 use Rattle.std.proofs.lemmas.Bool.{le-ltb}
+use Rattle.std.proofs.lemmas.Nat.{row_fits}
+use Rattle.std.proofs.Math.Nat.{add-mul}
 use Rattle.ctf_class.specs.declared.class.Class as class
 use Rattle.ctf_class.specs.declared.class.Class.{Class}
 use Rattle.ctf_class.specs.declared.class.Kind as kind
@@ -17,7 +19,7 @@ use Rattle.ctf_class.specs.Names.{field_text}
 use Rattle.ctf_decode.specs.Breaks.{past}
 use Rattle.ctf_decode.specs.Fields.{elements_in}
 use Rattle.ctf_decode.specs.Forms as forms
-use Rattle.ctf_decode.specs.Forms.{Form, integer}
+use Rattle.ctf_decode.specs.Forms.{Form, integer, align_of}
 use Rattle.ctf_decode.specs.Input.{Env}
 use Rattle.ctf_decode.specs.Routes.{found, number_of}
 use Rattle.ctf_decode.specs.Values.{Val, vals_of, unsigned, list}
@@ -28,7 +30,7 @@ use Rattle.ctf_decode.proofs.Steps.{row_ok}
 use Rattle.ctf_decode.proofs.Views.{shape-Array}
 use Rattle.ctf_format.specs.Rows.{row, enclosed}
 use Rattle.ctf_class.specs.Records.{LeadsBefore}
-use Rattle.ctf_format.specs.Standing.{Before, among, LastIs, mark_at, PutsOne, PutsNext, PutsElements, Counts, elements_text}
+use Rattle.ctf_format.specs.Standing.{Before, among, LastIs, mark_at, PutsOne, PutsSome, PutsNext, PutsElements, Counts, array_text, elements_text}
 use Rattle.ctf_format.specs.Texts.{Shown, Part, value_text, kind_text, part_text, member_part, element_text, element_texts, integer_text}
 use Rattle.ctf_format.specs.declared.standing.Last.TheVariants as lasts
 use Rattle.ctf_format.specs.declared.standing.Next.{Next}
@@ -59,33 +61,38 @@ pub elements_length : (shown : Shown) (k : ℕ) (vs : List Val) → length (elem
 elements_length shown k [] = refl
 elements_length shown k (w ∷ vs) = ap suc (elements_length shown (suc k) vs)
 
+-- One row more.
+row_next : (k each : ℕ) → (k + 1) * each ≡ k * each + each
+row_next k each = add-mul k 1 each ∙ ap (λ n. k * each + n) (omega arith)
+
 -- The loop over elements: as many as an index says were written, and the others are after them.
-abbrev pub Going : ℕ → Integer → ℕ → List ℕ → ℕ → ℕ → ℕ → ℕ → List ℕ → List ℕ → Type 0
-Going a i count packet content place k at before line =
-    (spent : ℕ) → spent + count ≤ MOST_VALUES → (earlier : Scope → Option Val) (env : Env)
+abbrev pub Going : Form → Shown → ℕ → ℕ → List ℕ → ℕ → ℕ → ℕ → ℕ → List ℕ → List ℕ → Type 0
+Going inner shown each count packet content place k at before line =
+    (spent : ℕ) → spent + count * each ≤ MOST_VALUES → (earlier : Scope → Option Val) (env : Env)
     → (vs : List Val)
-    × (repeat (walk (integer a i) (among packet content earlier) env) (count - k) vs at (spent + k) ≡ repeat (walk (integer a i) (among packet content earlier) env) count [] place spent)
-    × (length vs ≡ k) × (line ≡ before ++ row 91 (element_texts (integer_text i) 0 (vals_of vs)))
+    × (repeat (walk inner (among packet content earlier) env) (count - k) vs at (spent + k * each) ≡ repeat (walk inner (among packet content earlier) env) count [] place spent)
+    × (length vs ≡ k) × (line ≡ before ++ row 91 (element_texts shown 0 (vals_of vs)))
 
-module _ (a : ℕ) (i : Integer) (count : ℕ) (packet : List ℕ) (content place : ℕ) (before : List ℕ) where
-  pub going_begins : Going a i count packet content place 0 place before before
+module _ (inner : Form) (shown : Shown) (each count : ℕ) (packet : List ℕ) (content place : ℕ) (before : List ℕ) where
+  pub going_begins : Going inner shown each count packet content place 0 place before before
   going_begins spent room earlier env =
-      let s : spent + 0 ≡ spent = omega arith in
+      let s : spent + 0 * each ≡ spent = omega arith in
       let all : count - 0 ≡ count = omega arith in
-      ([], (λ j. repeat (walk (integer a i) (among packet content earlier) env) (all j) [] place (s j)), refl, sym (append-nil before))
+      ([], (λ j. repeat (walk inner (among packet content earlier) env) (all j) [] place (s j)), refl, sym (append-nil before))
 
-  pub going_on : (k at there lead : ℕ) (line more : List ℕ) → k < count → lead ≡ mark_at 91 k → Going a i count packet content place k at before line
-      → PutsOne (integer a i) (λ v. lead ∷ 32 ∷ element_text (integer_text i) k v) packet content at there line more → Going a i count packet content place (k + 1) there before more
+  pub going_on : (k at there lead : ℕ) (line more : List ℕ) → k < count → lead ≡ mark_at 91 k → Going inner shown each count packet content place k at before line
+      → PutsSome inner (λ v. lead ∷ 32 ∷ element_text shown k v) each packet content at there line more → Going inner shown each count packet content place (k + 1) there before more
   going_on k at there lead line more within marked going puts spent room earlier env =
       let c = among packet content earlier in
-      let f = walk (integer a i) c env in
+      let f = walk inner c env in
       let g = going spent room earlier env in
       let vs = g.0 in
-      let p = puts (spent + k) (omega (arith, room, within)) earlier env in
-      let total : spent + (k + 1) ≡ spent + k + 1 = omega arith in
-      let walked = ap (repeat f (count - (k + 1)) (vs ++ p.0 ∷ []) there) total ∙ row_ok f count k within vs at (spent + k) p.0 there (spent + k + 1) (vs ++ p.0 ∷ []) refl p.1 ∙ g.1 in
+      let fits : k * each + each ≤ count * each = row_fits k each count each within (omega arith) in
+      let few : spent + k * each + each ≤ MOST_VALUES = omega (arith, room, fits) in
+      let p = puts (spent + k * each) few earlier env in
+      let total : spent + (k + 1) * each ≡ spent + k * each + each = ap (λ n. spent + n) (row_next k each) ∙ omega arith in
+      let walked = ap (repeat f (count - (k + 1)) (vs ++ p.0 ∷ []) there) total ∙ row_ok f count k within vs at (spent + k * each) p.0 there (spent + k * each + each) (vs ++ p.0 ∷ []) refl p.1 ∙ g.1 in
       let longer : length (vs ++ p.0 ∷ []) ≡ k + 1 = length-append vs (p.0 ∷ []) ∙ ap (λ n. n + 1) g.2 in
-      let shown = integer_text i in
       let all = element_texts shown 0 (vals_of vs) in
       let text = element_text shown k p.0 in
       let lead_is : mark_at 91 (length all) ≡ lead = ap (mark_at 91) (elements_length shown 0 vs ∙ g.2) ∙ sym marked in
@@ -97,43 +104,43 @@ module _ (a : ℕ) (i : Integer) (count : ℕ) (packet : List ℕ) (content plac
       in
       (vs ++ p.0 ∷ [], walked, longer, wrote)
 
-  pub going_ends : (at : ℕ) (line : List ℕ) → Going a i count packet content place count at before line → PutsElements (row 91) a i count packet content place at before line
+  pub going_ends : (at : ℕ) (line : List ℕ) → Going inner shown each count packet content place count at before line → PutsElements (row 91) inner shown each count packet content place at before line
   going_ends at line going spent room earlier env =
       let g = going spent room earlier env in
       let over : count - count ≡ 0 = omega arith in
-      (g.0, sym g.1 ∙ ap (λ n. repeat (walk (integer a i) (among packet content earlier) env) n g.0 at (spent + count)) over, g.2, g.3)
+      (g.0, sym g.1 ∙ ap (λ n. repeat (walk inner (among packet content earlier) env) n g.0 at (spent + count * each)) over, g.2, g.3)
 
 closed_row : (shown : Shown) (vs : List Val) → 0 < length vs → row 91 (element_texts shown 0 (vals_of vs)) ++ (32 ∷ 93 ∷ []) ≡ enclosed 91 93 (element_texts shown 0 (vals_of vs))
 closed_row shown [] some = absurd (omega (arith, some))
 closed_row shown (v ∷ vs) some = refl
 
 -- the mark after the elements
-pub closed : (a : ℕ) (i : Integer) (count : ℕ) (packet : List ℕ) (content place end : ℕ) (before line after : List ℕ) → 0 < count → after ≡ line ++ (32 ∷ 93 ∷ []) → PutsElements (row 91) a i count packet content place end before line → PutsElements (enclosed 91 93) a i count packet content place end before after
-closed a i count packet content place end before line after some added puts spent room earlier env =
+pub closed : (inner : Form) (shown : Shown) (each count : ℕ) (packet : List ℕ) (content place end : ℕ) (before line after : List ℕ) → 0 < count → after ≡ line ++ (32 ∷ 93 ∷ []) → PutsElements (row 91) inner shown each count packet content place end before line → PutsElements (enclosed 91 93) inner shown each count packet content place end before after
+closed inner shown each count packet content place end before line after some added puts spent room earlier env =
     let p = puts spent room earlier env in
-    let all = element_texts (integer_text i) 0 (vals_of p.0) in
-    (p.0, p.1, p.2, added ∙ ap (λ xs. xs ++ (32 ∷ 93 ∷ [])) p.3 ∙ append_assoc before (row 91 all) (32 ∷ 93 ∷ []) ∙ ap (λ xs. before ++ xs) (closed_row (integer_text i) p.0 (omega (arith, some, p.2))))
+    let all = element_texts shown 0 (vals_of p.0) in
+    (p.0, p.1, p.2, added ∙ ap (λ xs. xs ++ (32 ∷ 93 ∷ [])) p.3 ∙ append_assoc before (row 91 all) (32 ∷ 93 ∷ []) ∙ ap (λ xs. before ++ xs) (closed_row shown p.0 (omega (arith, some, p.2))))
 
 -- no elements
-pub puts_none : (a : ℕ) (i : Integer) (packet : List ℕ) (content place : ℕ) (before after : List ℕ) → after ≡ before ++ (91 ∷ 32 ∷ 93 ∷ []) → PutsElements (enclosed 91 93) a i 0 packet content place place before after
-puts_none a i packet content place before after wrote spent room earlier env = let s : spent ≡ spent + 0 = omega arith in ([], ap (λ n. Ok ([], place, n)) s, refl, wrote)
+pub puts_none : (inner : Form) (shown : Shown) (each : ℕ) (packet : List ℕ) (content place : ℕ) (before after : List ℕ) → after ≡ before ++ (91 ∷ 32 ∷ 93 ∷ []) → PutsElements (enclosed 91 93) inner shown each 0 packet content place place before after
+puts_none inner shown each packet content place before after wrote spent room earlier env = let s : spent ≡ spent + 0 * each = omega arith in ([], ap (λ n. Ok ([], place, n)) s, refl, wrote)
 
 text-Array : (many : Length) (c : Class) → kind_text (kind.Array many c) ≡ (λ v. enclosed 91 93 (element_texts (value_text c) 0 (elements_in v)))
 text-Array many c = search (rules, class.the_lemmas)
 
 -- the elements are the value of an array
-pub puts_integers : (before : Before) (many : Length) (a : ℕ) (i : Integer) (align : ℕ) (packet : List ℕ) (content place start count end text : ℕ) (line after : List ℕ)
-    → start ≡ next_multiple_of place align → start ≤ content → Counts many before count → PutsElements (enclosed 91 93) align i count packet content start end line after
-    → PutsNext before (forms.array a many (integer align i)) (elements_text i) packet content place line (record { place = end; text = text; more = count; last = lasts.Unknown }) after
-puts_integers before many a i align packet content place start count end text line after starts within counts elements spent room earlier env vs counted last =
+pub puts_array : (before : Before) (many : Length) (a : ℕ) (inner : Form) (shown : Shown) (each : ℕ) (packet : List ℕ) (content place start count more end text : ℕ) (line after : List ℕ)
+    → start ≡ next_multiple_of place (align_of inner) → start ≤ content → more ≡ count * each → Counts many before count → PutsElements (enclosed 91 93) inner shown each count packet content start end line after
+    → PutsNext before (forms.array a many inner) (array_text shown) packet content place line (record { place = end; text = text; more = more; last = lasts.Unknown }) after
+puts_array before many a inner shown each packet content place start count more end text line after starts within sum counts elements spent room earlier env vs counted last =
     let c = among packet content earlier in
     let e = vs ∷ env in
-    let p = elements (spent + 1) (omega (arith, room)) earlier e in
-    let inner = integer align i in
+    let p = elements (spent + 1) (omega (arith, room, sum)) earlier e in
     let rest = λ (b n : ℕ). and_then (repeat (walk inner c e) n [] b (spent + 1)) as_list in
     let opened : open_at c start (rest start count) ≡ rest start count = ap (λ b. cond b (Err (past start)) (rest start count)) (le-ltb content start within) in
-    let walked : walk (forms.array a many inner) c e place spent ≡ Ok (list (vals_of p.0), end, spent + 1 + count) =
-    (λ j. begin c spent (open_at c (sym starts j) (rest (sym starts j) (counts earlier env vs counted last j)))) ∙ begins c spent (open_at c start (rest start count)) (omega (arith, room)) ∙ opened ∙ ap (λ r. and_then r as_list) p.1
+    let total : spent + 1 + count * each ≡ spent + 1 + more = ap (λ n. spent + 1 + n) (sym sum) in
+    let walked : walk (forms.array a many inner) c e place spent ≡ Ok (list (vals_of p.0), end, spent + 1 + more) =
+    (λ j. begin c spent (open_at c (sym starts j) (rest (sym starts j) (counts earlier env vs counted last j)))) ∙ begins c spent (open_at c start (rest start count)) (omega (arith, room)) ∙ opened ∙ ap (λ r. and_then r as_list) p.1 ∙ ap (λ n. Ok (list (vals_of p.0), end, n)) total
     in
     (list (vals_of p.0), walked, p.3, tt)
 
@@ -168,10 +175,19 @@ pub named_some : (r : Option Next) (before : Before) (m : Member) (lead : List �
 named_some None before m lead packet content place from line after name wrote named puts = tt
 named_some (Some n) before m lead packet content place from line after name wrote named puts = next_named before m lead packet content place from line n (take n.text after) name wrote named puts
 
--- an index and an integer after it are an element
-pub puts_element : (a : ℕ) (i : Integer) (lead k : ℕ) (packet : List ℕ) (content place end : ℕ) (before line index after : List ℕ) → line ≡ before ++ (lead ∷ 32 ∷ index) → ((v : Val) → element_text (integer_text i) k v ≡ index ++ integer_text i v)
-    → PutsOne (integer a i) (integer_text i) packet content place end line after → PutsOne (integer a i) (λ v. lead ∷ 32 ∷ element_text (integer_text i) k v) packet content place end before after
-puts_element a i lead k packet content place end before line index after wrote is puts spent few earlier env =
+-- one value of one
+pub puts_some : (k : Form) (shown : Shown) (packet : List ℕ) (content place end : ℕ) (before after : List ℕ) → PutsOne k shown packet content place end before after → PutsSome k shown 1 packet content place end before after
+puts_some k shown packet content place end before after puts spent few = puts spent (omega (arith, few))
+
+-- an index and a value after it are an element
+pub puts_element : (inner : Form) (shown : Shown) (each lead k : ℕ) (packet : List ℕ) (content place end : ℕ) (before line index after : List ℕ) → line ≡ before ++ (lead ∷ 32 ∷ index) → ((v : Val) → element_text shown k v ≡ index ++ shown v)
+    → PutsSome inner shown each packet content place end line after → PutsSome inner (λ v. lead ∷ 32 ∷ element_text shown k v) each packet content place end before after
+puts_element inner shown each lead k packet content place end before line index after wrote is puts spent few earlier env =
     let p = puts spent few earlier env in
-    let text = integer_text i p.0 in
+    let text = shown p.0 in
     (p.0, p.1, p.2 ∙ ap (λ xs. xs ++ text) wrote ∙ append_assoc before (lead ∷ 32 ∷ index) text ∙ ap (λ xs. before ++ (lead ∷ 32 ∷ xs)) (sym (is p.0)))
+
+-- and of one value
+pub puts_one_element : (inner : Form) (shown : Shown) (lead k : ℕ) (packet : List ℕ) (content place end : ℕ) (before line index after : List ℕ) → line ≡ before ++ (lead ∷ 32 ∷ index) → ((v : Val) → element_text shown k v ≡ index ++ shown v)
+    → PutsOne inner shown packet content place end line after → PutsOne inner (λ v. lead ∷ 32 ∷ element_text shown k v) packet content place end before after
+puts_one_element inner shown lead k packet content place end before line index after wrote is puts spent few = puts_element inner shown 1 lead k packet content place end before line index after wrote is (puts_some inner shown packet content place end line after puts) spent (omega (arith, few))

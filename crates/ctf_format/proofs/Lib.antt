@@ -12,6 +12,7 @@ pub mod StandingLemmas
 pub mod StartsLemmas
 pub mod RunNumbersLemmas
 pub mod RecordsLemmas
+pub mod StructuresLemmas
 pub mod AroundLemmas
 pub mod ArrayLemmas
 pub mod ByClassLemmas

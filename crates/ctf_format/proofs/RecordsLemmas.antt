@@ -10,14 +10,19 @@ use Rattle.ctf_bits.specs.Align.{IsLeastMultiple}
 use Rattle.ctf_class.proofs.AlignmentLemmas.{divides_too, next_after}
 use Rattle.ctf_class.specs.Integers.{bits_of}
 use Rattle.ctf_class.specs.Names.{field_text}
-use Rattle.ctf_class.specs.Records.{Slot, Scoped, laters, slots_of, slots, between, all_slots, values_in, AreScoped, IsNumber, AreInRun, TakesNumbers, IsField, After, LeadsBefore, numbers_room, room_of, AreRuns}
+use Rattle.ctf_class.specs.Records.{Slot, Scoped, laters, slots_of, slots, between, all_slots, values_in, AreScoped, IsNumber, AreInRun, TakesNumbers, AreMany, IsShown, IsStructure, IsField, After, LeadsBefore, numbers_room, room_of, AreRuns}
 use Rattle.ctf_class.specs.declared.class.Class.{Class}
 use Rattle.ctf_class.specs.declared.class.Kind as kind
 use Rattle.ctf_class.specs.declared.class.Member.{Member}
 use Rattle.ctf_class.specs.declared.record_plan.PlannedField.{PlannedField}
 use Rattle.ctf_class.specs.declared.integer.Integer.{Integer}
 use Rattle.ctf_class.specs.declared.record_plan.PlannedRun.{PlannedRun}
+use Rattle.ctf_class.specs.declared.record_plan.Shown.{Shown as PlannedShown}
+use Rattle.ctf_class.specs.declared.record_plan.Shown.TheVariants as fields
+use Rattle.ctf_class.specs.declared.many.Many.{Many}
+use Rattle.ctf_class.specs.declared.many.Many.TheVariants as many
 use Rattle.ctf_class.specs.declared.planned_number.PlannedNumber.{PlannedNumber}
+use Rattle.ctf_class.specs.declared.structures.Structures.{Structures}
 use Rattle.ctf_class.specs.declared.route.Length.TheVariants as lengths
 use Rattle.ctf_class.specs.declared.route.Route.{Route}
 use Rattle.ctf_decode.specs.Forms.{Form, integer}
@@ -25,9 +30,10 @@ use Rattle.ctf_decode.specs.Input.{Input, Env, integer_at}
 use Rattle.ctf_decode.specs.Walk.{begin, leaf, walk}
 use Rattle.ctf_decode.specs.Views.{form}
 use Rattle.ctf_decode.specs.declared.scopes.TheConstants.{MOST_VALUES}
+use Rattle.ctf_format.specs.Structures.{IsNearStructure}
 use Rattle.ctf_format.specs.Numbers.{number_text}
 use Rattle.ctf_format.specs.RunNumbers.{IsPlaced, number_at, place_in, run_text}
-use Rattle.ctf_format.specs.Records.{Reached, IsLastNumber, PutsField, PutsFields, PutsScopes, TakesRun, IsNear, after_members}
+use Rattle.ctf_format.specs.Records.{Reached, IsLastNumber, PutsField, PutsFields, PutsScopes, TakesRun, IsNear, IsNearShown, after_members}
 use Rattle.ctf_format.specs.Standing.{Before, Counts, LastIs, Puts, PutsOne, PutsNext, StandsAsNumber, among, known}
 use Rattle.ctf_format.specs.Texts.{Shown, Part, integer_text, value_text, part_text, member_part}
 use Rattle.ctf_format.specs.declared.standing.Last.{Last}
@@ -69,7 +75,7 @@ run_reach base from span (s ∷ ss) rest (n ∷ ns) are =
     let after : from ≤ n.window.place = omega (arith, ap (λ (w : Placed). w.place) are.0.window) in
     omega (arith, further, after)
 
-run_after : (base from span : ℕ) (ss rest : List Slot) (ns : List PlannedNumber) → AreInRun base from ss ns span rest → All (λ (n : PlannedNumber). n.window.place + bits_of n.integer ≤ span) ns
+pub run_after : (base from span : ℕ) (ss rest : List Slot) (ns : List PlannedNumber) → AreInRun base from ss ns span rest → All (λ (n : PlannedNumber). n.window.place + bits_of n.integer ≤ span) ns
 run_after base from span ss rest [] are = All-nil (λ (n : PlannedNumber). n.window.place + bits_of n.integer ≤ span)
 run_after base from span [] rest (n ∷ ns) are = absurd are
 run_after base from span (s ∷ ss) rest (n ∷ ns) are =
@@ -79,7 +85,7 @@ run_after base from span (s ∷ ss) rest (n ∷ ns) are =
     All-cons (λ (k : PlannedNumber). k.window.place + bits_of k.integer ≤ span) n ns inside (run_after base next span ss rest ns are.1)
 
 -- the windows of numbers are those of their integers
-run_placed : (base from span : ℕ) (ss rest : List Slot) (ns : List PlannedNumber) → AreInRun base from ss ns span rest → All IsPlaced ns
+pub run_placed : (base from span : ℕ) (ss rest : List Slot) (ns : List PlannedNumber) → AreInRun base from ss ns span rest → All IsPlaced ns
 run_placed base from span ss rest [] are = All-nil IsPlaced
 run_placed base from span [] rest (n ∷ ns) are = absurd are
 run_placed base from span (s ∷ ss) rest (n ∷ ns) are =
@@ -98,12 +104,36 @@ takes_first ss r rs are =
     let left = left_after are.0 r.field (λ xs. AreRuns xs rs) are.5 in
     (left.0, (are.0, are.1, left.1), left.2)
 
+-- what is known of structures of numbers
+structure_near : (k : Class) (s : Structures) → IsStructure k s → IsNearStructure s
+structure_near k s is =
+    let fields = slots_of [] k.align is.members in
+    record { room = is.room; bounded = is.bounded; special = is.special; within_span = run_after (max 8 s.align) 0 s.span fields [] s.numbers is.numbers.1; placed = run_placed (max 8 s.align) 0 s.span fields [] s.numbers is.numbers.1 }
+
+structures_near : (index : ℕ) (m : Member) (s : Structures) (several : Many) → AreMany (λ k. IsStructure k s) index m several → IsNearStructure s
+structures_near index m s many.One is = structure_near m.class s is
+structures_near index m s (many.Fixed count) is = structure_near is.0 s is.2
+structures_near index m s many.Counted is = structure_near is.1 s is.4
+
+shown_near : (index : ℕ) (m : Member) (what : PlannedShown) → IsShown index m what → IsNearShown what
+shown_near index m fields.String is = tt
+shown_near index m (fields.Text count) is = tt
+shown_near index m fields.CountedText is = tt
+shown_near index m (fields.Integers are) is = tt
+shown_near index m (fields.Structures are) is = structures_near index m are are.many is
+shown_near index m (fields.Labelled labelled) is = tt
+
+field_near : (ss : List Slot) (f : Option PlannedField) (Holds : List Slot → Type 0) → After ss f Holds → IfSome f (λ x. IsNearShown x.shown)
+field_near ss None Holds after = tt
+field_near [] (Some f) Holds after = absurd after
+field_near (s ∷ ss) (Some f) Holds after = shown_near s.index s.member f.shown after.0.shown
+
 -- runs of a plan are near
 pub runs_near : (ss : List Slot) (rs : List PlannedRun) → AreRuns ss rs → All IsNear rs
 runs_near ss [] are = All-nil IsNear
 runs_near ss (r ∷ rs) are =
     let first = takes_first ss r rs are in
-    All-cons IsNear r rs (record { room = are.2; bounded = are.3; special = are.4; within_span = run_after (max 8 r.align) 0 r.span ss are.0 r.numbers are.1.1; placed = run_placed (max 8 r.align) 0 r.span ss are.0 r.numbers are.1.1 }) (runs_near first.0 rs first.2)
+    All-cons IsNear r rs (record { room = are.2; bounded = are.3; special = are.4; within_span = run_after (max 8 r.align) 0 r.span ss are.0 r.numbers are.1.1; placed = run_placed (max 8 r.align) 0 r.span ss are.0 r.numbers are.1.1; inner = field_near are.0 r.field (λ xs. AreRuns xs rs) are.5 }) (runs_near first.0 rs first.2)
 
 -- the room of numbers alone, and of the text after them
 pub room_alone : (ns : List PlannedNumber) (f : Option PlannedField) → numbers_room ns ≤ room_of ns f

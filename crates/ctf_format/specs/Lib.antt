@@ -8,4 +8,5 @@ pub mod Records
 pub mod Rows
 pub mod RunNumbers
 pub mod Standing
+pub mod Structures
 pub mod Texts

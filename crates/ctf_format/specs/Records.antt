@@ -1,16 +1,20 @@
 -- Event records that are written by their plan (all own).
-use Rattle.std.specs.Prelude.{◌≡◌, ℕ, zero, suc, pos, ◌+◌, ◌-◌, ◌/◌, ◌%◌, ◌^◌, ◌<◌, ◌≤◌, false, length, take, List, [], ◌∷◌, ◌++◌, Option, None, IfSome, codes}
+use Rattle.std.specs.Prelude.{◌≡◌, ℕ, zero, suc, pos, ◌+◌, ◌-◌, ◌/◌, ◌%◌, ◌^◌, ◌<◌, ◌≤◌, false, length, take, List, [], ◌∷◌, ◌++◌, Option, None, IfSome, ⊤, codes}
 use Rattle.std.specs.Int.{next_multiple_of}
 use Rattle.std.specs.List.{All}
 use Rattle.ctf_bits.specs.Align.{IsLeastMultiple}
 use Rattle.ctf_class.specs.Integers.{bits_of}
-use Rattle.ctf_class.specs.Records.{Slot, TakesNumbers, After, AreIntegers, have_special, room_of}
+use Rattle.ctf_class.specs.Records.{Slot, TakesNumbers, After, AreIntegers, AreMany, IsShown, IsStructure, have_special, room_of}
 use Rattle.ctf_class.specs.declared.class.Class.{Class}
 use Rattle.ctf_class.specs.declared.class.Member.{Member}
 use Rattle.ctf_class.specs.declared.record_plan.Integers.{Integers}
 use Rattle.ctf_class.specs.declared.record_plan.PlannedRun.{PlannedRun}
+use Rattle.ctf_class.specs.declared.record_plan.Shown.{Shown as PlannedShown}
+use Rattle.ctf_class.specs.declared.record_plan.Shown.TheVariants as fields
 use Rattle.ctf_class.specs.declared.planned_number.PlannedNumber.{PlannedNumber}
+use Rattle.ctf_class.specs.declared.structures.Structures.{Structures}
 use Rattle.ctf_decode.specs.Views.{form}
+use Rattle.ctf_format.specs.Structures.{IsNearStructure}
 use Rattle.ctf_format.specs.RunNumbers.{number_at, place_in, IsPlaced}
 use Rattle.ctf_format.specs.Standing.{Before, Puts, PutsNext, StandsAsNumber, known}
 use Rattle.ctf_decode.specs.Forms.{Form}
@@ -19,8 +23,8 @@ use Rattle.ctf_format.specs.declared.content.Content.{Content}
 use Rattle.ctf_format.specs.declared.placed_run.PlacedRun.{PlacedRun}
 use Rattle.ctf_format.specs.declared.planned_record.Reach.{Reach}
 
--- How far fields came: where the next one could begin, how many values were begun in arrays, the number that comes
--- last, if it is known, and what was written.
+-- How far fields came: where the next one could begin, how many values were begun in arrays and in structures within,
+-- the number that comes last, if it is known, and what was written.
 pub record Reached : Type 0 where
   pub place : ℕ
   pub more : ℕ
@@ -80,16 +84,34 @@ IsLastOf placed last =
     IsLastNumber last placed.run.now.numbers placed.packet.now.bytes.now
     ((placed.end - placed.run.now.span) / 8)
 
--- the texts of integers after a run's numbers, if they were written, are in the buffer from the index that was reached
--- before them to the one that is reached then
-abbrev pub PutsIntegers : Option ℕ → Integers → PlacedRun → Reach → List ℕ → Reach → List ℕ
+-- the texts of such a field after a run's numbers, if they were written, are in the buffer from the index that was
+-- reached before them to the one that is reached then
+abbrev pub PutsAfterNumbers : Option ℕ → (ℕ → Member → Type 0) → PlacedRun → Reach → List ℕ → Reach
+    → List ℕ
     → Type 0
-PutsIntegers result are placed from before to items =
-    (index : ℕ) (member : Member) → AreIntegers index member are.integer are.align are.many
+PutsAfterNumbers result Are placed from before to items =
+    (index : ℕ) (member : Member) → Are index member
     → IfSome result (λ text.
     (last : Option ℕ) × IsLastOf placed last
     × PutsOther index last (form member.class) (value_text member.class)
     placed.packet.now.bytes.now placed.packet.now.end from before to (take text items))
+
+-- those of integers
+abbrev pub PutsIntegers : Option ℕ → Integers → PlacedRun → Reach → List ℕ → Reach → List ℕ
+    → Type 0
+PutsIntegers result are =
+    PutsAfterNumbers result (λ index member. AreIntegers index member are.integer are.align are.many)
+
+-- those of structures of numbers
+abbrev pub PutsStructures : Option ℕ → Structures → PlacedRun → Reach → List ℕ → Reach → List ℕ
+    → Type 0
+PutsStructures result are =
+    PutsAfterNumbers result (λ index member. AreMany (λ k. IsStructure k are) index member are.many)
+
+-- those of what a field is shown as
+abbrev pub PutsShown : Option ℕ → PlannedShown → PlacedRun → Reach → List ℕ → Reach → List ℕ
+    → Type 0
+PutsShown result what = PutsAfterNumbers result (λ index member. IsShown index member what)
 
 -- a run takes the first of these fields, and these are left
 abbrev pub TakesRun : List Slot → PlannedRun → List Slot → Type 0
@@ -105,14 +127,21 @@ PutsRun result r packet from to items =
     (used : List Slot) × (slots ≡ used ++ others)
     × PutsFields used packet.bytes.now packet.end from (reached to (take text items)))
 
+-- what is known of the structures of numbers that a field is shown as
+abbrev pub IsNearShown : PlannedShown → Type 0
+IsNearShown (fields.Structures are) = IsNearStructure are
+IsNearShown _ = ⊤
+
 -- What is known of each run of a plan: how much room its text takes, that its span is short, whether it has special
--- numbers, that all its numbers are within its span, and that their windows are those of their integers.
+-- numbers, that all its numbers are within its span, that their windows are those of their integers, and what is known
+-- of its field.
 pub record IsNear (r : PlannedRun) : Type 0 where
   pub room : r.room ≡ room_of r.numbers r.field
   pub bounded : r.span ≤ 2 ^ 33
   pub special : r.has_special ≡ have_special r.numbers
   pub within_span : All (λ n. n.window.place + bits_of n.integer ≤ r.span) r.numbers
   pub placed : All IsPlaced r.numbers
+  pub inner : IfSome r.field (λ f. IsNearShown f.shown)
 
 -- `place` is where a run begins, if what is before it ends at `from`: the next multiple of its alignment, which is the
 -- first bit of a byte where the run has numbers

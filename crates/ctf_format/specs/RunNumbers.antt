@@ -1,4 +1,4 @@
--- The numbers of runs: integers whose distances are known beforehand (all own).
+-- Numbers of runs and of structures: integers whose distances are known beforehand (all own).
 use Rattle.std.specs.Prelude.{◌≡◌, ℕ, ℤ, pos, ◌+◌, ◌*◌, ◌^◌, ◌≤◌, false, List, ◌++◌, length, if◌then◌else◌}
 use Rattle.ctf_bits.specs.Number.{number, signed_number}
 use Rattle.ctf_class.specs.Integers.{bits_of, IsUsual}

@@ -1,5 +1,5 @@
 -- Values that are shown straight from the bits.
-use Rattle.std.specs.Prelude.{◌≡◌, ℕ, zero, suc, ◌+◌, ◌<◌, ◌≤◌, List, [], ◌∷◌, ◌++◌, map, length, take, Option, Some, None, IfSome, Ok, ⊤, if◌then◌else◌}
+use Rattle.std.specs.Prelude.{◌≡◌, ℕ, zero, suc, ◌+◌, ◌*◌, ◌<◌, ◌≤◌, List, [], ◌∷◌, ◌++◌, map, length, take, Option, Some, None, IfSome, Ok, ⊤, if◌then◌else◌}
 use Rattle.ctf_class.specs.declared.class.Member.{Member}
 use Rattle.ctf_class.specs.declared.integer.Integer.{Integer}
 use Rattle.ctf_class.specs.declared.route.Length.{Length}
@@ -118,13 +118,21 @@ array_text shown v = enclosed 91 93 (element_texts shown 0 (elements_in v))
 abbrev pub elements_text : Integer → Shown
 elements_text i = array_text (integer_text i)
 
--- so many integers follow each other, where there may be as many more, and they are shown as elements
-abbrev pub PutsElements : (List (List ℕ) → List ℕ) → ℕ → Integer → ℕ → List ℕ → ℕ → ℕ → ℕ → List ℕ
+-- a value of so many values is there from a place to another, and its text follows a text, where there may be as many
+-- more
+abbrev pub PutsSome : Form → Shown → ℕ → List ℕ → ℕ → ℕ → ℕ → List ℕ → List ℕ → Type 0
+PutsSome k shown many packet content place end before after =
+    (spent : ℕ) → spent + many ≤ MOST_VALUES
+    → Puts k shown packet content place spent end (spent + many) before after
+
+-- so many values, each of so many, follow each other, where there may be as many more, and they are shown as elements
+abbrev pub PutsElements : (List (List ℕ) → List ℕ) → Form → Shown → ℕ → ℕ → List ℕ → ℕ → ℕ → ℕ
+    → List ℕ
     → List ℕ → Type 0
-PutsElements together align i count packet content place end before after =
-    (spent : ℕ) → spent + count ≤ MOST_VALUES → (earlier : Scope → Option Val) (env : Env)
+PutsElements together k shown each count packet content place end before after =
+    (spent : ℕ) → spent + count * each ≤ MOST_VALUES → (earlier : Scope → Option Val) (env : Env)
     → (vs : List Val)
-    × (repeat (walk (integer align i) (among packet content earlier) env) count [] place spent
-    ≡ Ok (vs, end, spent + count))
+    × (repeat (walk k (among packet content earlier) env) count [] place spent
+    ≡ Ok (vs, end, spent + count * each))
     × (length vs ≡ count)
-    × (after ≡ before ++ together (element_texts (integer_text i) 0 (vals_of vs)))
+    × (after ≡ before ++ together (element_texts shown 0 (vals_of vs)))

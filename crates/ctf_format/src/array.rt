@@ -74,8 +74,9 @@ fn put_elements(
     buffer: &mut Vec<u8>,
 ) -> Option<Position>
     requires { IsWithin packet.now from.place buffer.old from.text }
-    ensures puts { let line = take from.text buffer.old.items in IfSome result
-        (λ e. PutsElements (enclosed 91 93) class.now.align class.now.integer.now count
+    ensures puts { let line = take from.text buffer.old.items in
+        let integer = class.now.integer.now in let k = forms.integer class.now.align integer in
+        IfSome result (λ e. PutsElements (enclosed 91 93) k (texts.integer_text integer) 1 count
         packet.now.bytes.now packet.now.end from.place e.place line
         (take e.text buffer.new.items)) }
     ensures within { IfSome result (λ e. IsWithin packet.now e.place buffer.new e.text) }
@@ -108,9 +109,11 @@ fn put_row(
     buffer: &mut Vec<u8>,
 ) -> Option<Position>
     requires { IsWithin packet.now from.place buffer.old from.text }
-    ensures puts { let line = take from.text buffer.old.items in IfSome result
-        (λ e. PutsElements (row 91) class.now.align class.now.integer.now count packet.now.bytes.now
-        packet.now.end from.place e.place line (take e.text buffer.new.items)) }
+    ensures puts { let line = take from.text buffer.old.items in
+        let integer = class.now.integer.now in let k = forms.integer class.now.align integer in
+        IfSome result (λ e. PutsElements (row 91) k (texts.integer_text integer) 1 count
+        packet.now.bytes.now packet.now.end from.place e.place line
+        (take e.text buffer.new.items)) }
     ensures within { IfSome result (λ e. IsWithin packet.now e.place buffer.new e.text) }
 {
     // A copy, so that it does not go through memory at each element.

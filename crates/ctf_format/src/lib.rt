@@ -22,6 +22,7 @@ mod planned_record;
 mod record;
 mod room;
 mod standing;
+mod structures;
 mod text;
 mod value;
 mod whole;

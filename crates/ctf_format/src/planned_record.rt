@@ -2,14 +2,15 @@
 
 ghost use Rattle.std.specs.Prelude.{List, ℕ, [], ◌∷◌, ◌≡◌, ◌+◌, ◌/◌, ◌-◌, ◌++◌, ◌<◌, ◌≤◌, length, pos, false, take, vec_len, Option, None, IfSome};
 ghost use Rattle.std.specs.List.{All, flat_map};
-ghost use Rattle.ctf_class.specs.Records.{After, Slot, AreIntegers, AreRuns, IsField, IsPlanOf, numbers_room, room_of};
+ghost use Rattle.ctf_class.specs.Records.{After, Slot, AreIntegers, AreRuns, IsField, IsPlanOf, IsStructure, numbers_room, room_of};
 ghost use Rattle.ctf_class.specs.declared.class.Class.{Class};
 ghost use Rattle.ctf_class.specs.declared.class.Member.{Member};
-ghost use Rattle.ctf_class.specs.declared.record_plan.Many.TheVariants.{One};
+ghost use Rattle.ctf_class.specs.declared.many.Many.TheVariants.{One};
 ghost use Rattle.ctf_decode.specs.Views.{form};
+ghost use Rattle.ctf_format.specs.Structures.{IsNearStructure};
 ghost use Rattle.ctf_format.specs.Put.{IsPut, IsWithin};
 ghost use Rattle.ctf_format.specs.RunNumbers.{IsInside, number_at, place_in, run_text};
-ghost use Rattle.ctf_format.specs.Records.{BeginsAt, IsNear, IsLastOf, PutsField, PutsFields, PutsIntegers, PutsOther, PutsRun, PutsScopes, after_number, reached};
+ghost use Rattle.ctf_format.specs.Records.{BeginsAt, IsNear, IsLastOf, PutsField, PutsFields, IsNearShown, PutsIntegers, PutsOther, PutsRun, PutsScopes, PutsShown, PutsStructures, after_number, reached};
 ghost use Rattle.ctf_format.specs.Texts as texts;
 
 use crate::array::put_integers;
@@ -22,9 +23,11 @@ use crate::room::with_room;
 use crate::standing::{
     AlignedInteger, Position, Standing, put_fixed_text, put_integer, put_string,
 };
+use crate::structures::{put_structure, put_structures};
 use ctf_bits::uint_within;
 use ctf_class::{
     Integers, Many, PlannedField, PlannedNumber, PlannedRun, PreparedText, RecordPlan, Shown,
+    Structures,
 };
 use ctf_decode::MOST_VALUES;
 
@@ -33,7 +36,7 @@ use ctf_decode::MOST_VALUES;
 pub(crate) struct Reach {
     /// Where the next one could begin, in bits from the packet's first one.
     place: u64,
-    /// How many values were begun in arrays.
+    /// How many values were begun in arrays and in structures within.
     more: u64,
 }
 
@@ -42,8 +45,8 @@ pub(crate) struct Reach {
 /// begun before, and the index, in bytes. What is before the index is kept, and the buffer grows where it has no room.
 ///
 /// `None` where there is no plan; where the record has a fault; where a run of numbers would begin within a byte; where
-/// the packet has fewer than eight bytes after the numbers of a run, or after the begin of a run without any; and where
-/// an allocation fails. The buffer is then unspecified.
+/// the packet has fewer than eight bytes after the numbers of a run or of a structure within, or after the begin of a run
+/// without any; and where an allocation fails. The buffer is then unspecified.
 #[inline(always)]
 pub fn put_planned_record(
     plan: &RecordPlan,
@@ -231,6 +234,7 @@ fn put_run_field(
     buffer: &mut Vec<u8>,
     at: usize,
 ) -> Option<usize>
+    requires inner { IfSome placed.run.now.field (λ f. IsNearShown f.shown) }
     requires few { reach.old.more ≤ MOST_VALUES }
     requires room { at + room_of [] placed.run.now.field ≤ vec_len buffer.old }
     ensures puts { let packet = placed.entry.packet.now in let run = placed.entry.run.now in
@@ -272,6 +276,7 @@ fn put_field(
     buffer: &mut Vec<u8>,
     at: usize,
 ) -> Option<usize>
+    requires inner { IsNearShown field.now.shown }
     requires start { reach.old.place ≤ placed.packet.now.end }
     requires few { reach.old.more ≤ MOST_VALUES }
     requires room { at + length field.now.ready + 90 ≤ vec_len buffer.old }
@@ -317,26 +322,27 @@ fn put_field(
             reach.place = next.place;
             Some(next.text)
         }
-        Shown::Integers(are) => put_other(are, placed, from, reach, buffer),
+        other => put_other(other, placed, from, reach, buffer),
     }
 }
 
-/// Writes integers that are after the numbers of a run and none of these, and gives the index after them; `reach` says
-/// how far they came then.
+/// Writes integers or structures that are after the numbers of a run, and gives the index after them; `reach` says how
+/// far they came then.
 #[inline(always)]
 fn put_other(
-    are: &Integers,
+    shown: &Shown,
     placed: PlacedRun<'_>,
     from: Position,
     reach: &mut Reach,
     buffer: &mut Vec<u8>,
 ) -> Option<usize>
+    requires inner { IsNearShown shown.now }
     requires start { from.place ≤ placed.packet.now.end }
     requires few { reach.old.more ≤ MOST_VALUES }
     requires room { from.text + 66 ≤ vec_len buffer.old }
     ensures puts { let begin = record reach.old { place = from.place } in
         let before = take from.text buffer.old.items in
-        PutsIntegers result are.now placed.entry begin before reach.new buffer.new.items }
+        PutsShown result shown.now placed.entry begin before reach.new buffer.new.items }
     ensures within { IfSome result (IsWithin placed.entry.packet.now reach.new.place buffer.new) }
     ensures few { IfSome result (λ _. reach.new.more ≤ MOST_VALUES) }
 {
@@ -350,13 +356,39 @@ fn put_other(
         packet: placed.packet,
         end: placed.end,
     };
-    let end = put_one_or_many(are, placed, &mut to, buffer, from.text)?;
+    let end = put_after_numbers(shown, placed, &mut to, buffer, from.text)?;
     *reach = to;
     Some(end)
 }
 
-/// Writes such integers, mostly an array, and gives the index after them.
+/// Writes such integers or structures, and gives the index after them.
 #[inline(never)]
+fn put_after_numbers(
+    shown: &Shown,
+    placed: PlacedRun<'_>,
+    reach: &mut Reach,
+    buffer: &mut Vec<u8>,
+    at: usize,
+) -> Option<usize>
+    requires inner { IsNearShown shown.now }
+    requires start { reach.old.place ≤ placed.packet.now.end }
+    requires few { reach.old.more ≤ MOST_VALUES }
+    requires room { at + 66 ≤ vec_len buffer.old }
+    ensures puts { let before = take at buffer.old.items in
+        PutsShown result shown.now placed.entry reach.old before reach.new buffer.new.items }
+    ensures within { IfSome result (IsWithin placed.entry.packet.now reach.new.place buffer.new) }
+    ensures few { IfSome result (λ _. reach.new.more ≤ MOST_VALUES) }
+{
+    match shown {
+        Shown::Integers(are) => put_one_or_many(are, placed, reach, buffer, at),
+        Shown::Structures(are) => put_one_or_many_structures(are, placed, reach, buffer, at),
+        // These are written by `put_field` itself.
+        Shown::String | Shown::Text(_) | Shown::CountedText | Shown::Labelled(_) => None,
+    }
+}
+
+/// Writes such integers, mostly an array, and gives the index after them.
+#[inline(always)]
 fn put_one_or_many(
     are: &Integers,
     placed: PlacedRun<'_>,
@@ -426,6 +458,79 @@ fn put_lone(
     };
     let ends = put_integer(&class, packet, from, buffer.as_mut_slice())?;
     reach.place = ends.place;
+    Some(ends.text)
+}
+
+/// Writes such structures, mostly an array, and gives the index after them.
+#[inline(never)]
+fn put_one_or_many_structures(
+    are: &Structures,
+    placed: PlacedRun<'_>,
+    reach: &mut Reach,
+    buffer: &mut Vec<u8>,
+    at: usize,
+) -> Option<usize>
+    requires inner { IsNearStructure are.now }
+    requires start { reach.old.place ≤ placed.packet.now.end }
+    requires few { reach.old.more ≤ MOST_VALUES }
+    requires room { at + 66 ≤ vec_len buffer.old }
+    ensures puts { let before = take at buffer.old.items in
+        PutsStructures result are.now placed.entry reach.old before reach.new buffer.new.items }
+    ensures within { IfSome result (IsWithin placed.entry.packet.now reach.new.place buffer.new) }
+    ensures few { IfSome result (λ _. reach.new.more ≤ MOST_VALUES) }
+{
+    let count = match are.many {
+        Many::One => return put_lone_structure(are, placed.packet, reach, buffer, at),
+        Many::Fixed(count) => count,
+        Many::Counted => last_number(placed)?,
+    };
+    let from = Position {
+        place: reach.place,
+        text: at,
+    };
+    let next = put_structures(are, count, placed.packet, from, buffer)?;
+    let more = reach.more + next.more;
+    if more > MOST_VALUES {
+        return None;
+    }
+    reach.place = next.place;
+    reach.more = more;
+    Some(next.text)
+}
+
+/// Writes the structure that is alone, and gives the index after it.
+fn put_lone_structure(
+    are: &Structures,
+    packet: &Content<'_>,
+    reach: &mut Reach,
+    buffer: &mut Vec<u8>,
+    at: usize,
+) -> Option<usize>
+    requires inner { IsNearStructure are.now }
+    requires start { reach.old.place ≤ packet.now.end }
+    requires few { reach.old.more ≤ MOST_VALUES }
+    requires room { at + 66 ≤ vec_len buffer.old }
+    ensures puts { let content = packet.now in (index : ℕ) (member : Member) →
+        IsStructure member.class are.now →
+        IfSome result (λ text.
+        PutsOther index None (form member.class) (texts.value_text member.class)
+        content.bytes.now content.end reach.old (take at buffer.old.items) reach.new
+        (take text buffer.new.items)) }
+    ensures within { IfSome result (IsWithin packet.now reach.new.place buffer.new) }
+    ensures few { IfSome result (λ _. reach.new.more ≤ MOST_VALUES) }
+{
+    let from = Position {
+        place: reach.place,
+        text: at,
+    };
+    let ends = put_structure(are, packet, from, buffer)?;
+    let inner = are.count.checked_sub(1)?;
+    let more = reach.more.checked_add(inner)?;
+    if more > MOST_VALUES {
+        return None;
+    }
+    reach.place = ends.place;
+    reach.more = more;
     Some(ends.text)
 }
 

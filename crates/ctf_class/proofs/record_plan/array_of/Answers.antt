@@ -1,13 +1,15 @@
-use Rattle.std.proofs.Common.{◌∙◌, refl, sym, ap, subst}
-use Rattle.ctf_class.specs.Records.{AreIntegers}
-use Rattle.ctf_class.specs.declared.class.Kind as kinds
+use Rattle.std.proofs.Common.{refl}
+use Rattle.std.proofs.lemmas.Result.{IfOk-weaker}
+use Rattle.ctf_class.specs.Records.{IsInteger, IsStructure}
+use Rattle.ctf_class.proofs.RecordsLemmas.{are_many}
 use Rattle.ctf_class.proofs.record_plan.array_of.Goals as goal
-use Rattle.ctf_class.proofs.record_plan.array_of.Goals.{in-Fixed, in-Field+then-leads_before}
+
+pub returns-in-Integer : goal.returns-in-Integer
+returns-in-Integer c = λ index m length is long.
+    let k = c.args.element.now in
+    are_many (λ e. IsInteger e c.in-Integer.integer k.align) index m length k c.args.many is long (c.in-Integer.is, refl)
 
 pub returns : goal.returns
-returns c = λ m is.
+returns c = IfOk-weaker c.structures_of.result _ _ (λ shown made index m length is long.
     let k = c.args.element.now in
-    elim c.match-length.branch [
-      | in-Fixed w ↦ subst (AreIntegers c.args.index m c.in-Integer.integer k.align) (sym w.many-is) (k, is ∙ ap (λ l. kinds.Array l k) w.in-Fixed.is, (c.in-Integer.is, refl))
-      | in-Field+then-leads_before w ↦ subst (AreIntegers c.args.index m c.in-Integer.integer k.align) (sym w.many-is) (w.in-Field.route, k, is ∙ ap (λ l. kinds.Array l k) w.in-Field.is, w.leads_before.ensures w.if-leads_before.true, (c.in-Integer.is, refl))
-    ]
+    made index m (λ are one. are_many (λ e. IsStructure e are) index m length k c.args.many is long one)) c.structures_of.ensures

@@ -42,8 +42,8 @@ returns-in_ok-ends-in-Text-clause-puts c = λ slot is.
     let within : begin ≤ content = omega (arith, c.if-place-packet.false) in
     (None, no_number c.args.placed.run.now.numbers bytes ((c.args.placed.end - c.args.placed.run.now.span) / 8), field_alone slot c.args.field.now bytes content begin c.args.reach.now.place c.args.reach.now.more ends.place None (take c.args.at c.args.buffer.now.items) line after is c.up-place.ensures.value within c.put_before-text.ensures.put.text puts)
 
-pub returns-in-Integers-clause-puts : goal.returns-in-Integers-clause-puts
-returns-in-Integers-clause-puts c = λ slot is.
+pub returns-in_default-clause-puts : goal.returns-in_default-clause-puts
+returns-in_default-clause-puts c = λ slot is.
     let bytes = c.args.placed.packet.now.bytes.now in
     let content = c.args.placed.packet.now.end in
     let begin = c.up-place.result in
@@ -51,7 +51,7 @@ returns-in-Integers-clause-puts c = λ slot is.
     let before = take c.args.at c.args.buffer.now.items in
     let line = take c.put_before-text.result c.put_before-text.new.buffer.items in
     let within : begin ≤ content = omega (arith, c.if-place-packet.false) in
-    IfSome_then c.put_other.result (c.put_other.ensures.puts slot.index slot.member (subst (IsShown slot.index slot.member) c.in-Integers.is is.shown)) (λ text p.
+    IfSome_then c.put_other.result (c.put_other.ensures.puts slot.index slot.member is.shown) (λ text p.
     let after = take text c.put_other.new.buffer.items in
     let field = field_next slot c.args.field.now bytes content begin c.args.reach.now.place c.args.reach.now.more p.2.0 to.place p.0 before line after is c.up-place.ensures.value within c.put_before-text.ensures.put.text p.2.2 in
     (p.0, p.1, subst (λ n. PutsField slot bytes content (numbers_to c.args.reach.now.place c.args.reach.now.more p.0 before) (numbers_to to.place n None after)) (sym p.2.1) field))

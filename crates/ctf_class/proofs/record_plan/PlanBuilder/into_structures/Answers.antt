@@ -1,0 +1,11 @@
+use Rattle.std.proofs.Common.{◌≡◌, ap, sym, subst, rules}
+use Rattle.ctf_class.specs.Records.{IsStructure, have_special}
+use Rattle.ctf_class.specs.declared.structures.Structures.{Structures}
+use Rattle.ctf_class.proofs.RecordsLemmas.{structure_made}
+use Rattle.ctf_class.proofs.record_plan.PlanBuilder.into_structures.Goals as goal
+
+pub returns-clause-is : goal.returns-clause-is
+returns-clause-is c = λ k begins of.
+    let m = c.args.self in
+    let special : c.have_special.result ≡ have_special m.numbers = search rules in
+    subst (λ b. IsStructure k (record { align = m.align; numbers = m.numbers; has_special = b; span = m.span; room = m.room; count = m.count; many = c.args.many })) (sym special) (structure_made k m c.args.many c.requires.alone begins of)
