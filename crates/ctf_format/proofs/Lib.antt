@@ -16,4 +16,5 @@ pub mod StructuresLemmas
 pub mod AroundLemmas
 pub mod ArrayLemmas
 pub mod ByClassLemmas
+pub mod PassingLemmas
 pub mod WindowLemmas

@@ -3,6 +3,7 @@ pub mod Digits
 pub mod Labels
 pub mod Lines
 pub mod Numbers
+pub mod Passing
 pub mod Put
 pub mod Records
 pub mod Rows

@@ -35,9 +35,9 @@ use ctf_decode::MOST_VALUES;
 #[derive(Clone, Copy)]
 pub(crate) struct Reach {
     /// Where the next one could begin, in bits from the packet's first one.
-    place: u64,
+    pub(crate) place: u64,
     /// How many values were begun in arrays and in structures within.
-    more: u64,
+    pub(crate) more: u64,
 }
 
 /// Writes the scopes of the event record after its header (CTF 1.8.3, section 6) at an index of a buffer, by the plan
@@ -136,19 +136,10 @@ fn put_run(
     ensures within { IfSome result (IsWithin packet.now reach.new.place buffer.new) }
     ensures few { IfSome result (λ _. reach.new.more ≤ MOST_VALUES) }
 {
-    let begin = run.align.up(reach.place);
-    if begin > packet.end || (begin % 8 != 0 && !run.numbers.is_empty()) {
-        return None;
-    }
-    // Mostly so many bits of the content are after it that the packet's bytes need no look.
-    if run.span + 64 > packet.end - begin && !packet.has_window_at(begin + run.span) {
-        return None;
-    }
+    let placed = placed_at(run, packet, reach.place)?;
     if with_room(run.room, buffer, at).is_err() {
         return None;
     }
-    let end = begin + run.span;
-    let placed = PlacedRun { run, packet, end };
     if run.has_special {
         // A copy, so that other runs do not go through memory.
         let mut to = *reach;
@@ -157,6 +148,32 @@ fn put_run(
         return Some(text);
     }
     put_placed_run(placed, reach, buffer, at)
+}
+
+/// A run that could begin at a place of a packet, if its numbers are there and can be read at once.
+#[inline(always)]
+pub(crate) fn placed_at<'a>(
+    run: &'a PlannedRun,
+    packet: &'a Content<'a>,
+    place: u64,
+) -> Option<PlacedRun<'a>>
+    requires near { IsNear run.now }
+    requires start { place ≤ packet.now.end }
+    ensures run { IfSome result (λ placed. placed.run.now ≡ run.now) }
+    ensures packet { IfSome result (λ placed. placed.packet.now ≡ packet.now) }
+    ensures begins { IfSome result
+        (λ placed. BeginsAt place run.now (placed.end - run.now.span)) }
+{
+    let begin = run.align.up(place);
+    if begin > packet.end || (begin % 8 != 0 && !run.numbers.is_empty()) {
+        return None;
+    }
+    // Mostly so many bits of the content are after it that the packet's bytes need no look.
+    if run.span + 64 > packet.end - begin && !packet.has_window_at(begin + run.span) {
+        return None;
+    }
+    let end = begin + run.span;
+    Some(PlacedRun { run, packet, end })
 }
 
 /// Writes the fields of a run with special numbers, and gives the index after them; `reach` says how far they came
@@ -536,7 +553,7 @@ fn put_lone_structure(
 
 /// The last of the numbers of a run, if it is unsigned.
 #[inline(always)]
-fn last_number(placed: PlacedRun<'_>) -> Option<u64>
+pub(crate) fn last_number(placed: PlacedRun<'_>) -> Option<u64>
     ensures { IsLastOf placed.entry result }
 {
     let run = placed.run;

@@ -7,6 +7,7 @@ use Rattle.ctf_packet.specs.Items.{Item}
 use Rattle.ctf_packet.specs.declared.fault.StreamFault.TheVariants as faults
 use Rattle.ctf_packet.specs.ItemTimes.{time_of}
 use Rattle.ctf_stream.specs.Reader as reader
+use Rattle.ctf_stream.specs.declared.texts.Texts.{Texts}
 use Rattle.ctf_stream.specs.Reader.{Reader, coming, rest_of, IsFetched, IsOnLine, IsAllTaken, OrRefused}
 use Rattle.stream_laws.specs.Times.{NotBefore, Rises}
 use Rattle.ctf_merge.specs.Merged.{Merged, Placed, First, item, broken, nothing, first_of, ends, then, merged, PlacedRise}
@@ -63,8 +64,8 @@ names_of readers = map (λ r. r.name) readers
 abbrev pub traces_of : List Reader → List TraceClass
 traces_of readers = map (λ r. r.trace) readers
 
--- whether event records of the streams are given as texts, where they can
-abbrev pub writes_of : List Reader → List Bool
+-- the event records of the streams that are given as texts, where they can
+abbrev pub writes_of : List Reader → List Texts
 writes_of readers = map (λ r. r.writes) readers
 
 -- how many bytes of a stream were taken or are left

@@ -1,9 +1,10 @@
 -- What calls make of an event record: its values, or its text.
-use Rattle.std.specs.Prelude.{◌≡◌, ℕ, ◌<◌, ◌⊎◌, List, ◌++◌, take, Option, Some, None, Result, Ok, Err, option_map, codes}
+use Rattle.std.specs.Prelude.{◌≡◌, ℕ, ℤ, ◌<◌, ◌⊎◌, List, ◌++◌, take, Option, Some, None, Result, Ok, Err, IsTrue, int_lt, option_map, codes}
 use Rattle.std.specs.List.{flat_map}
 use Rattle.ctf_class.specs.declared.class.Class.{Class}
 use Rattle.ctf_class.specs.declared.trace.EventClass.{EventClass}
 use Rattle.ctf_class.specs.Streams.{StreamClass}
+use Rattle.ctf_clock.specs.declared.moment.Moment.{Moment}
 use Rattle.ctf_decode.specs.Known.{Known}
 use Rattle.ctf_decode.specs.Views.{form}
 use Rattle.ctf_record_text.specs.Texts.{values_text}
@@ -54,6 +55,18 @@ abbrev pub PutsRecord : Known → RecordPlace → ToldHead → List ℕ → ℕ 
 PutsRecord known at told part end text =
     PutsBody known at.packet.now.stream.now told.head.event.now part at.bytes.now
     at.packet.now.content told.head.end told.spent end text
+
+-- the event record there is this one, with these values of its packet
+abbrev pub IsThere : StreamClass → Result (Recorded Classes) StreamFault → Known → EventRecord
+    → Type 0
+IsThere stream stands known r =
+    (values : Values) × (stands ≡ Ok (recorded_of stream values r))
+    × (packet_values values ≡ packet_values (values_of known))
+
+-- the clock of an event record is before a time, in nanoseconds since the epoch
+abbrev pub IsBefore : ℤ → Option Moment → Type 0
+IsBefore begin None = ⊥
+IsBefore begin (Some clock) = IsTrue (int_lt clock.time begin)
 
 -- the event record there has its values in the scopes, or its text in the line
 abbrev pub Made : StreamClass → Result (Recorded Classes) StreamFault → List ℕ → Known → List ℕ

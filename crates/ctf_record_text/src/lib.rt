@@ -7,4 +7,4 @@ mod planned_header;
 mod record;
 
 pub use part::PacketPart;
-pub use record::{LineBuffer, LineRecord, next_line, written_line};
+pub use record::{LineBuffer, LineRecord, next_line, passed_record, written_line};

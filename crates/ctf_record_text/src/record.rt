@@ -1,6 +1,6 @@
 //! Event records whose text is made as they are read.
 
-ghost use Rattle.std.specs.Prelude.{◌≡◌, ◌<◌, ◌≤◌, take, vec_len, Some, option_copied, option_map, IfOk, IfSome, OnOk};
+ghost use Rattle.std.specs.Prelude.{◌≡◌, ◌<◌, ◌≤◌, ℕ, List, take, vec_len, Some, option_copied, option_map, IfOk, IfSome, IsTrue, OnOk};
 ghost use Rattle.ctf_clock.specs.declared.moment.Shift.{Shift};
 ghost use Rattle.ctf_decode.specs.Known.{Known};
 ghost use Rattle.ctf_decode.specs.Views.{form};
@@ -9,15 +9,16 @@ ghost use Rattle.ctf_packet.specs.Places.{IsTimed, record_there};
 ghost use Rattle.ctf_packet.specs.Records.{bodied};
 ghost use Rattle.ctf_packet.specs.Views.{values_of, packet_values};
 ghost use Rattle.ctf_record_text.specs.Headers.{PlansRecords, TellsAt};
-ghost use Rattle.ctf_record_text.specs.Making.{Made, Makes, MakesValues, PutsBody, PutsRecord, PutsScope};
+ghost use Rattle.ctf_record_text.specs.Making.{IsBefore, IsThere, Made, Makes, MakesValues, PutsBody, PutsRecord, PutsScope};
 
 use crate::header::{PlannedHead, ToldHead, told_head};
 use crate::part::PacketPart;
 use ctf_class::{Class, StreamClass};
+use ctf_clock::Moment;
 use ctf_decode::{MOST_VALUES, Scopes};
 use ctf_format::{
-    Content, MemberNumbers, ScopeInput, Standing, put_comma, put_front, put_planned_record,
-    put_standing,
+    Content, MemberNumbers, Passed, ScopeInput, Standing, pass_planned_record, put_comma,
+    put_front, put_planned_record, put_standing,
 };
 use ctf_packet::{EventRecord, Head, RecordPlace, Scratch, StreamFault, next_head, put_body};
 use std::alloc::Global;
@@ -135,6 +136,84 @@ pub fn next_line<'a>(
 #[inline(never)]
 fn is_planned(at: &RecordPlace<'_, '_>) -> bool {
     told_head(at, false).is_some() || told_head(at, true).is_some()
+}
+
+/// The event record at a place (CTF 1.8.3, section 6), if it is before a time, in nanoseconds since the epoch, and its
+/// header and its scopes have plans: by these it is gone over, without a text and without its values.
+///
+/// `None` also where `put_planned_record` gives no text, but for allocations: none is made.
+#[inline(always)]
+pub fn passed_record<'a>(at: &RecordPlace<'_, 'a>, begin: i64) -> Option<EventRecord<'a>>
+    ensures stands { (shift : Shift) (known : Known) → IsTimed shift at.now.packet.now →
+        let stands = record_there shift (values_of known) at.now in
+        IfSome result (IsThere at.now.packet.now.stream.now stands known) }
+    ensures before { IfSome result (λ r. IsBefore begin r.clock) }
+    ensures within { IfSome result (λ r. r.end ≤ at.now.packet.now.content) }
+    ensures forward { IfSome result (λ r. at.now.place < r.end) }
+{
+    let planned = told_either(at)?;
+    let told = planned.told;
+    if !is_before(told.head.clock, begin) {
+        return None;
+    }
+    let end = end_by_plan(at, planned)?;
+    Some(EventRecord {
+        event: told.head.event,
+        clock: told.head.clock,
+        end,
+    })
+}
+
+/// The header of the event record at a place by its plan, a usual one or another.
+#[inline(always)]
+fn told_either<'a>(at: &RecordPlace<'_, 'a>) -> Option<PlannedHead<'a>>
+    ensures tells { IfSome result (λ p. TellsAt at.now p.told) }
+    ensures plan { IfSome result (PlansRecords at.now.packet.now) }
+    ensures within { IfSome result (λ p. p.told.head.end ≤ at.now.packet.now.content) }
+    ensures few { IfSome result (λ p. p.told.spent ≤ MOST_VALUES) }
+{
+    match told_head(at, false) {
+        Some(planned) => Some(planned),
+        None => told_head(at, true),
+    }
+}
+
+/// Whether a clock is before a time, in nanoseconds since the epoch.
+#[inline(always)]
+fn is_before(clock: Option<Moment>, begin: i64) -> bool
+    ensures { IsTrue result → IsBefore begin clock }
+{
+    match clock {
+        Some(moment) => moment.time < begin,
+        None => false,
+    }
+}
+
+/// Where the event record at a place ends, by the plan alone.
+#[inline(always)]
+fn end_by_plan<'a>(at: &RecordPlace<'_, 'a>, planned: PlannedHead<'a>) -> Option<u64>
+    requires plan { PlansRecords at.now.packet.now planned }
+    requires start { planned.told.head.end ≤ at.now.packet.now.content }
+    requires few { planned.told.spent ≤ MOST_VALUES }
+    ensures passes { IfSome result (λ end. (known : Known) (part : List ℕ) → (text : List ℕ) ×
+        PutsRecord known at.now planned.entry.told part end text) }
+    ensures within { IfSome result (λ end. end ≤ at.now.packet.now.content) }
+    ensures forward { IfSome result (λ end. at.now.place < end) }
+{
+    let told = planned.told;
+    let content = Content {
+        bytes: at.bytes,
+        end: at.packet.content,
+    };
+    let from = Passed {
+        place: told.head.end,
+        spent: told.spent,
+    };
+    let all = pass_planned_record(planned.plan, &content, from)?;
+    if all.place <= at.place {
+        return None;
+    }
+    Some(all.place)
 }
 
 /// The event record of a header whose text was written.

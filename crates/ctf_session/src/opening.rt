@@ -1,13 +1,14 @@
 //! The readers of the streams of several traces.
 
-ghost use Rattle.std.specs.Prelude.{◌≡◌, ◌++◌, Bool, List, map, IfOk, OnOk};
+ghost use Rattle.std.specs.Prelude.{◌≡◌, ◌++◌, List, map, IfOk, OnOk};
 ghost use Rattle.ctf_session.specs.Inputs.{Input, input_of, inputs_from};
 ghost use Rattle.ctf_session.specs.Opening.{EachOpens};
+ghost use Rattle.ctf_stream.specs.Asked.{asked_first};
 
 use crate::input::Streams;
 use ctf_bits::Source;
-use ctf_clock::Shift;
 use ctf_list::{NoMemory, Text};
+use ctf_options::Options;
 use ctf_stream::StreamReader;
 use std::alloc::Global;
 
@@ -15,10 +16,10 @@ use std::alloc::Global;
 pub(crate) fn open_all<'a, S: Source + Drop>(
     alloc: Global,
     traces: Vec<Streams<'a, S>>,
-    shift: Shift,
+    options: &Options,
 ) -> Result<(Vec<StreamReader<'a, S>>, Vec<usize>), NoMemory>
     ensures opened { IfOk result
-        (λ r. EachOpens shift
+        (λ r. EachOpens options.now
         (inputs_from (λ s. record { tells = S.tells s; bytes = S.left s; ending = S.ending s }) 0
         traces.entry.items) r.0.items) }
     ensures numbers { IfOk result
@@ -33,7 +34,7 @@ pub(crate) fn open_all<'a, S: Source + Drop>(
     };
     let mut number = 0;
     for trace in traces {
-        open_streams(alloc, number, trace, shift, &mut opened)?;
+        open_streams(alloc, number, trace, options, &mut opened)?;
         number += 1;
     }
     Ok((opened.readers, opened.numbers))
@@ -51,11 +52,11 @@ fn open_streams<'a, S: Source + Drop>(
     alloc: Global,
     number: usize,
     trace: Streams<'a, S>,
-    shift: Shift,
+    options: &Options,
     opened: &mut Opened<'a, S>,
 ) -> Result<(), NoMemory>
-    ensures opened { (inputs : List Input) → EachOpens shift inputs opened.old.readers.items
-        → OnOk result (EachOpens shift
+    ensures opened { (inputs : List Input) → EachOpens options.now inputs opened.old.readers.items
+        → OnOk result (EachOpens options.now
         (inputs ++ map (input_of
         (λ s. record { tells = S.tells s; bytes = S.left s; ending = S.ending s }) number
         trace.entry.class.now) trace.entry.streams.items) opened.new.readers.items) }
@@ -66,16 +67,23 @@ fn open_streams<'a, S: Source + Drop>(
     let Streams { class, streams } = trace;
     for (name, source) in streams {
         let name = Text::from_string(name);
-        let reader = StreamReader::new(alloc, class, name, source, shift);
-        opened.readers.push(reader_of_texts(reader))?;
+        let reader = StreamReader::new(alloc, class, name, source, options.shift);
+        opened
+            .readers
+            .push(reader_of_texts(reader, options.trim.begin))?;
         opened.numbers.push(number)?;
     }
     Ok(())
 }
 
-/// A reader that from now on gives event records as texts, where these can be made without the values.
-fn reader_of_texts<'a, S: Source + Drop>(reader: StreamReader<'a, S>) -> StreamReader<'a, S>
-    ensures { (made : Bool) × (result ≡ record reader.entry { writes = made }) }
+/// A reader that from now on gives event records as texts, where these can be made without the values, from this time
+/// on, in nanoseconds since the epoch, if it is given.
+fn reader_of_texts<'a, S: Source + Drop>(
+    reader: StreamReader<'a, S>,
+    begin: Option<i64>,
+) -> StreamReader<'a, S>
+    ensures { let writes = asked_first reader.entry.writes begin in
+        result ≡ record reader.entry { writes = writes } }
 {
-    reader.with_texts()
+    reader.with_texts(begin)
 }

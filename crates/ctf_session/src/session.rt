@@ -45,8 +45,9 @@ pub struct Session<'a, S: Source + Drop> {
 impl<'a, S: Source + Drop> Model for Session<'a, S> {
     ghost use Rattle.ctf_session.specs.Steps.{Session};
     ghost use Rattle.ctf_session.specs.Endings.{ended_by};
+    ghost use Rattle.ctf_session.specs.Opening.{AreAsked};
     ghost use Rattle.ctf_session.specs.Sessions.{left_by};
-    ghost use Rattle.ctf_merge.specs.Merges.{coming_of, names_of, room_of};
+    ghost use Rattle.ctf_merge.specs.Merges.{coming_of, names_of, room_of, writes_of};
 
     ghost Value = { Session };
 
@@ -69,6 +70,8 @@ impl<'a, S: Source + Drop> Model for Session<'a, S> {
       ended = ended_by s.ended;
       room = room_of s.merge.readers;
     } };
+
+    ghost invariant = { λ s. AreAsked s.trim.begin (writes_of s.merge.readers) };
 }
 
 impl<'a, S: Source + Drop> Session<'a, S> {
@@ -109,7 +112,7 @@ impl<'a, S: Source + Drop> Session<'a, S> {
             AllTell inputs
             → IfOk result (λ s. EachMeans (map (run_in options.now.shift) inputs) s.readers) }
     {
-        let (readers, numbers) = open_all(alloc, traces, options.shift)?;
+        let (readers, numbers) = open_all(alloc, traces, options)?;
         let merge = Merge::new(alloc, readers)?;
         Ok(Session {
             alloc,

@@ -1,3 +1,4 @@
+mod Asking
 mod Steps
 mod ReadStates
 mod Written

@@ -17,7 +17,7 @@ use Rattle.ctf_stream.specs.Coming.{opened_in, left_in, item_in, TakesItem}
 use Rattle.ctf_fetch.specs.Fetching.{OrNoMemory, after_packet}
 use Rattle.ctf_stream.specs.Reader.{after_ahead, with_ahead}
 use Rattle.ctf_stream.specs.Standing.{item_at}
-use Rattle.ctf_stream.specs.ReadState.{trace_of, coming_at, Inside, StandsAt, coming_of, between, stepped, StepsWithin, Enters, Advances}
+use Rattle.ctf_stream.specs.ReadState.{trace_of, coming_at, Inside, StandsAt, coming_of, between, stepped, StepsWithin, Enters, Advances, WritesNext}
 use Rattle.ctf_stream.specs.declared.read_state.ReadState.{ReadState}
 use Rattle.ctf_fetch.specs.Headers.{KnowsHeader}
 use Rattle.ctf_fetch.specs.declared.packet_scratch.PacketScratch.{PacketScratch}
@@ -118,3 +118,21 @@ ended old ending left after middle next found is test enters =
 pub still_known : (trace next : TraceClass) (scratch after : PacketScratch) (old new : Values) → next ≡ trace → after ≡ scratch → new ≡ old → KnowsHeader trace scratch old.packet_header → KnowsHeader next after new.packet_header
 still_known trace next scratch after old new t s v known =
     subst (λ x. KnowsHeader x after new.packet_header) (sym t) (subst (λ x. KnowsHeader trace x new.packet_header) (sym s) (subst (λ (x : Values). KnowsHeader trace scratch x.packet_header) (sym v) known))
+
+-- where only the line was another one before, it is another one still
+pub writes_after : (old middle new : ReadState) (result : Option PacketItem) → middle ≡ record old { line = middle.line } → WritesNext middle new result → WritesNext old new result
+writes_after old middle new result same writes =
+    let w = subst (λ c. WritesNext c new result) same writes in
+    record {
+      advances = w.advances;
+      stands = w.stands;
+      shared = w.shared;
+      found = w.found;
+      holds = w.holds;
+      room = w.room;
+      taken = w.taken;
+      writes = w.writes;
+      cut = w.cut;
+      buffer = w.buffer;
+      none = w.none;
+    }

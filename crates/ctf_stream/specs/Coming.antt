@@ -1,5 +1,5 @@
 -- What is to come of a stream, from any place on.
-use Rattle.std.specs.Prelude.{◌≡◌, ℕ, Bool, IsTrue, take, ◌+◌, ◌-◌, ◌*◌, ◌^◌, ◌≤◌, ◌<◌, ◌⊎◌, List, [], ◌∷◌, ◌++◌, length, Option, Some, None, Result, Ok, Err}
+use Rattle.std.specs.Prelude.{◌≡◌, ℕ, take, ◌+◌, ◌-◌, ◌*◌, ◌^◌, ◌≤◌, ◌<◌, ◌⊎◌, List, [], ◌∷◌, ◌++◌, length, Option, Some, None, Result, Ok, Err}
 use Rattle.ctf_clock.specs.declared.moment.Moment.{Moment}
 use Rattle.ctf_clock.specs.declared.moment.Shift.{Shift}
 use Rattle.ctf_decode.specs.Known.{Known}
@@ -17,8 +17,11 @@ use Rattle.ctf_packet.specs.declared.packet.OpenPacket.{OpenPacket}
 use Rattle.ctf_packet.specs.declared.fault.StreamFault.{StreamFault}
 use Rattle.ctf_packet.specs.declared.fault.StreamFault.TheVariants as faults
 use Rattle.ctf_stream.specs.declared.packet.PacketReader.{PacketReader}
+use Rattle.ctf_stream.specs.Asked.{AsksTexts, IsEarly}
+use Rattle.ctf_stream.specs.declared.packet.ReadRecord.{ReadRecord}
 use Rattle.ctf_stream.specs.declared.packet.WrittenRecord.{WrittenRecord}
 use Rattle.ctf_stream.specs.declared.packet.PacketItem.{PacketItem}
+use Rattle.ctf_stream.specs.declared.texts.Texts.{Texts}
 use Rattle.ctf_stream.specs.declared.packet.PacketItem.TheVariants as fronts
 
 -- the packet at hand, with the values of its header and context
@@ -39,23 +42,31 @@ values_in values (Ok r) = r.values
 values_in values (Err f) = values
 
 -- the values of the event record at the place where one was read
-abbrev pub values_at : Opened Classes → List ℕ → WrittenRecord → Values
-values_at packet bytes w = values_in packet.values (record_at packet bytes w.before w.begin)
+abbrev pub values_at : Opened Classes → List ℕ → ReadRecord → Values
+values_at packet bytes r = values_in packet.values (record_at packet bytes r.before r.begin)
 
 -- the current event record, which was read from a place on, where its packet's clock came so far
 abbrev pub front_as : EventRecord → Option Moment → ℕ → Option ℕ → PacketItem
 front_as r before begin None = fronts.Event r
 front_as r before begin (Some end) =
-    fronts.Written (record { event = r; begin = begin; before = before; end = end })
+    fronts.Written (record {
+      read = record { event = r; begin = begin; before = before };
+      end = end;
+    })
 
 abbrev pub front_in : LineRecord → Option Moment → ℕ → PacketItem
 front_in made before begin = front_as made.record before begin made.text
 
+-- an event record of the packet at hand that was read without its values
+abbrev pub read_in : Shift → Known → List ℕ → PacketReader → ReadRecord → Item Classes
+read_in shift known bytes p r =
+    let packet = opened_in shift known p.opened in
+    item_of packet (recorded_of p.opened.stream.now (values_at packet bytes r) r.event)
+
 -- the current item
 abbrev pub item_in : Shift → Known → List ℕ → PacketReader → PacketItem → Item Classes
-item_in shift known bytes p (fronts.Written w) =
-    let packet = opened_in shift known p.opened in
-    item_of packet (recorded_of p.opened.stream.now (values_at packet bytes w) w.event)
+item_in shift known bytes p (fronts.Written w) = read_in shift known bytes p w.read
+item_in shift known bytes p (fronts.Passed r) = read_in shift known bytes p r
 item_in shift known bytes p (fronts.Event r) =
     item_of (opened_in shift known p.opened) (recorded_of p.opened.stream.now (values_of known) r)
 item_in shift known bytes p (fronts.Lost count) =
@@ -93,22 +104,31 @@ TakesRoom old new (Ok (Some front)) = new < old
 TakesRoom old new (Ok None) = new ≤ old
 TakesRoom old new (Err fault) = Unit {0}
 
--- where texts are written, this one is that of the event record at the place where it was read
-pub record IsWritten (writes : Bool) (packet : Opened Classes) (stream : StreamClass)
-    (bytes part line : List ℕ) (w : WrittenRecord) : Type 0 where
-  pub asked : IsTrue writes
-  pub stands : record_at packet bytes w.before w.begin
-      ≡ Ok (recorded_of stream (values_at packet bytes w) w.event)
-  pub same : packet_values (values_at packet bytes w) ≡ packet.values
-  pub begins : w.begin ≤ packet.content
-  pub held : w.end ≤ length line
-  pub text : take w.end line ≡ values_text part stream w.event.event.now (values_at packet bytes w)
+-- an event record is at the place where it was read
+pub record IsRead (packet : Opened Classes) (stream : StreamClass) (bytes : List ℕ)
+    (r : ReadRecord) : Type 0 where
+  pub stands : record_at packet bytes r.before r.begin
+      ≡ Ok (recorded_of stream (values_at packet bytes r) r.event)
+  pub same : packet_values (values_at packet bytes r) ≡ packet.values
+  pub begins : r.begin ≤ packet.content
 
--- an item that has no values in the scopes has its text in the line
-abbrev pub HoldsFront : Bool → Shift → Known → List ℕ → List ℕ → List ℕ → PacketReader
+-- where texts are written, this one is that of the event record at the place where it was read
+pub record IsWritten (writes : Texts) (packet : Opened Classes) (stream : StreamClass)
+    (bytes part line : List ℕ) (w : WrittenRecord) : Type 0 where
+  pub asked : AsksTexts writes
+  pub read : IsRead packet stream bytes w.read
+  pub held : w.end ≤ length line
+  pub text : take w.end line
+      ≡ values_text part stream w.read.event.event.now (values_at packet bytes w.read)
+
+-- an item that has no values in the scopes has its text in the line, or is before those whose texts are asked for
+abbrev pub HoldsFront : Texts → Shift → Known → List ℕ → List ℕ → List ℕ → PacketReader
     → PacketItem → Type 0
 HoldsFront writes shift known bytes part line p (fronts.Written w) =
     IsWritten writes (opened_in shift known p.opened) p.opened.stream.now bytes part line w
+HoldsFront writes shift known bytes part line p (fronts.Passed r) =
+    IsEarly writes r.event.clock
+    × IsRead (opened_in shift known p.opened) p.opened.stream.now bytes r
 HoldsFront writes shift known bytes part line p (fronts.Event r) = Unit {0}
 HoldsFront writes shift known bytes part line p (fronts.Lost count) = Unit {0}
 HoldsFront writes shift known bytes part line p (fronts.Discarded count) = Unit {0}

@@ -1,3 +1,4 @@
+pub mod Asked
 pub mod Coming
 pub mod ReadState
 pub mod Reader

@@ -18,7 +18,8 @@ told (reader.fault f) = aheads.Fault f
 -- the clock of the current item, by the packet at hand
 abbrev pub clock_in : PacketItem → PacketReader → Option Moment
 clock_in (fronts.Event r) p = r.clock
-clock_in (fronts.Written w) p = w.event.clock
+clock_in (fronts.Written w) p = w.read.event.clock
+clock_in (fronts.Passed r) p = r.event.clock
 clock_in (fronts.Discarded count) p = p.opened.clock
 clock_in (fronts.Lost count) p = p.opened.clock
 

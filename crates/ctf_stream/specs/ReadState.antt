@@ -73,7 +73,7 @@ HasShared c =
     IsShared (packet_values (values_of c.scopes)) c.line.part c.packet c.cut.trace.now
     c.packet_scratch
 
--- the text of the current event record was written, where that has no values
+-- the current event record has values, or its text was written, or it was passed over
 abbrev pub HoldsIn : ReadState → Option PacketReader → PacketItem → Type 0
 HoldsIn c (Some p) front =
     HoldsFront c.writes c.cut.shift c.scopes c.buffer c.line.part c.line.bytes.items p front
@@ -140,7 +140,8 @@ abbrev pub IsOfPacket : Option PacketReader → Option PacketItem → Type 0
 IsOfPacket packet (Some front) = IsSome packet
 IsOfPacket packet None = packet ≡ None
 
--- an event record was read and its text written, and the rest is to come; or only the line is another one
+-- an event record was read and its text written, or it was passed over, and the rest is to come; or only the line is
+-- another one
 pub record WritesNext (old new : ReadState) (result : Option PacketItem) : Type 0 where
   pub advances : (ending : Ending) (left : List ℕ) → IfSome result (λ front.
       Advances (coming_of ending left old) (coming_of ending left new) new.cut new.scopes new.buffer

@@ -6,6 +6,7 @@ use Rattle.ctf_packet.specs.Items.{Run, Item, event, discarded, lost, stops, bef
 use Rattle.ctf_packet.specs.declared.fault.StreamFault.{StreamFault}
 use Rattle.ctf_packet.specs.declared.fault.StreamFault.TheVariants as faults
 use Rattle.ctf_fetch.specs.Fetching.{longest_bytes, most_taken}
+use Rattle.ctf_stream.specs.declared.texts.Texts.{Texts}
 
 -- what the reader gives next
 pub data Peeked : Type 0 where
@@ -21,8 +22,8 @@ pub record Reader : Type 0 where
   pub name : List ℕ
   -- whether its source tells its bytes
   pub tells : Bool
-  -- whether event records are given as texts, where they can
-  pub writes : Bool
+  -- the event records that are given as texts, where they can
+  pub writes : Texts
   pub ahead : Peeked
   -- what is to come after the current item, where the source tells its bytes
   pub after : Run Classes

@@ -1,11 +1,13 @@
 -- Items by reference, as those that they are.
-use Rattle.std.specs.Prelude.{◌≡◌, ◌⊎◌, ℕ, Bool, IsTrue, List, Option, Some, None, IsSome, IfSome, option_copied, option_map}
+use Rattle.std.specs.Prelude.{◌≡◌, ◌⊎◌, ℕ, List, Option, Some, None, IsSome, IfSome, option_copied, option_map}
 use Rattle.ctf_class.specs.declared.trace.TraceClass.{TraceClass}
+use Rattle.ctf_clock.specs.declared.moment.Moment.{Moment}
 use Rattle.ctf_decode.specs.Views.{val}
 use Rattle.ctf_record_text.specs.Texts.{event_text}
 use Rattle.ctf_packet.specs.Classes.{Classes}
 use Rattle.ctf_packet.specs.Views.{values_of}
 use Rattle.ctf_packet.specs.Items as items
+use Rattle.ctf_stream.specs.Asked.{AsksTexts, IsEarly}
 use Rattle.ctf_stream.specs.Reader.{Peeked, item_ahead}
 use Rattle.ctf_stream.specs.declared.item.Event.{Event}
 use Rattle.ctf_stream.specs.declared.item.EventText.{EventText}
@@ -13,6 +15,7 @@ use Rattle.ctf_stream.specs.declared.item.Gap.{Gap}
 use Rattle.ctf_stream.specs.declared.item.CurrentItem.{CurrentItem}
 use Rattle.ctf_stream.specs.declared.item.CurrentItem.TheVariants as told
 use Rattle.ctf_stream.specs.declared.item.Item.{Item}
+use Rattle.ctf_stream.specs.declared.texts.Texts.{Texts}
 use Rattle.ctf_stream.specs.declared.item.Item.TheVariants as shown
 use Rattle.ctf_format.specs.Lines.{packet_part}
 
@@ -68,9 +71,9 @@ Shows trace name ahead (Some x) =
 Shows trace name ahead None = item_ahead ahead ≡ None
 
 -- where values are not to be had of each item, there may be none of an item that is there
-abbrev pub ShowsValues : Bool → TraceClass → List ℕ → Peeked → Option Item → Type 0
+abbrev pub ShowsValues : Texts → TraceClass → List ℕ → Peeked → Option Item → Type 0
 ShowsValues writes trace name ahead (Some x) = Shows trace name ahead (Some x)
-ShowsValues writes trace name ahead None = (item_ahead ahead ≡ None) ⊎ IsTrue writes
+ShowsValues writes trace name ahead None = (item_ahead ahead ≡ None) ⊎ AsksTexts writes
 
 -- it is the text of the current event record, with its clock
 abbrev pub ShowsText : Peeked → EventText → Type 0
@@ -78,17 +81,25 @@ ShowsText ahead t =
     (e : items.Event Classes) × (item_ahead ahead ≡ Some (items.event e)) × (t.moment ≡ e.clock)
     × (t.text.now ≡ event_text e)
 
+-- it is the clock of the current event record
+abbrev pub ShowsClock : Peeked → Option Moment → Type 0
+ShowsClock ahead clock =
+    (e : items.Event Classes) × (item_ahead ahead ≡ Some (items.event e)) × (clock ≡ e.clock)
+
 -- the current item is given, or there is none
 abbrev pub Tells : TraceClass → List ℕ → Peeked → Option CurrentItem → Type 0
 Tells trace name ahead (Some (told.Item x)) = Shows trace name ahead (Some x)
 Tells trace name ahead (Some (told.Text t)) = ShowsText ahead t
+Tells trace name ahead (Some (told.Passed clock)) = ShowsClock ahead clock
 Tells trace name ahead None = item_ahead ahead ≡ None
 
 abbrev pub IsMadeTold : CurrentItem → Type 0
 IsMadeTold (told.Item x) = IsMade x
 IsMadeTold (told.Text t) = Unit {0}
+IsMadeTold (told.Passed clock) = Unit {0}
 
--- texts are given where they were asked for
-abbrev pub IsAsked : Bool → CurrentItem → Type 0
+-- texts are given where they were asked for, and clocks alone before them
+abbrev pub IsAsked : Texts → CurrentItem → Type 0
 IsAsked writes (told.Item x) = Unit {0}
-IsAsked writes (told.Text t) = IsTrue writes
+IsAsked writes (told.Text t) = AsksTexts writes
+IsAsked writes (told.Passed clock) = IsEarly writes clock

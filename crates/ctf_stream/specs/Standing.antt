@@ -28,8 +28,8 @@ room_ahead (heads.Item front) = 1
 room_ahead heads.Ended = 0
 room_ahead (heads.Fault f) = 0
 
--- the packet at hand, whose text was made, holds the current item, whose text was written or which has its values, or
--- held the one before; at the end and after a fault nothing is held
+-- the packet at hand, whose text was made, holds the current item, which has its values, or whose text was written, or
+-- which was passed over, or held the one before; at the end and after a fault nothing is held
 abbrev pub IsStanding : ReadState → ReaderHead → Type 0
 IsStanding c heads.Start = Stands c × HasShared c
 IsStanding c (heads.Item front) = Stands c × HasShared c × IsSome c.packet × HoldsIn c c.packet front

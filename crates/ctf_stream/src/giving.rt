@@ -12,7 +12,7 @@ ghost use Rattle.ctf_stream.specs.Standing.{item_at};
 
 use crate::copy::copy;
 use crate::owned::{OwnedEvent, OwnedGap, OwnedItem};
-use crate::packet::PacketItem;
+use crate::packet::{PacketItem, WrittenRecord};
 use crate::read_state::ReadState;
 use ctf_class::{Scope, StreamClass, TraceClass};
 use ctf_clock::Moment;
@@ -58,12 +58,12 @@ impl<'a> ReadState<'a> {
                 record,
                 &mut self.scopes,
             )?)),
-            PacketItem::Written(written) => {
+            PacketItem::Written(WrittenRecord { read, .. }) | PacketItem::Passed(read) => {
                 let at = RecordPlace {
                     packet: opened,
                     bytes: self.buffer.as_slice(),
-                    clock: written.before,
-                    place: written.begin,
+                    clock: read.before,
+                    place: read.begin,
                 };
                 let record = read_again(alloc, &at, &mut self.scratch, &mut self.scopes)?;
                 Ok(OwnedItem::Event(take_event(

@@ -9,8 +9,10 @@ mod packet;
 mod peeked;
 mod read_state;
 mod reader;
+mod texts;
 
 pub use item::{CurrentItem, Event, EventText, Gap, Item};
 pub use owned::{OwnedEvent, OwnedGap, OwnedItem};
 pub use peeked::Peeked;
 pub use reader::StreamReader;
+pub use texts::Texts;

@@ -1,20 +1,23 @@
 //! The packet at hand.
 
-ghost use Rattle.std.specs.Prelude.{◌≡◌, ◌<◌, ◌≤◌, Option, Some, Ok, OnOk, IfOk, IfSome, IfNone, IsTrue, length};
+ghost use Rattle.std.specs.Prelude.{◌≡◌, ◌<◌, ◌≤◌, ℕ, List, Option, None, Some, Ok, OnOk, IfOk, IfSome, IfNone, IsTrue, length};
 ghost use Rattle.ctf_clock.specs.declared.moment.Moment.{Moment};
 ghost use Rattle.ctf_clock.specs.declared.moment.Shift.{Shift};
+ghost use Rattle.ctf_decode.specs.Known.{Known};
 ghost use Rattle.ctf_record_text.specs.Making.{Makes};
 ghost use Rattle.ctf_packet.specs.Classes.{Classes, stream_form};
 ghost use Rattle.ctf_packet.specs.Items.{Run};
 ghost use Rattle.ctf_packet.specs.Places.{IsTimed, record_there};
 ghost use Rattle.ctf_packet.specs.Views.{values_of, packet_values};
+ghost use Rattle.ctf_stream.specs.Asked.{AsksTexts};
 ghost use Rattle.ctf_stream.specs.Coming.{front_in, left_in, room_in, HoldsFront, Within, TakesItem, TakesRoom};
 
+use crate::texts::Texts;
 use ctf_clock::Moment;
 use ctf_decode::Scopes;
 use ctf_fetch::Buffer;
 use ctf_packet::{EventRecord, OpenPacket, RecordPlace, Scratch, StreamFault, next_record};
-use ctf_record_text::{LineBuffer, LineRecord, next_line, written_line};
+use ctf_record_text::{LineBuffer, LineRecord, next_line, passed_record, written_line};
 use std::alloc::Global;
 
 /// A packet whose items are given one after the other.
@@ -37,8 +40,8 @@ pub(crate) struct PacketInput<'r> {
     pub(crate) alloc: Global,
     /// The packet's bytes.
     pub(crate) buffer: &'r Buffer,
-    /// Whether event records are asked for as texts.
-    pub(crate) writes: bool,
+    /// The event records that are asked for as texts.
+    pub(crate) writes: Texts,
 }
 
 /// The current item of a packet.
@@ -48,22 +51,30 @@ pub(crate) enum PacketItem<'a> {
     Event(EventRecord<'a>),
     /// An event record, whose text was written.
     Written(WrittenRecord<'a>),
+    /// An event record before those that are asked for as texts.
+    Passed(ReadRecord<'a>),
     /// So many event records were discarded before the packet.
     Discarded(u64),
     /// So many packets were lost before the packet.
     Lost(u64),
 }
 
-/// An event record whose text is at the beginning of a line, and where it was read.
+/// An event record whose text is at the beginning of a line.
 #[derive(Clone, Copy)]
 pub(crate) struct WrittenRecord<'a> {
+    pub(crate) read: ReadRecord<'a>,
+    /// The index after its text, in bytes.
+    pub(crate) end: usize,
+}
+
+/// An event record that was read without its values, and where.
+#[derive(Clone, Copy)]
+pub(crate) struct ReadRecord<'a> {
     pub(crate) event: EventRecord<'a>,
     /// Where it begins, in bits from the packet's first one.
     pub(crate) begin: u64,
     /// The clock before it.
     pub(crate) before: Option<Moment>,
-    /// The index after its text, in bytes.
-    pub(crate) end: usize,
 }
 
 impl<'a> PacketReader<'a> {
@@ -97,13 +108,7 @@ impl<'a> PacketReader<'a> {
         ensures place { self.new.place ≤ self.new.opened.content }
         ensures none { IfNone result (self.new ≡ self.old) }
     {
-        if !input.writes {
-            return None;
-        }
-        if self.place >= self.opened.content {
-            return None;
-        }
-        if self.lost.is_some() || self.dropped.is_some() {
+        if !input.writes.are_asked() || !self.is_at_record() {
             return None;
         }
         let before = self.clock;
@@ -118,6 +123,60 @@ impl<'a> PacketReader<'a> {
         self.clock = made.record.clock;
         self.place = made.record.end;
         Some(front_of(made, before, begin))
+    }
+
+    /// Whether the next item is an event record, if the content has one: nothing is to be reported before it.
+    #[inline(always)]
+    fn is_at_record(&self) -> bool
+        ensures { let p = self.now in
+            IsTrue result → (p.place < p.opened.content) × (p.lost ≡ None) × (p.dropped ≡ None) }
+    {
+        self.place < self.opened.content && self.lost.is_none() && self.dropped.is_none()
+    }
+
+    /// The next item, if it is an event record before those that are asked for as texts, and can be passed over.
+    ///
+    /// `None` elsewhere: the packet is as it was then.
+    #[inline(always)]
+    pub(crate) fn next_passed(&mut self, input: PacketInput<'_>) -> Option<PacketItem<'a>>
+        requires within { Within input.buffer.now self.old }
+        ensures takes { let bytes = input.entry.buffer.now in
+            (shift : Shift) (known : Known) (follows : Option Moment → Run Classes) →
+            self.old.opened.timeline ≡ (stream_form shift self.old.opened.stream.now).line →
+            IfSome result (λ front.
+            TakesItem shift follows (left_in shift known bytes follows self.old) self.new
+            known bytes (Ok (Some front))) }
+        ensures holds { (shift : Shift) (known : Known) (part line : List ℕ) →
+            self.old.opened.timeline ≡ (stream_form shift self.old.opened.stream.now).line →
+            IfSome result (HoldsFront input.entry.writes shift known input.entry.buffer.now
+            part line self.new) }
+        ensures room { IfSome result (λ _. room_in self.new < room_in self.old) }
+        ensures opened { self.new.opened ≡ self.old.opened }
+        ensures place { self.new.place ≤ self.new.opened.content }
+        ensures none { IfNone result (self.new ≡ self.old) }
+    {
+        let Texts::From(time) = input.writes else {
+            return None;
+        };
+        if !self.is_at_record() {
+            return None;
+        }
+        let before = self.clock;
+        let begin = self.place;
+        let at = RecordPlace {
+            packet: &self.opened,
+            bytes: input.buffer.padded(),
+            clock: before,
+            place: begin,
+        };
+        let event = passed_record(&at, time)?;
+        self.clock = event.clock;
+        self.place = event.end;
+        Some(PacketItem::Passed(ReadRecord {
+            event,
+            begin,
+            before,
+        }))
     }
 
     /// The next item; `None` after the last one. `scopes` has the values of the packet, and of an event record then,
@@ -196,9 +255,9 @@ fn event_at<'a>(
         packet_values (values_of scopes.old)) }
     ensures text { IfOk result
         (λ r. IfSome r.text
-        (λ end. (end ≤ length line.new.bytes.items) × IsTrue input.entry.writes)) }
+        (λ end. (end ≤ length line.new.bytes.items) × AsksTexts input.entry.writes)) }
 {
-    if input.writes {
+    if input.writes.are_asked() {
         return next_line(input.alloc, at, scratch, scopes, line);
     }
     let record = next_record(input.alloc, at, scratch, scopes)?;
@@ -213,9 +272,11 @@ fn front_of(made: LineRecord<'_>, before: Option<Moment>, begin: u64) -> PacketI
     match made.text {
         None => PacketItem::Event(made.record),
         Some(end) => PacketItem::Written(WrittenRecord {
-            event: made.record,
-            begin,
-            before,
+            read: ReadRecord {
+                event: made.record,
+                begin,
+                before,
+            },
             end,
         }),
     }

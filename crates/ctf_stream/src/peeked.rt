@@ -3,7 +3,7 @@
 ghost use Rattle.std.specs.Prelude.{◌≡◌, option_map};
 ghost use Rattle.ctf_stream.specs.Peeked.{told, time_in};
 
-use crate::packet::{PacketItem, PacketReader};
+use crate::packet::{PacketItem, PacketReader, WrittenRecord};
 use crate::reader::{ReaderHead, StreamReader};
 use ctf_bits::Source;
 use ctf_clock::Moment;
@@ -20,18 +20,22 @@ pub enum Peeked {
     Fault(StreamFault),
 }
 
-/// The time of an item of a packet, in nanoseconds since the epoch. Mostly it is an event record that was written.
+/// The time of an item of a packet, in nanoseconds since the epoch. Mostly it is an event record that was written, or
+/// passed over.
 #[inline(always)]
 fn time_of(front: &PacketItem, packet: &PacketReader) -> Option<i64>
     ensures { result ≡ time_in front.now packet.now }
 {
     if let PacketItem::Written(written) = front {
-        return time_at(written.event.clock);
+        return time_at(written.read.event.clock);
+    }
+    if let PacketItem::Passed(read) = front {
+        return time_at(read.event.clock);
     }
     other_time(front, packet)
 }
 
-/// The time of an item that is no written event record, out of the way of these.
+/// The time of an item that is no such event record, out of the way of these.
 /// In one `match` with these, it would be a table of jumps.
 #[cold]
 #[inline(never)]
@@ -40,7 +44,9 @@ fn other_time(front: &PacketItem, packet: &PacketReader) -> Option<i64>
 {
     match front {
         PacketItem::Event(record) => time_at(record.clock),
-        PacketItem::Written(written) => time_at(written.event.clock),
+        PacketItem::Written(WrittenRecord { read, .. }) | PacketItem::Passed(read) => {
+            time_at(read.event.clock)
+        }
         PacketItem::Discarded(_) => time_at(packet.opened.clock),
         PacketItem::Lost(_) => time_at(packet.opened.clock),
     }

@@ -6,14 +6,17 @@ ghost use Rattle.ctf_clock.specs.declared.moment.Shift.{Shift};
 ghost use Rattle.ctf_packet.specs.Packets as packets;
 ghost use Rattle.ctf_packet.specs.Scopes.{Values};
 ghost use Rattle.ctf_packet.specs.Views.{values_of, packet_values, opened_of};
+ghost use Rattle.ctf_stream.specs.Asked.{asked_first};
 ghost use Rattle.ctf_stream.specs.Coming.{TakesRoom};
 ghost use Rattle.ctf_stream.specs.Shown.{Tells, IsMadeTold, IsAsked};
+ghost use Rattle.ctf_stream.specs.declared.texts.Texts.TheVariants as texts;
 ghost use Rattle.ctf_stream.specs.Standing.{item_at};
 ghost use Rattle.ctf_fetch.specs.Fetching.{longest_bytes, most_taken};
 ghost use Rattle.ctf_stream.specs.ReadState.{coming_of, Stands, room_of, StepsWithin, Enters, EntersRoom, Advances, IsOfPacket, HasShared, IsPartOf, HoldsIn, HoldsFound, WritesNext, between, stepped};
 
 use crate::item::{CurrentItem, Event, EventText, Gap, Item};
 use crate::packet::{PacketInput, PacketItem, PacketReader};
+use crate::texts::Texts;
 use ctf_bits::Source;
 use ctf_class::{HasId, Scope};
 use ctf_decode::Scopes;
@@ -37,8 +40,8 @@ pub(crate) struct ReadState<'a> {
     pub(crate) scratch: Scratch,
     /// What the packets before leave for the next one's header and context.
     pub(crate) packet_scratch: PacketScratch<'a>,
-    /// Whether event records are read as texts, where they can.
-    pub(crate) writes: bool,
+    /// The event records that are read as texts, where they can.
+    pub(crate) writes: Texts,
     /// The text of the current event record, if it was read as that, and what the lines of the packet share.
     pub(crate) line: LineBuffer,
     /// How many bytes were taken from the source.
@@ -53,7 +56,7 @@ impl<'a> ReadState<'a> {
         ensures buffer { result.buffer ≡ [] }
         ensures shared { HasShared result }
         ensures taken { result.taken ≡ cut.entry.at }
-        ensures writes { result.writes ≡ false }
+        ensures writes { result.writes ≡ texts.None }
     {
         ReadState {
             cut,
@@ -62,10 +65,18 @@ impl<'a> ReadState<'a> {
             scopes: Scopes::new(),
             scratch: Scratch::new(alloc),
             packet_scratch: PacketScratch::new(),
-            writes: false,
+            writes: Texts::None,
             line: LineBuffer::new(alloc),
             taken: cut.at,
         }
+    }
+
+    /// Asks for event records as texts, where none are asked for yet: for all, or for those from this time on, in
+    /// nanoseconds since the epoch, if it is given.
+    pub(crate) fn ask(&mut self, begin: Option<i64>)
+        ensures { self.new ≡ record self.old { writes = asked_first self.old.writes begin } }
+    {
+        self.writes = self.writes.or_since(begin);
     }
 
     /// Gives the memory back, and holds nothing.
@@ -87,10 +98,38 @@ impl<'a> ReadState<'a> {
     }
 
     /// The next item, if it is an event record of the packet at hand that can be shown without its values, where texts
-    /// are asked for: one with a usual header, or with an `unusual` one. `None` elsewhere: then only the line is
-    /// another one.
+    /// are asked for: one with a usual header, or with an `unusual` one. `None` elsewhere, and where the event records
+    /// so far are before those that are asked for: then only the line is another one.
     #[inline(always)]
     pub(crate) fn next_written(&mut self, alloc: Global, unusual: bool) -> Option<PacketItem<'a>>
+        requires stands { Stands self.old }
+        requires shared { HasShared self.old }
+        ensures { WritesNext self.old self.new result }
+    {
+        if self.is_early() {
+            return None;
+        }
+        self.next_text(alloc, unusual)
+    }
+
+    /// Whether the event records so far are before those that are asked for as texts. The next one mostly is, too.
+    #[inline(always)]
+    fn is_early(&self) -> bool {
+        let Texts::From(begin) = self.writes else {
+            return false;
+        };
+        let Some(packet) = &self.packet else {
+            return false;
+        };
+        match packet.clock {
+            Some(moment) => moment.time < begin,
+            None => false,
+        }
+    }
+
+    /// The next item, as `next_written` gives it, whatever its time.
+    #[inline(always)]
+    fn next_text(&mut self, alloc: Global, unusual: bool) -> Option<PacketItem<'a>>
         requires stands { Stands self.old }
         requires shared { HasShared self.old }
         ensures { WritesNext self.old self.new result }
@@ -107,19 +146,46 @@ impl<'a> ReadState<'a> {
         packet.next_written(input, &self.scopes, unusual, &mut self.line)
     }
 
-    /// The next item, as `next_written` gives it for an unusual header. Mostly that is a usual one, so this is kept out
-    /// of the way.
-    #[cold]
+    /// The next item, if it is an event record of the packet at hand that `next_written` left out: one that is passed
+    /// over, or shown after such ones, or one with an unusual header. Mostly it is none, so this is kept out of the way.
     #[inline(never)]
-    fn next_unusual(&mut self, alloc: Global) -> Option<PacketItem<'a>>
+    pub(crate) fn next_late(&mut self, alloc: Global) -> Option<PacketItem<'a>>
         requires stands { Stands self.old }
         requires shared { HasShared self.old }
         ensures { WritesNext self.old self.new result }
     {
-        self.next_written(alloc, true)
+        if self.is_early() {
+            if let Some(front) = self.next_passed(alloc) {
+                return Some(front);
+            }
+            if let Some(front) = self.next_text(alloc, false) {
+                return Some(front);
+            }
+        }
+        self.next_text(alloc, true)
     }
 
-    /// The next item, out of a source, where `next_written` gave none in either way. `None` where the stream ends.
+    /// The next item, if it is an event record of the packet at hand that is passed over. `None` elsewhere: then nothing
+    /// is another one.
+    #[inline(always)]
+    fn next_passed(&mut self, alloc: Global) -> Option<PacketItem<'a>>
+        requires stands { Stands self.old }
+        requires shared { HasShared self.old }
+        ensures { WritesNext self.old self.new result }
+    {
+        let packet = match &mut self.packet {
+            None => return None,
+            Some(packet) => packet,
+        };
+        let input = PacketInput {
+            alloc,
+            buffer: &self.buffer,
+            writes: self.writes,
+        };
+        packet.next_passed(input)
+    }
+
+    /// The next item, out of a source, where `next_written` and `next_late` gave none. `None` where the stream ends.
     ///
     /// An error is the fault of the stream after the items before, or `NoMemory`.
     #[inline(always)]
@@ -166,7 +232,7 @@ impl<'a> ReadState<'a> {
             if let Some(front) = self.next_written(alloc, false) {
                 return Ok(Some(front));
             }
-            if let Some(front) = self.next_unusual(alloc) {
+            if let Some(front) = self.next_late(alloc) {
                 return Ok(Some(front));
             }
         }
@@ -297,9 +363,10 @@ impl<'a> ReadState<'a> {
                 part: Some(self.line.part.as_slice()),
             }))),
             PacketItem::Written(written) => Some(CurrentItem::Text(EventText {
-                moment: written.event.clock,
+                moment: written.read.event.clock,
                 text: &self.line.bytes[..written.end],
             })),
+            PacketItem::Passed(read) => Some(CurrentItem::Passed(read.event.clock)),
             PacketItem::Discarded(count) => Some(CurrentItem::Item(Item::Discarded(Gap {
                 count: *count,
                 moment: opened.clock,

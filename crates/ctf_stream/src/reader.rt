@@ -1,9 +1,11 @@
 //! A reader of one stream, a packet at a time.
 
-ghost use Rattle.std.specs.Prelude.{◌≡◌, true, false, ◌+◌, ◌<◌, ◌≤◌, ◌⊎◌, IsTrue, IfSome, length};
+ghost use Rattle.std.specs.Prelude.{◌≡◌, ◌+◌, ◌<◌, ◌≤◌, ◌⊎◌, IsTrue, IfSome, length};
 ghost use Rattle.ctf_packet.specs.Classes.{trace_form};
 ghost use Rattle.ctf_packet.specs.Items.{run_of};
+ghost use Rattle.ctf_stream.specs.Asked.{asked_first};
 ghost use Rattle.ctf_stream.specs.declared.reader.ReaderHead.TheVariants.{Start, Ended, Fault};
+ghost use Rattle.ctf_stream.specs.declared.texts.Texts.TheVariants as texts;
 ghost use Rattle.ctf_stream.specs.Shown.{ShowsValues, Tells, IsMade, IsMadeTold, IsAsked};
 ghost use Rattle.ctf_stream.specs.Reader.{start, fault_ahead, coming, rest_of, OrRefused, IsFetched, IsLast, IsOnLine, IsAllTaken, RoomTaken};
 ghost use Rattle.ctf_stream.specs.Owned.{Gives, GivesAhead, GivesOf, GivesRoom, KeepsAfter, ahead_after};
@@ -94,7 +96,7 @@ impl<'a, S: Source + Drop> StreamReader<'a, S> {
         ensures taken { result.taken ≡ 0 }
         ensures held { result.held ≡ 0 }
         ensures on_line { IsOnLine result }
-        ensures writes { result.writes ≡ false }
+        ensures writes { result.writes ≡ texts.None }
     {
         let read_state = ReadState::new(alloc, PacketStart::new(trace, shift));
         StreamReader {
@@ -106,12 +108,15 @@ impl<'a, S: Source + Drop> StreamReader<'a, S> {
         }
     }
 
-    /// From now on the reader gives event records as texts, where these can be made without the values.
-    pub fn with_texts(self) -> StreamReader<'a, S>
-        ensures { result ≡ record self.entry { writes = true } }
+    /// From now on the reader gives event records as texts, where these can be made without the values; of those before
+    /// a time, in nanoseconds since the epoch, if it is given, it may tell the clock alone. A reader that was asked for
+    /// texts before stays as it is.
+    pub fn with_texts(self, begin: Option<i64>) -> StreamReader<'a, S>
+        ensures { let writes = asked_first self.entry.writes begin in
+            result ≡ record self.entry { writes = writes } }
     {
         let mut reader = self;
-        reader.read_state.writes = true;
+        reader.read_state.ask(begin);
         reader
     }
 
@@ -167,7 +172,7 @@ impl<'a, S: Source + Drop> StreamReader<'a, S> {
         ensures on_line { IsOnLine self.new }
         ensures all_taken { IsTrue self.old.tells → IsAllTaken self.new.ahead self.new.left }
     {
-        if let Some(front) = self.read_state.next_written(self.alloc, true) {
+        if let Some(front) = self.read_state.next_late(self.alloc) {
             self.head = ReaderHead::Item(front);
             return;
         }
@@ -299,6 +304,7 @@ impl<'a, S: Source + Drop> StreamReader<'a, S> {
         match self.told() {
             Some(CurrentItem::Item(item)) => Some(item),
             Some(CurrentItem::Text(_)) => None,
+            Some(CurrentItem::Passed(_)) => None,
             None => None,
         }
     }

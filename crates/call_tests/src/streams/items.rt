@@ -35,6 +35,12 @@ pub fn put_text(row: &mut Row<'_>, event: &EventText<'_>) {
     row.put(b"\n");
 }
 
+/// Puts the clock of an event record that was passed over.
+pub fn put_passed(row: &mut Row<'_>, moment: Option<Moment>) {
+    put_moment(row, b"passed at ", moment);
+    row.put(b"\n");
+}
+
 fn put_event(row: &mut Row<'_>, event: &Event<'_>, shown: RecordDetail) {
     row.put_number(b"event ", event.class.id as i128);
     put_moment(row, b" at ", event.moment);

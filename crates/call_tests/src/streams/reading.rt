@@ -2,7 +2,7 @@
 
 use crate::row::Row;
 use crate::source::{Manner, RowSource};
-use crate::streams::items::{put_item, put_text};
+use crate::streams::items::{put_item, put_passed, put_text};
 use crate::streams::words::{Asked, ReaderCall, RecordDetail};
 use ctf_class::TraceClass;
 use ctf_clock::Shift;
@@ -79,7 +79,7 @@ pub fn add_reader<'a>(
     };
     let mut reader = StreamReader::new(alloc, stream.trace, name, source, shift);
     if stream.asked.writes {
-        reader = reader.with_texts();
+        reader = reader.with_texts(stream.asked.begin);
     }
     Ok(readers.push(reader)?)
 }
@@ -123,6 +123,7 @@ fn put_front(row: &mut Row<'_>, reader: &StreamReader<'_, RowSource>, shown: Rec
     match (reader.told(), reader.head()) {
         (Some(CurrentItem::Item(_)), Some(item)) => put_item(row, &item, shown),
         (Some(CurrentItem::Text(event)), None) => put_text(row, &event),
+        (Some(CurrentItem::Passed(moment)), None) => put_passed(row, moment),
         (None, None) => return put_last(row, reader.fault()),
         _ => row.put(b"an item of which another is told\n"),
     }

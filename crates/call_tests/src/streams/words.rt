@@ -32,6 +32,8 @@ pub struct Asked {
     pub shift: i64,
     /// Whether event records are read as texts where they can be.
     pub writes: bool,
+    /// From this time on, if it is given, in nanoseconds since the epoch.
+    pub begin: Option<i64>,
     pub shown: RecordDetail,
     /// The steps of the row, and then the last one again.
     steps: [ReaderCall; 3],
@@ -65,12 +67,19 @@ impl Asked {
         }
     }
 
+    /// Asks for texts from a time on.
+    fn write_from(&mut self, begin: i64) {
+        self.writes = true;
+        self.begin = Some(begin);
+    }
+
     /// Sets how bytes are given, or what is added to each time.
     fn set(&mut self, word: &str) {
         let (name, number) = word.rsplit_once([':', '=']).unwrap_or((word, ""));
         match name {
             "in=drip" => self.input = Manner::Drip(number.parse::<usize>().unwrap_or(0)),
             "in=fail" => self.input = Manner::Fail(number.parse::<usize>().unwrap_or(0)),
+            "writing" => self.write_from(number.parse::<i64>().unwrap_or(0)),
             _ => self.shift = number.parse::<i64>().unwrap_or(0),
         }
     }
@@ -82,6 +91,7 @@ pub fn asked_of(words: &str) -> Asked {
         input: Manner::Whole,
         shift: 0,
         writes: false,
+        begin: None,
         shown: RecordDetail::Nothing,
         steps: [ReaderCall::On; 3],
         count: 0,

@@ -10,7 +10,10 @@ use crate::value::place::Place;
 use crate::value::words::values_of;
 use ctf_class::{Class, RecordPlan, Scope, StreamClass};
 use ctf_decode::Scopes;
-use ctf_format::{Content, MemberNumbers, ScopeInput, Standing, put_planned_record, put_standing};
+use ctf_format::{
+    Content, MemberNumbers, Passed, ScopeInput, Standing, pass_planned_record, put_planned_record,
+    put_standing,
+};
 
 /// A line of five bytes, and after it old bytes of its buffer.
 pub const LINE: &[u8] = b"[12] and what was there";
@@ -87,6 +90,29 @@ fn put_planned(row: &mut Row<'_>, plan: &RecordPlan, place: Place<'_>)
         let mut line = line;
         let standing = put_planned_record(plan, &content_of(place), begin_of(place), &mut line);
         put_text(row, &line, standing);
+        put_passed(row, plan, place, standing);
+    }
+}
+
+/// Puts a word where the record, passed over without a text, would end elsewhere, or not be there.
+fn put_passed(row: &mut Row<'_>, plan: &RecordPlan, place: Place<'_>, standing: Option<Standing>)
+    requires { (classes : List PlainClass) × IsPlanOf classes plan.now }
+{
+    let from = Passed {
+        place: place.start,
+        spent: 0,
+    };
+    match (
+        standing,
+        pass_planned_record(plan, &content_of(place), from),
+    ) {
+        (Some(standing), Some(passed)) => {
+            if passed.place != standing.place || passed.spent != standing.spent {
+                row.put(b", passed otherwise");
+            }
+        }
+        (None, None) => {}
+        _ => row.put(b", passed otherwise"),
     }
 }
 

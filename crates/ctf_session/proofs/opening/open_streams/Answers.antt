@@ -10,7 +10,7 @@ pub loop-name-init : goal.loop-name-init
 loop-name-init g c = record {
   whole = refl;
   rest = search rules;
-  opened = λ inputs each. subst (λ (xs : List Input). EachOpens c.args.shift xs c.args.opened.now.readers.items) (sym (append-nil inputs)) each;
+  opened = λ inputs each. subst (λ (xs : List Input). EachOpens c.args.options.now xs c.args.opened.now.readers.items) (sym (append-nil inputs)) each;
   numbers = sym (append-nil c.args.opened.now.numbers.items);
 }
 
@@ -24,10 +24,11 @@ loop-name-preserved g c =
           let gone = c.in-Some.ensures.steps.1 in
           let short = ap length steps in
           omega arith;
-      opened = λ inputs each. rw c.in_ok-push.ensures.items (opens_next c.args.shift inputs _ c.loop-name.yielded (c.in-Some.name, c.in-Some.source) c.loop-name.opened.readers.items c.reader_of_texts.result
+      opened = λ inputs each. rw c.in_ok-push.ensures.items (opens_next c.args.options.now inputs _ c.loop-name.yielded (c.in-Some.name, c.in-Some.source) c.loop-name.opened.readers.items c.reader_of_texts.result
           (c.loop-name.invariant.opened inputs each)
-          (rw c.reader_of_texts.ensures.1 (record {
+          (rw (c.reader_of_texts.ensures, c.new-reader.ensures.writes) (record {
             told = c.new-reader.ensures.told;
+            writes = refl;
             name = c.new-reader.ensures.name ∙ c.from_string-name.ensures;
             tells = c.new-reader.ensures.tells;
             left = c.new-reader.ensures.left;

@@ -24,7 +24,12 @@ returns-in-Written-clause-tells c =
     let w = c.in-Written.written in
     let made = subst (IsPartOf (packet_values (values_of read_state.scopes)) read_state.line.part) c.in-Some.is c.requires.part in
     let holds = subst (HoldsIn read_state (Some p)) c.in-Written.is (subst (λ o. HoldsIn read_state o c.args.front.now) c.in-Some.is c.requires.holds) in
-    (the_event read_state.writes read_state.cut.shift read_state.scopes read_state.buffer read_state.line.part read_state.line.bytes.items p w, (λ i. item_ahead (item_at read_state (c.in-Some.is i) (c.in-Written.is i))), refl, ap (take w.end) c.deref.ensures.value ∙ text_is read_state.writes read_state.cut.shift read_state.scopes read_state.buffer read_state.line.part read_state.line.bytes.items p w holds made)
+    (the_event read_state.cut.shift read_state.scopes read_state.buffer p w.read, (λ i. item_ahead (item_at read_state (c.in-Some.is i) (c.in-Written.is i))), refl, ap (take w.end) c.deref.ensures.value ∙ text_is read_state.writes read_state.cut.shift read_state.scopes read_state.buffer read_state.line.part read_state.line.bytes.items p w holds made)
+
+pub returns-in-Passed-clause-tells : goal.returns-in-Passed-clause-tells
+returns-in-Passed-clause-tells c =
+    let read_state = c.args.self.now in
+    (the_event read_state.cut.shift read_state.scopes read_state.buffer c.in-Some.packet c.in-Passed.read, (λ i. item_ahead (item_at read_state (c.in-Some.is i) (c.in-Passed.is i))), refl)
 
 pub returns-in-Discarded-clause-tells : goal.returns-in-Discarded-clause-tells
 returns-in-Discarded-clause-tells c =

@@ -1,0 +1,326 @@
+//! Event records that are passed over by their plans.
+
+ghost use Rattle.std.specs.Prelude.{List, ℕ, [], ◌≡◌, ◌+◌, ◌-◌, ◌<◌, ◌≤◌, length, Option, IfSome};
+ghost use Rattle.std.specs.Int.{next_multiple_of};
+ghost use Rattle.std.specs.List.{All};
+ghost use Rattle.ctf_class.specs.Integers.{bits_of};
+ghost use Rattle.ctf_class.specs.Records.{Slot, AreMany, AreRuns, IsField, IsInteger, IsPlanOf, IsStructure};
+ghost use Rattle.ctf_class.specs.declared.class.Class.{Class};
+ghost use Rattle.ctf_class.specs.declared.class.Member.{Member};
+ghost use Rattle.ctf_class.specs.declared.route.Length.TheVariants.{Fixed};
+ghost use Rattle.ctf_decode.specs.Forms as forms;
+ghost use Rattle.ctf_decode.specs.Views.{form};
+ghost use Rattle.ctf_format.specs.Passing.{IsElement, Passes, PassesFields, PassesOther};
+ghost use Rattle.ctf_format.specs.Records.{IsLastOf, IsNear, PutsField, PutsFields, PutsScopes, TakesRun, after_number, reached};
+ghost use Rattle.ctf_format.specs.Rows.{enclosed};
+ghost use Rattle.ctf_format.specs.Standing.{PutsElements, PutsOne};
+ghost use Rattle.ctf_format.specs.Texts as texts;
+
+use crate::array::begin_at;
+use crate::content::Content;
+use crate::placed_run::PlacedRun;
+use crate::planned_record::{Reach, last_number, placed_at};
+use crate::standing::bits_at;
+use crate::window::first_zero;
+use ctf_bits::up;
+use ctf_class::{Align, Integers, Many, PlannedField, PlannedRun, RecordPlan, Shown, Structures};
+use ctf_decode::{MOST_VALUES, bytes_from};
+
+/// How far an event record goes of which no text is made.
+#[derive(Clone, Copy)]
+pub struct Passed {
+    /// Where its values end, in bits from the packet's first one.
+    pub place: u64,
+    /// How many values were begun so far.
+    pub spent: u64,
+}
+
+/// What an element takes that is as long wherever it begins: an integer, or a structure of integers.
+#[derive(Clone, Copy)]
+pub(crate) struct Element {
+    pub(crate) align: Align,
+    /// How many bits it takes, from a multiple of its alignment on.
+    pub(crate) span: u64,
+    /// How many values it is, those within it among them.
+    pub(crate) count: u64,
+}
+
+/// Where the scopes of the event record after its header (CTF 1.8.3, section 6) end, by the plan of such records, and
+/// without a text: `from` has the place after the header, in bits from the packet's first one, and how many values were
+/// begun before.
+///
+/// `None` where `put_planned_record` gives none, but for allocations: none is made.
+#[inline(never)]
+pub fn pass_planned_record(plan: &RecordPlan, packet: &Content<'_>, from: Passed) -> Option<Passed>
+    requires plan { (classes : List Class) × IsPlanOf classes plan.now }
+    requires start { from.place ≤ packet.now.end }
+    requires few { from.spent ≤ MOST_VALUES }
+    ensures passes { (classes : List Class) → 0 < length classes → IsPlanOf classes plan.now →
+        IfSome result (λ p. Passes (PutsScopes classes packet.now.bytes.now packet.now.end
+        from.place from.spent p.place p.spent)) }
+    ensures within { IfSome result (λ p. p.place ≤ packet.now.end) }
+{
+    let runs = plan.runs.as_slice();
+    if runs.is_empty() {
+        return None;
+    }
+    let begin = Reach {
+        place: from.place,
+        more: 0,
+    };
+    let reach = pass_runs(runs, packet, begin)?;
+    let count = plan.count.checked_add(reach.more)?;
+    if count > MOST_VALUES - from.spent {
+        return None;
+    }
+    Some(Passed {
+        place: reach.place,
+        spent: from.spent + count,
+    })
+}
+
+/// How far the fields of runs go.
+fn pass_runs(runs: &[PlannedRun], packet: &Content<'_>, from: Reach) -> Option<Reach>
+    requires near { All IsNear runs.now }
+    requires start { from.place ≤ packet.now.end }
+    requires few { from.more ≤ MOST_VALUES }
+    ensures passes { (slots : List Slot) → AreRuns slots runs.now →
+        IfSome result (λ to. Passes (λ before after.
+        PutsFields slots packet.now.bytes.now packet.now.end (reached from before)
+        (reached to after))) }
+    ensures within { IfSome result (λ to. to.place ≤ packet.now.end) }
+    ensures few { IfSome result (λ to. to.more ≤ MOST_VALUES) }
+{
+    let mut reach = from;
+    for run in runs {
+        reach = pass_run(run, packet, reach)?;
+    }
+    Some(reach)
+}
+
+/// How far the fields of a run go.
+#[inline(always)]
+fn pass_run(run: &PlannedRun, packet: &Content<'_>, from: Reach) -> Option<Reach>
+    requires near { IsNear run.now }
+    requires start { from.place ≤ packet.now.end }
+    requires few { from.more ≤ MOST_VALUES }
+    ensures passes { (slots others : List Slot) → TakesRun slots run.now others →
+        IfSome result (PassesFields slots others packet.now from) }
+    ensures within { IfSome result (λ to. to.place ≤ packet.now.end) }
+    ensures few { IfSome result (λ to. to.more ≤ MOST_VALUES) }
+{
+    let placed = placed_at(run, packet, from.place)?;
+    let reach = Reach {
+        place: placed.end,
+        more: from.more,
+    };
+    match &run.field {
+        None => Some(reach),
+        Some(field) => pass_field(field, placed, reach),
+    }
+}
+
+/// How far a field goes after the numbers of a run.
+#[inline(always)]
+fn pass_field(field: &PlannedField, placed: PlacedRun<'_>, from: Reach) -> Option<Reach>
+    requires start { from.place ≤ placed.packet.now.end }
+    requires few { from.more ≤ MOST_VALUES }
+    ensures passes { let packet = placed.entry.packet.now in
+        (slot : Slot) → IsField slot field.now →
+        IfSome result (λ to. Passes (λ before after. (last : Option ℕ) ×
+        IsLastOf placed.entry last × PutsField slot packet.bytes.now packet.end
+        (after_number from last before) (reached to after))) }
+    ensures within { IfSome result (λ to. to.place ≤ placed.entry.packet.now.end) }
+    ensures few { IfSome result (λ to. to.more ≤ MOST_VALUES) }
+{
+    let packet = placed.packet;
+    let place = begin_at(field.align, packet, from.place)?;
+    let begin = Reach {
+        place,
+        more: from.more,
+    };
+    match &field.shown {
+        Shown::String => {
+            let end = end_of_string(packet, place)?;
+            Some(Reach {
+                place: end,
+                more: from.more,
+            })
+        }
+        Shown::Text(count) => {
+            let end = end_of_text(*count, packet, place)?;
+            Some(Reach {
+                place: end,
+                more: from.more,
+            })
+        }
+        Shown::CountedText => {
+            let count = last_number(placed)?;
+            let end = end_of_text(count, packet, place)?;
+            Some(Reach {
+                place: end,
+                more: from.more,
+            })
+        }
+        Shown::Labelled(labelled) => {
+            let at = bits_at(&labelled.container, labelled.align, packet, place)?;
+            Some(Reach {
+                place: at.end,
+                more: from.more,
+            })
+        }
+        Shown::Integers(are) => pass_elements(&element_of(are), are.many, placed, begin),
+        Shown::Structures(are) => pass_structures(are, placed, begin),
+    }
+}
+
+/// Where the string ends that could begin at a place.
+#[inline(always)]
+fn end_of_string(packet: &Content<'_>, place: u64) -> Option<u64>
+    requires start { place ≤ packet.now.end }
+    ensures passes { let content = packet.now in IfSome result (λ end. (a : ℕ) →
+        Passes (PutsOne (forms.string a) texts.string_text content.bytes.now content.end place
+        end)) }
+    ensures within { IfSome result (λ end. end ≤ packet.now.end) }
+{
+    let begin = up(place, 8);
+    if begin > packet.end {
+        return None;
+    }
+    let bytes = bytes_from(packet.bytes, packet.end, begin);
+    let count = first_zero(bytes)?;
+    Some(begin + 8 * (count as u64 + 1))
+}
+
+/// Where the text of so many bytes ends that could begin at a place.
+#[inline(always)]
+fn end_of_text(count: u64, packet: &Content<'_>, place: u64) -> Option<u64>
+    requires start { place ≤ packet.now.end }
+    ensures passes { let content = packet.now in IfSome result (λ end. (a : ℕ) →
+        Passes (PutsOne (forms.text a (Fixed count)) texts.string_text content.bytes.now
+        content.end place end)) }
+    ensures within { IfSome result (λ end. end ≤ packet.now.end) }
+{
+    let begin = up(place, 8);
+    if begin > packet.end {
+        return None;
+    }
+    if count > (packet.end - begin) / 8 {
+        return None;
+    }
+    Some(begin + 8 * count)
+}
+
+/// An integer as an element.
+#[inline(always)]
+fn element_of(are: &Integers) -> Element
+    ensures align { result.align ≡ are.now.align }
+    ensures span { result.span ≡ bits_of are.now.integer }
+    ensures count { result.count ≡ 1 }
+{
+    Element {
+        align: are.align,
+        span: u64::from(are.integer.size.bits()),
+        count: 1,
+    }
+}
+
+/// How far structures of integers go.
+#[inline(always)]
+fn pass_structures(are: &Structures, placed: PlacedRun<'_>, from: Reach) -> Option<Reach>
+    requires start { from.place ≤ placed.packet.now.end }
+    requires few { from.more ≤ MOST_VALUES }
+    ensures passes { (index : ℕ) (member : Member) →
+        AreMany (λ k. IsStructure k are.now) index member are.now.many →
+        IfSome result (PassesOther index member placed.entry from) }
+    ensures within { IfSome result (λ to. to.place ≤ placed.entry.packet.now.end) }
+    ensures few { IfSome result (λ to. to.more ≤ MOST_VALUES) }
+{
+    // Its numbers are at their distances where it begins at a byte.
+    if are.align.bits() % 8 != 0 {
+        return None;
+    }
+    let element = Element {
+        align: are.align,
+        span: are.span,
+        count: are.count,
+    };
+    pass_elements(&element, are.many, placed, from)
+}
+
+/// How far an element goes, or an array of so many.
+#[inline(always)]
+fn pass_elements(element: &Element, many: Many, placed: PlacedRun<'_>, from: Reach) -> Option<Reach>
+    requires start { from.place ≤ placed.packet.now.end }
+    requires few { from.more ≤ MOST_VALUES }
+    ensures passes { (index : ℕ) (member : Member) →
+        AreMany (IsElement placed.entry.packet.now element.now) index member many →
+        IfSome result (PassesOther index member placed.entry from) }
+    ensures within { IfSome result (λ to. to.place ≤ placed.entry.packet.now.end) }
+    ensures few { IfSome result (λ to. to.more ≤ MOST_VALUES) }
+{
+    let count = match many {
+        Many::One => return pass_lone(element, placed, from),
+        Many::Fixed(count) => count,
+        Many::Counted => last_number(placed)?,
+    };
+    let values = count.checked_mul(element.count)?;
+    let more = from.more.checked_add(values)?;
+    if more > MOST_VALUES {
+        return None;
+    }
+    let begin = begin_at(element.align, placed.packet, from.place)?;
+    let place = end_of_row(element, count, placed.packet, begin)?;
+    Some(Reach { place, more })
+}
+
+/// How far an element goes that is alone.
+#[inline(always)]
+fn pass_lone(element: &Element, placed: PlacedRun<'_>, from: Reach) -> Option<Reach>
+    requires start { from.place ≤ placed.packet.now.end }
+    requires few { from.more ≤ MOST_VALUES }
+    ensures passes { (index : ℕ) (member : Member) →
+        IsElement placed.entry.packet.now element.now member.class →
+        IfSome result (PassesOther index member placed.entry from) }
+    ensures within { IfSome result (λ to. to.place ≤ placed.entry.packet.now.end) }
+    ensures few { IfSome result (λ to. to.more ≤ MOST_VALUES) }
+{
+    let inner = element.count.checked_sub(1)?;
+    let more = from.more.checked_add(inner)?;
+    if more > MOST_VALUES {
+        return None;
+    }
+    let place = end_of_element(element, placed.packet, from.place)?;
+    Some(Reach { place, more })
+}
+
+/// Where so many elements end, one after the other.
+#[inline(always)]
+fn end_of_row(element: &Element, count: u64, packet: &Content<'_>, from: u64) -> Option<u64>
+    requires start { from ≤ packet.now.end }
+    ensures passes { let content = packet.now in (k : Class) → IsElement content element.now k →
+        IfSome result (λ end. Passes (PutsElements (enclosed 91 93) (form k) (texts.value_text k)
+        element.now.count count content.bytes.now content.end from end)) }
+    ensures within { IfSome result (λ end. end ≤ packet.now.end) }
+{
+    let mut place = from;
+    for i in 0..count {
+        place = end_of_element(element, packet, place)?;
+    }
+    Some(place)
+}
+
+/// Where an element ends that could begin at a place, if it is within the content.
+#[inline(always)]
+fn end_of_element(element: &Element, packet: &Content<'_>, place: u64) -> Option<u64>
+    requires start { place ≤ packet.now.end }
+    ensures end { IfSome result
+        (λ end. end ≡ next_multiple_of place element.now.align + element.now.span) }
+    ensures within { IfSome result (λ end. end ≤ packet.now.end) }
+{
+    let begin = begin_at(element.align, packet, place)?;
+    if element.span > packet.end - begin {
+        return None;
+    }
+    Some(begin + element.span)
+}

@@ -1,0 +1,43 @@
+//! Which event records are given as texts.
+
+ghost use Rattle.std.specs.Prelude.{◌≡◌, IsTrue};
+ghost use Rattle.ctf_stream.specs.Asked.{AsksTexts, asked_first};
+
+/// The event records that a reader gives as texts, where these can be made without the values.
+#[derive(Clone, Copy)]
+pub enum Texts {
+    /// None: each is given with its values.
+    None,
+    /// All.
+    All,
+    /// Those from this time on, in nanoseconds since the epoch. Of those before it the clock alone may be told.
+    From(i64),
+}
+
+impl Texts {
+    /// Where they are none, all, or those from this time on, in nanoseconds since the epoch, if it is given.
+    pub(crate) fn or_since(self, begin: Option<i64>) -> Texts
+        ensures { result ≡ asked_first self begin }
+    {
+        match self {
+            Texts::None => match begin {
+                None => Texts::All,
+                Some(begin) => Texts::From(begin),
+            },
+            Texts::All => Texts::All,
+            Texts::From(first) => Texts::From(first),
+        }
+    }
+
+    /// Whether there are such event records.
+    #[inline(always)]
+    pub(crate) fn are_asked(self) -> bool
+        ensures { IsTrue result → AsksTexts self }
+    {
+        match self {
+            Texts::None => false,
+            Texts::All => true,
+            Texts::From(_) => true,
+        }
+    }
+}
