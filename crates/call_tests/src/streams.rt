@@ -10,7 +10,8 @@
 //! - `in=drip:N`, where a source gives at most N bytes at a call, or `in=fail:N`, where it gives N bytes and then
 //!   fails,
 //! - `shift=N`, nanoseconds that are added to each time,
-//! - `writing`, where event records are read as texts, or `writing=N`, where those before N nanoseconds are not needed,
+//! - `writing`, where event records are read as texts, or `writing=N`, where those before N nanoseconds since the
+//!   epoch are not needed,
 //! - `values` and `part`, where those of an event record are shown: the values of its scopes, as `value/words.rt` has
 //!   them, or the text that the lines of its packet share.
 //!

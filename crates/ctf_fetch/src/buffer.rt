@@ -1,6 +1,6 @@
 //! The bytes of a packet, as they come.
 
-ghost use Rattle.std.specs.Prelude.{◌≡◌, ◌≤◌, ◌<◌, ◌+◌, [], ◌++◌, length, max, take, None, IsTrue, IfOk, IfSome, IfErr, OnOk, OnErr};
+ghost use Rattle.std.specs.Prelude.{◌≡◌, ◌≤◌, ◌<◌, ◌+◌, [], ◌++◌, length, max, min, take, None, IsTrue, IfOk, IfSome, IfErr, OnOk, OnErr};
 ghost use Rattle.ctf_bits.specs.declared.source.Ending.TheVariants.{Clean, Failed};
 ghost use Rattle.ctf_packet.specs.declared.fault.StreamFault.TheVariants.{NoMemory};
 ghost use Rattle.ctf_fetch.specs.Filling.{Fills, Counts};
@@ -16,6 +16,9 @@ const NEAR: usize = 65_536;
 
 /// How many bytes of a longer way are asked for at the most before as many came.
 const FIRST: usize = 4_096;
+
+/// How many are at the most: so hardly more memory is filled than bytes come, however long the packet may be.
+const MOST: usize = 1_048_576;
 
 /// How many bytes more there is room for, so that also a packet's last numbers are read eight bytes at a time.
 const PADDING: usize = 8;
@@ -176,7 +179,7 @@ fn take_after<S: Source>(
 }
 
 /// Makes room for some bytes after the first ones, and for the padding: up to `target` where that is near, else for as
-/// many as came, `FIRST` at least.
+/// many as came, `FIRST` at least and `MOST` at most.
 #[inline(always)]
 fn grow(bytes: &mut Vec<u8>, filled: usize, target: usize) -> Result<(), StreamFault>
     requires few { filled < target }
@@ -187,7 +190,7 @@ fn grow(bytes: &mut Vec<u8>, filled: usize, target: usize) -> Result<(), StreamF
     ensures near { target ≤ filled + 65536 →
         length bytes.new.items ≤ max (length bytes.old.items) (target + PADDING) }
     ensures far { filled + 65536 < target → length bytes.new.items ≤
-        max (length bytes.old.items) (filled + max filled 4096 + PADDING) }
+        max (length bytes.old.items) (filled + min (max filled 4096) 1048576 + PADDING) }
     ensures refused { IfErr result (λ fault. fault ≡ NoMemory) }
 {
     if filled + PADDING < bytes.len() {
@@ -208,14 +211,14 @@ fn resize(bytes: &mut Vec<u8>, filled: usize, target: usize) -> Result<(), Strea
     ensures near { target ≤ filled + 65536 →
         length bytes.new.items ≤ max (length bytes.old.items) (target + PADDING) }
     ensures far { filled + 65536 < target → length bytes.new.items ≤
-        max (length bytes.old.items) (filled + max filled 4096 + PADDING) }
+        max (length bytes.old.items) (filled + min (max filled 4096) 1048576 + PADDING) }
     ensures refused { IfErr result (λ fault. fault ≡ NoMemory) }
 {
     let left = target - filled;
     let more = if left <= NEAR {
         left
     } else {
-        filled.max(FIRST).min(left)
+        filled.max(FIRST).min(MOST).min(left)
     };
     match bytes.resize((filled + more).saturating_add(PADDING), 0) {
         Ok(()) => Ok(()),

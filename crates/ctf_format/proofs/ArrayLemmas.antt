@@ -31,7 +31,7 @@ use Rattle.ctf_decode.proofs.Views.{shape-Array}
 use Rattle.ctf_format.specs.Rows.{row, enclosed}
 use Rattle.ctf_class.specs.Records.{LeadsBefore}
 use Rattle.ctf_format.specs.Standing.{Before, among, LastIs, mark_at, PutsOne, PutsSome, PutsNext, PutsElements, Counts, array_text, elements_text}
-use Rattle.ctf_format.specs.Texts.{Shown, Part, value_text, kind_text, part_text, member_part, element_text, element_texts, integer_text}
+use Rattle.ctf_format.specs.Texts.{Shown, Part, value_text, kind_text, part_text, member_part, element_text, element_texts}
 use Rattle.ctf_format.specs.declared.standing.Last.TheVariants as lasts
 use Rattle.ctf_format.specs.declared.standing.Next.{Next}
 use Rattle.ctf_format.proofs.StandingLemmas.{begins, form-is, value-is, member-is, form_integer, text_integer, last_of, row_more}

@@ -27,15 +27,14 @@ use Rattle.ctf_class.specs.declared.structures.Structures.{Structures}
 use Rattle.ctf_decode.specs.Forms as forms
 use Rattle.ctf_decode.specs.Forms.{Form, align_of, integer}
 use Rattle.ctf_decode.proofs.Aligns.{align-is}
-use Rattle.ctf_decode.specs.Input.{integer_at}
 use Rattle.ctf_decode.specs.Values.{Val, label, signed, unsigned}
 use Rattle.ctf_decode.specs.Views.{form}
 use Rattle.ctf_format.specs.Passing.{IsElement, Passes, PassesFields, PassesOther}
 use Rattle.ctf_format.specs.Records.{BeginsAt, IsLastNumber, IsLastOf, PutsField, PutsFields, TakesRun, after_members, after_number, reached}
 use Rattle.ctf_format.specs.RunNumbers.{run_text}
-use Rattle.ctf_format.specs.Rows.{row, enclosed}
+use Rattle.ctf_format.specs.Rows.{enclosed}
 use Rattle.ctf_format.specs.Standing.{Before, Counts, PutsElements, PutsNext, PutsOne, PutsSome, among, array_text, mark_at}
-use Rattle.ctf_format.specs.Texts.{Shown, value_text, element_text, string_text}
+use Rattle.ctf_format.specs.Texts.{Shown, value_text, string_text}
 use Rattle.ctf_format.specs.declared.content.Content.{Content}
 use Rattle.ctf_format.specs.declared.passed_record.Element.{Element}
 use Rattle.ctf_format.specs.declared.placed_run.PlacedRun.{PlacedRun}

@@ -1,5 +1,5 @@
 -- Structures of integers at fixed distances that are shown where they are.
-use Rattle.std.proofs.Common.{◌≡◌, ℕ, ◌+◌, ◌*◌, ◌<◌, ◌≤◌, List, [], ◌∷◌, ◌++◌, length, take, None, Ok, IfSome, refl, sym, ap, subst, ◌∙◌, arith, append-nil}
+use Rattle.std.proofs.Common.{◌≡◌, ℕ, ◌+◌, ◌*◌, ◌≤◌, List, [], ◌∷◌, ◌++◌, length, None, Ok, refl, sym, ap, subst, ◌∙◌, arith, append-nil}
 use Rattle.std.specs.Int.{next_multiple_of}
 use Rattle.std.specs.List.{flat_map}
 use Rattle.ctf_bits.specs.Align.{IsLeastMultiple}

@@ -5,7 +5,7 @@ use Rattle.ctf_class.specs.Records.{Slot}
 use Rattle.ctf_class.specs.declared.class.Class.{Class}
 use Rattle.ctf_class.specs.declared.class.Member.{Member}
 use Rattle.ctf_decode.specs.Views.{form}
-use Rattle.ctf_format.specs.Records.{PutsFields, PutsOther, IsLastOf, reached}
+use Rattle.ctf_format.specs.Records.{PutsField, PutsFields, PutsOther, IsLastOf, after_number, reached}
 use Rattle.ctf_format.specs.Standing.{PutsSome}
 use Rattle.ctf_format.specs.Texts.{value_text}
 use Rattle.ctf_format.specs.declared.content.Content.{Content}
@@ -17,18 +17,26 @@ use Rattle.ctf_format.specs.declared.planned_record.Reach.{Reach}
 abbrev pub Passes : (List ℕ → List ℕ → Type 0) → Type 0
 Passes Puts = (before : List ℕ) → (after : List ℕ) × Puts before after
 
--- the first of these fields go from a place to another, and these are left
+-- the first of some fields go from a place to another, and the others are left
 abbrev pub PassesFields : List Slot → List Slot → Content → Reach → Reach → Type 0
 PassesFields slots others packet from to =
     Passes (λ before after. (used : List Slot) × (slots ≡ used ++ others)
     × PutsFields used packet.bytes.now packet.end (reached from before) (reached to after))
 
--- such an element takes so many bits from a multiple of its alignment on, wherever it is in the content
+-- such an element takes so many bits from a multiple of its alignment on, wherever it is in the content, and is so many
+-- values
 pub record IsElement (packet : Content) (e : Element) (k : Class) : Type 0 where
   pub align : e.align ≡ k.align
   pub stands : (place : ℕ) → next_multiple_of place e.align + e.span ≤ packet.end
       → Passes (PutsSome (form k) (value_text k) e.count packet.bytes.now packet.end place
       (next_multiple_of place e.align + e.span))
+
+-- a field after the numbers of a run goes from a place to another
+abbrev pub PassesField : Slot → PlacedRun → Reach → Reach → Type 0
+PassesField slot placed from to =
+    Passes (λ before after. (last : Option ℕ) × IsLastOf placed last
+    × PutsField slot placed.packet.now.bytes.now placed.packet.now.end
+    (after_number from last before) (reached to after))
 
 -- a member after so many others of its structure, and after the numbers of a run, goes from a place to another
 abbrev pub PassesOther : ℕ → Member → PlacedRun → Reach → Reach → Type 0

@@ -6,7 +6,7 @@ use Rattle.ctf_class.specs.declared.route.Length.{Length}
 use Rattle.ctf_class.specs.declared.route.Scope.{Scope}
 use Rattle.ctf_decode.specs.Fields.{members_in, elements_in, choice_in}
 use Rattle.ctf_decode.specs.Values.{Val, vals_of, unsigned, label}
-use Rattle.ctf_decode.specs.Forms.{Form, integer}
+use Rattle.ctf_decode.specs.Forms.{Form}
 use Rattle.ctf_decode.specs.Input.{Input, Env}
 use Rattle.ctf_decode.specs.Routes.{length_of}
 use Rattle.ctf_decode.specs.Walk.{walk, repeat}

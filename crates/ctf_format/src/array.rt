@@ -51,7 +51,7 @@ pub(crate) fn put_integers(
     })
 }
 
-/// Where an array begins that could begin at a place, if it may begin there.
+/// Where a value begins that could begin at a place, if the content goes so far.
 #[inline(always)]
 pub(crate) fn begin_at(align: Align, packet: &Content<'_>, place: u64) -> Option<u64>
     requires start { place ≤ packet.now.end }

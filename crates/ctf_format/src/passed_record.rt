@@ -1,17 +1,17 @@
 //! Event records that are passed over by their plans.
 
-ghost use Rattle.std.specs.Prelude.{List, ℕ, [], ◌≡◌, ◌+◌, ◌-◌, ◌<◌, ◌≤◌, length, Option, IfSome};
+ghost use Rattle.std.specs.Prelude.{List, ◌≡◌, ◌+◌, ◌<◌, ◌≤◌, ℕ, length, IfSome};
 ghost use Rattle.std.specs.Int.{next_multiple_of};
 ghost use Rattle.std.specs.List.{All};
 ghost use Rattle.ctf_class.specs.Integers.{bits_of};
-ghost use Rattle.ctf_class.specs.Records.{Slot, AreMany, AreRuns, IsField, IsInteger, IsPlanOf, IsStructure};
+ghost use Rattle.ctf_class.specs.Records.{Slot, AreMany, AreRuns, IsField, IsPlanOf, IsStructure};
 ghost use Rattle.ctf_class.specs.declared.class.Class.{Class};
 ghost use Rattle.ctf_class.specs.declared.class.Member.{Member};
 ghost use Rattle.ctf_class.specs.declared.route.Length.TheVariants.{Fixed};
 ghost use Rattle.ctf_decode.specs.Forms as forms;
 ghost use Rattle.ctf_decode.specs.Views.{form};
-ghost use Rattle.ctf_format.specs.Passing.{IsElement, Passes, PassesFields, PassesOther};
-ghost use Rattle.ctf_format.specs.Records.{IsLastOf, IsNear, PutsField, PutsFields, PutsScopes, TakesRun, after_number, reached};
+ghost use Rattle.ctf_format.specs.Passing.{IsElement, Passes, PassesField, PassesFields, PassesOther};
+ghost use Rattle.ctf_format.specs.Records.{IsNear, PutsFields, PutsScopes, TakesRun, reached};
 ghost use Rattle.ctf_format.specs.Rows.{enclosed};
 ghost use Rattle.ctf_format.specs.Standing.{PutsElements, PutsOne};
 ghost use Rattle.ctf_format.specs.Texts as texts;
@@ -26,10 +26,10 @@ use ctf_bits::up;
 use ctf_class::{Align, Integers, Many, PlannedField, PlannedRun, RecordPlan, Shown, Structures};
 use ctf_decode::{MOST_VALUES, bytes_from};
 
-/// How far an event record goes of which no text is made.
+/// How far an event record was gone over, without a text.
 #[derive(Clone, Copy)]
 pub struct Passed {
-    /// Where its values end, in bits from the packet's first one.
+    /// The place that was reached, in bits from the packet's first one.
     pub place: u64,
     /// How many values were begun so far.
     pub spent: u64,
@@ -49,7 +49,8 @@ pub(crate) struct Element {
 /// without a text: `from` has the place after the header, in bits from the packet's first one, and how many values were
 /// begun before.
 ///
-/// `None` where `put_planned_record` gives none, but for allocations: none is made.
+/// `None` where `put_planned_record` gives none, but where it lacks memory, or eight bytes after a structure within:
+/// neither is needed here. No memory is taken.
 #[inline(never)]
 pub fn pass_planned_record(plan: &RecordPlan, packet: &Content<'_>, from: Passed) -> Option<Passed>
     requires plan { (classes : List Class) × IsPlanOf classes plan.now }
@@ -125,11 +126,8 @@ fn pass_run(run: &PlannedRun, packet: &Content<'_>, from: Reach) -> Option<Reach
 fn pass_field(field: &PlannedField, placed: PlacedRun<'_>, from: Reach) -> Option<Reach>
     requires start { from.place ≤ placed.packet.now.end }
     requires few { from.more ≤ MOST_VALUES }
-    ensures passes { let packet = placed.entry.packet.now in
-        (slot : Slot) → IsField slot field.now →
-        IfSome result (λ to. Passes (λ before after. (last : Option ℕ) ×
-        IsLastOf placed.entry last × PutsField slot packet.bytes.now packet.end
-        (after_number from last before) (reached to after))) }
+    ensures passes { (slot : Slot) → IsField slot field.now →
+        IfSome result (PassesField slot placed.entry from) }
     ensures within { IfSome result (λ to. to.place ≤ placed.entry.packet.now.end) }
     ensures few { IfSome result (λ to. to.more ≤ MOST_VALUES) }
 {
@@ -236,7 +234,7 @@ fn pass_structures(are: &Structures, placed: PlacedRun<'_>, from: Reach) -> Opti
     ensures within { IfSome result (λ to. to.place ≤ placed.entry.packet.now.end) }
     ensures few { IfSome result (λ to. to.more ≤ MOST_VALUES) }
 {
-    // Its numbers are at their distances where it begins at a byte.
+    // Each plan's begins at a byte, which no clause says; only there are its numbers at their distances.
     if are.align.bits() % 8 != 0 {
         return None;
     }

@@ -6,7 +6,7 @@ use Rattle.ctf_stream.specs.declared.item.CurrentItem.{CurrentItem}
 use Rattle.ctf_merge.specs.Merges.{Merge, IsNext, first_now, number_in}
 
 -- this is the item that comes next: with its values, or the text of an event record where its reader was asked for
--- texts
+-- texts, or the clock alone of one before those
 pub record IsHead (m : Merge) (x : CurrentItem) : Type 0 where
   pub number : ℕ
   pub it : IsNext m number

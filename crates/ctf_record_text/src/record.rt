@@ -1,6 +1,6 @@
-//! Event records whose text is made as they are read.
+//! Event records whose text is made as they are read, or that are passed over.
 
-ghost use Rattle.std.specs.Prelude.{◌≡◌, ◌<◌, ◌≤◌, ℕ, List, take, vec_len, Some, option_copied, option_map, IfOk, IfSome, IsTrue, OnOk};
+ghost use Rattle.std.specs.Prelude.{◌≡◌, ◌<◌, ◌≤◌, ℕ, List, false, take, vec_len, Some, option_copied, option_map, IfOk, IfSome, IsTrue, OnOk};
 ghost use Rattle.ctf_clock.specs.declared.moment.Shift.{Shift};
 ghost use Rattle.ctf_decode.specs.Known.{Known};
 ghost use Rattle.ctf_decode.specs.Views.{form};
@@ -135,13 +135,14 @@ pub fn next_line<'a>(
 /// Whether the header of the event record at a place is read by its plan.
 #[inline(never)]
 fn is_planned(at: &RecordPlace<'_, '_>) -> bool {
-    told_head(at, false).is_some() || told_head(at, true).is_some()
+    told_either(at).is_some()
 }
 
-/// The event record at a place (CTF 1.8.3, section 6), if it is before a time, in nanoseconds since the epoch, and its
-/// header and its scopes have plans: by these it is gone over, without a text and without its values.
+/// The event record at a place (CTF 1.8.3, section 6), if it is before `begin`, in nanoseconds since the epoch, and its
+/// header and scopes have plans: by these it is gone over, without a text and without its values.
 ///
-/// `None` also where `put_planned_record` gives no text, but for allocations: none is made.
+/// `None` elsewhere, and where the header has a fault, the record no bits, or `pass_planned_record` gives none. No
+/// memory is taken.
 #[inline(always)]
 pub fn passed_record<'a>(at: &RecordPlace<'_, 'a>, begin: i64) -> Option<EventRecord<'a>>
     ensures stands { (shift : Shift) (known : Known) → IsTimed shift at.now.packet.now →
@@ -181,7 +182,8 @@ fn told_either<'a>(at: &RecordPlace<'_, 'a>) -> Option<PlannedHead<'a>>
 /// Whether a clock is before a time, in nanoseconds since the epoch.
 #[inline(always)]
 fn is_before(clock: Option<Moment>, begin: i64) -> bool
-    ensures { IsTrue result → IsBefore begin clock }
+    ensures before { IsTrue result → IsBefore begin clock }
+    ensures other { result ≡ false → IsBefore begin clock → ⊥ }
 {
     match clock {
         Some(moment) => moment.time < begin,

@@ -3,18 +3,15 @@
 ghost use Rattle.std.specs.Prelude.{◌≡◌, ◌⊎◌, [], IfOk, IsTrue, get_or};
 ghost use Rattle.ctf_log.specs.Lines.{line_of};
 ghost use Rattle.ctf_merge.specs.Merged.{item};
-ghost use Rattle.ctf_merge.specs.Merges.{IsNext, first_now, names_of, writes_of};
+ghost use Rattle.ctf_merge.specs.Merges.{IsNext, first_now, names_of};
 ghost use Rattle.ctf_packet.specs.Classes.{Classes};
 ghost use Rattle.ctf_packet.specs.Items.{Item};
 ghost use Rattle.ctf_packet.specs.ItemTimes.{time_of};
 ghost use Rattle.ctf_session.specs.Answers as answers;
-ghost use Rattle.ctf_session.specs.Opening.{AreAsked};
+ghost use Rattle.ctf_session.specs.Opening.{IsWanted};
 ghost use Rattle.ctf_session.specs.Printing.{Prints, CountsAfterPrint, stop_in};
 ghost use Rattle.ctf_session.specs.Steps.{counts_by};
 ghost use Rattle.ctf_session.specs.Writing.{written_by};
-ghost use Rattle.ctf_timestamp.specs.Trims.{verdict_of};
-ghost use Rattle.ctf_timestamp.specs.declared.trim.Trim.{Trim};
-ghost use Rattle.ctf_timestamp.specs.declared.trim.Verdict.TheVariants.{Within};
 
 use crate::log::Log;
 use crate::printing::{last_after, last_moment, print, print_text};
@@ -58,9 +55,7 @@ pub(crate) fn print_front<'a, S: Source + Drop, W: Log, E: Sink>(
     err: &mut E,
 ) -> Result<Option<i64>, Stop>
     requires next { IsNext at.now.merge.now at.now.number }
-    requires wanted { (trim : Trim) × AreAsked trim.begin (writes_of at.now.merge.now.readers) ×
-        ((next : Item Classes) → first_now at.now.merge.now ≡ item at.now.number next
-        → verdict_of trim (time_of next) ≡ Within) }
+    requires wanted { IsWanted at.now.merge.now at.now.number }
     ensures prints { let wrote = written_by W.accepted W.settled E.accepted in
         let name = get_or (names_of at.now.merge.now.readers) at.now.number [] in
         IsTrue (W.tells out.old) → IsTrue (E.tells err.old)

@@ -3,7 +3,6 @@
 ghost use Rattle.std.specs.Prelude.{◌≡◌, ◌++◌, List, map, IfOk, OnOk};
 ghost use Rattle.ctf_session.specs.Inputs.{Input, input_of, inputs_from};
 ghost use Rattle.ctf_session.specs.Opening.{EachOpens};
-ghost use Rattle.ctf_stream.specs.Asked.{asked_first};
 
 use crate::input::Streams;
 use ctf_bits::Source;
@@ -68,22 +67,8 @@ fn open_streams<'a, S: Source + Drop>(
     for (name, source) in streams {
         let name = Text::from_string(name);
         let reader = StreamReader::new(alloc, class, name, source, options.shift);
-        opened
-            .readers
-            .push(reader_of_texts(reader, options.trim.begin))?;
+        opened.readers.push(reader.with_texts(options.trim.begin))?;
         opened.numbers.push(number)?;
     }
     Ok(())
-}
-
-/// A reader that from now on gives event records as texts, where these can be made without the values, from this time
-/// on, in nanoseconds since the epoch, if it is given.
-fn reader_of_texts<'a, S: Source + Drop>(
-    reader: StreamReader<'a, S>,
-    begin: Option<i64>,
-) -> StreamReader<'a, S>
-    ensures { let writes = asked_first reader.entry.writes begin in
-        result ≡ record reader.entry { writes = writes } }
-{
-    reader.with_texts(begin)
 }

@@ -17,7 +17,7 @@ use Rattle.ctf_stream.specs.Coming.{opened_in, left_in, item_in, TakesItem}
 use Rattle.ctf_fetch.specs.Fetching.{OrNoMemory, after_packet}
 use Rattle.ctf_stream.specs.Reader.{after_ahead, with_ahead}
 use Rattle.ctf_stream.specs.Standing.{item_at}
-use Rattle.ctf_stream.specs.ReadState.{trace_of, coming_at, Inside, StandsAt, coming_of, between, stepped, StepsWithin, Enters, Advances, WritesNext}
+use Rattle.ctf_stream.specs.ReadState.{trace_of, coming_at, Inside, StandsAt, coming_of, between, stepped, StepsWithin, Enters, Advances, ReadsNext}
 use Rattle.ctf_stream.specs.declared.read_state.ReadState.{ReadState}
 use Rattle.ctf_fetch.specs.Headers.{KnowsHeader}
 use Rattle.ctf_fetch.specs.declared.packet_scratch.PacketScratch.{PacketScratch}
@@ -120,9 +120,9 @@ still_known trace next scratch after old new t s v known =
     subst (λ x. KnowsHeader x after new.packet_header) (sym t) (subst (λ x. KnowsHeader trace x new.packet_header) (sym s) (subst (λ (x : Values). KnowsHeader trace scratch x.packet_header) (sym v) known))
 
 -- where only the line was another one before, it is another one still
-pub writes_after : (old middle new : ReadState) (result : Option PacketItem) → middle ≡ record old { line = middle.line } → WritesNext middle new result → WritesNext old new result
-writes_after old middle new result same writes =
-    let w = subst (λ c. WritesNext c new result) same writes in
+pub reads_after : (old middle new : ReadState) (result : Option PacketItem) → middle ≡ record old { line = middle.line } → ReadsNext middle new result → ReadsNext old new result
+reads_after old middle new result same writes =
+    let w = subst (λ c. ReadsNext c new result) same writes in
     record {
       advances = w.advances;
       stands = w.stands;

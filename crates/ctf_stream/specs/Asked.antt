@@ -10,7 +10,7 @@ abbrev pub texts_of : Option ℤ → Texts
 texts_of None = texts.All
 texts_of (Some begin) = texts.From begin
 
--- where none are asked for yet
+-- what was asked for first stays; else all, or those from a time on
 abbrev pub asked_first : Texts → Option ℤ → Texts
 asked_first texts.None begin = texts_of begin
 asked_first texts.All begin = texts.All

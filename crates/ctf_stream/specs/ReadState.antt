@@ -142,7 +142,7 @@ IsOfPacket packet None = packet ≡ None
 
 -- an event record was read and its text written, or it was passed over, and the rest is to come; or only the line is
 -- another one
-pub record WritesNext (old new : ReadState) (result : Option PacketItem) : Type 0 where
+pub record ReadsNext (old new : ReadState) (result : Option PacketItem) : Type 0 where
   pub advances : (ending : Ending) (left : List ℕ) → IfSome result (λ front.
       Advances (coming_of ending left old) (coming_of ending left new) new.cut new.scopes new.buffer
       new.packet left (Ok (Some front)))

@@ -35,7 +35,7 @@ fn time_of(front: &PacketItem, packet: &PacketReader) -> Option<i64>
     other_time(front, packet)
 }
 
-/// The time of an item that is no such event record, out of the way of these.
+/// The time of an item that was neither written nor passed over, out of the way of those.
 /// In one `match` with these, it would be a table of jumps.
 #[cold]
 #[inline(never)]

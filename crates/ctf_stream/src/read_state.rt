@@ -12,7 +12,7 @@ ghost use Rattle.ctf_stream.specs.Shown.{Tells, IsMadeTold, IsAsked};
 ghost use Rattle.ctf_stream.specs.declared.texts.Texts.TheVariants as texts;
 ghost use Rattle.ctf_stream.specs.Standing.{item_at};
 ghost use Rattle.ctf_fetch.specs.Fetching.{longest_bytes, most_taken};
-ghost use Rattle.ctf_stream.specs.ReadState.{coming_of, Stands, room_of, StepsWithin, Enters, EntersRoom, Advances, IsOfPacket, HasShared, IsPartOf, HoldsIn, HoldsFound, WritesNext, between, stepped};
+ghost use Rattle.ctf_stream.specs.ReadState.{coming_of, Stands, room_of, StepsWithin, Enters, EntersRoom, Advances, IsOfPacket, HasShared, IsPartOf, HoldsIn, HoldsFound, ReadsNext, between, stepped};
 
 use crate::item::{CurrentItem, Event, EventText, Gap, Item};
 use crate::packet::{PacketInput, PacketItem, PacketReader};
@@ -76,7 +76,7 @@ impl<'a> ReadState<'a> {
     pub(crate) fn ask(&mut self, begin: Option<i64>)
         ensures { self.new ≡ record self.old { writes = asked_first self.old.writes begin } }
     {
-        self.writes = self.writes.or_since(begin);
+        self.writes = self.writes.or_from(begin);
     }
 
     /// Gives the memory back, and holds nothing.
@@ -98,18 +98,18 @@ impl<'a> ReadState<'a> {
     }
 
     /// The next item, if it is an event record of the packet at hand that can be shown without its values, where texts
-    /// are asked for: one with a usual header, or with an `unusual` one. `None` elsewhere, and where the event records
-    /// so far are before those that are asked for: then only the line is another one.
+    /// are asked for: one with a usual header. `None` elsewhere, and where it may be one to pass over, unless the one
+    /// before was `written`: then only the line is another one.
     #[inline(always)]
-    pub(crate) fn next_written(&mut self, alloc: Global, unusual: bool) -> Option<PacketItem<'a>>
+    pub(crate) fn next_written(&mut self, alloc: Global, written: bool) -> Option<PacketItem<'a>>
         requires stands { Stands self.old }
         requires shared { HasShared self.old }
-        ensures { WritesNext self.old self.new result }
+        ensures { ReadsNext self.old self.new result }
     {
-        if self.is_early() {
+        if self.is_early() && !written {
             return None;
         }
-        self.next_text(alloc, unusual)
+        self.next_text(alloc, false)
     }
 
     /// Whether the event records so far are before those that are asked for as texts. The next one mostly is, too.
@@ -127,12 +127,12 @@ impl<'a> ReadState<'a> {
         }
     }
 
-    /// The next item, as `next_written` gives it, whatever its time.
+    /// The next item, as `next_written` gives it, whatever its time, with a usual header or an `unusual` one.
     #[inline(always)]
     fn next_text(&mut self, alloc: Global, unusual: bool) -> Option<PacketItem<'a>>
         requires stands { Stands self.old }
         requires shared { HasShared self.old }
-        ensures { WritesNext self.old self.new result }
+        ensures { ReadsNext self.old self.new result }
     {
         let packet = match &mut self.packet {
             None => return None,
@@ -147,31 +147,56 @@ impl<'a> ReadState<'a> {
     }
 
     /// The next item, if it is an event record of the packet at hand that `next_written` left out: one that is passed
-    /// over, or shown after such ones, or one with an unusual header. Mostly it is none, so this is kept out of the way.
-    #[inline(never)]
-    pub(crate) fn next_late(&mut self, alloc: Global) -> Option<PacketItem<'a>>
+    /// over, or shown after such ones, or one with an unusual header. `None` elsewhere: then only the line is another
+    /// one.
+    #[inline(always)]
+    pub(crate) fn next_apart(&mut self, alloc: Global) -> Option<PacketItem<'a>>
         requires stands { Stands self.old }
         requires shared { HasShared self.old }
-        ensures { WritesNext self.old self.new result }
+        ensures { ReadsNext self.old self.new result }
     {
         if self.is_early() {
-            if let Some(front) = self.next_passed(alloc) {
-                return Some(front);
-            }
-            if let Some(front) = self.next_text(alloc, false) {
+            if let Some(front) = self.next_early(alloc) {
                 return Some(front);
             }
         }
         self.next_text(alloc, true)
     }
 
-    /// The next item, if it is an event record of the packet at hand that is passed over. `None` elsewhere: then nothing
-    /// is another one.
+    /// The next item, as `next_apart` gives it. Mostly there is none, so this is kept out of the way.
+    #[cold]
+    #[inline(never)]
+    fn next_seldom(&mut self, alloc: Global) -> Option<PacketItem<'a>>
+        requires stands { Stands self.old }
+        requires shared { HasShared self.old }
+        ensures { ReadsNext self.old self.new result }
+    {
+        self.next_apart(alloc)
+    }
+
+    /// The next item, if it is an event record of the packet at hand that is passed over, or else one with a usual
+    /// header that is shown. `None` elsewhere: then only the line is another one. It is out of the way of readers
+    /// without a beginning.
+    #[inline(never)]
+    fn next_early(&mut self, alloc: Global) -> Option<PacketItem<'a>>
+        requires stands { Stands self.old }
+        requires shared { HasShared self.old }
+        ensures { ReadsNext self.old self.new result }
+    {
+        if let Some(front) = self.next_passed(alloc) {
+            return Some(front);
+        }
+        self.next_text(alloc, false)
+    }
+
+    /// The next item, if it is an event record of the packet at hand that is passed over. `None` elsewhere: then all is
+    /// as it was.
     #[inline(always)]
     fn next_passed(&mut self, alloc: Global) -> Option<PacketItem<'a>>
         requires stands { Stands self.old }
         requires shared { HasShared self.old }
-        ensures { WritesNext self.old self.new result }
+        ensures reads { ReadsNext self.old self.new result }
+        ensures none { IfNone result (self.new ≡ self.old) }
     {
         let packet = match &mut self.packet {
             None => return None,
@@ -185,7 +210,7 @@ impl<'a> ReadState<'a> {
         packet.next_passed(input)
     }
 
-    /// The next item, out of a source, where `next_written` and `next_late` gave none. `None` where the stream ends.
+    /// The next item, out of a source, where `next_written` and `next_apart` gave none. `None` where the stream ends.
     ///
     /// An error is the fault of the stream after the items before, or `NoMemory`.
     #[inline(always)]
@@ -232,7 +257,7 @@ impl<'a> ReadState<'a> {
             if let Some(front) = self.next_written(alloc, false) {
                 return Ok(Some(front));
             }
-            if let Some(front) = self.next_late(alloc) {
+            if let Some(front) = self.next_seldom(alloc) {
                 return Ok(Some(front));
             }
         }

@@ -109,7 +109,7 @@ impl<'a, S: Source + Drop> StreamReader<'a, S> {
     }
 
     /// From now on the reader gives event records as texts, where these can be made without the values; of those before
-    /// a time, in nanoseconds since the epoch, if it is given, it may tell the clock alone. A reader that was asked for
+    /// `begin`, if it is given, in nanoseconds since the epoch, it may tell the clock alone. A reader that was asked for
     /// texts before stays as it is.
     pub fn with_texts(self, begin: Option<i64>) -> StreamReader<'a, S>
         ensures { let writes = asked_first self.entry.writes begin in
@@ -147,7 +147,9 @@ impl<'a, S: Source + Drop> StreamReader<'a, S> {
             ReaderHead::Item(_) => {}
             ReaderHead::Start => {}
         }
-        if let Some(front) = self.read_state.next_written(self.alloc, false) {
+        // After a record before the beginning that no plan goes over, the next one mostly is such, too.
+        let written = is_written(&self.head);
+        if let Some(front) = self.read_state.next_written(self.alloc, written) {
             self.head = ReaderHead::Item(front);
             return;
         }
@@ -172,7 +174,7 @@ impl<'a, S: Source + Drop> StreamReader<'a, S> {
         ensures on_line { IsOnLine self.new }
         ensures all_taken { IsTrue self.old.tells → IsAllTaken self.new.ahead self.new.left }
     {
-        if let Some(front) = self.read_state.next_late(self.alloc) {
+        if let Some(front) = self.read_state.next_apart(self.alloc) {
             self.head = ReaderHead::Item(front);
             return;
         }
@@ -280,7 +282,8 @@ impl<'a, S: Source + Drop> StreamReader<'a, S> {
         }
     }
 
-    /// The current item, if there is one: an event record as a text, if it was read as that. No memory is taken.
+    /// The current item, if there is one: an event record as a text, if it was read as that, and as its clock alone, if it
+    /// was passed over. No memory is taken.
     pub fn told(&self) -> Option<CurrentItem<'_>>
         ensures tells { Tells self.now.trace self.now.name self.now.ahead result }
         ensures made { IfSome result IsMadeTold }
@@ -294,8 +297,8 @@ impl<'a, S: Source + Drop> StreamReader<'a, S> {
         }
     }
 
-    /// The current item, if there is one, with its values; `None` also of an event record that was read as a text. No
-    /// memory is taken.
+    /// The current item, if there is one, with its values; `None` also of an event record that was read as a text or
+    /// passed over. No memory is taken.
     pub fn head(&self) -> Option<Item<'_>>
         ensures shows { ShowsValues self.now.writes self.now.trace self.now.name self.now.ahead
             result }
@@ -342,6 +345,15 @@ impl<'a, S: Source + Drop> StreamReader<'a, S> {
     {
         self.name.as_str()
     }
+}
+
+/// Whether the current item is an event record that was written.
+#[inline(always)]
+fn is_written(head: &ReaderHead<'_>) -> bool {
+    if let ReaderHead::Item(PacketItem::Written(_)) = head {
+        return true;
+    }
+    false
 }
 
 /// Makes nothing current. It is put there in a call, so that `go_on` clears no room for each event record.

@@ -1,7 +1,8 @@
 //! Which event records are given as texts.
 
-ghost use Rattle.std.specs.Prelude.{◌≡◌, IsTrue};
+ghost use Rattle.std.specs.Prelude.{◌≡◌, false, IsTrue};
 ghost use Rattle.ctf_stream.specs.Asked.{AsksTexts, asked_first};
+ghost use Rattle.ctf_stream.specs.declared.texts.Texts.TheVariants as texts;
 
 /// The event records that a reader gives as texts, where these can be made without the values.
 #[derive(Clone, Copy)]
@@ -10,13 +11,13 @@ pub enum Texts {
     None,
     /// All.
     All,
-    /// Those from this time on, in nanoseconds since the epoch. Of those before it the clock alone may be told.
+    /// All but those before this time, in nanoseconds since the epoch, of which the clock alone may be told.
     From(i64),
 }
 
 impl Texts {
-    /// Where they are none, all, or those from this time on, in nanoseconds since the epoch, if it is given.
-    pub(crate) fn or_since(self, begin: Option<i64>) -> Texts
+    /// These, if some are asked for; else all, or those from `begin` on, in nanoseconds since the epoch, if it is given.
+    pub(crate) fn or_from(self, begin: Option<i64>) -> Texts
         ensures { result ≡ asked_first self begin }
     {
         match self {
@@ -32,7 +33,8 @@ impl Texts {
     /// Whether there are such event records.
     #[inline(always)]
     pub(crate) fn are_asked(self) -> bool
-        ensures { IsTrue result → AsksTexts self }
+        ensures some { IsTrue result → AsksTexts self }
+        ensures none { result ≡ false → self ≡ texts.None }
     {
         match self {
             Texts::None => false,

@@ -32,7 +32,7 @@ pub struct Asked {
     pub shift: i64,
     /// Whether event records are read as texts where they can be.
     pub writes: bool,
-    /// From this time on, if it is given, in nanoseconds since the epoch.
+    /// The time from which on texts are needed, if it is given, in nanoseconds since the epoch.
     pub begin: Option<i64>,
     pub shown: RecordDetail,
     /// The steps of the row, and then the last one again.

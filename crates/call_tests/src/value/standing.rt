@@ -111,8 +111,9 @@ fn put_passed(row: &mut Row<'_>, plan: &RecordPlan, place: Place<'_>, standing: 
                 row.put(b", passed otherwise");
             }
         }
-        (None, None) => {}
-        _ => row.put(b", passed otherwise"),
+        // Without a text no room is needed for numbers that are read at once.
+        (None, _) => {}
+        (Some(_), None) => row.put(b", passed otherwise"),
     }
 }
 

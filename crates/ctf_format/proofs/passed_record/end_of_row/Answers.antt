@@ -1,4 +1,4 @@
-use Rattle.std.proofs.Common.{◌≡◌, ◌+◌, ◌∙◌, refl, subst, arith}
+use Rattle.std.proofs.Common.{◌≡◌, ◌∙◌, refl, subst, arith}
 use Rattle.ctf_format.proofs.PassingLemmas.{going, passing_begins, passing_ends, passing_on}
 use Rattle.ctf_format.proofs.passed_record.end_of_row.Goals as goal
 

@@ -1,9 +1,7 @@
-use Rattle.std.proofs.Common.{◌≡◌, ◌+◌, ◌-◌, ◌/◌, ◌≤◌, ◌∙◌, Some, None, IfSome, refl, sym, ap, subst, arith, rules}
+use Rattle.std.proofs.Common.{◌≡◌, ◌+◌, ◌-◌, ◌/◌, ◌≤◌, ◌∙◌, Some, None, refl, sym, ap, subst, arith, rules}
 use Rattle.std.proofs.lemmas.Option.{IfSome_then}
-use Rattle.std.specs.Int.{next_multiple_of}
-use Rattle.ctf_class.specs.Records.{AreMany, IsInteger, IsShown, IsStructure}
+use Rattle.ctf_class.specs.Records.{IsInteger, IsShown}
 use Rattle.ctf_class.specs.declared.route.Length.TheVariants.{Fixed}
-use Rattle.ctf_class.specs.Integers.{bits_of}
 use Rattle.ctf_decode.specs.Forms as forms
 use Rattle.ctf_decode.specs.Views.{form}
 use Rattle.ctf_format.specs.Passing.{IsElement, Passes}

@@ -1,5 +1,4 @@
 use Rattle.std.proofs.Common.{◌≡◌, ◌+◌, ◌-◌, ◌/◌, ◌≤◌, None, rules, arith, sym, subst}
-use Rattle.std.specs.Int.{next_multiple_of}
 use Rattle.ctf_decode.specs.Views.{form}
 use Rattle.ctf_format.specs.Records.{after_members}
 use Rattle.ctf_format.specs.Standing.{PutsSome}

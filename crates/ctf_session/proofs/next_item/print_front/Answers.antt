@@ -29,4 +29,4 @@ unreachable-requires-in-Passed g c =
     let wanted = c.requires.wanted in
     let shows = rw (c.in-Passed.is) at c.in-Some-told.ensures.tells in
     let early = rw (c.in-Passed.is) at c.in-Some-told.ensures.asked in
-    none_passed c.args.at.now.merge.now c.args.at.now.number c.requires.next c.in-Some.reader.now c.in-Passed.field-0 wanted.0 c.in-Some.ensures shows early wanted.1 wanted.2
+    none_passed c.args.at.now.merge.now c.args.at.now.number c.requires.next c.in-Some.reader.now c.in-Passed.field-0 wanted.trim c.in-Some.ensures shows early wanted.asked wanted.within

@@ -24,9 +24,9 @@ loop-name-preserved g c =
           let gone = c.in-Some.ensures.steps.1 in
           let short = ap length steps in
           omega arith;
-      opened = λ inputs each. rw c.in_ok-push.ensures.items (opens_next c.args.options.now inputs _ c.loop-name.yielded (c.in-Some.name, c.in-Some.source) c.loop-name.opened.readers.items c.reader_of_texts.result
+      opened = λ inputs each. rw c.in_ok-push.ensures.items (opens_next c.args.options.now inputs _ c.loop-name.yielded (c.in-Some.name, c.in-Some.source) c.loop-name.opened.readers.items c.with_texts.result
           (c.loop-name.invariant.opened inputs each)
-          (rw (c.reader_of_texts.ensures, c.new-reader.ensures.writes) (record {
+          (rw (c.with_texts.ensures, c.new-reader.ensures.writes) (record {
             told = c.new-reader.ensures.told;
             writes = refl;
             name = c.new-reader.ensures.name ∙ c.from_string-name.ensures;

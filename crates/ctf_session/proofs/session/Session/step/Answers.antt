@@ -76,4 +76,8 @@ pub returns-in-After-clause-readers : goal.returns-in-After-clause-readers
 returns-in-After-clause-readers g c = rw (← c.self.view_is) refl
 
 pub print_front-requires-clause-wanted : goal.print_front-requires-clause-wanted
-print_front-requires-clause-wanted g c = (c.self.inside.trim, c.self.invariant, λ next first. sym (c.in-Within.ensures ∙ ap (verdict_of c.self.inside.trim) (c.front_time.ensures next first)))
+print_front-requires-clause-wanted g c = record {
+  trim = c.self.inside.trim;
+  asked = c.self.invariant;
+  within = λ next first. sym (c.in-Within.ensures ∙ ap (verdict_of c.self.inside.trim) (c.front_time.ensures next first));
+}

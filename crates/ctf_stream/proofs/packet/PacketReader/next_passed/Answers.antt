@@ -1,5 +1,4 @@
 use Rattle.std.proofs.Common.{refl, rules, subst, sym}
-use Rattle.ctf_packet.specs.Views.{values_of}
 use Rattle.ctf_record_text.specs.Making.{IsBefore, IsThere}
 use Rattle.ctf_stream.specs.Asked.{IsEarly}
 use Rattle.ctf_stream.specs.Coming.{opened_in}

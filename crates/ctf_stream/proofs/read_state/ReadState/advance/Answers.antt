@@ -36,19 +36,19 @@ returns-in-Some-clause-advances g c = λ tells.
     let enters = entered (g.S.Source.ending c.loop-fault.source) ending left after (between middle) entered_at c.in-Ok-true.field-0 (before.ending tells) c.in-Ok-true.field-0-test (c.in-Ok-true.ensures.enters (before.tells tells)) in
     also_before _ (coming_of ending after entered_at) (coming_of ending after new) new.cut new.scopes new.buffer new.packet after c.in-Some.front (steps ∙ enters) (c.in-Some.ensures.advances ending after)
 
-pub returns-in-Some-next_late-clause-advances : goal.returns-in-Some-next_late-clause-advances
-returns-in-Some-next_late-clause-advances g c = λ tells.
+pub returns-in-Some-next_seldom-clause-advances : goal.returns-in-Some-next_seldom-clause-advances
+returns-in-Some-next_seldom-clause-advances g c = λ tells.
     let ending = g.S.Source.ending c.args.source.now in
     let left = g.S.Source.left c.loop-fault.source in
     let middle = c.step_within.new.self in
     let entered_at = c.enter.new.self in
     let after = g.S.Source.left c.enter.new.source in
-    let new = c.next_late.new.self in
+    let new = c.next_seldom.new.self in
     let before = c.loop-fault.invariant in
     let steps = left_over ending left _ (coming_of ending left c.loop-fault.self) middle c.in-Ok-None.field-0 (before.coming tells) c.in-Ok-None.field-0-is (c.in-Ok-None.ensures.steps ending left) in
     let enters = entered (g.S.Source.ending c.loop-fault.source) ending left after (between middle) entered_at c.in-Ok-true.field-0 (before.ending tells) c.in-Ok-true.field-0-test (c.in-Ok-true.ensures.enters (before.tells tells)) in
     let tried = ap (coming_of ending after) (sym (if_none c.next_written.result _ c.in_default.is c.next_written.ensures.none)) in
-    also_before _ (coming_of ending after c.next_written.new.self) (coming_of ending after new) new.cut new.scopes new.buffer new.packet after c.in-Some-next_late.front (steps ∙ enters ∙ tried) (c.in-Some-next_late.ensures.advances ending after)
+    also_before _ (coming_of ending after c.next_written.new.self) (coming_of ending after new) new.cut new.scopes new.buffer new.packet after c.in-Some-next_seldom.front (steps ∙ enters ∙ tried) (c.in-Some-next_seldom.ensures.advances ending after)
 
 pub loop-fault-preserved : goal.loop-fault-preserved
 loop-fault-preserved g c =
@@ -63,7 +63,7 @@ loop-fault-preserved g c =
       ending = λ h. c.enter.ensures.same_end (before.tells h) ∙ before.ending h;
       coming = (λ h.
           let steps = left_over ending left _ (coming_of ending left c.loop-fault.self) middle c.in-Ok-None.field-0 (before.coming h) c.in-Ok-None.field-0-is (c.in-Ok-None.ensures.steps ending left) in
-          steps ∙ entered (g.S.Source.ending c.loop-fault.source) ending left after (between middle) new c.in-Ok-true.field-0 (before.ending h) c.in-Ok-true.field-0-test (c.in-Ok-true.ensures.enters (before.tells h)) ∙ ap (coming_of ending after) (sym (if_none c.next_written.result _ c.in_default.is c.next_written.ensures.none)) ∙ ap (coming_of ending after) (sym (if_none c.next_late.result _ c.in_default-next_late.is c.next_late.ensures.none)));
+          steps ∙ entered (g.S.Source.ending c.loop-fault.source) ending left after (between middle) new c.in-Ok-true.field-0 (before.ending h) c.in-Ok-true.field-0-test (c.in-Ok-true.ensures.enters (before.tells h)) ∙ ap (coming_of ending after) (sym (if_none c.next_written.result _ c.in_default.is c.next_written.ensures.none)) ∙ ap (coming_of ending after) (sym (if_none c.next_seldom.result _ c.in_default-next_seldom.is c.next_seldom.ensures.none)));
       counted = (λ h. search rules);
       forward = search rules;
       trace = search rules;

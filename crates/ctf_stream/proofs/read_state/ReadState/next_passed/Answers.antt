@@ -4,8 +4,8 @@ use Rattle.std.proofs.lemmas.Option.{IfSome_then}
 use Rattle.ctf_stream.proofs.ReadStates.{follows, inside, takes_item}
 use Rattle.ctf_stream.proofs.read_state.ReadState.next_passed.Goals as goal
 
-pub returns : goal.returns
-returns c =
+pub returns-clause-reads : goal.returns-clause-reads
+returns-clause-reads c =
     let old = c.args.self.now in
     let p = c.in-Some.packet in
     let q = c.next_passed.new.self in
