@@ -186,6 +186,13 @@ def events_of_a_long_context(folder: pathlib.Path, count: int) -> None:
     shapes.write_trace(folder, f"{SHORT}stream {{ {header} }};\n{events}\n")
 
 
+def events_of_a_long_name(folder: pathlib.Path, count: int) -> None:
+    member = f"u {'n' * 16 * count};"
+    header = f"event.header := struct {{ integer {{ size = 32; }} id; }}; event.context := struct {{ {member} }};"
+    events = "".join(f"event{{id={number};name=a;fields:=struct{{u a;}};}};" for number in range(count))
+    shapes.write_trace(folder, f"{SHORT}stream {{ {header} }};\n{events}\n")
+
+
 def events_of_metadata(folder: pathlib.Path, size: int) -> None:
     shapes.write_trace(folder, "")
     metadata.main(size, str(folder / "metadata"))
@@ -213,6 +220,7 @@ CASES = scope_cases() + [
     Case("metadata: `ABCD,` after `string`, as fields", "bytes", strings_as_fields, TEXT_SIZES),
     Case("metadata: `a,` after `string`, 53 fields an event", "bytes", short_strings_of_events, TEXT_SIZES),
     Case("metadata: events of a long context", "members and events", events_of_a_long_context, (1000, 2000, 4000)),
+    Case("metadata: events of a long name", "16 bytes of a name, and events", events_of_a_long_name, (1000, 2000, 4000)),
     Case("metadata: events as LTTng's", "bytes", events_of_metadata, TEXT_SIZES),
 ]
 

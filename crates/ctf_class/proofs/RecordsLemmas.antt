@@ -2,19 +2,20 @@
 use Rattle.std.proofs.Common.{◌≡◌, ℕ, zero, suc, ◌+◌, ◌^◌, ◌<◌, ◌≤◌, max, List, [], ◌∷◌, ◌++◌, length, take, get_or, Option, Some, None, refl, sym, ap, subst, ◌∙◌, arith, append_assoc, append-nil}
 use Rattle.std.proofs.lemmas.List.{take_more, length-take-le}
 use Rattle.ctf_class.specs.Alignment.{IsLarger}
+use Rattle.ctf_class.specs.Names.{field_text}
 use Rattle.ctf_class.specs.declared.class.Class.{Class}
 use Rattle.ctf_class.specs.declared.class.Kind as kind
 use Rattle.ctf_class.specs.declared.class.Member.{Member}
 use Rattle.ctf_class.specs.declared.record_plan.PlannedField.{PlannedField}
-use Rattle.ctf_class.specs.declared.record_plan.PlanBuilder.{PlanBuilder}
+use Rattle.ctf_class.specs.declared.plan_builder.PlanBuilder.{PlanBuilder}
+use Rattle.ctf_class.specs.declared.plan_builder.Lead.{Lead}
 use Rattle.ctf_class.specs.declared.record_plan.PlannedRun.{PlannedRun}
 use Rattle.ctf_class.specs.declared.many.Many.{Many}
 use Rattle.ctf_class.specs.declared.many.Many.TheVariants as many
 use Rattle.ctf_class.specs.declared.planned_number.PlannedNumber.{PlannedNumber}
 use Rattle.ctf_class.specs.declared.route.Length.{Length}
-use Rattle.ctf_class.specs.declared.structures.Structures.{Structures}
-use Rattle.ctf_class.specs.PlanBuilding.{IsOpen, IsMade, IsMadeOf, before_scope, with_number, with_field}
-use Rattle.ctf_class.specs.Records.{Slot, Scoped, later, laters, slots, between, all_slots, values_in, AreScoped, and_scope, scopes_of, slots_of, IsNumber, AreInRun, TakesNumbers, IsLength, AreMany, IsStructure, IsField, AreRuns, IsPlanOf, have_special, numbers_room, room_of}
+use Rattle.ctf_class.specs.PlanBuilding.{AddsPiece, AddsPieces, IsOpen, IsMade, IsMadeOf, at_of, before_scope, slot_of, with_number, with_field}
+use Rattle.ctf_class.specs.Records.{Slot, At, Piece, Pieces, alone, inner, no_pieces, more_pieces, Scoped, IsPiece, ArePieces, member_of, members_of, inside, insides, ended_by, ended_after, ends, ended_last, first_at, later_at, known_index, opened_lead, piece_slots, pieces_slots, all_alone, member_slots, slots, between, before_next, all_slots, values_in, AreScoped, and_scope, scopes_of, IsNumber, AreInRun, TakesNumbers, IsLength, AreMany, IsStructure, IsField, AreRuns, IsPlanOf, have_special, numbers_room, room_of}
 
 -- one number more after the others
 numbers_more : (base from span : ℕ) (ss : List Slot) (ns : List PlannedNumber) (s : Slot) (rest : List Slot) (n : PlannedNumber) → AreInRun base from ss ns span (s ∷ rest) → IsNumber base span s n → AreInRun base from ss (ns ++ n ∷ []) (n.window.place + n.window.size) rest
@@ -25,7 +26,7 @@ numbers_more base from span (x ∷ ss) (y ∷ ns) s rest n are is = (are.0, numb
 
 -- a run of one number, and of one more
 abbrev pub GoesOn : ℕ → ℕ → Slot → List PlannedNumber → Type 0
-GoesOn align run s [] = IsLarger run s.align s.member.class.align
+GoesOn align run s [] = IsLarger run s.align s.class.align
 GoesOn align run s (n ∷ ns) = run ≡ align
 
 takes_more : (align run : ℕ) (ss : List Slot) (ns : List PlannedNumber) (span : ℕ) (s : Slot) (rest : List Slot) (n : PlannedNumber) → GoesOn align run s ns → TakesNumbers align ss ns span (s ∷ rest) → IsNumber (max 8 run) span s n
@@ -36,7 +37,7 @@ takes_more align run [] (y ∷ ns) span s rest n on takes is = absurd takes.0
 takes_more align run (x ∷ ss) (y ∷ ns) span s rest n on takes is =
     subst (λ r. TakesNumbers r (x ∷ ss) ((y ∷ ns) ++ n ∷ []) (n.window.place + n.window.size) rest) (sym on) (takes.0, numbers_more (max 8 align) 0 span (x ∷ ss) (y ∷ ns) s rest n takes.1 (subst (λ r. IsNumber (max 8 r) span s n) on is))
 
-pub goes_on : (align run : ℕ) (s : Slot) (ns : List PlannedNumber) → (ns ≡ [] → IsLarger run s.align s.member.class.align) → (0 < length ns → run ≡ align) → GoesOn align run s ns
+pub goes_on : (align run : ℕ) (s : Slot) (ns : List PlannedNumber) → (ns ≡ [] → IsLarger run s.align s.class.align) → (0 < length ns → run ≡ align) → GoesOn align run s ns
 goes_on align run s [] first later = first refl
 goes_on align run s (n ∷ ns) first later = later (omega arith)
 
@@ -83,11 +84,12 @@ made_field done s m f is made = record {
 }
 
 -- nothing yet
-pub made_none : (m : PlanBuilder) → m.runs ≡ [] → m.align ≡ 1 → m.numbers ≡ [] → m.span ≡ 0 → m.room ≡ 24 → m.count ≡ 0 → IsMadeOf [] m
-made_none m runs align numbers span room count = record {
+pub made_none : (m : PlanBuilder) → m.runs ≡ [] → m.align ≡ 1 → m.numbers ≡ [] → m.span ≡ 0 → m.room ≡ 24 → m.count ≡ 0 → m.ended ≡ 0 → IsMadeOf [] m
+made_none m runs align numbers span room count ended = record {
   scopes = [];
   are = tt;
   count = count;
+  ended = ended;
   made = record {
     full = [];
     now = [];
@@ -99,92 +101,226 @@ made_none m runs align numbers span room count = record {
   };
 }
 
+-- so no field
+pub made_nothing : (m : PlanBuilder) → IsMadeOf [] m → IsMade [] m
+made_nothing m of = nothing of.scopes of.are of.made
+  where
+    nothing : (ss : List Scoped) → AreScoped [] ss → IsMade (all_slots [] ss) m → IsMade [] m
+    nothing [] are made = made
+    nothing (s ∷ ss) are made = absurd are
+
 -- the plan of what was made
-pub plan_of : (ks : List Class) (m : PlanBuilder) (runs : List PlannedRun) → runs ≡ m.runs ++ record { align = m.align; numbers = m.numbers; has_special = have_special m.numbers; span = m.span; room = m.room; field = None } ∷ [] → IsMadeOf ks m → IsPlanOf ks (record { runs = runs; count = m.count })
+pub plan_of : (ks : List Class) (m : PlanBuilder) (runs : List PlannedRun) → runs ≡ m.runs ++ record { align = m.align; numbers = m.numbers; has_special = have_special m.numbers; span = m.span; room = m.room; field = None } ∷ [] → IsMadeOf ks m → IsPlanOf ks (record { runs = runs; count = m.count; ended = m.ended })
 plan_of ks m runs are of some =
     let made = of.made in
     let run : PlannedRun = record { align = m.align; numbers = m.numbers; has_special = have_special m.numbers; span = m.span; room = m.room; field = None } in
     let numbers : TakesNumbers m.align made.now m.numbers m.span [] = subst (λ xs. TakesNumbers m.align xs m.numbers m.span []) (append-nil made.now) (made.last []) in
     let whole : AreRuns (made.full ++ made.now) (m.runs ++ run ∷ []) = made.whole made.now (run ∷ []) ([], numbers, made.room, made.bounded, refl, refl) in
-    (of.scopes, of.are, of.count, subst (AreRuns (all_slots [] of.scopes)) (sym are) (subst (λ xs. AreRuns xs (m.runs ++ run ∷ [])) (sym made.are) whole))
+    (of.scopes, of.are, of.count, of.ended, subst (AreRuns (all_slots [] of.scopes)) (sym are) (subst (λ xs. AreRuns xs (m.runs ++ run ∷ [])) (sym made.are) whole))
 
 -- the plan of what was made where the open run has no number
-pub plan_of_whole : (ks : List Class) (m : PlanBuilder) → m.numbers ≡ [] → IsMadeOf ks m → IsPlanOf ks (record { runs = m.runs; count = m.count })
+pub plan_of_whole : (ks : List Class) (m : PlanBuilder) → m.numbers ≡ [] → IsMadeOf ks m → IsPlanOf ks (record { runs = m.runs; count = m.count; ended = m.ended })
 plan_of_whole ks m none of some =
     let made = of.made in
     let left : TakesNumbers m.align (made.now ++ []) [] m.span [] = subst (λ ns. TakesNumbers m.align (made.now ++ []) ns m.span []) none (made.last []) in
     let nothing : made.now ≡ [] = sym (append-nil made.now) ∙ sym left.1.1 in
     let all : made.full ++ made.now ≡ all_slots [] of.scopes = sym made.are in
     let whole : AreRuns (made.full ++ made.now) (m.runs ++ []) = made.whole made.now [] nothing in
-    (of.scopes, of.are, of.count, subst (AreRuns (all_slots [] of.scopes)) (append-nil m.runs) (subst (λ xs. AreRuns xs (m.runs ++ [])) all whole))
+    (of.scopes, of.are, of.count, of.ended, subst (AreRuns (all_slots [] of.scopes)) (append-nil m.runs) (subst (λ xs. AreRuns xs (m.runs ++ [])) all whole))
 
 -- a scope more
 abbrev lead_of : List ℕ → List Scoped → List ℕ
 lead_of before [] = before
-lead_of before (s ∷ ss) = between
+lead_of before (s ∷ ss) = lead_of (before_next s.pieces) ss
 
-lead_between : (ss : List Scoped) → lead_of between ss ≡ between
-lead_between [] = refl
-lead_between (s ∷ ss) = refl
+before_some : (n ended : ℕ) → 0 < n → before_scope n ended ≡ ends ended ++ between
+before_some zero ended some = absurd (omega (arith, some))
+before_some (suc n) ended some = refl
 
-before_some : (n : ℕ) → 0 < n → before_scope n ≡ between
-before_some zero some = absurd (omega (arith, some))
-before_some (suc n) some = refl
+lead_ends : (n : ℕ) (ss : List Scoped) → lead_of (ends n ++ between) ss ≡ ends (ended_last n ss) ++ between
+lead_ends n [] = refl
+lead_ends n (s ∷ ss) = lead_ends (ended_after 0 s.pieces) ss
 
-lead_before : (ss : List Scoped) → lead_of [] ss ≡ before_scope (values_in ss)
+lead_before : (ss : List Scoped) → lead_of [] ss ≡ before_scope (values_in ss) (ended_last 0 ss)
 lead_before [] = refl
-lead_before (s ∷ ss) = sym (before_some (values_in (s ∷ ss)) (omega arith))
+lead_before (s ∷ ss) = lead_ends (ended_after 0 s.pieces) ss ∙ sym (before_some (values_in (s ∷ ss)) (ended_last 0 (s ∷ ss)) (omega arith))
 
 slots_more : (before : List ℕ) (ss : List Scoped) (s : Scoped) → all_slots before (ss ++ s ∷ []) ≡ all_slots before ss ++ slots (lead_of before ss) s
 slots_more before [] s = append-nil (slots before s)
 slots_more before (x ∷ ss) s =
-    ap (λ xs. slots before x ++ xs) (slots_more between ss s ∙ ap (λ l. all_slots between ss ++ slots l s) (lead_between ss)) ∙ sym (append_assoc (slots before x) (all_slots between ss) (slots between s))
+    let next = before_next x.pieces in
+    ap (λ xs. slots before x ++ xs) (slots_more next ss s) ∙ sym (append_assoc (slots before x) (all_slots next ss) (slots (lead_of next ss) s))
 
-values_more : (ss : List Scoped) (s : Scoped) → values_in (ss ++ s ∷ []) ≡ values_in ss + (1 + length s.members)
+values_more : (ss : List Scoped) (s : Scoped) → values_in (ss ++ s ∷ []) ≡ values_in ss + (1 + length (members_of s.pieces) + insides s.pieces)
 values_more [] s = omega arith
 values_more (x ∷ ss) s = let more = values_more ss s in omega (arith, more)
+
+ending_more : (n : ℕ) (ss : List Scoped) (s : Scoped) → ended_last n (ss ++ s ∷ []) ≡ ended_after 0 s.pieces
+ending_more n [] s = refl
+ending_more n (x ∷ ss) s = ending_more (ended_after 0 x.pieces) ss s
 
 scoped_more : (ks : List Class) (ss : List Scoped) (k : Class) (s : Scoped) → AreScoped ks ss → AreScoped (k ∷ []) (s ∷ []) → AreScoped (ks ++ k ∷ []) (ss ++ s ∷ [])
 scoped_more [] [] k s are one = one
 scoped_more [] (x ∷ ss) k s are one = absurd are
 scoped_more (j ∷ ks) [] k s are one = absurd are
-scoped_more (j ∷ ks) (x ∷ ss) k s are one = (are.0, are.1, are.2, scoped_more ks ss k s are.3 one)
+scoped_more (j ∷ ks) (x ∷ ss) k s are one = (are.0, are.1, are.2, are.3, scoped_more ks ss k s are.4 one)
 
--- the count has no part in the runs
-made_counted : (done : List Slot) (m n : PlanBuilder) → n ≡ record { runs = m.runs; align = m.align; numbers = m.numbers; span = m.span; room = m.room; count = n.count } → IsMade done m → IsMade done n
+-- counts have no part in the runs
+pub made_counted : (done : List Slot) (m n : PlanBuilder) → n ≡ record { runs = m.runs; align = m.align; numbers = m.numbers; span = m.span; room = m.room; count = n.count; ended = n.ended } → IsMade done m → IsMade done n
 made_counted done m n is made = subst (IsMade done) (sym is) (record { full = made.full; now = made.now; are = made.are; whole = made.whole; last = made.last; room = made.room; bounded = made.bounded })
 
--- one member more
-laters_more : (i : ℕ) (xs : List Member) (m : Member) → laters i (xs ++ m ∷ []) ≡ laters i xs ++ later (i + length xs) m ∷ []
-laters_more i [] m = (let none : i ≡ i + 0 = omega arith in ap (λ k. later k m ∷ []) none)
-laters_more i (x ∷ xs) m =
-    let further : suc i + length xs ≡ i + suc (length xs) = omega arith in
-    ap (λ ss. later i x ∷ ss) (laters_more (suc i) xs m ∙ ap (λ k. laters (suc i) xs ++ later k m ∷ []) further)
+-- the text where so many structures end
+pub ends_on : (n : ℕ) → ends n ++ (32 ∷ 125 ∷ []) ≡ 32 ∷ 125 ∷ ends n
+ends_on zero = refl
+ends_on (suc n) = ap (λ xs. 32 ∷ 125 ∷ xs) (ends_on n)
 
-pub laters_on : (ms : List Member) (i : ℕ) (m : Member) → i < length ms → m ≡ get_or ms i m → laters 1 (take (i + 1) ms) ≡ laters 1 (take i ms) ++ later (i + 1) m ∷ []
-laters_on ms i m within is =
-    let count : 1 + length (take i ms) ≡ i + 1 = (let c = length-take-le i ms (omega (arith, within)) in omega (arith, c)) in
-    ap (laters 1) (take_more ms i m within ∙ ap (λ x. take i ms ++ x ∷ []) (sym is)) ∙ laters_more 1 (take i ms) m ∙ ap (λ k. laters 1 (take i ms) ++ later k m ∷ []) count
+pub ends_more : (n : ℕ) → ends (n + 1) ≡ ends n ++ (32 ∷ 125 ∷ [])
+ends_more n = let one : n + 1 ≡ suc n = omega arith in ap ends one ∙ sym (ends_on n)
 
--- the first field of a scope, and then the later ones
-pub made_scope : (ks : List Class) (k : Class) (x : Member) (xs : List Member) (lead : List ℕ) (old first others new : PlanBuilder) → k.kind ≡ kind.Structure (x ∷ xs) → lead ≡ before_scope old.count ++ (123 ∷ 32 ∷ [])
-    → ((done : List Slot) → IsMade done old → IsMade (done ++ record { lead = lead; align = k.align; index = 0; member = x } ∷ []) first)
-    → ((done : List Slot) → IsMade done first → IsMade (done ++ laters 1 xs) others)
-    → new ≡ record { runs = others.runs; align = others.align; numbers = others.numbers; span = others.span; room = others.room; count = new.count } → new.count ≡ old.count + (length xs + 2) → IsMadeOf ks old → IsMadeOf (ks ++ k ∷ []) new
-made_scope ks k x xs lead old first others new is leads begin more same count of =
-    let s : Scoped = record { align = k.align; members = x ∷ xs } in
-    let done = all_slots [] of.scopes in
-    let before : before_scope old.count ≡ lead_of [] of.scopes = ap before_scope of.count ∙ sym (lead_before of.scopes) in
-    let head : Slot = record { lead = lead; align = k.align; index = 0; member = x } in
-    let first_is : head ≡ record { lead = lead_of [] of.scopes ++ (123 ∷ 32 ∷ []); align = k.align; index = 0; member = x } = ap (λ l. record { lead = l; align = k.align; index = 0; member = x }) (leads ∙ ap (λ l. l ++ (123 ∷ 32 ∷ [])) before) in
-    let slots_are : (done ++ head ∷ []) ++ laters 1 xs ≡ all_slots [] (of.scopes ++ s ∷ []) = append_assoc done (head ∷ []) (laters 1 xs) ∙ ap (λ h. done ++ (h ∷ laters 1 xs)) first_is ∙ sym (slots_more [] of.scopes s) in
+-- an index that is known, and one that is not
+pub index_zero : (n i : ℕ) → n ≡ 0 → known_index n i ≡ i
+index_zero n i none = ap (λ k. known_index k i) none
+
+pub index_some : (n i : ℕ) → 0 < n → known_index n i ≡ 0
+index_some zero i some = absurd (omega (arith, some))
+index_some (suc n) i some = refl
+
+-- one piece more after others
+abbrev pub and_piece : Pieces → Piece → Pieces
+and_piece no_pieces p = more_pieces p no_pieces
+and_piece (more_pieces q ps) p = more_pieces q (and_piece ps p)
+
+-- where a piece comes after so many others and after these
+abbrev pub after_pieces : ℕ → At → Pieces → At
+after_pieces i at no_pieces = at
+after_pieces i at (more_pieces p ps) = after_pieces (suc i) (later_at (ended_by p) (suc i)) ps
+
+members_and : (ps : Pieces) (p : Piece) → members_of (and_piece ps p) ≡ members_of ps ++ member_of p ∷ []
+members_and no_pieces p = refl
+members_and (more_pieces q ps) p = ap (λ ms. member_of q ∷ ms) (members_and ps p)
+
+insides_and : (ps : Pieces) (p : Piece) → insides (and_piece ps p) ≡ insides ps + inside p
+insides_and no_pieces p = omega arith
+insides_and (more_pieces q ps) p = let more = insides_and ps p in omega (arith, more)
+
+closing_and : (n : ℕ) (ps : Pieces) (p : Piece) → ended_after n (and_piece ps p) ≡ ended_by p
+closing_and n no_pieces p = refl
+closing_and n (more_pieces q ps) p = closing_and (ended_by q) ps p
+
+slots_and : (i : ℕ) (at : At) (ps : Pieces) (p : Piece) → pieces_slots i at (and_piece ps p) ≡ pieces_slots i at ps ++ piece_slots (after_pieces i at ps) p
+slots_and i at no_pieces p = append-nil (piece_slots at p)
+slots_and i at (more_pieces q ps) p =
+    let next = later_at (ended_by q) (suc i) in
+    ap (λ xs. piece_slots at q ++ xs) (slots_and (suc i) next ps p) ∙ sym (append_assoc (piece_slots at q) (pieces_slots (suc i) next ps) (piece_slots (after_pieces (suc i) next ps) p))
+
+after_and : (i : ℕ) (at : At) (ps : Pieces) (p : Piece) → after_pieces i at (and_piece ps p) ≡ later_at (ended_by p) (suc (i + length (members_of ps)))
+after_and i at no_pieces p = (let none : suc i ≡ suc (i + 0) = omega arith in ap (later_at (ended_by p)) none)
+after_and i at (more_pieces q ps) p =
+    let more : suc (suc i + length (members_of ps)) ≡ suc (i + suc (length (members_of ps))) = omega arith in
+    after_and (suc i) (later_at (ended_by q) (suc i)) ps p ∙ ap (later_at (ended_by p)) more
+
+are_and : (i : ℕ) (at : At) (ps : Pieces) (p : Piece) → ArePieces at.align ps → IsPiece (after_pieces i at ps).align p → ArePieces at.align (and_piece ps p)
+are_and i at no_pieces p are is = (is, tt)
+are_and i at (more_pieces q ps) p are is = (are.0, are_and (suc i) (later_at (ended_by q) (suc i)) ps p are.1 is)
+
+-- the members of a structure before an index were added as pieces, and the next one comes there
+abbrev pub AddedTo : At → List Member → ℕ → At → List Slot → PlanBuilder → PlanBuilder → Type 0
+AddedTo first ms i at done old new =
+    (ps : Pieces) × (members_of ps ≡ take i ms) × ArePieces first.align ps × (after_pieces 0 first ps ≡ at)
+    × (new.count ≡ old.count + insides ps) × (new.ended ≡ ended_after old.ended ps) × IsMade (done ++ pieces_slots 0 first ps) new
+
+pub added_none : (first : At) (ms : List Member) (done : List Slot) (old : PlanBuilder) → IsMade done old → AddedTo first ms 0 first done old old
+added_none first ms done old made = (no_pieces, refl, tt, refl, (let none : old.count ≡ old.count + 0 = omega arith in none), refl, subst (λ d. IsMade d old) (sym (append-nil done)) made)
+
+pub added_more : (first : At) (ms : List Member) (i : ℕ) (m : Member) (at : At) (done : List Slot) (old mid new : PlanBuilder) → i < length ms → m ≡ get_or ms i m → (added : AddedTo first ms i at done old mid)
+    → ((before : List Slot) → IsMade before mid → AddsPiece at m before mid new)
+    → AddedTo first ms (i + 1) (later_at new.ended (i + 1)) done old new
+added_more first ms i m at done old mid new within is added adds =
+    let ps = added.0 in
+    let one = adds (done ++ pieces_slots 0 first ps) added.6 in
+    let p = one.0 in
+    let so_far : length (members_of ps) ≡ i = ap length added.1 ∙ length-take-le i ms (omega (arith, within)) in
+    let place : suc (0 + length (members_of ps)) ≡ i + 1 = omega (arith, so_far) in
+    let members : members_of (and_piece ps p) ≡ take (i + 1) ms = members_and ps p ∙ (λ k. added.1 k ++ (one.1 ∙ is) k ∷ []) ∙ sym (take_more ms i m within) in
+    let insides_are = insides_and ps p in
+    let count : new.count ≡ old.count + insides (and_piece ps p) = (let a = one.3 in let b = added.4 in omega (arith, a, b, insides_are)) in
+    let slots_are : (done ++ pieces_slots 0 first ps) ++ piece_slots at p ≡ done ++ pieces_slots 0 first (and_piece ps p) =
+    ap (λ a. (done ++ pieces_slots 0 first ps) ++ piece_slots a p) (sym added.3) ∙ append_assoc done (pieces_slots 0 first ps) (piece_slots (after_pieces 0 first ps) p) ∙ ap (λ xs. done ++ xs) (sym (slots_and 0 first ps p))
+    in
+    (and_piece ps p, members, are_and 0 first ps p added.2 (subst (λ (a : At). IsPiece a.align p) (sym added.3) one.2), after_and 0 first ps p ∙ (λ j. later_at (sym one.4 j) (place j)), count, one.4 ∙ sym (closing_and old.ended ps p), subst (λ d. IsMade d new) slots_are one.5)
+
+pub added_all : (first : At) (ms : List Member) (i : ℕ) (at : At) (done : List Slot) (old new : PlanBuilder) → take i ms ≡ ms → AddedTo first ms i at done old new → AddsPieces first ms done old new
+added_all first ms i at done old new all added = (added.0, added.1 ∙ all, added.2, added.4, added.5, added.6)
+
+-- a member alone
+pub piece_alone : (lead : Lead) (m : Member) (done : List Slot) (old new : PlanBuilder) → new.count ≡ old.count → new.ended ≡ 0 → IsMade (done ++ slot_of lead m ∷ []) new → AddsPiece (at_of lead) m done old new
+piece_alone lead m done old new count ended made = (alone m, refl, tt, (let same : new.count ≡ old.count + 0 = omega (arith, count) in same), ended, made)
+
+-- a member that is gone into
+pub piece_inner : (at : At) (m : Member) (begin : ℕ) (ms : List Member) (done : List Slot) (old mid new : PlanBuilder) → m.class.kind ≡ kind.Structure ms → 0 < length ms → IsLarger begin at.align m.class.align
+    → AddsPieces (first_at (opened_lead at.lead m.name) begin) ms done old mid
+    → new ≡ record { runs = mid.runs; align = mid.align; numbers = mid.numbers; span = mid.span; room = mid.room; count = new.count; ended = new.ended } → new.count ≡ mid.count + length ms → new.ended ≡ mid.ended + 1
+    → AddsPiece at m done old new
+piece_inner at m begin ms done old mid new is some larger adds same count ended =
+    let ps = adds.0 in
+    let lengths : length (members_of ps) ≡ length ms = ap length adds.1 in
+    let counted : new.count ≡ old.count + (length (members_of ps) + insides ps) = (let a = adds.3 in omega (arith, a, count, lengths)) in
+    let no_other : ended_after old.ended ps ≡ ended_after 0 ps = some_close ps (omega (arith, lengths, some)) in
+    let closed : new.ended ≡ suc (ended_after 0 ps) = (let a = adds.4 in omega (arith, a, ended, no_other)) in
+    (inner m begin ps, refl, (is ∙ ap kind.Structure (sym adds.1), omega (arith, lengths, some), larger, adds.2), counted, closed, made_counted (done ++ piece_slots at (inner m begin ps)) mid new same adds.5)
+  where
+    some_close : (ps : Pieces) → 0 < length (members_of ps) → ended_after old.ended ps ≡ ended_after 0 ps
+    some_close no_pieces some = absurd (omega (arith, some))
+    some_close (more_pieces p ps) some = refl
+
+-- the members of a scope
+pub made_scope : (ks : List Class) (k : Class) (ms : List Member) (lead : List ℕ) (old mid new : PlanBuilder) → k.kind ≡ kind.Structure ms → 0 < length ms → lead ≡ before_scope old.count old.ended ++ (123 ∷ 32 ∷ [])
+    → ((done : List Slot) → IsMade done old → AddsPieces (first_at lead k.align) ms done old mid)
+    → new ≡ record { runs = mid.runs; align = mid.align; numbers = mid.numbers; span = mid.span; room = mid.room; count = new.count; ended = mid.ended } → new.count ≡ mid.count + (length ms + 1) → IsMadeOf ks old → IsMadeOf (ks ++ k ∷ []) new
+made_scope ks k ms lead old mid new is some leads adds same count of =
+    let all = adds (all_slots [] of.scopes) of.made in
+    let ps = all.0 in
+    let s : Scoped = record { align = k.align; pieces = ps } in
+    let before : before_scope old.count old.ended ≡ lead_of [] of.scopes = (λ j. before_scope (of.count j) (of.ended j)) ∙ sym (lead_before of.scopes) in
+    let first_is : first_at lead k.align ≡ first_at (lead_of [] of.scopes ++ (123 ∷ 32 ∷ [])) k.align = ap (λ l. first_at l k.align) (leads ∙ ap (λ l. l ++ (123 ∷ 32 ∷ [])) before) in
+    let slots_are : all_slots [] of.scopes ++ pieces_slots 0 (first_at lead k.align) ps ≡ all_slots [] (of.scopes ++ s ∷ []) = ap (λ a. all_slots [] of.scopes ++ pieces_slots 0 a ps) first_is ∙ sym (slots_more [] of.scopes s) in
     let values = values_more of.scopes s in
+    let lengths : length (members_of ps) ≡ length ms = ap length all.1 in
+    let mid_same : new ≡ record { runs = mid.runs; align = mid.align; numbers = mid.numbers; span = mid.span; room = mid.room; count = new.count; ended = new.ended } = same ∙ ap (λ e. record { runs = mid.runs; align = mid.align; numbers = mid.numbers; span = mid.span; room = mid.room; count = new.count; ended = e }) (sym (ap (λ (m : PlanBuilder). m.ended) same)) in
+    let ended : new.ended ≡ ended_after 0 ps = ap (λ (m : PlanBuilder). m.ended) same ∙ all.4 ∙ some_close ps (omega (arith, lengths, some)) in
     record {
       scopes = of.scopes ++ s ∷ [];
-      are = scoped_more ks of.scopes k s of.are (is, refl, omega arith, tt);
-      count = omega (arith, count, of.count, values);
-      made = subst (λ d. IsMade d new) slots_are (made_counted _ others new same (more _ (begin done of.made)));
+      are = scoped_more ks of.scopes k s of.are (is ∙ ap kind.Structure (sym all.1), refl, omega (arith, lengths, some), all.2, tt);
+      count = (let a = all.3 in let b = of.count in omega (arith, count, a, b, values, lengths));
+      ended = ended ∙ sym (ending_more 0 of.scopes s);
+      made = subst (λ d. IsMade d new) slots_are (made_counted _ mid new mid_same all.5);
     }
+  where
+    some_close : (ps : Pieces) → 0 < length (members_of ps) → ended_after old.ended ps ≡ ended_after 0 ps
+    some_close no_pieces some = absurd (omega (arith, some))
+    some_close (more_pieces p ps) some = refl
+
+-- members of which none is gone into, one more
+alones_and : (xs : List Member) (m : Member) → all_alone (xs ++ m ∷ []) ≡ and_piece (all_alone xs) (alone m)
+alones_and [] m = refl
+alones_and (x ∷ xs) m = ap (more_pieces (alone x)) (alones_and xs m)
+
+alones_length : (xs : List Member) → length (members_of (all_alone xs)) ≡ length xs
+alones_length [] = refl
+alones_length (x ∷ xs) = ap suc (alones_length xs)
+
+-- where the next of them comes
+pub alone_next : (at : At) (ms : List Member) (i : ℕ) (m : Member) → i < length ms → m ≡ get_or ms i m → after_pieces 0 at (all_alone (take (i + 1) ms)) ≡ later_at 0 (i + 1)
+alone_next at ms i m within is =
+    let so_far : length (members_of (all_alone (take i ms))) ≡ i = alones_length (take i ms) ∙ length-take-le i ms (omega (arith, within)) in
+    let place : suc (0 + length (members_of (all_alone (take i ms)))) ≡ i + 1 = omega (arith, so_far) in
+    ap (λ xs. after_pieces 0 at (all_alone xs)) (take_more ms i m within ∙ ap (λ x. take i ms ++ x ∷ []) (sym is)) ∙ ap (after_pieces 0 at) (alones_and (take i ms) m) ∙ after_and 0 at (all_alone (take i ms)) (alone m) ∙ ap (later_at 0) place
+
+pub alone_more : (at : At) (ms : List Member) (i : ℕ) (m : Member) (lead : List ℕ) (align index : ℕ) → i < length ms → m ≡ get_or ms i m → after_pieces 0 at (all_alone (take i ms)) ≡ record { lead = lead; align = align; index = index }
+    → pieces_slots 0 at (all_alone (take (i + 1) ms)) ≡ pieces_slots 0 at (all_alone (take i ms)) ++ record { lead = lead ++ field_text m.name; align = align; index = index; class = m.class } ∷ []
+alone_more at ms i m lead align index within is comes =
+    let before = all_alone (take i ms) in
+    ap (λ xs. pieces_slots 0 at (all_alone xs)) (take_more ms i m within ∙ ap (λ x. take i ms ++ x ∷ []) (sym is)) ∙ ap (pieces_slots 0 at) (alones_and (take i ms) m) ∙ slots_and 0 at before (alone m) ∙ ap (λ a. pieces_slots 0 at before ++ piece_slots a (alone m)) comes
 
 -- the scopes of a record, one after the other
 pub scopes_are : (shared own : Option Class) (fields : Class) → ((and_scope shared []) ++ and_scope own []) ++ fields ∷ [] ≡ scopes_of shared own fields
@@ -194,8 +330,7 @@ scopes_are (Some s) None fields = refl
 scopes_are (Some s) (Some o) fields = refl
 
 -- an array of elements of such a class, of this length
-pub are_many : (Is : Class → Type 0) (index : ℕ) (m : Member) (length : Length) (k : Class) (several : Many) → m.class.kind ≡ kind.Array length k → IsLength index length several → Is k → AreMany Is index m several
-are_many Is index m length k many.One is long one = absurd long
+pub are_many : (Is : Class → Type 0) (index : ℕ) (m : Class) (length : Length) (k : Class) (several : Many) → m.kind ≡ kind.Array length k → IsLength index length several → Is k → AreMany Is index m several
 are_many Is index m length k (many.Fixed count) is long one = (k, is ∙ ap (λ l. kind.Array l k) long, one)
 are_many Is index m length k many.Counted is long one = (long.0, k, is ∙ ap (λ l. kind.Array l k) long.1, long.2, one)
 
@@ -205,22 +340,10 @@ room_plain [] = refl
 room_plain (n ∷ ns) = ap (λ r. length n.ready + 66 + r) (room_plain ns)
 
 -- the numbers of one structure alone
-abbrev pub NumbersOf : Class → PlanBuilder → Type 0
-NumbersOf k m =
-    (ms : List Member) × (k.kind ≡ kind.Structure ms) × (0 < length ms) × (m.count ≡ 1 + length ms) × TakesNumbers m.align (slots_of [] k.align ms) m.numbers m.span []
-
-numbers_alone : (k : Class) (m : PlanBuilder) (ss : List Scoped) → AreScoped (k ∷ []) ss → m.count ≡ values_in ss → IsMade (all_slots [] ss) m → m.runs ≡ [] → NumbersOf k m
-numbers_alone k m [] are count made none = absurd are
-numbers_alone k m (s ∷ (t ∷ ss)) are count made none = absurd are.3
-numbers_alone k m (s ∷ []) are count made none =
+pub structure_made : (k : Class) (ms : List Member) (m : PlanBuilder) (values : ℕ) (several : Many) → k.kind ≡ kind.Structure ms → 0 < length ms → values ≡ 1 + length ms → m.runs ≡ [] → m.align ≡ k.align → IsMade (member_slots k.align ms) m
+    → IsStructure k (record { align = m.align; numbers = m.numbers; has_special = have_special m.numbers; span = m.span; room = m.room; count = values; many = several })
+structure_made k ms m values several is some count none begins made =
     let full : made.full ≡ [] = sym (append-nil made.full) ∙ subst (λ rs. AreRuns (made.full ++ []) (rs ++ [])) none (made.whole [] [] refl) in
-    let fields = slots_of [] s.align s.members in
-    let now : made.now ≡ slots_of [] k.align s.members = sym (made.are ∙ ap (λ f. f ++ made.now) full) ∙ append-nil fields ∙ ap (λ a. slots_of [] a s.members) (sym are.1) in
+    let now : made.now ≡ member_slots k.align ms = sym (made.are ∙ ap (λ f. f ++ made.now) full) in
     let takes : TakesNumbers m.align made.now m.numbers m.span [] = subst (λ xs. TakesNumbers m.align xs m.numbers m.span []) (append-nil made.now) (made.last []) in
-    (s.members, are.0, are.2, omega (arith, count), subst (λ xs. TakesNumbers m.align xs m.numbers m.span []) now takes)
-
-pub structure_made : (k : Class) (m : PlanBuilder) (several : Many) → m.runs ≡ [] → m.align ≡ k.align → IsMadeOf (k ∷ []) m
-    → IsStructure k (record { align = m.align; numbers = m.numbers; has_special = have_special m.numbers; span = m.span; room = m.room; count = m.count; many = several })
-structure_made k m several none begins of =
-    let are = numbers_alone k m of.scopes of.are of.count of.made none in
-    record { members = are.0; is = are.1; begins = begins; some = are.2; count = are.3; numbers = are.4; room = of.made.room ∙ room_plain m.numbers; bounded = of.made.bounded; special = refl }
+    record { members = ms; is = is; begins = begins; some = some; count = count; numbers = subst (λ xs. TakesNumbers m.align xs m.numbers m.span []) now takes; room = made.room ∙ room_plain m.numbers; bounded = made.bounded; special = refl }

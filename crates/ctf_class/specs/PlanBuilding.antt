@@ -1,20 +1,25 @@
 -- Plans of event records while they are built (all own).
 use Rattle.std.specs.Prelude.{◌≡◌, ℕ, zero, suc, ◌+◌, ◌^◌, ◌≤◌, List, [], ◌∷◌, ◌++◌, length, Some, None}
+use Rattle.ctf_class.specs.Names.{field_text}
 use Rattle.ctf_class.specs.declared.class.Class.{Class}
+use Rattle.ctf_class.specs.declared.class.Member.{Member}
 use Rattle.ctf_class.specs.declared.record_plan.PlannedField.{PlannedField}
-use Rattle.ctf_class.specs.declared.record_plan.PlanBuilder.{PlanBuilder}
-use Rattle.ctf_class.specs.declared.record_plan.ScopeMember.{ScopeMember}
+use Rattle.ctf_class.specs.declared.plan_builder.PlanBuilder.{PlanBuilder}
+use Rattle.ctf_class.specs.declared.plan_builder.Lead.{Lead}
 use Rattle.ctf_class.specs.declared.record_plan.PlannedRun.{PlannedRun}
 use Rattle.ctf_class.specs.declared.planned_number.PlannedNumber.{PlannedNumber}
-use Rattle.ctf_class.specs.Records.{Slot, Scoped, between, all_slots, values_in, AreScoped, TakesNumbers, AreRuns, have_special, room_of}
+use Rattle.ctf_class.specs.Records.{Slot, At, Piece, Pieces, Scoped, IsPiece, ArePieces, member_of, members_of, inside, insides, ended_by, ended_after, ends, ended_last, piece_slots, pieces_slots, between, all_slots, values_in, AreScoped, TakesNumbers, AreRuns, have_special, room_of}
 
--- the field of a member of a scope
-abbrev pub slot_of : ScopeMember → Slot
-slot_of next = record {
-  lead = next.lead.now;
-  align = next.align;
-  index = next.index;
-  member = next.member.now;
+-- where a member with so much before it comes, and the field that it is alone
+abbrev pub at_of : Lead → At
+at_of lead = record { lead = lead.text.now; align = lead.align; index = lead.index }
+
+abbrev pub slot_of : Lead → Member → Slot
+slot_of lead m = record {
+  lead = lead.text.now ++ field_text m.name;
+  align = lead.align;
+  index = lead.index;
+  class = m.class;
 }
 
 -- fields are these runs, whatever runs are after them
@@ -43,12 +48,26 @@ pub record IsMadeOf (ks : List Class) (m : PlanBuilder) : Type 0 where
   pub scopes : List Scoped
   pub are : AreScoped ks scopes
   pub count : m.count ≡ values_in scopes
+  pub ended : m.ended ≡ ended_last 0 scopes
   pub made : IsMade (all_slots [] scopes) m
 
--- what is before the brace of a scope after so many values
-abbrev pub before_scope : ℕ → List ℕ
-before_scope zero = []
-before_scope (suc n) = between
+-- a member was added as a piece after some fields
+abbrev pub AddsPiece : At → Member → List Slot → PlanBuilder → PlanBuilder → Type 0
+AddsPiece at m done old new =
+    (p : Piece) × (member_of p ≡ m) × IsPiece at.align p × (new.count ≡ old.count + inside p)
+    × (new.ended ≡ ended_by p) × IsMade (done ++ piece_slots at p) new
+
+-- so were the members of a structure, the first of them there
+abbrev pub AddsPieces : At → List Member → List Slot → PlanBuilder → PlanBuilder → Type 0
+AddsPieces at ms done old new =
+    (ps : Pieces) × (members_of ps ≡ ms) × ArePieces at.align ps
+    × (new.count ≡ old.count + insides ps) × (new.ended ≡ ended_after old.ended ps)
+    × IsMade (done ++ pieces_slots 0 at ps) new
+
+-- what is before the brace of a scope after so many values, where so many structures in the scope before end with it
+abbrev pub before_scope : ℕ → ℕ → List ℕ
+before_scope zero ended = []
+before_scope (suc n) ended = ends ended ++ between
 
 -- with one number more in the open run, which is of this alignment then
 abbrev pub with_number : PlanBuilder → ℕ → PlannedNumber → PlanBuilder
@@ -59,6 +78,7 @@ with_number m align n = record {
   span = n.window.place + n.window.size;
   room = m.room + (length n.ready + 66);
   count = m.count;
+  ended = 0;
 }
 
 -- with a field after the open run, which is whole then
@@ -77,4 +97,5 @@ with_field m f = record {
   span = 0;
   room = 24;
   count = m.count;
+  ended = 0;
 }

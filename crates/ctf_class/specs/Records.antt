@@ -1,6 +1,6 @@
 -- Event records whose integers are at fixed distances (all own). Bytes are written as numbers: 32 is a space, 44 a
 -- comma, 123 and 125 are `{` and `}`.
-use Rattle.std.specs.Prelude.{◌≡◌, ℕ, suc, ◌+◌, ◌%◌, ◌<◌, ◌≤◌, ◌^◌, List, [], ◌∷◌, ◌++◌, length, max, Bool, false, Option, Some, None, ⊤}
+use Rattle.std.specs.Prelude.{◌≡◌, ℕ, zero, suc, ◌+◌, ◌%◌, ◌<◌, ◌≤◌, ◌^◌, List, [], ◌∷◌, ◌++◌, length, max, Bool, false, Option, Some, None, ⊤}
 use Rattle.std.specs.Int.{next_multiple_of}
 use Rattle.std.specs.List.{list_any}
 use Rattle.ctf_class.specs.Alignment.{IsLarger}
@@ -14,8 +14,8 @@ use Rattle.ctf_class.specs.declared.many.Many.{Many}
 use Rattle.ctf_class.specs.declared.many.Many.TheVariants as many
 use Rattle.ctf_class.specs.declared.record_plan.RecordPlan.{RecordPlan}
 use Rattle.ctf_class.specs.declared.record_plan.PlannedRun.{PlannedRun}
-use Rattle.ctf_class.specs.declared.record_plan.Shown.{Shown}
-use Rattle.ctf_class.specs.declared.record_plan.Shown.TheVariants as shown
+use Rattle.ctf_class.specs.declared.shown.Shown.{Shown}
+use Rattle.ctf_class.specs.declared.shown.Shown.TheVariants as shown
 use Rattle.ctf_class.specs.declared.integer.Integer.{Integer}
 use Rattle.ctf_class.specs.declared.route.Length.{Length}
 use Rattle.ctf_class.specs.declared.route.Length.TheVariants as lengths
@@ -24,50 +24,154 @@ use Rattle.ctf_class.specs.declared.route.Route.{Route}
 use Rattle.ctf_class.specs.declared.planned_number.PlannedNumber.{PlannedNumber}
 use Rattle.ctf_class.specs.declared.structures.Structures.{Structures}
 
--- a field: what is printed between the value before it and its name, the alignment of the structure that it begins, or
--- 1, how many members of its structure are before it, and the member that it is of
+-- A field: what is printed between the value before it and its own, the alignment of the structures that it begins, or
+-- 1, how many members of its structure are before it, or 0 where the one before it is a structure that is gone into, and
+-- its class.
 pub record Slot : Type 0 where
   pub lead : List ℕ
   pub align : ℕ
   pub index : ℕ
-  pub member : Member
+  pub class : Class
 
--- a structure's alignment and its members
+-- Members of a structure as a plan takes them: each is a field alone, or a structure that is gone into, whose first
+-- member begins at an alignment.
+mutual
+  pub data Piece : Type 0 where
+    alone : Member → Piece
+    inner : Member → ℕ → Pieces → Piece
+
+  -- pieces, one after the other
+  pub data Pieces : Type 0 where
+    no_pieces : Pieces
+    more_pieces : Piece → Pieces → Pieces
+
+abbrev pub member_of : Piece → Member
+member_of (alone m) = m
+member_of (inner m align ps) = m
+
+abbrev pub members_of : Pieces → List Member
+members_of no_pieces = []
+members_of (more_pieces p ps) = member_of p ∷ members_of ps
+
+-- A structure that is gone into has members. The first of them begins at the larger one of its alignment and of that of
+-- the structures that it begins, which is given.
+abbrev mutual
+  pub IsPiece : ℕ → Piece → Type 0
+  IsPiece align (alone m) = ⊤
+  IsPiece align (inner m begin ps) =
+      (m.class.kind ≡ kind.Structure (members_of ps)) × (0 < length (members_of ps))
+      × IsLarger begin align m.class.align × ArePieces begin ps
+
+  pub ArePieces : ℕ → Pieces → Type 0
+  ArePieces align no_pieces = ⊤
+  ArePieces align (more_pieces p ps) = IsPiece align p × ArePieces 1 ps
+
+-- how many values the structures that are gone into have, without themselves
+abbrev mutual
+  pub inside : Piece → ℕ
+  inside (alone m) = 0
+  inside (inner m begin ps) = length (members_of ps) + insides ps
+
+  pub insides : Pieces → ℕ
+  insides no_pieces = 0
+  insides (more_pieces p ps) = inside p + insides ps
+
+-- how many structures end where a piece does; and where the last of some does, or so many if there are none
+abbrev mutual
+  pub ended_by : Piece → ℕ
+  ended_by (alone m) = 0
+  ended_by (inner m begin ps) = suc (ended_after 0 ps)
+
+  pub ended_after : ℕ → Pieces → ℕ
+  ended_after n no_pieces = n
+  ended_after n (more_pieces p ps) = ended_after (ended_by p) ps
+
+-- what is printed where so many structures end
+abbrev pub ends : ℕ → List ℕ
+ends zero = []
+ends (suc n) = 32 ∷ 125 ∷ ends n
+
+-- what is before a member: the text before its name, the alignment of the structures that it begins, and how many
+-- members are known before it
+pub record At : Type 0 where
+  pub lead : List ℕ
+  pub align : ℕ
+  pub index : ℕ
+
+-- the first member of a structure, after a text and at an alignment
+abbrev pub first_at : List ℕ → ℕ → At
+first_at lead align = record { lead = lead; align = align; index = 0 }
+
+-- so many members, or 0 where the last is a structure that is gone into
+abbrev pub known_index : ℕ → ℕ → ℕ
+known_index zero i = i
+known_index (suc n) i = 0
+
+-- a member after so many others, after which so many structures end
+abbrev pub later_at : ℕ → ℕ → At
+later_at n i = record { lead = ends n ++ (44 ∷ 32 ∷ []); align = 1; index = known_index n i }
+
+-- what is printed before the name of the first member of a structure of this name, which is a member after a text
+abbrev pub opened_lead : List ℕ → List ℕ → List ℕ
+opened_lead lead name = lead ++ (field_text name ++ (123 ∷ 32 ∷ []))
+
+-- the fields of a piece, and of pieces after so many others
+abbrev mutual
+  pub piece_slots : At → Piece → List Slot
+  piece_slots at (alone m) =
+      record {
+        lead = at.lead ++ field_text m.name;
+        align = at.align;
+        index = at.index;
+        class = m.class;
+      } ∷ []
+  piece_slots at (inner m begin ps) = pieces_slots 0 (first_at (opened_lead at.lead m.name) begin) ps
+
+  pub pieces_slots : ℕ → At → Pieces → List Slot
+  pieces_slots i at no_pieces = []
+  pieces_slots i at (more_pieces p ps) =
+      piece_slots at p ++ pieces_slots (suc i) (later_at (ended_by p) (suc i)) ps
+
+-- members of which none is gone into
+abbrev pub all_alone : List Member → Pieces
+all_alone [] = no_pieces
+all_alone (m ∷ ms) = more_pieces (alone m) (all_alone ms)
+
+-- the fields of a structure of which no member is gone into
+abbrev pub member_slots : ℕ → List Member → List Slot
+member_slots align ms = pieces_slots 0 (first_at (123 ∷ 32 ∷ []) align) (all_alone ms)
+
+-- a structure's alignment, and its members as a plan takes them
 pub record Scoped : Type 0 where
   pub align : ℕ
-  pub members : List Member
-
--- a member after so many others
-abbrev pub later : ℕ → Member → Slot
-later i m = record { lead = 44 ∷ 32 ∷ []; align = 1; index = i; member = m }
-
--- members one after the other, the first of them after so many others
-abbrev pub laters : ℕ → List Member → List Slot
-laters i [] = []
-laters i (m ∷ ms) = later i m ∷ laters (suc i) ms
+  pub pieces : Pieces
 
 -- the fields of a structure, of which the first is after a text and a brace
-abbrev pub slots_of : List ℕ → ℕ → List Member → List Slot
-slots_of before align [] = []
-slots_of before align (m ∷ ms) =
-    record { lead = before ++ (123 ∷ 32 ∷ []); align = align; index = 0; member = m } ∷ laters 1 ms
-
 abbrev pub slots : List ℕ → Scoped → List Slot
-slots before s = slots_of before s.align s.members
+slots before s = pieces_slots 0 (first_at (before ++ (123 ∷ 32 ∷ [])) s.align) s.pieces
 
 -- what is between two structures
 abbrev pub between : List ℕ
 between = 32 ∷ 125 ∷ 44 ∷ 32 ∷ []
 
+-- what is between a structure of these pieces and the next
+abbrev pub before_next : Pieces → List ℕ
+before_next ps = ends (ended_after 0 ps) ++ between
+
 -- the fields of structures one after the other
 abbrev pub all_slots : List ℕ → List Scoped → List Slot
 all_slots before [] = []
-all_slots before (s ∷ ss) = slots before s ++ all_slots between ss
+all_slots before (s ∷ ss) = slots before s ++ all_slots (before_next s.pieces) ss
 
--- how many values structures have, themselves and their members
+-- how many structures end within the last of some scopes where that ends, or so many if there are none
+abbrev pub ended_last : ℕ → List Scoped → ℕ
+ended_last n [] = n
+ended_last n (s ∷ ss) = ended_last (ended_after 0 s.pieces) ss
+
+-- how many values structures are, with all in them but what is in arrays
 abbrev pub values_in : List Scoped → ℕ
 values_in [] = 0
-values_in (s ∷ ss) = 1 + length s.members + values_in ss
+values_in (s ∷ ss) = 1 + length (members_of s.pieces) + insides s.pieces + values_in ss
 
 -- classes are these structures, which have members
 abbrev pub AreScoped : List Class → List Scoped → Type 0
@@ -75,8 +179,8 @@ AreScoped [] [] = ⊤
 AreScoped [] (s ∷ ss) = ⊥
 AreScoped (k ∷ ks) [] = ⊥
 AreScoped (k ∷ ks) (s ∷ ss) =
-    (k.kind ≡ kind.Structure s.members) × (k.align ≡ s.align) × (0 < length s.members)
-    × AreScoped ks ss
+    (k.kind ≡ kind.Structure (members_of s.pieces)) × (k.align ≡ s.align)
+    × (0 < length (members_of s.pieces)) × ArePieces s.align s.pieces × AreScoped ks ss
 
 -- the scopes of an event record after its header that have a class
 abbrev pub and_scope : Option Class → List Class → List Class
@@ -90,16 +194,16 @@ scopes_of shared own fields = and_scope shared (and_scope own (fields ∷ []))
 -- bits after that. As its alignments divide `base`, its distance from the run's begin does not depend on where that is.
 -- The window has this distance; a number that is not special is usual.
 pub record IsNumber (base from : ℕ) (s : Slot) (n : PlannedNumber) : Type 0 where
-  pub is : s.member.class.kind ≡ kind.Integer n.integer
+  pub is : s.class.kind ≡ kind.Integer n.integer
   pub special : n.is_special ≡ false → IsUsual n.integer
   pub begins : base % s.align ≡ 0
-  pub divides : base % s.member.class.align ≡ 0
+  pub divides : base % s.class.align ≡ 0
   pub window : n.window ≡ record {
-    place = next_multiple_of (next_multiple_of from s.align) s.member.class.align;
+    place = next_multiple_of (next_multiple_of from s.align) s.class.align;
     size = max 1 n.integer.size;
     is_signed = n.integer.is_signed;
   }
-  pub ready : n.ready ≡ s.lead ++ field_text s.member.name
+  pub ready : n.ready ≡ s.lead
 
 -- so are the first of these fields, one after the other, as far as a distance, and these are left
 abbrev pub AreInRun : ℕ → ℕ → List Slot → List PlannedNumber → ℕ → List Slot → Type 0
@@ -112,7 +216,7 @@ AreInRun base from (s ∷ ss) (n ∷ ns) span rest =
 abbrev pub BeginsRun : ℕ → List Slot → List PlannedNumber → Type 0
 BeginsRun align ss [] = align ≡ 1
 BeginsRun align [] (n ∷ ns) = ⊥
-BeginsRun align (s ∷ ss) (n ∷ ns) = IsLarger align s.align s.member.class.align
+BeginsRun align (s ∷ ss) (n ∷ ns) = IsLarger align s.align s.class.align
 
 -- The numbers of a run that begins at this alignment, and at a byte, are the first of these fields, one after the
 -- other, as far as a distance, and these are left.
@@ -138,27 +242,25 @@ numbers_room (n ∷ ns) = length n.ready + 66 + numbers_room ns
 
 -- an array of this length, as a member after so many others, has so many elements
 abbrev pub IsLength : ℕ → Length → Many → Type 0
-IsLength index length many.One = ⊥
 IsLength index length (many.Fixed count) = length ≡ lengths.Fixed count
 IsLength index length many.Counted =
     (route : Route) × (length ≡ lengths.Field route) × LeadsBefore route index
 
--- a member after so many others is of such a class, or an array of elements of such a class
-abbrev pub AreMany : (Class → Type 0) → ℕ → Member → Many → Type 0
-AreMany Is index m many.One = Is m.class
-AreMany Is index m (many.Fixed count) =
-    (k : Class) × (m.class.kind ≡ kind.Array (lengths.Fixed count) k) × Is k
-AreMany Is index m many.Counted =
-    (route : Route) × (k : Class) × (m.class.kind ≡ kind.Array (lengths.Field route) k)
+-- the class of a member after so many others is an array of elements of such a class
+abbrev pub AreMany : (Class → Type 0) → ℕ → Class → Many → Type 0
+AreMany Is index c (many.Fixed count) =
+    (k : Class) × (c.kind ≡ kind.Array (lengths.Fixed count) k) × Is k
+AreMany Is index c many.Counted =
+    (route : Route) × (k : Class) × (c.kind ≡ kind.Array (lengths.Field route) k)
     × LeadsBefore route index × Is k
 
 -- a class is this integer of this alignment
 abbrev pub IsInteger : Class → Integer → ℕ → Type 0
 IsInteger k integer align = (k.kind ≡ kind.Integer integer) × (align ≡ k.align)
 
--- a member after so many others is one integer, or an array of integers
-abbrev pub AreIntegers : ℕ → Member → Integer → ℕ → Many → Type 0
-AreIntegers index m integer align many = AreMany (λ k. IsInteger k integer align) index m many
+-- the class of a member after so many others is an array of integers
+abbrev pub AreIntegers : ℕ → Class → Integer → ℕ → Many → Type 0
+AreIntegers index c integer align many = AreMany (λ k. IsInteger k integer align) index c many
 
 -- A class is a structure whose fields are these numbers, one after the other. So many values are one, and its text
 -- takes so many bytes at the most.
@@ -168,27 +270,29 @@ pub record IsStructure (k : Class) (s : Structures) : Type 0 where
   pub begins : s.align ≡ k.align
   pub some : 0 < length members
   pub count : s.count ≡ 1 + length members
-  pub numbers : TakesNumbers s.align (slots_of [] k.align members) s.numbers s.span []
+  pub numbers : TakesNumbers s.align (member_slots k.align members) s.numbers s.span []
   pub room : s.room ≡ numbers_room s.numbers
   pub bounded : s.span ≤ 2 ^ 33
   pub special : s.has_special ≡ have_special s.numbers
 
--- what a member after so many others is shown as
-abbrev pub IsShown : ℕ → Member → Shown → Type 0
-IsShown index m shown.String = m.class.kind ≡ kind.String
-IsShown index m (shown.Text count) = m.class.kind ≡ kind.Text (lengths.Fixed count)
-IsShown index m shown.CountedText =
-    (route : Route) × (m.class.kind ≡ kind.Text (lengths.Field route)) × LeadsBefore route index
-IsShown index m (shown.Integers are) = AreIntegers index m are.integer are.align are.many
-IsShown index m (shown.Structures are) = AreMany (λ k. IsStructure k are) index m are.many
-IsShown index m (shown.Labelled is) =
-    (m.class.kind ≡ kind.Enumeration is.container is.labels) × (is.align ≡ m.class.align)
+-- what a member of a class after so many others is shown as
+abbrev pub IsShown : ℕ → Class → Shown → Type 0
+IsShown index c shown.String = c.kind ≡ kind.String
+IsShown index c (shown.Text count) = c.kind ≡ kind.Text (lengths.Fixed count)
+IsShown index c shown.CountedText =
+    (route : Route) × (c.kind ≡ kind.Text (lengths.Field route)) × LeadsBefore route index
+IsShown index c (shown.Empty align) = (c.kind ≡ kind.Structure []) × (align ≡ c.align)
+IsShown index c (shown.Integer lone) = IsInteger c lone.integer lone.align
+IsShown index c (shown.Integers are) = AreIntegers index c are.integer are.align are.many
+IsShown index c (shown.Structures are) = AreMany (λ k. IsStructure k are) index c are.many
+IsShown index c (shown.Labelled is) =
+    (c.kind ≡ kind.Enumeration is.container is.labels) × (is.align ≡ c.align)
 
 -- a field is shown so
 pub record IsField (s : Slot) (f : PlannedField) : Type 0 where
   pub align : f.align ≡ s.align
-  pub ready : f.ready ≡ s.lead ++ field_text s.member.name
-  pub shown : IsShown s.index s.member f.shown
+  pub ready : f.ready ≡ s.lead
+  pub shown : IsShown s.index s.class f.shown
 
 -- the first of these fields is this one, if one is given, and this holds of the others
 abbrev pub After : List Slot → Option PlannedField → (List Slot → Type 0) → Type 0
@@ -214,5 +318,5 @@ AreRuns ss (r ∷ rs) =
 abbrev pub IsPlanOf : List Class → RecordPlan → Type 0
 IsPlanOf ks p =
     0 < length p.runs
-    → (ss : List Scoped) × AreScoped ks ss × (p.count ≡ values_in ss)
+    → (ss : List Scoped) × AreScoped ks ss × (p.count ≡ values_in ss) × (p.ended ≡ ended_last 0 ss)
     × AreRuns (all_slots [] ss) p.runs

@@ -64,6 +64,13 @@ impl FieldName {
         self.printed.get().name.as_slice()
     }
 
+    /// The name as it is printed.
+    pub(crate) fn visible(&self) -> &[u8]
+        ensures { result.now ≡ shown_name self.now }
+    {
+        visible_part(self.as_slice())
+    }
+
     /// What is printed before the value: the name without its leading `_`, and ` = `.
     pub fn ready(&self) -> &PreparedText
         ensures { result.now ≡ field_text self.now }

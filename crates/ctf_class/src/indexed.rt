@@ -4,10 +4,9 @@ ghost use Rattle.std.specs.Prelude.{◌≡◌, ℕ, length, map, IsTrue, IfOk, I
 ghost use Rattle.std.specs.List.{range_with_len};
 ghost use Rattle.ctf_class.specs.Items.{first_of_id, only_item};
 
-use crate::sorted::sorted_places;
+use crate::sorted::SortedPlaces;
 use ctf_list::{List, NoMemory};
 use std::alloc::Global;
-use std::collections::BTreeMap;
 use std::marker::Model;
 
 /// What has a number by which it is looked up.
@@ -24,8 +23,7 @@ pub trait HasId {
 enum Places {
     /// The items have the numbers 0, 1, 2 and so on.
     Counted,
-    /// The place of the first item of each number.
-    Sorted(BTreeMap<u64, usize>),
+    Sorted(SortedPlaces),
 }
 
 /// Items in an order of their own, each found by its number without a walk. Contracts see the list of
@@ -108,7 +106,7 @@ impl Places {
         if are_counted(items) {
             return Ok(Places::Counted);
         }
-        Ok(Places::Sorted(sorted_places(alloc, items)?))
+        Ok(Places::Sorted(SortedPlaces::of(alloc, items)?))
     }
 
     /// The place that is kept for a number, among so many items.
@@ -124,7 +122,7 @@ impl Places {
                     None
                 }
             }
-            Places::Sorted(places) => places.get(&id).copied(),
+            Places::Sorted(places) => places.at(id),
         }
     }
 }

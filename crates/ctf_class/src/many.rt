@@ -1,18 +1,16 @@
-//! How many of a kind a field is.
+//! How many elements a field has.
 
 ghost use Rattle.std.specs.Prelude.{IfSome};
 ghost use Rattle.ctf_class.specs.Records.{IsLength};
 
 use crate::route::Length;
 
-/// How many there are in a field.
+/// How many elements an array has.
 #[derive(Clone, Copy)]
 pub enum Many {
-    /// One alone.
-    One,
-    /// An array of so many (CTF 1.8.3, section 4.2.3).
+    /// So many (CTF 1.8.3, section 4.2.3).
     Fixed(u64),
-    /// An array of as many as the field before says (CTF 1.8.3, section 4.2.4).
+    /// As many as the field before says (CTF 1.8.3, section 4.2.4).
     Counted,
 }
 

@@ -1,19 +1,20 @@
 //! Structures whose members are integers at fixed distances.
 
-ghost use Rattle.std.specs.Prelude.{◌≡◌, ◌^◌, ◌++◌, ◌≤◌, List, [], ◌∷◌, IsTrue, IfOk, IfSome};
-ghost use Rattle.ctf_class.specs.PlanBuilding.{IsMade, IsMadeOf};
-ghost use Rattle.ctf_class.specs.Records.{Slot, IsStructure, laters};
+ghost use Rattle.std.specs.Prelude.{◌≡◌, ◌+◌, ◌^◌, ◌++◌, ◌<◌, ◌≤◌, List, [], length, IsTrue, IfOk, IfSome};
+ghost use Rattle.ctf_class.specs.PlanBuilding.{IsMade};
+ghost use Rattle.ctf_class.specs.Records.{Slot, IsStructure, member_slots};
+ghost use Rattle.ctf_class.specs.declared.class.Kind as kinds;
 
 use crate::align::{Align, one_bit};
 use crate::class::{Class, Kind, Member};
 use crate::many::Many;
+use crate::plan_builder::{Lead, PlanBuilder};
 use crate::planned_number::{PlannedNumber, have_special};
-use crate::record_plan::{PlanBuilder, ScopeMember};
 use ctf_list::{List, NoMemory};
 use std::alloc::Global;
 
-/// A structure of integers that are at fixed distances from its begin, which is the first bit of a byte, or an array of
-/// such structures (CTF 1.8.3, section 4.2.1).
+/// An array of structures of integers that are at fixed distances from a structure's begin, which is the first bit of a
+/// byte (CTF 1.8.3, section 4.2.1).
 #[derive(Drop)]
 pub struct Structures {
     /// The alignment at which the numbers begin.
@@ -43,59 +44,60 @@ impl Structures {
         let Kind::Structure { members } = &class.kind else {
             return Ok(None);
         };
-        let Some((first, others)) = members.as_slice().split_first() else {
-            return Ok(None);
-        };
-        if class.align.bits() < 8 {
+        let members = members.as_slice();
+        if members.is_empty() || class.align.bits() < 8 {
             return Ok(None);
         }
-        let first = ScopeMember {
-            lead: b"{ ",
-            align: class.align,
-            index: 0,
-            member: first,
-        };
         let mut builder = PlanBuilder::new(alloc);
-        if !builder.add_integer(alloc, &first)? || !builder.add_integers(alloc, others)? {
+        if !builder.add_integers(alloc, class.align, members)? {
             return Ok(None);
         }
         // An array without elements ends where the structure would begin, and not its first number.
         if builder.align.bits() != class.align.bits() {
             return Ok(None);
         }
-        builder.count = others.len() as u64 + 2;
-        Ok(Some(builder.into_structures(many)))
+        let count = members.len() as u64 + 1;
+        Ok(Some(builder.into_structures(count, many)))
     }
 }
 
 impl PlanBuilder {
-    /// Adds the members of a structure after its first as numbers of the open run. Whether all can be.
-    fn add_integers(&mut self, alloc: Global, members: &[Member]) -> Result<bool, NoMemory>
+    /// Adds the members of a structure as numbers of the open run, the first at an alignment. Whether all can be.
+    fn add_integers(
+        &mut self,
+        alloc: Global,
+        begin: Align,
+        members: &[Member],
+    ) -> Result<bool, NoMemory>
         requires few { self.old.room ≤ 2 ^ 18 }
         requires near { self.old.span ≤ 2 ^ 33 }
         ensures runs { IfOk result (λ took. IsTrue took → self.new.runs ≡ self.old.runs) }
         ensures made { IfOk result (λ took. IsTrue took → (done : List Slot) →
-            IsMade done self.old → IsMade (done ++ laters 1 members.now) self.new) }
+            IsMade done self.old → IsMade (done ++ member_slots begin members.now) self.new) }
     {
+        let mut text = b"{ ".as_slice();
+        let mut align = begin;
         for (i, member) in members.iter().enumerate() {
-            let later = ScopeMember {
-                lead: b", ",
-                align: one_bit(),
-                index: i + 1,
-                member,
+            let lead = Lead {
+                text,
+                align,
+                index: i,
             };
-            if !self.add_integer(alloc, &later)? {
+            if !self.add_integer(alloc, &lead, member)? {
                 return Ok(false);
             }
+            text = b", ";
+            align = one_bit();
         }
         Ok(true)
     }
 
-    /// The structure whose members are the open run, so many times.
-    fn into_structures(self, many: Many) -> Structures
+    /// The structure whose members are the open run, so many times, where one is so many values.
+    fn into_structures(self, count: u64, many: Many) -> Structures
         requires alone { self.runs ≡ [] }
-        ensures is { (k : Class) → self.align ≡ k.align → IsMadeOf (k ∷ []) self →
-            IsStructure k result }
+        ensures is { (k : Class) (ms : List Member) → k.kind ≡ kinds.Structure ms →
+            0 < length ms → count ≡ 1 + length ms → self.align ≡ k.align →
+            IsMade (member_slots k.align ms) self → IsStructure k result }
         ensures many { result.many ≡ many }
     {
         let PlanBuilder {
@@ -104,7 +106,8 @@ impl PlanBuilder {
             numbers,
             span,
             room,
-            count,
+            count: _,
+            ended: _,
         } = self;
         Structures {
             align,

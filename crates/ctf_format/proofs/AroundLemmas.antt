@@ -135,7 +135,7 @@ writes_any (Some n) k shown place line items seen writes = within
   where
     within : PutsIn seen k shown place line n (take n.text items)
     within spent room earlier [] sees = absurd sees
-    within spent room earlier (vs ∷ env) sees = writes (record { index = length vs; last = lasts.Unknown }) spent room earlier env vs refl tt
+    within spent room earlier (vs ∷ env) sees = writes (record { index = length vs; last = lasts.Unknown }) spent room earlier env vs tt tt
 
 -- a text and an array whose length is known there
 pub writes_counted : (r : Option Next) (many : Length) (count : ℕ) (to : Length → Form) (shown : Shown) (place : ℕ) (line items : List ℕ) (seen : Seen) → CountsIn seen many count
@@ -147,7 +147,7 @@ writes_counted (Some n) many count to shown place line items seen counts same wr
     within : PutsIn seen (to many) shown place line n (take n.text items)
     within spent room earlier [] sees = absurd sees
     within spent room earlier (vs ∷ env) sees =
-        let p = writes (record { index = length vs; last = lasts.Unknown }) (Fixed count) (λ ea en ws counted last. refl) spent room earlier env vs refl tt in
+        let p = writes (record { index = length vs; last = lasts.Unknown }) (Fixed count) (λ ea en ws counted last. refl) spent room earlier env vs tt tt in
         (p.0, same (packet_of seen earlier) (vs ∷ env) place spent (counts earlier (vs ∷ env) sees) ∙ p.1, p.2, p.3)
 
 pub counted_array : (a : ℕ) (k : Form) (many : Length) (n : ℕ) (c : Input) (e : Env) (p s : ℕ) → length_of many c.earlier e ≡ n → walk (forms.array a many k) c e p s ≡ walk (forms.array a (Fixed n) k) c e p s

@@ -30,7 +30,7 @@ use Rattle.ctf_decode.proofs.Steps.{row_ok}
 use Rattle.ctf_decode.proofs.Views.{shape-Array}
 use Rattle.ctf_format.specs.Rows.{row, enclosed}
 use Rattle.ctf_class.specs.Records.{LeadsBefore}
-use Rattle.ctf_format.specs.Standing.{Before, among, LastIs, mark_at, PutsOne, PutsSome, PutsNext, PutsElements, Counts, array_text, elements_text}
+use Rattle.ctf_format.specs.Standing.{Before, among, LastIs, mark_at, PutsOne, PutsSome, PutsNext, PutsElements, Counts, array_text, elements_text, IfKnown}
 use Rattle.ctf_format.specs.Texts.{Shown, Part, value_text, kind_text, part_text, member_part, element_text, element_texts}
 use Rattle.ctf_format.specs.declared.standing.Last.TheVariants as lasts
 use Rattle.ctf_format.specs.declared.standing.Next.{Next}
@@ -49,7 +49,8 @@ found_last route index vs ws v earlier env leads counted last =
 pub counts_last : (route : Route) (before : Before) (n : ℕ) → LeadsBefore route before.index → before.last ≡ lasts.Unsigned n → Counts (Field route) before n
 counts_last route before n leads is earlier env vs counted last =
     let at_end = subst (λ l. LastIs l vs) is last in
-    ap number_of (found_last route before.index vs at_end.0 (unsigned n) earlier env leads counted at_end.1)
+    let many : length vs ≡ before.index = subst (λ l. IfKnown l (length vs ≡ before.index)) is counted in
+    ap number_of (found_last route before.index vs at_end.0 (unsigned n) earlier env leads many at_end.1)
 
 pub elements_snoc : (shown : Shown) (k : ℕ) (vs : List Val) (v : Val) → element_texts shown k (vals_of (vs ++ v ∷ [])) ≡ element_texts shown k (vals_of vs) ++ element_text shown (k + length vs) v ∷ []
 elements_snoc shown k [] v = let n : k ≡ k + 0 = omega arith in ap (λ i. element_text shown i v ∷ []) n

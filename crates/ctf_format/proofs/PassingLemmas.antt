@@ -19,7 +19,6 @@ use Rattle.ctf_class.specs.declared.route.Length.TheVariants as lengths
 use Rattle.ctf_class.specs.declared.route.Route.{Route}
 use Rattle.ctf_class.specs.declared.class.Class.{Class}
 use Rattle.ctf_class.specs.declared.class.Kind as kind
-use Rattle.ctf_class.specs.declared.class.Member.{Member}
 use Rattle.ctf_class.specs.declared.integer.Integer.{Integer}
 use Rattle.ctf_class.specs.declared.many.Many.{Many}
 use Rattle.ctf_class.specs.declared.many.Many.TheVariants as many
@@ -74,8 +73,7 @@ integer_element packet e i align k is aligned spans counted = record {
 }
 
 -- what holds of the classes of a field, and what follows
-pub many_so : (Is So : Class → Type 0) → ((k : Class) → Is k → So k) → (index : ℕ) (m : Member) (several : Many) → AreMany Is index m several → AreMany So index m several
-many_so Is So so index m many.One are = so m.class are
+pub many_so : (Is So : Class → Type 0) → ((k : Class) → Is k → So k) → (index : ℕ) (m : Class) (several : Many) → AreMany Is index m several → AreMany So index m several
 many_so Is So so index m (many.Fixed count) are = (are.0, are.1, so are.0 are.2)
 many_so Is So so index m many.Counted are = (are.0, are.1, are.2, are.3, so are.1 are.4)
 
@@ -139,7 +137,7 @@ structure_element packet e s k is whole power aligned spans counted = record {
 }
 
 -- a value alone is a field, whatever is printed before it
-pub alone_passes : (s : Slot) (f : PlannedField) (packet : List ℕ) (content begin place more end : ℕ) (last : Option ℕ) → IsField s f → begin ≡ next_multiple_of place f.align → begin ≤ content → Passes (PutsOne (form s.member.class) (value_text s.member.class) packet content begin end)
+pub alone_passes : (s : Slot) (f : PlannedField) (packet : List ℕ) (content begin place more end : ℕ) (last : Option ℕ) → IsField s f → begin ≡ next_multiple_of place f.align → begin ≤ content → Passes (PutsOne (form s.class) (value_text s.class) packet content begin end)
     → Passes (λ before after. PutsField s packet content (numbers_to place more last before) (numbers_to end more None after))
 alone_passes s f packet content begin place more end last is begins within passes before =
     let line = before ++ f.ready in
@@ -148,7 +146,7 @@ alone_passes s f packet content begin place more end last is begins within passe
 
 -- so is a value after the members of a structure
 pub next_passes : (s : Slot) (f : PlannedField) (packet : List ℕ) (content begin place more some end : ℕ) (last : Option ℕ) → IsField s f → begin ≡ next_multiple_of place f.align → begin ≤ content
-    → Passes (λ line after. PutsNext (after_members s.index last) (form s.member.class) (value_text s.member.class) packet content begin line (record { place = end; text = 0; more = some; last = lasts.Unknown }) after)
+    → Passes (λ line after. PutsNext (after_members s.index last) (form s.class) (value_text s.class) packet content begin line (record { place = end; text = 0; more = some; last = lasts.Unknown }) after)
     → Passes (λ before after. PutsField s packet content (numbers_to place more last before) (numbers_to end (more + some) None after))
 next_passes s f packet content begin place more some end last is begins within passes before =
     let line = before ++ f.ready in
@@ -162,26 +160,25 @@ class_passes k l shown told packet content place end forms_are texts_are passes 
     (p.0, as_one k l shown told packet content place end before p.0 p.0 forms_are texts_are refl p.1)
 
 -- a text whose length is the number before
-pub counted_passes : (m : Member) (route : Route) (before : Before) (n : ℕ) (packet : List ℕ) (content place end : ℕ) → m.class.kind ≡ kind.Text (lengths.Field route) → Counts (lengths.Field route) before n → ((a : ℕ) → Passes (PutsOne (forms.text a (lengths.Fixed n)) string_text packet content place end))
-    → Passes (λ line after. PutsNext before (form m.class) (value_text m.class) packet content place line (record { place = end; text = 0; more = 0; last = lasts.Unknown }) after)
+pub counted_passes : (m : Class) (route : Route) (before : Before) (n : ℕ) (packet : List ℕ) (content place end : ℕ) → m.kind ≡ kind.Text (lengths.Field route) → Counts (lengths.Field route) before n → ((a : ℕ) → Passes (PutsOne (forms.text a (lengths.Fixed n)) string_text packet content place end))
+    → Passes (λ line after. PutsNext before (form m) (value_text m) packet content place line (record { place = end; text = 0; more = 0; last = lasts.Unknown }) after)
 counted_passes m route before n packet content place end is counts passes line =
     let many = lengths.Field route in
-    let a = m.class.align in
+    let a = m.align in
     let p = passes a line in
     let to : Next = record { place = end; text = 0; more = 0; last = lasts.Unknown } in
     let next : PutsNext before (forms.text a many) string_text packet content place line to p.0 = λ spent room earlier env vs counted last.
     let v = puts_next before (forms.text a (lengths.Fixed n)) string_text packet content place end 0 line p.0 p.1 spent room earlier env vs counted last in
     (v.0, counted_text a many n (among packet content earlier) (vs ∷ env) place spent (counts earlier env vs counted last) ∙ v.1, v.2, v.3)
     in
-    (p.0, subst (λ t. PutsNext before (form m.class) t packet content place line to p.0) (text_text m.class many is) (subst (λ f. PutsNext before f string_text packet content place line to p.0) (form_text m.class many is) next))
+    (p.0, subst (λ t. PutsNext before (form m) t packet content place line to p.0) (text_text m many is) (subst (λ f. PutsNext before f string_text packet content place line to p.0) (form_text m many is) next))
 
 -- elements are the value of an array
-pub array_passes : (before : Before) (length_is : Length) (m : Member) (k : Class) (packet : Content) (e : Element) (place start count more end : ℕ) → m.class.kind ≡ kind.Array length_is k → IsElement packet e k → start ≡ next_multiple_of place e.align → start ≤ packet.end → more ≡ count * e.count → Counts length_is before count
+pub array_passes : (before : Before) (length_is : Length) (c : Class) (k : Class) (packet : Content) (e : Element) (place start count more end : ℕ) → c.kind ≡ kind.Array length_is k → IsElement packet e k → start ≡ next_multiple_of place e.align → start ≤ packet.end → more ≡ count * e.count → Counts length_is before count
     → Passes (PutsElements (enclosed 91 93) (form k) (value_text k) e.count count packet.bytes.now packet.end start end)
-    → Passes (λ line after. PutsNext before (form m.class) (value_text m.class) packet.bytes.now packet.end place line (record { place = end; text = 0; more = more; last = lasts.Unknown }) after)
-array_passes before length_is m k packet e place start count more end is element starts within sum counts passes line =
+    → Passes (λ line after. PutsNext before (form c) (value_text c) packet.bytes.now packet.end place line (record { place = end; text = 0; more = more; last = lasts.Unknown }) after)
+array_passes before length_is c k packet e place start count more end is element starts within sum counts passes line =
     let p = passes line in
-    let c = m.class in
     let bytes = packet.bytes.now in
     let content = packet.end in
     let to : Next = record { place = end; text = 0; more = more; last = lasts.Unknown } in
@@ -237,7 +234,7 @@ run_fielded r f packet from to end place slots others takes is begins ends withi
     (q.0, (p.0 ++ s ∷ [], p.1 ∙ ap (λ xs. p.0 ++ xs) one.1 ∙ sym (append_assoc p.0 (s ∷ []) others), fields_join bytes packet.end p.0 (s ∷ []) (reached from before) mid (reached to q.0) p.2 (reached to q.0, q.1.2, refl)))
 
 -- so are the values of arrays and structures
-pub other_passes : (s : Slot) (f : PlannedField) (placed : PlacedRun) (from : Reach) (begin : ℕ) (to : Reach) → IsField s f → begin ≡ next_multiple_of from.place f.align → begin ≤ placed.packet.now.end → PassesOther s.index s.member placed (record { place = begin; more = from.more }) to
+pub other_passes : (s : Slot) (f : PlannedField) (placed : PlacedRun) (from : Reach) (begin : ℕ) (to : Reach) → IsField s f → begin ≡ next_multiple_of from.place f.align → begin ≤ placed.packet.now.end → PassesOther s.index s.class placed (record { place = begin; more = from.more }) to
     → Passes (λ before after. (last : Option ℕ) × IsLastOf placed last × PutsField s placed.packet.now.bytes.now placed.packet.now.end (after_number from last before) (reached to after))
 other_passes s f placed from begin to is begins within passes before =
     let bytes = placed.packet.now.bytes.now in

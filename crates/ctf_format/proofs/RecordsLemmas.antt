@@ -1,5 +1,5 @@
 -- Event records that are written by their plan are shown as their classes say.
-use Rattle.std.proofs.Common.{◌≡◌, ℕ, zero, suc, ◌+◌, ◌-◌, ◌*◌, ◌%◌, ◌<◌, ◌≤◌, max, false, ℤ, pos, negsuc, List, [], ◌∷◌, ◌++◌, drop, length, get_or, Option, Some, None, IfSome, codes, refl, sym, ap, subst, ◌∙◌, arith, append_assoc, append-nil}
+use Rattle.std.proofs.Common.{◌≡◌, ℕ, zero, suc, ◌+◌, ◌-◌, ◌*◌, ◌%◌, ◌<◌, ◌≤◌, max, false, ℤ, pos, negsuc, List, [], ◌∷◌, ◌++◌, map, take, drop, length, get_or, Option, Some, None, IfSome, Ok, Err, cond, codes, inl, inr, refl, sym, ap, subst, ◌∙◌, arith, append_assoc, append-nil}
 use Rattle.std.specs.Prelude.{⊤, if◌then◌else◌}
 use Rattle.std.specs.Int.{next_multiple_of}
 use Rattle.ctf_bits.specs.Number.{number, signed_number}
@@ -7,51 +7,67 @@ use Rattle.std.specs.List.{All, flat_map}
 use Rattle.std.proofs.lemmas.List.Elements.{All-cons, All-nil}
 use Rattle.ctf_bits.specs.Placed.{Placed}
 use Rattle.ctf_bits.specs.Align.{IsLeastMultiple}
+use Rattle.ctf_bits.proofs.Aligns.{IsLeastMultiple-next}
 use Rattle.ctf_class.proofs.AlignmentLemmas.{divides_too, next_after}
+use Rattle.ctf_class.proofs.RecordsLemmas.{ends_on}
+use Rattle.ctf_class.specs.Alignment.{IsLarger}
 use Rattle.ctf_class.specs.Integers.{bits_of}
 use Rattle.ctf_class.specs.Names.{field_text}
-use Rattle.ctf_class.specs.Records.{Slot, Scoped, laters, slots_of, slots, between, all_slots, values_in, AreScoped, IsNumber, AreInRun, TakesNumbers, AreMany, IsShown, IsStructure, IsField, After, LeadsBefore, numbers_room, room_of, AreRuns}
+use Rattle.ctf_class.specs.Records.{Slot, At, Piece, Pieces, alone, inner, no_pieces, more_pieces, Scoped, IsPiece, ArePieces, member_of, members_of, inside, insides, ended_by, ended_after, ends, ended_last, first_at, later_at, known_index, member_slots, opened_lead, piece_slots, pieces_slots, slots, before_next, all_slots, values_in, AreScoped, IsNumber, AreInRun, TakesNumbers, AreMany, IsShown, IsStructure, IsField, After, LeadsBefore, numbers_room, room_of, AreRuns}
 use Rattle.ctf_class.specs.declared.class.Class.{Class}
 use Rattle.ctf_class.specs.declared.class.Kind as kind
 use Rattle.ctf_class.specs.declared.class.Member.{Member}
 use Rattle.ctf_class.specs.declared.record_plan.PlannedField.{PlannedField}
 use Rattle.ctf_class.specs.declared.integer.Integer.{Integer}
 use Rattle.ctf_class.specs.declared.record_plan.PlannedRun.{PlannedRun}
-use Rattle.ctf_class.specs.declared.record_plan.Shown.{Shown as PlannedShown}
-use Rattle.ctf_class.specs.declared.record_plan.Shown.TheVariants as fields
+use Rattle.ctf_class.specs.declared.shown.Shown.{Shown as PlannedShown}
+use Rattle.ctf_class.specs.declared.shown.Shown.TheVariants as fields
 use Rattle.ctf_class.specs.declared.many.Many.{Many}
 use Rattle.ctf_class.specs.declared.many.Many.TheVariants as many
 use Rattle.ctf_class.specs.declared.planned_number.PlannedNumber.{PlannedNumber}
 use Rattle.ctf_class.specs.declared.structures.Structures.{Structures}
 use Rattle.ctf_class.specs.declared.route.Length.TheVariants as lengths
 use Rattle.ctf_class.specs.declared.route.Route.{Route}
-use Rattle.ctf_decode.specs.Forms.{Form, integer}
+use Rattle.ctf_decode.specs.Forms.{integer, parts_of, structure}
 use Rattle.ctf_decode.specs.Input.{Input, Env, integer_at}
-use Rattle.ctf_decode.specs.Walk.{begin, leaf, walk}
+use Rattle.ctf_decode.specs.Breaks.{past}
+use Rattle.ctf_decode.specs.Values.{Val, group, vals_of}
+use Rattle.std.proofs.lemmas.Bool.{le-ltb}
+use Rattle.ctf_decode.specs.Walk.{and_then, as_group, begin, leaf, open_at, walk, walk_members}
+use Rattle.ctf_decode.specs.Views as views
 use Rattle.ctf_decode.specs.Views.{form}
 use Rattle.ctf_decode.specs.declared.scopes.TheConstants.{MOST_VALUES}
 use Rattle.ctf_format.specs.Structures.{IsNearStructure}
 use Rattle.ctf_format.specs.Numbers.{number_text}
 use Rattle.ctf_format.specs.RunNumbers.{IsPlaced, number_at, place_in, run_text}
 use Rattle.ctf_format.specs.Records.{Reached, IsLastNumber, PutsField, PutsFields, PutsScopes, TakesRun, IsNear, IsNearShown, after_members}
-use Rattle.ctf_format.specs.Standing.{Before, Counts, LastIs, Puts, PutsOne, PutsNext, StandsAsNumber, among, known}
-use Rattle.ctf_format.specs.Texts.{Shown, Part, integer_text, value_text, part_text, member_part}
+use Rattle.ctf_format.specs.Standing.{Before, mark_at, Counts, IfKnown, LastIs, Puts, PutsOne, PutsNext, StandsAsNumber, among, known}
+use Rattle.ctf_format.specs.Texts.{Shown, Part, kind_text, integer_text, value_text, part_text, member_part, member_texts}
+use Rattle.ctf_format.specs.Rows.{row}
 use Rattle.ctf_format.specs.declared.standing.Last.{Last}
+use Rattle.ctf_format.specs.declared.standing.Last.TheVariants as lasts
 use Rattle.ctf_format.specs.declared.standing.MembersEnd.{MembersEnd}
 use Rattle.ctf_format.specs.declared.standing.Next.{Next}
-use Rattle.ctf_format.proofs.StandingLemmas.{Going, PutsAfter, anywhere, last_is, going_begins, going_on, puts_next, known_next, going_ends, closed, puts_structure, as_one, form_integer, text_integer, member-is, stands_number}
+use Rattle.ctf_format.proofs.StandingLemmas.{Going, anywhere, last_is, going_begins, going_on, puts_next, known_next, going_ends, closed, begins, form_structure, puts_structure, text-Structure, value-is, as_one, form_integer, text_integer, member-is, stands_number}
 use Rattle.ctf_format.proofs.RunNumbersLemmas.{run_integer}
-use Rattle.ctf_format.proofs.StartsLemmas.{Leads, at_one, base_divides, leads_itself, run_leads}
-use Rattle.ctf_format.proofs.ArrayLemmas.{next_named, counts_last}
+use Rattle.ctf_format.proofs.StartsLemmas.{Leads, at_one, base_divides, below, larger_begins, leads_itself, run_leads}
+use Rattle.ctf_format.proofs.ArrayLemmas.{counts_last}
 
--- a name and a value after it are the field
-pub puts_named : (m : Member) (lead : List ℕ) (packet : List ℕ) (content place end : ℕ) (before line after name : List ℕ) → line ≡ before ++ (lead ++ name) → name ≡ field_text m.name → PutsOne (form m.class) (value_text m.class) packet content place end line after
-    → PutsOne (form m.class) (λ v. lead ++ part_text (member_part m) v) packet content place end before after
-puts_named m lead packet content place end before line after name wrote named puts spent few earlier env =
+-- a text and a value after it are the field
+pub puts_led : (k : Class) (lead : List ℕ) (packet : List ℕ) (content place end : ℕ) (before line after : List ℕ) → line ≡ before ++ lead → PutsOne (form k) (value_text k) packet content place end line after
+    → PutsOne (form k) (λ v. lead ++ value_text k v) packet content place end before after
+puts_led k lead packet content place end before line after wrote puts spent few earlier env =
     let p = puts spent few earlier env in
-    let text = value_text m.class p.0 in
-    let part : part_text (member_part m) p.0 ≡ field_text m.name ++ text = ap (λ (x : Part). part_text x p.0) (member-is m) in
-    (p.0, p.1, p.2 ∙ ap (λ xs. xs ++ text) wrote ∙ append_assoc before (lead ++ name) text ∙ ap (λ xs. before ++ xs) (append_assoc lead name text) ∙ ap (λ xs. before ++ (lead ++ (xs ++ text))) named ∙ ap (λ xs. before ++ (lead ++ xs)) (sym part))
+    let text = value_text k p.0 in
+    (p.0, p.1, p.2 ∙ ap (λ xs. xs ++ text) wrote ∙ append_assoc before lead text)
+
+-- so is one after the members of a structure
+next_led : (before : Before) (k : Class) (lead : List ℕ) (packet : List ℕ) (content place : ℕ) (from line : List ℕ) (n : Next) (after : List ℕ) → line ≡ from ++ lead → PutsNext before (form k) (value_text k) packet content place line n after
+    → PutsNext before (form k) (λ v. lead ++ value_text k v) packet content place from n after
+next_led before k lead packet content place from line n after wrote puts spent room earlier env vs counted last =
+    let p = puts spent room earlier env vs counted last in
+    let text = value_text k p.0 in
+    (p.0, p.1, p.2 ∙ ap (λ xs. xs ++ text) wrote ∙ append_assoc from lead text, p.3)
 
 -- fields after fields
 pub fields_join : (packet : List ℕ) (content : ℕ) (xs ys : List Slot) (from mid to : Reached) → PutsFields xs packet content from mid → PutsFields ys packet content mid to → PutsFields (xs ++ ys) packet content from to
@@ -107,18 +123,19 @@ takes_first ss r rs are =
 -- what is known of structures of numbers
 structure_near : (k : Class) (s : Structures) → IsStructure k s → IsNearStructure s
 structure_near k s is =
-    let fields = slots_of [] k.align is.members in
+    let fields = member_slots k.align is.members in
     record { room = is.room; bounded = is.bounded; special = is.special; within_span = run_after (max 8 s.align) 0 s.span fields [] s.numbers is.numbers.1; placed = run_placed (max 8 s.align) 0 s.span fields [] s.numbers is.numbers.1 }
 
-structures_near : (index : ℕ) (m : Member) (s : Structures) (several : Many) → AreMany (λ k. IsStructure k s) index m several → IsNearStructure s
-structures_near index m s many.One is = structure_near m.class s is
+structures_near : (index : ℕ) (m : Class) (s : Structures) (several : Many) → AreMany (λ k. IsStructure k s) index m several → IsNearStructure s
 structures_near index m s (many.Fixed count) is = structure_near is.0 s is.2
 structures_near index m s many.Counted is = structure_near is.1 s is.4
 
-shown_near : (index : ℕ) (m : Member) (what : PlannedShown) → IsShown index m what → IsNearShown what
+shown_near : (index : ℕ) (m : Class) (what : PlannedShown) → IsShown index m what → IsNearShown what
 shown_near index m fields.String is = tt
 shown_near index m (fields.Text count) is = tt
 shown_near index m fields.CountedText is = tt
+shown_near index m (fields.Empty align) is = tt
+shown_near index m (fields.Integer lone) is = tt
 shown_near index m (fields.Integers are) is = tt
 shown_near index m (fields.Structures are) is = structures_near index m are are.many is
 shown_near index m (fields.Labelled labelled) is = tt
@@ -126,7 +143,7 @@ shown_near index m (fields.Labelled labelled) is = tt
 field_near : (ss : List Slot) (f : Option PlannedField) (Holds : List Slot → Type 0) → After ss f Holds → IfSome f (λ x. IsNearShown x.shown)
 field_near ss None Holds after = tt
 field_near [] (Some f) Holds after = absurd after
-field_near (s ∷ ss) (Some f) Holds after = shown_near s.index s.member f.shown after.0.shown
+field_near (s ∷ ss) (Some f) Holds after = shown_near s.index s.class f.shown after.0.shown
 
 -- runs of a plan are near
 pub runs_near : (ss : List Slot) (rs : List PlannedRun) → AreRuns ss rs → All IsNear rs
@@ -153,11 +170,10 @@ nat_of (negsuc n) = 0
 
 -- a number of a run is its field
 number_alone : (s : Slot) (n : PlannedNumber) (base from first place content : ℕ) (packet line : List ℕ) → IsNumber base from s n → place % base ≡ 0 → 8 * first ≡ place → place + (n.window.place + n.window.size) ≤ content
-    → (next_multiple_of (place + from) s.align ≤ content) × PutsOne (form s.member.class) (λ v. s.lead ++ part_text (member_part s.member) v) packet content (next_multiple_of (place + from) s.align) (place + (n.window.place + n.window.size)) line (line ++ run_text packet first n)
+    → (next_multiple_of (place + from) s.align ≤ content) × PutsOne (form s.class) (λ v. s.lead ++ value_text s.class v) packet content (next_multiple_of (place + from) s.align) (place + (n.window.place + n.window.size)) line (line ++ run_text packet first n)
 number_alone s n base from first place content packet line is whole starts within =
-    let m = s.member in
     let i = n.integer in
-    let a = m.class.align in
+    let a = s.class.align in
     let begun = next_multiple_of from s.align in
     let end = place + (n.window.place + n.window.size) in
     let digits = number_text i (number_at i packet (place_in first n)) in
@@ -167,20 +183,20 @@ number_alone s n base from first place content packet line is whole starts withi
     let ends : end ≡ place + (next_multiple_of begun a + bits_of i) = ap (λ (w : Placed). place + (w.place + w.size)) is.window in
     let wrote : after ≡ named ++ number_text i (number_at i packet (8 * first + next_multiple_of begun a)) = sym (append_assoc line n.ready digits) ∙ ap (λ (w : Placed). named ++ number_text i (number_at i packet (8 * first + w.place))) is.window in
     let puts : PutsOne (integer a i) (integer_text i) packet content (place + begun) end named after = run_integer i a packet content first place begun end named after starts (divides_too place base a whole is.divides) ends within wrote in
-    let there : PutsOne (form m.class) (λ v. s.lead ++ part_text (member_part m) v) packet content (place + begun) end line after =
-    puts_named m s.lead packet content (place + begun) end line named after (field_text m.name) (ap (λ t. line ++ t) is.ready) refl
-    (as_one (integer a i) (form m.class) (integer_text i) (value_text m.class) packet content (place + begun) end named after after (form_integer m.class i is.is) (text_integer m.class i is.is) refl puts)
+    let there : PutsOne (form s.class) (λ v. s.lead ++ value_text s.class v) packet content (place + begun) end line after =
+    puts_led s.class s.lead packet content (place + begun) end line named after (ap (λ t. line ++ t) is.ready)
+    (as_one (integer a i) (form s.class) (integer_text i) (value_text s.class) packet content (place + begun) end named after after (form_integer s.class i is.is) (text_integer s.class i is.is) refl puts)
     in
     let near : begun ≤ n.window.place = omega (arith, ap (λ (w : Placed). w.place) is.window) in
-    (omega (arith, begins, near, within), subst (λ p. PutsOne (form m.class) (λ v. s.lead ++ part_text (member_part m) v) packet content p end line after) (sym begins) there)
+    (omega (arith, begins, near, within), subst (λ p. PutsOne (form s.class) (λ v. s.lead ++ value_text s.class v) packet content p end line after) (sym begins) there)
 
 -- and an unsigned one is there as its number
 number_stands : (s : Slot) (n : PlannedNumber) (base from first place content v : ℕ) (packet : List ℕ) → IsNumber base from s n → place % base ≡ 0 → 8 * first ≡ place → place + (n.window.place + n.window.size) ≤ content → n.integer.is_signed ≡ false → number_at n.integer packet (place_in first n) ≡ pos v
-    → StandsAsNumber (form s.member.class) packet content (next_multiple_of (place + from) s.align) v
+    → StandsAsNumber (form s.class) packet content (next_multiple_of (place + from) s.align) v
 unfolding number nat_of
 number_stands s n base from first place content v packet is whole starts within plain read =
     let i = n.integer in
-    let a = s.member.class.align in
+    let a = s.class.align in
     let begun = next_multiple_of from s.align in
     let at = next_multiple_of (place + from) s.align in
     let begins : at ≡ place + begun = next_after place from s.align (divides_too place base s.align whole is.begins) in
@@ -188,15 +204,15 @@ number_stands s n base from first place content v packet is whole starts within 
     let wide : n.window.size ≡ bits_of i = ap (λ (w : Placed). w.size) is.window in
     let read_so : number_at i packet (place_in first n) ≡ pos (number i.order packet (place_in first n) (bits_of i)) = ap (λ b. if b then signed_number i.order packet (place_in first n) (bits_of i) else pos (number i.order packet (place_in first n) (bits_of i))) plain in
     let same : v ≡ number i.order packet (next_multiple_of at a) (bits_of i) = ap nat_of (sym read ∙ read_so) ∙ ap (λ p. number i.order packet p (bits_of i)) (sym stands) in
-    subst (λ f. StandsAsNumber f packet content at v) (form_integer s.member.class i is.is) (stands_number a i packet content at v plain (omega (arith, stands, wide, starts, within)) same)
+    subst (λ f. StandsAsNumber f packet content at v) (form_integer s.class i is.is) (stands_number a i packet content at v plain (omega (arith, stands, wide, starts, within)) same)
 
 -- a value alone is a field
-alone_field : (s : Slot) (packet : List ℕ) (content : ℕ) (from to : Reached) → next_multiple_of from.place s.align ≤ content → PutsOne (form s.member.class) (λ v. s.lead ++ part_text (member_part s.member) v) packet content (next_multiple_of from.place s.align) to.place from.line to.line → to.more ≡ from.more
-    → IfSome to.last (StandsAsNumber (form s.member.class) packet content (next_multiple_of from.place s.align)) → PutsField s packet content from to
+alone_field : (s : Slot) (packet : List ℕ) (content : ℕ) (from to : Reached) → next_multiple_of from.place s.align ≤ content → PutsOne (form s.class) (λ v. s.lead ++ value_text s.class v) packet content (next_multiple_of from.place s.align) to.place from.line to.line → to.more ≡ from.more
+    → IfSome to.last (StandsAsNumber (form s.class) packet content (next_multiple_of from.place s.align)) → PutsField s packet content from to
 alone_field s packet content from to within puts same stands =
-    let shown : Shown = λ v. s.lead ++ part_text (member_part s.member) v in
+    let shown : Shown = λ v. s.lead ++ value_text s.class v in
     let begun = next_multiple_of from.place s.align in
-    (within, 0, (let none : to.more ≡ from.more + 0 = omega (arith, same) in none), puts_next (after_members s.index from.last) (form s.member.class) shown packet content begun to.place 0 from.line to.line puts, stands)
+    (within, 0, (let none : to.more ≡ from.more + 0 = omega (arith, same) in none), puts_next (after_members s.index from.last) (form s.class) shown packet content begun to.place 0 from.line to.line puts, stands)
 
 -- how far the numbers of a run came
 abbrev pub numbers_to : ℕ → ℕ → Option ℕ → List ℕ → Reached
@@ -208,19 +224,19 @@ number_field s n base from first place content more known last packet line is wh
     let alone = number_alone s n base from first place content packet line is whole starts within in
     alone_field s packet content (numbers_to (place + from) more known line) (numbers_to (place + (n.window.place + n.window.size)) more last (line ++ run_text packet first n)) alone.0 alone.1 refl (stands last number_is)
   where
-    stands : (o : Option ℕ) → IfSome o (λ v. (n.integer.is_signed ≡ false) × (number_at n.integer packet (place_in first n) ≡ pos v)) → IfSome o (StandsAsNumber (form s.member.class) packet content (next_multiple_of (place + from) s.align))
+    stands : (o : Option ℕ) → IfSome o (λ v. (n.integer.is_signed ≡ false) × (number_at n.integer packet (place_in first n) ≡ pos v)) → IfSome o (StandsAsNumber (form s.class) packet content (next_multiple_of (place + from) s.align))
     stands None told = tt
     stands (Some v) told = number_stands s n base from first place content v packet is whole starts within told.0 told.1
 
 -- an integer is the same field where it is looked for from another place that leads to it
-module _ (s : Slot) (i : Integer) (is : s.member.class.kind ≡ kind.Integer i) (packet : List ℕ) (content at from more : ℕ) (known : Option ℕ) (line : List ℕ) (to : Reached)
-    (below : next_multiple_of at s.align ≤ next_multiple_of from s.align) (same : next_multiple_of (next_multiple_of at s.align) s.member.class.align ≡ next_multiple_of (next_multiple_of from s.align) s.member.class.align) where
-  walks : (c : Input) (env : Env) (spent : ℕ) → walk (form s.member.class) c env (next_multiple_of at s.align) spent ≡ walk (form s.member.class) c env (next_multiple_of from s.align) spent
+module _ (s : Slot) (i : Integer) (is : s.class.kind ≡ kind.Integer i) (packet : List ℕ) (content at from more : ℕ) (known : Option ℕ) (line : List ℕ) (to : Reached)
+    (below : next_multiple_of at s.align ≤ next_multiple_of from s.align) (same : next_multiple_of (next_multiple_of at s.align) s.class.align ≡ next_multiple_of (next_multiple_of from s.align) s.class.align) where
+  walks : (c : Input) (env : Env) (spent : ℕ) → walk (form s.class) c env (next_multiple_of at s.align) spent ≡ walk (form s.class) c env (next_multiple_of from s.align) spent
   walks c env spent =
       let there = λ (b : ℕ). begin c spent (leaf c (b + bits_of i) spent (integer_at c i b)) in
-      subst (λ f. walk f c env (next_multiple_of at s.align) spent ≡ walk f c env (next_multiple_of from s.align) spent) (form_integer s.member.class i is) (ap there same)
+      subst (λ f. walk f c env (next_multiple_of at s.align) spent ≡ walk f c env (next_multiple_of from s.align) spent) (form_integer s.class i is) (ap there same)
 
-  stands_led : (o : Option ℕ) → IfSome o (StandsAsNumber (form s.member.class) packet content (next_multiple_of from s.align)) → IfSome o (StandsAsNumber (form s.member.class) packet content (next_multiple_of at s.align))
+  stands_led : (o : Option ℕ) → IfSome o (StandsAsNumber (form s.class) packet content (next_multiple_of from s.align)) → IfSome o (StandsAsNumber (form s.class) packet content (next_multiple_of at s.align))
   stands_led None found = tt
   stands_led (Some v) found = λ spent few earlier env. (let n = found spent few earlier env in (n.0, walks (among packet content earlier) env spent ∙ n.1))
 
@@ -275,97 +291,248 @@ drop_one (y ∷ xs) (suc i) x rest left =
     let more : suc i + 1 ≡ suc (i + 1) = omega arith in
     (omega (arith, d.0), d.1, ap (λ k. drop k (y ∷ xs)) more ∙ d.2)
 
--- a value after so many members, of which the last is known
-puts_after_members : (i : ℕ) (last : Last) (k : Form) (shown : Shown) (packet : List ℕ) (content place : ℕ) (line : List ℕ) (to : Next) (after : List ℕ) → PutsNext (record { index = i; last = last }) k shown packet content place line to after
-    → PutsAfter anywhere (LastIs last) i k shown packet content place line to after
-puts_after_members i last k shown packet content place line to after puts spent room earlier env vs there counted is = puts spent room earlier env vs counted is
+-- the number of a member after which so many structures end
+abbrev last_known : ℕ → Option ℕ → Last
+last_known zero last = known last
+last_known (suc n) last = lasts.Unknown
 
--- members after the first
-later_going : (all rest : List Member) (packet : List ℕ) (content begin i base some : ℕ) (before : List ℕ) (from to : Reached) → drop (suc i) all ≡ rest → from.more ≡ base + some → Going anywhere all packet content begin (suc i) from.place some (LastIs (known from.last)) before from.line → PutsFields (laters (suc i) rest) packet content from to
-    → (more : ℕ) × (to.more ≡ base + more) × Going anywhere all packet content begin (suc i + length rest) to.place more (LastIs (known to.last)) before to.line
-later_going all [] packet content begin i base some before from to left counted going puts =
-    let none : suc i ≡ suc i + 0 = omega arith in
-    (some, ap (λ (r : Reached). r.more) puts ∙ counted, subst (λ k. Going anywhere all packet content begin k to.place some (LastIs (known to.last)) before to.line) none (subst (λ (r : Reached). Going anywhere all packet content begin (suc i) r.place some (LastIs (known r.last)) before r.line) (sym puts) going))
-later_going all (m ∷ rest) packet content begin i base some before from to left counted going puts =
-    let d = drop_one all (suc i) m rest left in
-    let mid = puts.0 in
-    let field = puts.1 in
-    let more = field.1 in
-    let shown : Shown = λ v. 44 ∷ 32 ∷ part_text (member_part m) v in
-    let so_far : Before = record { index = suc i; last = known from.last } in
-    let end : Next = record { place = mid.place; text = 0; more = more; last = known mid.last } in
-    let told : PutsNext so_far (form m.class) shown packet content (next_multiple_of from.place 1) from.line end mid.line = known_next mid.last so_far (form m.class) shown packet content (next_multiple_of from.place 1) mid.place 0 more from.line mid.line field.3 field.4 in
-    let next : PutsNext so_far (form m.class) shown packet content from.place from.line end mid.line = subst (λ p. PutsNext so_far (form m.class) shown packet content p from.line end mid.line) (at_one from.place) told in
-    let on = going_on anywhere all packet content begin before (suc i) from.place some (LastIs (known from.last)) (LastIs (known mid.last)) m 44 from.line end mid.line d.0 d.1 refl going (λ vs v counted are_known is. last_is (known mid.last) vs v is) (puts_after_members (suc i) (known from.last) (form m.class) shown packet content from.place from.line end mid.line next) in
-    let one : suc i + 1 ≡ suc (suc i) = omega arith in
-    let sum : mid.more ≡ base + (some + more) = (let f = field.2 in omega (arith, f, counted)) in
-    let others = later_going all rest packet content begin (suc i) base (some + more) before mid to (sym (ap (λ k. drop k all) one) ∙ d.2) sum (subst (λ k. Going anywhere all packet content begin k mid.place (some + more) (LastIs (known mid.last)) before mid.line) one on) puts.2 in
-    let count : suc (suc i) + length rest ≡ suc i + suc (length rest) = omega arith in
-    (others.0, others.1, subst (λ k. Going anywhere all packet content begin k to.place others.0 (LastIs (known to.last)) before to.line) count others.2)
+-- what is known of the members before the next one
+known_after : (n i : ℕ) (last : Option ℕ) (vs : List Val) → length vs ≡ i → LastIs (last_known n last) vs → IfKnown (after_members (known_index n i) last).last (length vs ≡ (after_members (known_index n i) last).index) × LastIs (after_members (known_index n i) last).last vs
+known_after zero zero last vs many is = (tt, tt)
+known_after zero (suc i) None vs many is = (tt, tt)
+known_after zero (suc i) (Some n) vs many is = (many, is)
+known_after (suc n) i last vs many is = (tt, tt)
 
--- the fields of a structure, and the brace after them, are its value, with so many others in its arrays
-pub scope_puts : (k : Class) (s : Scoped) (opens packet : List ℕ) (content spent : ℕ) (from to : Reached) → k.kind ≡ kind.Structure s.members → k.align ≡ s.align → 0 < length s.members → PutsFields (slots opens s) packet content from to
-    → (more : ℕ) × (to.more ≡ from.more + more) × (spent + 1 + length s.members + more ≤ MOST_VALUES → Puts (form k) (value_text k) packet content from.place spent to.place (spent + 1 + length s.members + more) (from.line ++ opens) (to.line ++ (32 ∷ 125 ∷ [])))
-scope_puts k s opens packet content spent from to is aligned some puts = by_members s.members is some puts
-  where
-    by_members : (ms : List Member) → k.kind ≡ kind.Structure ms → 0 < length ms → PutsFields (slots_of opens s.align ms) packet content from to
-        → (more : ℕ) × (to.more ≡ from.more + more) × (spent + 1 + length ms + more ≤ MOST_VALUES → Puts (form k) (value_text k) packet content from.place spent to.place (spent + 1 + length ms + more) (from.line ++ opens) (to.line ++ (32 ∷ 125 ∷ [])))
-    by_members [] is some puts = absurd (omega (arith, some))
-    by_members (m ∷ ms) is some puts =
-        let all = m ∷ ms in
-        let begin = next_multiple_of from.place s.align in
-        let opened = from.line ++ opens in
-        let mid = puts.0 in
-        let field = puts.1 in
-        let end : Next = record { place = mid.place; text = 0; more = field.1; last = known mid.last } in
-        let shown : Shown = λ v. (opens ++ (123 ∷ 32 ∷ [])) ++ part_text (member_part m) v in
-        let none : Before = record { index = 0; last = known None } in
-        let told : PutsNext none (form m.class) shown packet content begin from.line end mid.line = known_next mid.last none (form m.class) shown packet content begin mid.place 0 field.1 from.line mid.line field.3 field.4 in
-        let first : PutsNext none (form m.class) (λ v. 123 ∷ 32 ∷ part_text (member_part m) v) packet content begin opened end mid.line = λ sp fw ea en vs counted last.
-        let p = told sp fw ea en vs counted last in
-        let part = part_text (member_part m) p.0 in
-        (p.0, p.1, p.2 ∙ ap (λ xs. from.line ++ xs) (append_assoc opens (123 ∷ 32 ∷ []) part) ∙ sym (append_assoc from.line opens (123 ∷ 32 ∷ part)), p.3)
+-- there are more pieces, or the last came to where the next one would begin
+abbrev IsOver : Pieces → ℕ → ℕ → List ℕ → Type 0
+IsOver no_pieces align n opens = (align ≡ 1) × (opens ≡ ends n)
+IsOver (more_pieces p ps) align n opens = ⊤
+
+over_later : (ps : Pieces) (n : ℕ) → IsOver ps 1 n (ends n)
+over_later no_pieces n = (refl, refl)
+over_later (more_pieces p ps) n = tt
+
+over_some : (ps : Pieces) (align n : ℕ) (opens : List ℕ) → 0 < length (members_of ps) → IsOver ps align n opens
+over_some no_pieces align n opens some = absurd (omega (arith, some))
+over_some (more_pieces p ps) align n opens some = tt
+
+-- the first of some pieces begins within the content
+abbrev Begins : Pieces → ℕ → ℕ → Type 0
+Begins no_pieces place content = ⊤
+Begins (more_pieces p ps) place content = place ≤ content
+
+begins_some : (ps : Pieces) (place content : ℕ) → 0 < length (members_of ps) → Begins ps place content → place ≤ content
+begins_some no_pieces place content some begins = absurd (omega (arith, some))
+begins_some (more_pieces p ps) place content some begins = begins
+
+-- a field alone, after the text before it
+alone_next : (m : Member) (at : At) (opens : List ℕ) (mark : ℕ) (packet : List ℕ) (content : ℕ) (from to : Reached) → at.lead ≡ opens ++ (mark ∷ 32 ∷ []) → PutsField (record { lead = at.lead ++ field_text m.name; align = at.align; index = at.index; class = m.class }) packet content from to
+    → (some : ℕ) × (to.more ≡ from.more + some) × (next_multiple_of from.place at.align ≤ content)
+    × PutsNext (after_members at.index from.last) (form m.class) (λ v. mark ∷ 32 ∷ part_text (member_part m) v) packet content (next_multiple_of from.place at.align) (from.line ++ opens) (record { place = to.place; text = 0; more = some; last = known to.last }) to.line
+alone_next m at opens mark packet content from to lead field =
+    let begin = next_multiple_of from.place at.align in
+    let before = after_members at.index from.last in
+    let name = field_text m.name in
+    let shown : Shown = λ v. (at.lead ++ name) ++ value_text m.class v in
+    let end : Next = record { place = to.place; text = 0; more = field.1; last = known to.last } in
+    let told : PutsNext before (form m.class) shown packet content begin from.line end to.line = known_next to.last before (form m.class) shown packet content begin to.place 0 field.1 from.line to.line field.3 field.4 in (
+      field.1,
+      field.2,
+      field.0,
+      λ spent room earlier env vs counted last.
+          let p = told spent room earlier env vs counted last in
+          let text = value_text m.class p.0 in
+          let part : part_text (member_part m) p.0 ≡ name ++ text = ap (λ (x : Part). part_text x p.0) (member-is m) in
+          let led : (at.lead ++ name) ++ text ≡ opens ++ (mark ∷ 32 ∷ part_text (member_part m) p.0) = append_assoc at.lead name text ∙ ap (λ l. l ++ (name ++ text)) lead ∙ append_assoc opens (mark ∷ 32 ∷ []) (name ++ text) ∙ ap (λ xs. opens ++ (mark ∷ 32 ∷ xs)) (sym part) in
+          (p.0, p.1, p.2 ∙ ap (λ xs. from.line ++ xs) led ∙ sym (append_assoc from.line opens (mark ∷ 32 ∷ part_text (member_part m) p.0)), p.3),
+    )
+
+larger_some : (align one other : ℕ) → IsLarger align one other → 0 < align
+larger_some align one other l = elim l.is [
+  | inl is ↦ (let some = l.one_some in omega (arith, is, some))
+  | inr is ↦ (let some = l.other_some in omega (arith, is, some))
+]
+
+module _ (packet : List ℕ) (content : ℕ) where
+  -- members of a structure, and the brace after them, are its value
+  structure_from : (ps : Pieces) (k : Class) (base more : ℕ) (opens : List ℕ) (from to : Reached) → k.kind ≡ kind.Structure (members_of ps) → 0 < length (members_of ps) → next_multiple_of from.place base ≤ content
+      → Going anywhere (members_of ps) packet content (next_multiple_of from.place base) (0 + length (members_of ps)) to.place (0 + more + insides ps) (λ vs. ⊤) (from.line ++ opens) (to.line ++ ends (ended_after 0 ps))
+      → (place : ℕ) → next_multiple_of place k.align ≡ next_multiple_of from.place base → (spent : ℕ) → spent + 1 + length (members_of ps) + insides ps + more ≤ MOST_VALUES
+      → Puts (form k) (value_text k) packet content place spent to.place (spent + 1 + length (members_of ps) + insides ps + more) (from.line ++ opens) (to.line ++ (ends (ended_after 0 ps) ++ (32 ∷ 125 ∷ [])))
+  structure_from ps k base more opens from to is some within going place starts spent few earlier env =
+      let all = members_of ps in
+      let begin = next_multiple_of from.place base in
+      let opened = from.line ++ opens in
+      let inner_more = 0 + more + insides ps in
+      let closes_now = ends (ended_after 0 ps) in
+      let line = to.line ++ closes_now in
+      let after = to.line ++ (closes_now ++ (32 ∷ 125 ∷ [])) in
+      let end : MembersEnd = record { place = to.place; text = 0; more = inner_more } in
+      let counted : 0 + length all ≡ length all = omega arith in
+      let rows = going_ends anywhere all packet content begin opened to.place inner_more 0 (λ vs. ⊤) line (subst (λ n. Going anywhere all packet content begin n to.place inner_more (λ vs. ⊤) opened line) counted going) in
+      let text : line ++ (32 ∷ 125 ∷ []) ≡ after = append_assoc to.line closes_now (32 ∷ 125 ∷ []) in
+      let whole = closed anywhere (λ vs. ⊤) all packet content begin 0 end opened line after some (sym text) rows in
+      let total : spent + 1 + length all + insides ps + more ≡ spent + 1 + length all + inner_more = omega arith in
+      let v = puts_structure anywhere (λ vs. ⊤) (λ o. ⊤) (λ vs are. tt) k all packet content place begin spent end (spent + 1 + length all + insides ps + more) opened after is (sym starts) within total few whole earlier env tt in
+      (v.0, v.1, v.2)
+
+  mutual
+    -- a piece is its member, after the text before it
+    piece_next : (p : Piece) (at : At) (opens : List ℕ) (mark : ℕ) (from to : Reached) → at.lead ≡ opens ++ (mark ∷ 32 ∷ []) → IsPiece at.align p → PutsFields (piece_slots at p) packet content from to
+        → (some : ℕ) × (to.more ≡ from.more + some) × (next_multiple_of from.place at.align ≤ content)
+        × PutsNext (after_members at.index from.last) (form (member_of p).class) (λ v. mark ∷ 32 ∷ part_text (member_part (member_of p)) v) packet content (next_multiple_of from.place at.align) (from.line ++ opens) (record { place = to.place; text = 0; more = some + inside p; last = last_known (ended_by p) to.last }) (to.line ++ ends (ended_by p))
+    piece_next (alone m) at opens mark from to lead is puts =
+        let s : Slot = record { lead = at.lead ++ field_text m.name; align = at.align; index = at.index; class = m.class } in
+        let one = alone_next m at opens mark packet content from to lead (subst (λ r. PutsField s packet content from r) (sym puts.2) puts.1) in
+        let shown : Shown = λ v. mark ∷ 32 ∷ part_text (member_part m) v in
+        let begin = next_multiple_of from.place at.align in
+        let none : one.0 ≡ one.0 + 0 = omega arith in (
+          one.0,
+          one.1,
+          one.2,
+          subst (λ n. PutsNext (after_members at.index from.last) (form m.class) shown packet content begin (from.line ++ opens) (record { place = to.place; text = 0; more = n; last = known to.last }) (to.line ++ [])) none
+              (subst (λ xs. PutsNext (after_members at.index from.last) (form m.class) shown packet content begin (from.line ++ opens) (record { place = to.place; text = 0; more = one.0; last = known to.last }) xs) (sym (append-nil to.line)) one.3),
+        )
+    piece_next (inner m base ps) at opens mark from to lead is puts =
+        let name = field_text m.name in
+        let before = opens ++ (mark ∷ 32 ∷ name) in
+        let begin = next_multiple_of from.place at.align in
+        let n = ended_after 0 ps in
+        let many = length (members_of ps) in
+        let leads : opened_lead at.lead m.name ≡ before ++ (123 ∷ 32 ∷ []) =
+        ap (λ l. l ++ (name ++ (123 ∷ 32 ∷ []))) lead ∙ append_assoc opens (mark ∷ 32 ∷ []) (name ++ (123 ∷ 32 ∷ [])) ∙ sym (append_assoc opens (mark ∷ 32 ∷ name) (123 ∷ 32 ∷ []))
         in
-        let no_more : 0 + field.1 ≡ field.1 = omega arith in
-        let one : Going anywhere all packet content begin 1 mid.place field.1 (LastIs (known mid.last)) opened mid.line = subst (λ n. Going anywhere all packet content begin 1 mid.place n (LastIs (known mid.last)) opened mid.line) no_more (going_on anywhere all packet content begin opened 0 begin 0 (LastIs (known None)) (LastIs (known mid.last)) m 123 opened end mid.line (omega arith) refl refl (going_begins anywhere all packet content begin opened (LastIs (known None)) tt) (λ vs v counted are_known is. last_is (known mid.last) vs v is) (puts_after_members 0 (known None) (form m.class) (λ v. 123 ∷ 32 ∷ part_text (member_part m) v) packet content begin opened end mid.line first)) in
-        let going = later_going all ms packet content begin 0 from.more field.1 opened mid to refl field.2 one puts.2 in
-        let counted : 1 + length ms ≡ length all = omega arith in
-        let ends : MembersEnd = record { place = to.place; text = 0; more = going.0 } in
-        let rows = going_ends anywhere all packet content begin opened to.place going.0 0 (LastIs (known to.last)) to.line (subst (λ i. Going anywhere all packet content begin i to.place going.0 (LastIs (known to.last)) opened to.line) counted going.2) in
-        let whole = closed anywhere (LastIs (known to.last)) all packet content begin 0 ends opened to.line (to.line ++ (32 ∷ 125 ∷ [])) (omega arith) refl rows in
-        (going.0, going.1, λ few earlier env. (let p = puts_structure anywhere (LastIs (known to.last)) (λ v. ⊤) (λ vs are. tt) k all packet content from.place begin spent ends (spent + 1 + length all + going.0) opened (to.line ++ (32 ∷ 125 ∷ [])) is (ap (next_multiple_of from.place) (sym aligned)) field.0 refl few whole earlier env tt in (p.0, p.1, p.2)))
+        let first = next_multiple_of from.place base in
+        let opened = from.line ++ before in
+        let going = pieces_going ps 0 0 (first_at (before ++ (123 ∷ 32 ∷ [])) base) before (members_of ps) first 0 lasts.Unknown opened from to refl refl is.3 (over_some ps base 0 before is.1) (λ vs counted known. (tt, tt)) (going_begins anywhere (members_of ps) packet content first opened (LastIs lasts.Unknown) tt) (subst (λ l. PutsFields (pieces_slots 0 (first_at l base) ps) packet content from to) leads puts) in
+        let within = begins_some ps first content is.1 going.2 in
+        let more = going.0 in
+        let least = IsLeastMultiple-next from.place base (larger_some base at.align m.class.align is.2) in
+        let low = below from.place base at.align m.class.align (next_multiple_of from.place base) is.2 least in
+        let starts : next_multiple_of begin m.class.align ≡ next_multiple_of from.place base = larger_begins from.place base at.align m.class.align (next_multiple_of from.place base) is.2 least in
+        let end : Next = record { place = to.place; text = 0; more = more + (many + insides ps); last = lasts.Unknown } in
+        let puts_it : PutsNext (after_members at.index from.last) (form m.class) (λ v. mark ∷ 32 ∷ part_text (member_part m) v) packet content begin (from.line ++ opens) end (to.line ++ ends (suc n)) = λ spent room earlier env vs counted last.
+        let total : spent + 1 + many + insides ps + more ≡ spent + 1 + (more + (many + insides ps)) = omega arith in
+        let few : spent + 1 + many + insides ps + more ≤ MOST_VALUES = omega (arith, room) in
+        let p = structure_from ps m.class base more before from to is.0 is.1 within going.3 begin starts spent few earlier (vs ∷ env) in
+        let text = value_text m.class p.0 in
+        let part : part_text (member_part m) p.0 ≡ name ++ text = ap (λ (x : Part). part_text x p.0) (member-is m) in
+        let wrote : to.line ++ (ends n ++ (32 ∷ 125 ∷ [])) ≡ (from.line ++ opens) ++ (mark ∷ 32 ∷ part_text (member_part m) p.0) =
+        p.2 ∙ ap (λ xs. xs ++ text) (sym (append_assoc from.line opens (mark ∷ 32 ∷ name))) ∙ append_assoc (from.line ++ opens) (mark ∷ 32 ∷ name) text ∙ ap (λ xs. (from.line ++ opens) ++ (mark ∷ 32 ∷ xs)) (sym part)
+        in
+        (p.0, p.1 ∙ ap (λ k. Ok (p.0, to.place, k)) total, ap (λ xs. to.line ++ xs) (sym (ends_on n)) ∙ wrote, tt)
+        in
+        (more, going.1, omega (arith, low, within), puts_it)
 
--- the fields of structures, and the brace after them, are their values
+    -- pieces are members of a structure, one after the other
+    pieces_going : (ps : Pieces) (i n : ℕ) (at : At) (opens : List ℕ) (all : List Member) (begin so_far : ℕ) (l : Last) (before : List ℕ) (from to : Reached) → drop i all ≡ members_of ps → at.lead ≡ opens ++ (mark_at 123 i ∷ 32 ∷ []) → ArePieces at.align ps → IsOver ps at.align n opens
+        → ((vs : List Val) → length vs ≡ i → LastIs l vs → IfKnown (after_members at.index from.last).last (length vs ≡ (after_members at.index from.last).index) × LastIs (after_members at.index from.last).last vs)
+        → Going anywhere all packet content begin i (next_multiple_of from.place at.align) so_far (LastIs l) before (from.line ++ opens) → PutsFields (pieces_slots i at ps) packet content from to
+        → (more : ℕ) × (to.more ≡ from.more + more) × Begins ps (next_multiple_of from.place at.align) content × Going anywhere all packet content begin (i + length (members_of ps)) to.place (so_far + more + insides ps) (λ vs. ⊤) before (to.line ++ ends (ended_after n ps))
+    pieces_going no_pieces i n at opens all begin so_far l before from to left lead are over known going puts =
+        let none : i ≡ i + 0 = omega arith in
+        let same : so_far ≡ so_far + 0 + 0 = omega arith in
+        let more : to.more ≡ from.more + 0 = (let m = ap (λ (r : Reached). r.more) puts in omega (arith, m)) in
+        let place : next_multiple_of from.place at.align ≡ to.place = ap (next_multiple_of from.place) over.0 ∙ at_one from.place ∙ ap (λ (r : Reached). r.place) (sym puts) in
+        let line : from.line ++ opens ≡ to.line ++ ends n = λ j. (sym puts j).line ++ over.1 j in (
+          0,
+          more,
+          tt,
+          λ spent room earlier env is_there.
+              let g = going spent (omega (arith, room)) earlier env is_there in
+              let total : spent + (i + 0) + (so_far + 0 + 0) ≡ spent + i + so_far = omega arith in
+              let walk_on = λ (k p s : ℕ). walk_members (parts_of (map views.member_part (drop k all))) (among packet content earlier) env g.0 p s in
+              (g.0, (λ j. walk_on (sym none j) (sym place j) (total j)) ∙ g.1, g.2 ∙ none, sym line ∙ g.3 ∙ ap (λ k. before ++ row 123 (member_texts (map member_part (take k all)) (vals_of g.0))) none, tt),
+        )
+    pieces_going (more_pieces p ps) i n at opens all begin so_far l before from to left lead are over known going puts =
+        let m = member_of p in
+        let closed_by = ended_by p in
+        let d = drop_one all i m (members_of ps) left in
+        let apart = fields_split packet content (piece_slots at p) (pieces_slots (suc i) (later_at closed_by (suc i)) ps) from to puts in
+        let mid = apart.0 in
+        let one = piece_next p at opens (mark_at 123 i) from mid lead are.0 apart.1 in
+        let mark = mark_at 123 i in
+        let place = next_multiple_of from.place at.align in
+        let next : Next = record { place = mid.place; text = 0; more = one.0 + inside p; last = last_known closed_by mid.last } in
+        let after = mid.line ++ ends closed_by in
+        let next_last = last_known closed_by mid.last in
+        let on : Going anywhere all packet content begin (i + 1) mid.place (so_far + next.more) (LastIs next_last) before after = going_on anywhere all packet content begin before i place so_far (LastIs l) (LastIs next_last) m mark (from.line ++ opens) next after d.0 d.1 refl going (λ vs v counted are_known is. last_is (last_known closed_by mid.last) vs v is)
+        (λ spent room earlier env vs there counted is. let k = known vs counted is in one.3 spent room earlier env vs k.0 k.1)
+        in
+        let step : i + 1 ≡ suc i = omega arith in
+        let stays : mid.place ≡ next_multiple_of mid.place 1 = sym (at_one mid.place) in
+        let going_next : Going anywhere all packet content begin (suc i) (next_multiple_of mid.place 1) (so_far + next.more) (LastIs next_last) before after = subst (λ q. Going anywhere all packet content begin (suc i) q (so_far + next.more) (LastIs next_last) before after) stays (subst (λ k. Going anywhere all packet content begin k mid.place (so_far + next.more) (LastIs next_last) before after) step on) in
+        let others = pieces_going ps (suc i) closed_by (later_at closed_by (suc i)) (ends closed_by) all begin (so_far + next.more) next_last before mid to (sym (ap (λ k. drop k all) step) ∙ d.2) refl are.1 (over_later ps closed_by) (λ vs counted is. known_after closed_by (suc i) mid.last vs counted is) going_next apart.2 in
+        let count : suc i + length (members_of ps) ≡ i + suc (length (members_of ps)) = omega arith in
+        let sum : so_far + (one.0 + inside p) + others.0 + insides ps ≡ so_far + (one.0 + others.0) + (inside p + insides ps) = omega arith in
+        let more : to.more ≡ from.more + (one.0 + others.0) = (let a = one.1 in let b = others.1 in omega (arith, a, b)) in (
+          one.0 + others.0,
+          more,
+          one.2,
+          subst (λ k. Going anywhere all packet content begin k to.place (so_far + (one.0 + others.0) + (inside p + insides ps)) (λ vs. ⊤) before (to.line ++ ends (ended_after closed_by ps))) count
+              (subst (λ g. Going anywhere all packet content begin (suc i + length (members_of ps)) to.place g (λ vs. ⊤) before (to.line ++ ends (ended_after closed_by ps))) sum others.3),
+        )
+
+  -- the fields of a structure, and the braces after them, are its value, with so many others in its arrays
+  pub pieces_scope : (ps : Pieces) (k : Class) (base : ℕ) (opens : List ℕ) (from to : Reached) → k.kind ≡ kind.Structure (members_of ps) → 0 < length (members_of ps) → ArePieces base ps → PutsFields (pieces_slots 0 (first_at (opens ++ (123 ∷ 32 ∷ [])) base) ps) packet content from to
+      → (more : ℕ) × (to.more ≡ from.more + more)
+      × ((place : ℕ) → next_multiple_of place k.align ≡ next_multiple_of from.place base → (spent : ℕ) → spent + 1 + length (members_of ps) + insides ps + more ≤ MOST_VALUES
+      → Puts (form k) (value_text k) packet content place spent to.place (spent + 1 + length (members_of ps) + insides ps + more) (from.line ++ opens) (to.line ++ (ends (ended_after 0 ps) ++ (32 ∷ 125 ∷ []))))
+  pieces_scope ps k base opens from to is some are puts =
+      let first = next_multiple_of from.place base in
+      let opened = from.line ++ opens in
+      let going = pieces_going ps 0 0 (first_at (opens ++ (123 ∷ 32 ∷ [])) base) opens (members_of ps) first 0 lasts.Unknown opened from to refl refl are (over_some ps base 0 opens some) (λ vs counted known. (tt, tt)) (going_begins anywhere (members_of ps) packet content first opened (LastIs lasts.Unknown) tt) puts in
+      (going.0, going.1, structure_from ps k base going.0 opens from to is some (begins_some ps first content some going.2) going.3)
+
+-- a structure without members is where it could begin
+pub empty_puts : (k : Class) (packet : List ℕ) (content place end : ℕ) (before after : List ℕ) → k.kind ≡ kind.Structure [] → end ≡ next_multiple_of place k.align → end ≤ content → after ≡ before ++ (123 ∷ 32 ∷ 125 ∷ [])
+    → PutsOne (form k) (value_text k) packet content place end before after
+empty_puts k packet content place end before after is ends_at within wrote spent few earlier env =
+    let c = among packet content earlier in
+    let b = next_multiple_of place k.align in
+    let v : Val = group (vals_of []) in
+    let found = and_then (Ok ([], b, spent + 1)) as_group in
+    let opened : open_at c b found ≡ found = ap (λ t. cond t (Err (past b)) found) (le-ltb content b (subst (λ n. n ≤ content) ends_at within)) in
+    let walked : walk (structure k.align (parts_of [])) c env place spent ≡ Ok (v, b, spent + 1) = begins c spent (open_at c b found) few ∙ opened in
+    let text : value_text k v ≡ 123 ∷ 32 ∷ 125 ∷ [] = ap (λ f. f v) (value-is k ∙ ap kind_text is ∙ text-Structure []) in
+    (v, ap (λ f. walk f c env place spent) (sym (form_structure k [] is)) ∙ walked ∙ ap (λ n. Ok (v, n, spent + 1)) (sym ends_at), wrote ∙ ap (λ xs. before ++ xs) (sym text))
+
+-- the fields of structures, and the braces after them, are their values
 pub scopes_puts : (ks : List Class) (ss : List Scoped) (opens packet : List ℕ) (content spent : ℕ) (from to : Reached) → 0 < length ks → AreScoped ks ss → PutsFields (all_slots opens ss) packet content from to
-    → (more : ℕ) × (to.more ≡ from.more + more) × (spent + values_in ss + more ≤ MOST_VALUES → PutsScopes ks packet content from.place spent to.place (spent + values_in ss + more) (from.line ++ opens) (to.line ++ (32 ∷ 125 ∷ [])))
+    → (more : ℕ) × (to.more ≡ from.more + more) × (spent + values_in ss + more ≤ MOST_VALUES → PutsScopes ks packet content from.place spent to.place (spent + values_in ss + more) (from.line ++ opens) (to.line ++ (ends (ended_last 0 ss) ++ (32 ∷ 125 ∷ []))))
 scopes_puts [] ss opens packet content spent from to some are puts = absurd (omega (arith, some))
 scopes_puts (k ∷ ks) [] opens packet content spent from to some are puts = absurd are
 scopes_puts (k ∷ []) (s ∷ []) opens packet content spent from to some are puts =
-    let one = scope_puts k s opens packet content spent from to are.0 are.1 are.2 (subst (λ xs. PutsFields xs packet content from to) (append-nil (slots opens s)) puts) in
-    let total : spent + 1 + length s.members + one.0 ≡ spent + values_in (s ∷ []) + one.0 = omega arith in
-    (one.0, one.1, λ few. subst (λ n. Puts (form k) (value_text k) packet content from.place spent to.place n (from.line ++ opens) (to.line ++ (32 ∷ 125 ∷ []))) total (one.2 (omega (arith, few))))
-scopes_puts (k ∷ []) (s ∷ (t ∷ ss)) opens packet content spent from to some are puts = absurd are.3
-scopes_puts (k ∷ (l ∷ ks)) (s ∷ []) opens packet content spent from to some are puts = absurd are.3
+    let one = pieces_scope packet content s.pieces k s.align opens from to are.0 are.2 are.3 (subst (λ xs. PutsFields xs packet content from to) (append-nil (slots opens s)) puts) in
+    let after = to.line ++ (ends (ended_after 0 s.pieces) ++ (32 ∷ 125 ∷ [])) in
+    let total : spent + 1 + length (members_of s.pieces) + insides s.pieces + one.0 ≡ spent + values_in (s ∷ []) + one.0 = omega arith in
+    (one.0, one.1, λ few. subst (λ n. Puts (form k) (value_text k) packet content from.place spent to.place n (from.line ++ opens) after) total (one.2 from.place (ap (next_multiple_of from.place) are.1) spent (omega (arith, few))))
+scopes_puts (k ∷ []) (s ∷ (t ∷ ss)) opens packet content spent from to some are puts = absurd are.4
+scopes_puts (k ∷ (l ∷ ks)) (s ∷ []) opens packet content spent from to some are puts = absurd are.4
 scopes_puts (k ∷ (l ∷ ks)) (s ∷ (t ∷ ss)) opens packet content spent from to some are puts =
     let rest = t ∷ ss in
-    let apart = fields_split packet content (slots opens s) (all_slots between rest) from to puts in
+    let next = before_next s.pieces in
+    let closes_now = ends (ended_after 0 s.pieces) in
+    let apart = fields_split packet content (slots opens s) (all_slots next rest) from to puts in
     let mid = apart.0 in
-    let first = scope_puts k s opens packet content spent from mid are.0 are.1 are.2 apart.1 in
-    let many = spent + 1 + length s.members + first.0 in
-    let others = scopes_puts (l ∷ ks) rest between packet content many mid to (omega arith) are.3 apart.2 in
+    let first = pieces_scope packet content s.pieces k s.align opens from mid are.0 are.2 are.3 apart.1 in
+    let many = spent + 1 + length (members_of s.pieces) + insides s.pieces + first.0 in
+    let others = scopes_puts (l ∷ ks) rest next packet content many mid to (omega arith) are.4 apart.2 in
     let more = first.0 + others.0 in
     let total : many + values_in rest + others.0 ≡ spent + values_in (s ∷ rest) + more = omega arith in
-    let text : mid.line ++ between ≡ (mid.line ++ (32 ∷ 125 ∷ [])) ++ codes ", " = sym (append_assoc mid.line (32 ∷ 125 ∷ []) (44 ∷ 32 ∷ [])) in
+    let mid_line = mid.line ++ (closes_now ++ (32 ∷ 125 ∷ [])) in
+    let after = to.line ++ (ends (ended_last 0 rest) ++ (32 ∷ 125 ∷ [])) in
+    let text : mid.line ++ next ≡ mid_line ++ codes ", " = ap (λ xs. mid.line ++ xs) (sym (append_assoc closes_now (32 ∷ 125 ∷ []) (44 ∷ 32 ∷ []))) ∙ sym (append_assoc mid.line (closes_now ++ (32 ∷ 125 ∷ [])) (44 ∷ 32 ∷ [])) in
     let sum : to.more ≡ from.more + more = (let a = first.1 in let b = others.1 in omega (arith, a, b)) in (
       more,
       sum,
       λ few. (
         mid.place,
         many,
-        mid.line ++ (32 ∷ 125 ∷ []),
-        first.2 (omega (arith, few)),
-        subst (λ n. PutsScopes (l ∷ ks) packet content mid.place many to.place n ((mid.line ++ (32 ∷ 125 ∷ [])) ++ codes ", ") (to.line ++ (32 ∷ 125 ∷ []))) total
-            (subst (λ xs. PutsScopes (l ∷ ks) packet content mid.place many to.place (many + values_in rest + others.0) xs (to.line ++ (32 ∷ 125 ∷ []))) text (others.2 (omega (arith, few)))),
+        mid_line,
+        first.2 from.place (ap (next_multiple_of from.place) are.1) spent (omega (arith, few)),
+        subst (λ n. PutsScopes (l ∷ ks) packet content mid.place many to.place n (mid_line ++ codes ", ") after) total
+            (subst (λ xs. PutsScopes (l ∷ ks) packet content mid.place many to.place (many + values_in rest + others.0) xs after) text (others.2 (omega (arith, few)))),
       ),
     )
 
@@ -441,20 +608,19 @@ counts_after route (suc i) n leads = counts_last route (record { index = suc i; 
 
 -- what is printed before a value, and the value after it, are its field
 pub field_next : (s : Slot) (f : PlannedField) (packet : List ℕ) (content begin place more some end : ℕ) (last : Option ℕ) (before line after : List ℕ) → IsField s f → begin ≡ next_multiple_of place f.align → begin ≤ content → line ≡ before ++ f.ready
-    → PutsNext (after_members s.index last) (form s.member.class) (value_text s.member.class) packet content begin line (record { place = end; text = 0; more = some; last = known None }) after
+    → PutsNext (after_members s.index last) (form s.class) (value_text s.class) packet content begin line (record { place = end; text = 0; more = some; last = known None }) after
     → PutsField s packet content (numbers_to place more last before) (numbers_to end (more + some) None after)
 field_next s f packet content begin place more some end last before line after is begins within wrote puts =
-    let m = s.member in
     let to : Next = record { place = end; text = 0; more = some; last = known None } in
-    let shown : Shown = λ v. s.lead ++ part_text (member_part m) v in
+    let shown : Shown = λ v. s.lead ++ value_text s.class v in
     let at : begin ≡ next_multiple_of place s.align = begins ∙ ap (next_multiple_of place) is.align in
-    let there = next_named (after_members s.index last) m s.lead packet content begin before line to after (field_text m.name) (wrote ∙ ap (λ t. before ++ t) is.ready) refl puts in
-    (omega (arith, at, within), some, refl, subst (λ p. PutsNext (after_members s.index last) (form m.class) shown packet content p before to after) at there, tt)
+    let there = next_led (after_members s.index last) s.class s.lead packet content begin before line to after (wrote ∙ ap (λ t. before ++ t) is.ready) puts in
+    (omega (arith, at, within), some, refl, subst (λ p. PutsNext (after_members s.index last) (form s.class) shown packet content p before to after) at there, tt)
 
 pub field_alone : (s : Slot) (f : PlannedField) (packet : List ℕ) (content begin place more end : ℕ) (last : Option ℕ) (before line after : List ℕ) → IsField s f → begin ≡ next_multiple_of place f.align → begin ≤ content → line ≡ before ++ f.ready
-    → PutsOne (form s.member.class) (value_text s.member.class) packet content begin end line after
+    → PutsOne (form s.class) (value_text s.class) packet content begin end line after
     → PutsField s packet content (numbers_to place more last before) (numbers_to end more None after)
 field_alone s f packet content begin place more end last before line after is begins within wrote puts =
     let none : more + 0 ≡ more = omega arith in
     subst (λ n. PutsField s packet content (numbers_to place more last before) (numbers_to end n None after)) none
-    (field_next s f packet content begin place more 0 end last before line after is begins within wrote (puts_next (after_members s.index last) (form s.member.class) (value_text s.member.class) packet content begin end 0 line after puts))
+    (field_next s f packet content begin place more 0 end last before line after is begins within wrote (puts_next (after_members s.index last) (form s.class) (value_text s.class) packet content begin end 0 line after puts))

@@ -191,7 +191,7 @@ text-String = search (rules, class.the_lemmas)
 text-Text : (many : Length) → kind_text (kind.Text many) ≡ string_text
 text-Text many = search (rules, class.the_lemmas)
 
-text-Structure : (ms : List Member) → kind_text (kind.Structure ms) ≡ (λ v. enclosed 123 125 (member_texts (map member_part ms) (members_in v)))
+pub text-Structure : (ms : List Member) → kind_text (kind.Structure ms) ≡ (λ v. enclosed 123 125 (member_texts (map member_part ms) (members_in v)))
 text-Structure ms = search (rules, class.the_lemmas)
 
 module _ (Where : (Scope → Option Val) → Env → Type 0) (ms : List Member) (packet : List ℕ) (content place : ℕ) (before : List ℕ) where

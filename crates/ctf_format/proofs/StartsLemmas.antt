@@ -33,7 +33,7 @@ Leads at from ss [] = at ≡ from
 Leads at from [] (n ∷ ns) = ⊤
 Leads at from (s ∷ ss) (n ∷ ns) =
     (next_multiple_of at s.align ≤ next_multiple_of from s.align)
-    × (next_multiple_of (next_multiple_of at s.align) s.member.class.align ≡ next_multiple_of (next_multiple_of from s.align) s.member.class.align)
+    × (next_multiple_of (next_multiple_of at s.align) s.class.align ≡ next_multiple_of (next_multiple_of from s.align) s.class.align)
 
 pub leads_itself : (p : ℕ) (ss : List Slot) (ns : List PlannedNumber) → Leads p p ss ns
 leads_itself p ss [] = refl
@@ -67,8 +67,11 @@ module _ (at align one other place : ℕ) (l : IsLarger align one other) (least 
       let reaches = least.least (next_multiple_of (next_multiple_of at one) other) (subst (λ a. next_multiple_of (next_multiple_of at one) other % a ≡ 0) (sym is) second.multiple) from in
       omega (arith, low, reaches)
 
+  pub larger_begins : next_multiple_of (next_multiple_of at one) other ≡ place
+  larger_begins = then_other l.is
+
   pub both : next_multiple_of (next_multiple_of at one) other ≡ next_multiple_of (next_multiple_of place one) other
-  both = then_other l.is ∙ sym (ap (λ p. next_multiple_of p other) (multiple_stays place one of_one) ∙ multiple_stays place other of_other)
+  both = larger_begins ∙ sym (ap (λ p. next_multiple_of p other) (multiple_stays place one of_one) ∙ multiple_stays place other of_other)
 
   pub low_enough : next_multiple_of at one ≤ next_multiple_of place one
   low_enough = let stays = multiple_stays place one of_one in let low = below in omega (arith, stays, low)
@@ -78,4 +81,4 @@ pub run_leads : (align at place : ℕ) (ss : List Slot) (ns : List PlannedNumber
 run_leads align at place ss [] begins least is = sym (is ∙ ap (next_multiple_of at) begins ∙ at_one at)
 run_leads align at place [] (n ∷ ns) begins least is = tt
 run_leads align at place (s ∷ ss) (n ∷ ns) begins least is =
-    (low_enough at align s.align s.member.class.align place begins least, both at align s.align s.member.class.align place begins least)
+    (low_enough at align s.align s.class.align place begins least, both at align s.align s.class.align place begins least)

@@ -3,7 +3,6 @@ use Rattle.std.specs.Prelude.{◌≡◌, ℕ, ◌+◌, ◌≤◌, List, ◌++◌
 use Rattle.std.specs.Int.{next_multiple_of}
 use Rattle.ctf_class.specs.Records.{Slot}
 use Rattle.ctf_class.specs.declared.class.Class.{Class}
-use Rattle.ctf_class.specs.declared.class.Member.{Member}
 use Rattle.ctf_decode.specs.Views.{form}
 use Rattle.ctf_format.specs.Records.{PutsField, PutsFields, PutsOther, IsLastOf, after_number, reached}
 use Rattle.ctf_format.specs.Standing.{PutsSome}
@@ -38,9 +37,9 @@ PassesField slot placed from to =
     × PutsField slot placed.packet.now.bytes.now placed.packet.now.end
     (after_number from last before) (reached to after))
 
--- a member after so many others of its structure, and after the numbers of a run, goes from a place to another
-abbrev pub PassesOther : ℕ → Member → PlacedRun → Reach → Reach → Type 0
-PassesOther index member placed from to =
+-- a value of a class after so many members of its structure, and after the numbers of a run, goes from a place to another
+abbrev pub PassesOther : ℕ → Class → PlacedRun → Reach → Reach → Type 0
+PassesOther index class placed from to =
     Passes (λ before after. (last : Option ℕ) × IsLastOf placed last
-    × PutsOther index last (form member.class) (value_text member.class)
+    × PutsOther index last (form class) (value_text class)
     placed.packet.now.bytes.now placed.packet.now.end from before to after)

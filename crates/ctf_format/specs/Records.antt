@@ -6,11 +6,10 @@ use Rattle.ctf_bits.specs.Align.{IsLeastMultiple}
 use Rattle.ctf_class.specs.Integers.{bits_of}
 use Rattle.ctf_class.specs.Records.{Slot, TakesNumbers, After, AreIntegers, AreMany, IsShown, IsStructure, have_special, room_of}
 use Rattle.ctf_class.specs.declared.class.Class.{Class}
-use Rattle.ctf_class.specs.declared.class.Member.{Member}
-use Rattle.ctf_class.specs.declared.record_plan.Integers.{Integers}
+use Rattle.ctf_class.specs.declared.shown.Integers.{Integers}
 use Rattle.ctf_class.specs.declared.record_plan.PlannedRun.{PlannedRun}
-use Rattle.ctf_class.specs.declared.record_plan.Shown.{Shown as PlannedShown}
-use Rattle.ctf_class.specs.declared.record_plan.Shown.TheVariants as fields
+use Rattle.ctf_class.specs.declared.shown.Shown.{Shown as PlannedShown}
+use Rattle.ctf_class.specs.declared.shown.Shown.TheVariants as fields
 use Rattle.ctf_class.specs.declared.planned_number.PlannedNumber.{PlannedNumber}
 use Rattle.ctf_class.specs.declared.structures.Structures.{Structures}
 use Rattle.ctf_decode.specs.Views.{form}
@@ -18,12 +17,12 @@ use Rattle.ctf_format.specs.Structures.{IsNearStructure}
 use Rattle.ctf_format.specs.RunNumbers.{number_at, place_in, IsPlaced}
 use Rattle.ctf_format.specs.Standing.{Before, Puts, PutsNext, StandsAsNumber, known}
 use Rattle.ctf_decode.specs.Forms.{Form}
-use Rattle.ctf_format.specs.Texts.{Shown, value_text, part_text, member_part}
+use Rattle.ctf_format.specs.Texts.{Shown, value_text}
 use Rattle.ctf_format.specs.declared.content.Content.{Content}
 use Rattle.ctf_format.specs.declared.placed_run.PlacedRun.{PlacedRun}
 use Rattle.ctf_format.specs.declared.planned_record.Reach.{Reach}
 
--- How far fields came: where the next one could begin, how many values were begun in arrays and in structures within,
+-- How far fields came: where the next one could begin, how many values were begun in arrays,
 -- the number that comes last, if it is known, and what was written.
 pub record Reached : Type 0 where
   pub place : ℕ
@@ -39,8 +38,8 @@ reached r line = record { place = r.place; more = r.more; last = None; line = li
 abbrev pub after_number : Reach → Option ℕ → List ℕ → Reached
 after_number r last line = record { place = r.place; more = r.more; last = last; line = line }
 
--- a member after so many others, of which the last is a number, if it is known; the first of a structure has none
--- before it
+-- what is known before a member after so many others: the number of the last one, if it is given; nothing before the
+-- first, or after a structure that is gone into
 abbrev pub after_members : ℕ → Option ℕ → Before
 after_members zero last = record { index = zero; last = known None }
 after_members (suc i) last = record { index = suc i; last = known last }
@@ -51,10 +50,10 @@ abbrev pub PutsField : Slot → List ℕ → ℕ → Reached → Reached → Typ
 PutsField s packet content from to =
     let begun = next_multiple_of from.place s.align in
     (begun ≤ content) × (some : ℕ) × (to.more ≡ from.more + some)
-    × PutsNext (after_members s.index from.last) (form s.member.class)
-    (λ v. s.lead ++ part_text (member_part s.member) v) packet content begun from.line
+    × PutsNext (after_members s.index from.last) (form s.class)
+    (λ v. s.lead ++ value_text s.class v) packet content begun from.line
     (record { place = to.place; text = 0; more = some; last = known None }) to.line
-    × IfSome to.last (StandsAsNumber (form s.member.class) packet content begun)
+    × IfSome to.last (StandsAsNumber (form s.class) packet content begun)
 
 -- so do fields one after the other
 abbrev pub PutsFields : List Slot → List ℕ → ℕ → Reached → Reached → Type 0
@@ -86,32 +85,32 @@ IsLastOf placed last =
 
 -- the texts of such a field after a run's numbers, if they were written, are in the buffer from the index that was
 -- reached before them to the one that is reached then
-abbrev pub PutsAfterNumbers : Option ℕ → (ℕ → Member → Type 0) → PlacedRun → Reach → List ℕ → Reach
+abbrev pub PutsAfterNumbers : Option ℕ → (ℕ → Class → Type 0) → PlacedRun → Reach → List ℕ → Reach
     → List ℕ
     → Type 0
 PutsAfterNumbers result Are placed from before to items =
-    (index : ℕ) (member : Member) → Are index member
+    (index : ℕ) (class : Class) → Are index class
     → IfSome result (λ text.
     (last : Option ℕ) × IsLastOf placed last
-    × PutsOther index last (form member.class) (value_text member.class)
+    × PutsOther index last (form class) (value_text class)
     placed.packet.now.bytes.now placed.packet.now.end from before to (take text items))
 
--- those of integers
+-- those of an array of integers
 abbrev pub PutsIntegers : Option ℕ → Integers → PlacedRun → Reach → List ℕ → Reach → List ℕ
     → Type 0
 PutsIntegers result are =
-    PutsAfterNumbers result (λ index member. AreIntegers index member are.integer are.align are.many)
+    PutsAfterNumbers result (λ index class. AreIntegers index class are.integer are.align are.many)
 
--- those of structures of numbers
+-- those of an array of structures of numbers
 abbrev pub PutsStructures : Option ℕ → Structures → PlacedRun → Reach → List ℕ → Reach → List ℕ
     → Type 0
 PutsStructures result are =
-    PutsAfterNumbers result (λ index member. AreMany (λ k. IsStructure k are) index member are.many)
+    PutsAfterNumbers result (λ index class. AreMany (λ k. IsStructure k are) index class are.many)
 
 -- those of what a field is shown as
 abbrev pub PutsShown : Option ℕ → PlannedShown → PlacedRun → Reach → List ℕ → Reach → List ℕ
     → Type 0
-PutsShown result what = PutsAfterNumbers result (λ index member. IsShown index member what)
+PutsShown result what = PutsAfterNumbers result (λ index class. IsShown index class what)
 
 -- a run takes the first of these fields, and these are left
 abbrev pub TakesRun : List Slot → PlannedRun → List Slot → Type 0

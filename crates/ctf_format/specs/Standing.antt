@@ -67,17 +67,24 @@ abbrev pub mark_at : ℕ → ℕ → ℕ
 mark_at first zero = first
 mark_at first (suc i) = 44
 
--- so many members before a value in its structure, and the number of the last of them, as far as it is known
+-- so many members before a value in its structure, and the number of the last of them, if that is known; else nothing
+-- is known of them, also not how many they are
 pub record Before : Type 0 where
   pub index : ℕ
   pub last : Last
+
+-- this holds, if a number is known
+abbrev pub IfKnown : Last → Type 0 → Type 0
+IfKnown lasts.Unknown Holds = ⊤
+IfKnown (lasts.Unsigned n) Holds = Holds
+IfKnown (lasts.Label z) Holds = Holds
 
 -- a value and its text are there after the members of a structure, with so many values in it, of which so much is known
 abbrev pub PutsNext : Before → Form → Shown → List ℕ → ℕ → ℕ → List ℕ → Next → List ℕ → Type 0
 PutsNext before k shown packet content place line next after =
     (spent : ℕ) → spent + next.more < MOST_VALUES
-    → (earlier : Scope → Option Val) (env : Env) (vs : List Val) → length vs ≡ before.index
-    → LastIs before.last vs
+    → (earlier : Scope → Option Val) (env : Env) (vs : List Val)
+    → IfKnown before.last (length vs ≡ before.index) → LastIs before.last vs
     → (v : Val)
     × (walk k (among packet content earlier) (vs ∷ env) place spent
     ≡ Ok (v, next.place, spent + 1 + next.more))
@@ -93,8 +100,9 @@ StandsAsNumber k packet content place n =
 -- an array of this length has so many elements after the members of a structure
 abbrev pub Counts : Length → Before → ℕ → Type 0
 Counts many before n =
-    (earlier : Scope → Option Val) (env : Env) (vs : List Val) → length vs ≡ before.index
-    → LastIs before.last vs → length_of many earlier (vs ∷ env) ≡ n
+    (earlier : Scope → Option Val) (env : Env) (vs : List Val)
+    → IfKnown before.last (length vs ≡ before.index) → LastIs before.last vs
+    → length_of many earlier (vs ∷ env) ≡ n
 
 -- a value, if one was written, is in a packet, and its text follows a line now
 abbrev pub Writes : Option Next → Before → Form → Shown → Content → ℕ → List ℕ → List ℕ → Type 0

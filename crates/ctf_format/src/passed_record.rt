@@ -6,7 +6,6 @@ ghost use Rattle.std.specs.List.{All};
 ghost use Rattle.ctf_class.specs.Integers.{bits_of};
 ghost use Rattle.ctf_class.specs.Records.{Slot, AreMany, AreRuns, IsField, IsPlanOf, IsStructure};
 ghost use Rattle.ctf_class.specs.declared.class.Class.{Class};
-ghost use Rattle.ctf_class.specs.declared.class.Member.{Member};
 ghost use Rattle.ctf_class.specs.declared.route.Length.TheVariants.{Fixed};
 ghost use Rattle.ctf_decode.specs.Forms as forms;
 ghost use Rattle.ctf_decode.specs.Views.{form};
@@ -49,7 +48,7 @@ pub(crate) struct Element {
 /// without a text: `from` has the place after the header, in bits from the packet's first one, and how many values were
 /// begun before.
 ///
-/// `None` where `put_planned_record` gives none, but where it lacks memory, or eight bytes after a structure within:
+/// `None` where `put_planned_record` gives none, but where it lacks memory, or eight bytes after a structure in an array:
 /// neither is needed here. No memory is taken.
 #[inline(never)]
 pub fn pass_planned_record(plan: &RecordPlan, packet: &Content<'_>, from: Passed) -> Option<Passed>
@@ -70,7 +69,7 @@ pub fn pass_planned_record(plan: &RecordPlan, packet: &Content<'_>, from: Passed
         more: 0,
     };
     let reach = pass_runs(runs, packet, begin)?;
-    let count = plan.count.checked_add(reach.more)?;
+    let count = u64::from(plan.count) + reach.more;
     if count > MOST_VALUES - from.spent {
         return None;
     }
@@ -167,6 +166,20 @@ fn pass_field(field: &PlannedField, placed: PlacedRun<'_>, from: Reach) -> Optio
                 more: from.more,
             })
         }
+        Shown::Empty(align) => {
+            let end = begin_at(*align, packet, place)?;
+            Some(Reach {
+                place: end,
+                more: from.more,
+            })
+        }
+        Shown::Integer(lone) => {
+            let at = bits_at(&lone.integer, lone.align, packet, place)?;
+            Some(Reach {
+                place: at.end,
+                more: from.more,
+            })
+        }
         Shown::Integers(are) => pass_elements(&element_of(are), are.many, placed, begin),
         Shown::Structures(are) => pass_structures(are, placed, begin),
     }
@@ -228,9 +241,9 @@ fn element_of(are: &Integers) -> Element
 fn pass_structures(are: &Structures, placed: PlacedRun<'_>, from: Reach) -> Option<Reach>
     requires start { from.place ≤ placed.packet.now.end }
     requires few { from.more ≤ MOST_VALUES }
-    ensures passes { (index : ℕ) (member : Member) →
-        AreMany (λ k. IsStructure k are.now) index member are.now.many →
-        IfSome result (PassesOther index member placed.entry from) }
+    ensures passes { (index : ℕ) (class : Class) →
+        AreMany (λ k. IsStructure k are.now) index class are.now.many →
+        IfSome result (PassesOther index class placed.entry from) }
     ensures within { IfSome result (λ to. to.place ≤ placed.entry.packet.now.end) }
     ensures few { IfSome result (λ to. to.more ≤ MOST_VALUES) }
 {
@@ -246,19 +259,18 @@ fn pass_structures(are: &Structures, placed: PlacedRun<'_>, from: Reach) -> Opti
     pass_elements(&element, are.many, placed, from)
 }
 
-/// How far an element goes, or an array of so many.
+/// How far an array of so many elements goes.
 #[inline(always)]
 fn pass_elements(element: &Element, many: Many, placed: PlacedRun<'_>, from: Reach) -> Option<Reach>
     requires start { from.place ≤ placed.packet.now.end }
     requires few { from.more ≤ MOST_VALUES }
-    ensures passes { (index : ℕ) (member : Member) →
-        AreMany (IsElement placed.entry.packet.now element.now) index member many →
-        IfSome result (PassesOther index member placed.entry from) }
+    ensures passes { (index : ℕ) (class : Class) →
+        AreMany (IsElement placed.entry.packet.now element.now) index class many →
+        IfSome result (PassesOther index class placed.entry from) }
     ensures within { IfSome result (λ to. to.place ≤ placed.entry.packet.now.end) }
     ensures few { IfSome result (λ to. to.more ≤ MOST_VALUES) }
 {
     let count = match many {
-        Many::One => return pass_lone(element, placed, from),
         Many::Fixed(count) => count,
         Many::Counted => last_number(placed)?,
     };
@@ -269,26 +281,6 @@ fn pass_elements(element: &Element, many: Many, placed: PlacedRun<'_>, from: Rea
     }
     let begin = begin_at(element.align, placed.packet, from.place)?;
     let place = end_of_row(element, count, placed.packet, begin)?;
-    Some(Reach { place, more })
-}
-
-/// How far an element goes that is alone.
-#[inline(always)]
-fn pass_lone(element: &Element, placed: PlacedRun<'_>, from: Reach) -> Option<Reach>
-    requires start { from.place ≤ placed.packet.now.end }
-    requires few { from.more ≤ MOST_VALUES }
-    ensures passes { (index : ℕ) (member : Member) →
-        IsElement placed.entry.packet.now element.now member.class →
-        IfSome result (PassesOther index member placed.entry from) }
-    ensures within { IfSome result (λ to. to.place ≤ placed.entry.packet.now.end) }
-    ensures few { IfSome result (λ to. to.more ≤ MOST_VALUES) }
-{
-    let inner = element.count.checked_sub(1)?;
-    let more = from.more.checked_add(inner)?;
-    if more > MOST_VALUES {
-        return None;
-    }
-    let place = end_of_element(element, placed.packet, from.place)?;
     Some(Reach { place, more })
 }
 

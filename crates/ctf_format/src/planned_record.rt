@@ -2,10 +2,9 @@
 
 ghost use Rattle.std.specs.Prelude.{List, ℕ, [], ◌∷◌, ◌≡◌, ◌+◌, ◌/◌, ◌-◌, ◌++◌, ◌<◌, ◌≤◌, length, pos, false, take, vec_len, Option, None, IfSome};
 ghost use Rattle.std.specs.List.{All, flat_map};
-ghost use Rattle.ctf_class.specs.Records.{After, Slot, AreIntegers, AreRuns, IsField, IsPlanOf, IsStructure, numbers_room, room_of};
+ghost use Rattle.ctf_class.specs.Records.{After, Slot, AreRuns, IsField, IsInteger, IsPlanOf, ends, numbers_room, room_of};
 ghost use Rattle.ctf_class.specs.declared.class.Class.{Class};
-ghost use Rattle.ctf_class.specs.declared.class.Member.{Member};
-ghost use Rattle.ctf_class.specs.declared.many.Many.TheVariants.{One};
+ghost use Rattle.ctf_class.specs.declared.class.Kind as kinds;
 ghost use Rattle.ctf_decode.specs.Views.{form};
 ghost use Rattle.ctf_format.specs.Structures.{IsNearStructure};
 ghost use Rattle.ctf_format.specs.Put.{IsPut, IsWithin};
@@ -13,21 +12,21 @@ ghost use Rattle.ctf_format.specs.RunNumbers.{IsInside, number_at, place_in, run
 ghost use Rattle.ctf_format.specs.Records.{BeginsAt, IsNear, IsLastOf, PutsField, PutsFields, IsNearShown, PutsIntegers, PutsOther, PutsRun, PutsScopes, PutsShown, PutsStructures, after_number, reached};
 ghost use Rattle.ctf_format.specs.Texts as texts;
 
-use crate::array::put_integers;
+use crate::array::{begin_at, put_integers};
 use crate::content::Content;
 use crate::leaf::put_enumeration;
-use crate::mark::put_end;
+use crate::mark::{put_end, put_nothing};
 use crate::placed_run::PlacedRun;
 use crate::planned_number::{put_special_numbers, put_usual_numbers};
 use crate::room::with_room;
 use crate::standing::{
     AlignedInteger, Position, Standing, put_fixed_text, put_integer, put_string,
 };
-use crate::structures::{put_structure, put_structures};
+use crate::structures::put_structures;
 use ctf_bits::uint_within;
 use ctf_class::{
-    Integers, Many, PlannedField, PlannedNumber, PlannedRun, PreparedText, RecordPlan, Shown,
-    Structures,
+    Align, Integers, LoneInteger, Many, PlannedField, PlannedNumber, PlannedRun, PreparedText,
+    RecordPlan, Shown, Structures,
 };
 use ctf_decode::MOST_VALUES;
 
@@ -36,7 +35,7 @@ use ctf_decode::MOST_VALUES;
 pub(crate) struct Reach {
     /// Where the next one could begin, in bits from the packet's first one.
     pub(crate) place: u64,
-    /// How many values were begun in arrays and in structures within.
+    /// How many values were begun in arrays.
     pub(crate) more: u64,
 }
 
@@ -45,8 +44,8 @@ pub(crate) struct Reach {
 /// begun before, and the index, in bytes. What is before the index is kept, and the buffer grows where it has no room.
 ///
 /// `None` where there is no plan; where the record has a fault; where a run of numbers would begin within a byte; where
-/// the packet has fewer than eight bytes after the numbers of a run or of a structure within, or after the begin of a run
-/// without any; and where an allocation fails. The buffer is then unspecified.
+/// the packet has fewer than eight bytes after the numbers of a run or of a structure in an array, or after the begin of
+/// a run without any; and where an allocation fails. The buffer is then unspecified.
 #[inline(always)]
 pub fn put_planned_record(
     plan: &RecordPlan,
@@ -74,14 +73,15 @@ pub fn put_planned_record(
         more: 0,
     };
     let text = put_runs(runs, packet, &mut reach, buffer, from.end)?;
-    let count = plan.count.checked_add(reach.more)?;
+    let end = put_ends(plan.ended, buffer, text)?;
+    let count = u64::from(plan.count) + reach.more;
     if count > MOST_VALUES - from.spent {
         return None;
     }
     Some(Standing {
         place: reach.place,
         spent: from.spent + count,
-        end: text,
+        end,
     })
 }
 
@@ -116,6 +116,35 @@ fn put_runs(
     let Ok(text) = put_end(b'}', buffer, text) else {
         return None;
     };
+    Some(text)
+}
+
+/// Writes a space and a brace for each of so many structures that end, mostly none.
+#[inline(always)]
+fn put_ends(ended: u32, buffer: &mut Vec<u8>, at: usize) -> Option<usize>
+    requires { at ≤ vec_len buffer.old }
+    ensures { IfSome result (IsPut buffer.old at (ends ended) buffer.new) }
+{
+    if ended == 0 {
+        return Some(at);
+    }
+    put_some_ends(ended, buffer, at)
+}
+
+/// Writes them out of the way of records in which none ends there.
+#[cold]
+#[inline(never)]
+fn put_some_ends(ended: u32, buffer: &mut Vec<u8>, at: usize) -> Option<usize>
+    requires { at ≤ vec_len buffer.old }
+    ensures { IfSome result (IsPut buffer.old at (ends ended) buffer.new) }
+{
+    let mut text = at;
+    for i in 0..ended {
+        let Ok(end) = put_end(b'}', buffer, text) else {
+            return None;
+        };
+        text = end;
+    }
     Some(text)
 }
 
@@ -397,16 +426,44 @@ fn put_after_numbers(
     ensures few { IfSome result (λ _. reach.new.more ≤ MOST_VALUES) }
 {
     match shown {
-        Shown::Integers(are) => put_one_or_many(are, placed, reach, buffer, at),
-        Shown::Structures(are) => put_one_or_many_structures(are, placed, reach, buffer, at),
+        Shown::Integers(are) => put_many(are, placed, reach, buffer, at),
+        Shown::Empty(align) => put_empty(*align, placed.packet, reach, buffer, at),
+        Shown::Integer(lone) => put_lone(lone, placed.packet, reach, buffer, at),
+        Shown::Structures(are) => put_many_structures(are, placed, reach, buffer, at),
         // These are written by `put_field` itself.
         Shown::String | Shown::Text(_) | Shown::CountedText | Shown::Labelled(_) => None,
     }
 }
 
-/// Writes such integers, mostly an array, and gives the index after them.
+/// Writes a structure without members, and gives the index after it.
+#[inline(never)]
+fn put_empty(
+    align: Align,
+    packet: &Content<'_>,
+    reach: &mut Reach,
+    buffer: &mut Vec<u8>,
+    at: usize,
+) -> Option<usize>
+    requires within { IsWithin packet.now reach.old.place buffer.old at }
+    requires few { reach.old.more ≤ MOST_VALUES }
+    ensures puts { let content = packet.now in (index : ℕ) (class : Class) →
+        class.kind ≡ kinds.Structure [] → align ≡ class.align →
+        IfSome result (λ text.
+        PutsOther index None (form class) (texts.value_text class) content.bytes.now content.end
+        reach.old (take at buffer.old.items) reach.new (take text buffer.new.items)) }
+    ensures within { IfSome result (IsWithin packet.now reach.new.place buffer.new) }
+    ensures few { IfSome result (λ _. reach.new.more ≤ MOST_VALUES) }
+{
+    reach.place = begin_at(align, packet, reach.place)?;
+    let Ok(text) = put_nothing(b'{', b'}', buffer, at) else {
+        return None;
+    };
+    Some(text)
+}
+
+/// Writes such integers, and gives the index after them.
 #[inline(always)]
-fn put_one_or_many(
+fn put_many(
     are: &Integers,
     placed: PlacedRun<'_>,
     reach: &mut Reach,
@@ -422,7 +479,6 @@ fn put_one_or_many(
     ensures few { IfSome result (λ _. reach.new.more ≤ MOST_VALUES) }
 {
     let count = match are.many {
-        Many::One => return put_lone(are, placed.packet, reach, buffer, at),
         Many::Fixed(count) => count,
         Many::Counted => last_number(placed)?,
     };
@@ -447,7 +503,7 @@ fn put_one_or_many(
 /// Writes the integer that is alone, and gives the index after it.
 #[inline(never)]
 fn put_lone(
-    are: &Integers,
+    lone: &LoneInteger,
     packet: &Content<'_>,
     reach: &mut Reach,
     buffer: &mut Vec<u8>,
@@ -456,18 +512,18 @@ fn put_lone(
     requires start { reach.old.place ≤ packet.now.end }
     requires few { reach.old.more ≤ MOST_VALUES }
     requires room { at + 66 ≤ vec_len buffer.old }
-    ensures puts { let content = packet.now in (index : ℕ) (member : Member) →
-        AreIntegers index member are.now.integer are.now.align One →
+    ensures puts { let content = packet.now in (index : ℕ) (class : Class) →
+        IsInteger class lone.now.integer lone.now.align →
         IfSome result (λ text.
-        PutsOther index None (form member.class) (texts.value_text member.class)
+        PutsOther index None (form class) (texts.value_text class)
         content.bytes.now content.end reach.old (take at buffer.old.items) reach.new
         (take text buffer.new.items)) }
     ensures within { IfSome result (IsWithin packet.now reach.new.place buffer.new) }
     ensures few { IfSome result (λ _. reach.new.more ≤ MOST_VALUES) }
 {
     let class = AlignedInteger {
-        integer: &are.integer,
-        align: are.align,
+        integer: &lone.integer,
+        align: lone.align,
     };
     let from = Position {
         place: reach.place,
@@ -478,9 +534,9 @@ fn put_lone(
     Some(ends.text)
 }
 
-/// Writes such structures, mostly an array, and gives the index after them.
+/// Writes such structures, and gives the index after them.
 #[inline(never)]
-fn put_one_or_many_structures(
+fn put_many_structures(
     are: &Structures,
     placed: PlacedRun<'_>,
     reach: &mut Reach,
@@ -497,7 +553,6 @@ fn put_one_or_many_structures(
     ensures few { IfSome result (λ _. reach.new.more ≤ MOST_VALUES) }
 {
     let count = match are.many {
-        Many::One => return put_lone_structure(are, placed.packet, reach, buffer, at),
         Many::Fixed(count) => count,
         Many::Counted => last_number(placed)?,
     };
@@ -513,42 +568,6 @@ fn put_one_or_many_structures(
     reach.place = next.place;
     reach.more = more;
     Some(next.text)
-}
-
-/// Writes the structure that is alone, and gives the index after it.
-fn put_lone_structure(
-    are: &Structures,
-    packet: &Content<'_>,
-    reach: &mut Reach,
-    buffer: &mut Vec<u8>,
-    at: usize,
-) -> Option<usize>
-    requires inner { IsNearStructure are.now }
-    requires start { reach.old.place ≤ packet.now.end }
-    requires few { reach.old.more ≤ MOST_VALUES }
-    requires room { at + 66 ≤ vec_len buffer.old }
-    ensures puts { let content = packet.now in (index : ℕ) (member : Member) →
-        IsStructure member.class are.now →
-        IfSome result (λ text.
-        PutsOther index None (form member.class) (texts.value_text member.class)
-        content.bytes.now content.end reach.old (take at buffer.old.items) reach.new
-        (take text buffer.new.items)) }
-    ensures within { IfSome result (IsWithin packet.now reach.new.place buffer.new) }
-    ensures few { IfSome result (λ _. reach.new.more ≤ MOST_VALUES) }
-{
-    let from = Position {
-        place: reach.place,
-        text: at,
-    };
-    let ends = put_structure(are, packet, from, buffer)?;
-    let inner = are.count.checked_sub(1)?;
-    let more = reach.more.checked_add(inner)?;
-    if more > MOST_VALUES {
-        return None;
-    }
-    reach.place = ends.place;
-    reach.more = more;
-    Some(ends.text)
 }
 
 /// The last of the numbers of a run, if it is unsigned.

@@ -154,7 +154,7 @@ fn put_element(
 
 /// Writes one of such structures.
 #[inline(always)]
-pub(crate) fn put_structure(
+fn put_structure(
     are: &Structures,
     packet: &Content<'_>,
     from: Position,

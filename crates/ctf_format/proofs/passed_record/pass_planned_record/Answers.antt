@@ -1,6 +1,6 @@
 use Rattle.std.proofs.Common.{◌≡◌, ◌+◌, ◌<◌, ◌≤◌, ◌++◌, ◌∷◌, [], None, length, sym, subst, append-nil, rules, arith}
 use Rattle.std.specs.List.{All}
-use Rattle.ctf_class.specs.Records.{AreRuns, all_slots, values_in}
+use Rattle.ctf_class.specs.Records.{AreRuns, all_slots, ended_last, ends, values_in}
 use Rattle.ctf_decode.specs.declared.scopes.TheConstants.{MOST_VALUES}
 use Rattle.ctf_format.specs.Records.{IsNear, PutsScopes, reached}
 use Rattle.ctf_format.proofs.RecordsLemmas.{numbers_to, runs_near, scopes_puts}
@@ -11,7 +11,7 @@ pass_runs-requires-clause-near c =
     let plan = c.args.plan.now in
     let some : 0 < length plan.runs = search (rules, arith) in
     let is = c.requires.plan.1 some in
-    subst (All IsNear) (sym c.as_slice-runs.ensures) (runs_near (all_slots [] is.0) plan.runs is.3)
+    subst (All IsNear) (sym c.as_slice-runs.ensures) (runs_near (all_slots [] is.0) plan.runs is.4)
 
 pub returns-clause-passes : goal.returns-clause-passes
 returns-clause-passes c = λ classes several planned before.
@@ -24,14 +24,14 @@ returns-clause-passes c = λ classes several planned before.
     let some : 0 < length plan.runs = search (rules, arith) in
     let is = planned some in
     let slots = all_slots [] is.0 in
-    let p = c.in_ok-reach.ensures.passes slots (subst (AreRuns slots) (sym c.as_slice-runs.ensures) is.3) before in
+    let p = c.in_ok-reach.ensures.passes slots (subst (AreRuns slots) (sym c.as_slice-runs.ensures) is.4) before in
     let line = p.0 in
     let whole = scopes_puts classes is.0 [] bytes content spent (numbers_to place 0 None before) (reached to line) several is.1 p.1 in
-    let count = c.in_ok-count.count in
+    let count = c.from.result + to.more in
     let sum : count ≡ plan.count + to.more = search rules in
     let total : spent + values_in is.0 + whole.0 ≡ spent + count = omega (arith, is.2, whole.1, sum) in
     let few : spent + count ≤ MOST_VALUES = search (rules, arith) in
-    let after = line ++ (32 ∷ 125 ∷ []) in (
+    let after = line ++ (ends (ended_last 0 is.0) ++ (32 ∷ 125 ∷ [])) in (
       after,
       subst (λ n. PutsScopes classes bytes content place spent to.place n before after) total
           (subst (λ xs. PutsScopes classes bytes content place spent to.place (spent + values_in is.0 + whole.0) xs after) (append-nil before) (whole.2 (omega (arith, few, total)))),

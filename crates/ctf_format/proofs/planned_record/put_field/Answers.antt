@@ -15,8 +15,8 @@ use Rattle.ctf_format.proofs.planned_record.put_field.Goals as goal
 
 pub returns-in_ok-ends-in-String-clause-puts : goal.returns-in_ok-ends-in-String-clause-puts
 returns-in_ok-ends-in-String-clause-puts c = λ slot is.
-    let class = slot.member.class in
-    let string = subst (IsShown slot.index slot.member) c.in-String.is is.shown in
+    let class = slot.class in
+    let string = subst (IsShown slot.index slot.class) c.in-String.is is.shown in
     let bytes = c.args.placed.packet.now.bytes.now in
     let content = c.args.placed.packet.now.end in
     let begin = c.up-place.result in
@@ -29,9 +29,9 @@ returns-in_ok-ends-in-String-clause-puts c = λ slot is.
 
 pub returns-in_ok-ends-in-Text-clause-puts : goal.returns-in_ok-ends-in-Text-clause-puts
 returns-in_ok-ends-in-Text-clause-puts c = λ slot is.
-    let class = slot.member.class in
+    let class = slot.class in
     let many = Fixed c.in-Text.count in
-    let text = subst (IsShown slot.index slot.member) c.in-Text.is is.shown in
+    let text = subst (IsShown slot.index slot.class) c.in-Text.is is.shown in
     let bytes = c.args.placed.packet.now.bytes.now in
     let content = c.args.placed.packet.now.end in
     let begin = c.up-place.result in
@@ -51,15 +51,15 @@ returns-in_default-clause-puts c = λ slot is.
     let before = take c.args.at c.args.buffer.now.items in
     let line = take c.put_before-text.result c.put_before-text.new.buffer.items in
     let within : begin ≤ content = omega (arith, c.if-place-packet.false) in
-    IfSome_then c.put_other.result (c.put_other.ensures.puts slot.index slot.member is.shown) (λ text p.
+    IfSome_then c.put_other.result (c.put_other.ensures.puts slot.index slot.class is.shown) (λ text p.
     let after = take text c.put_other.new.buffer.items in
     let field = field_next slot c.args.field.now bytes content begin c.args.reach.now.place c.args.reach.now.more p.2.0 to.place p.0 before line after is c.up-place.ensures.value within c.put_before-text.ensures.put.text p.2.2 in
     (p.0, p.1, subst (λ n. PutsField slot bytes content (numbers_to c.args.reach.now.place c.args.reach.now.more p.0 before) (numbers_to to.place n None after)) (sym p.2.1) field))
 
 pub returns-in_ok-ends-in-CountedText-clause-puts : goal.returns-in_ok-ends-in-CountedText-clause-puts
 returns-in_ok-ends-in-CountedText-clause-puts c = λ slot is.
-    let class = slot.member.class in
-    let shown = subst (IsShown slot.index slot.member) c.in-CountedText.is is.shown in
+    let class = slot.class in
+    let shown = subst (IsShown slot.index slot.class) c.in-CountedText.is is.shown in
     let many = Field shown.0 in
     let bytes = c.args.placed.packet.now.bytes.now in
     let content = c.args.placed.packet.now.end in
@@ -82,11 +82,11 @@ returns-in_ok-ends-in-CountedText-clause-puts c = λ slot is.
 
 pub returns-in_ok-next-in-Labelled-clause-puts : goal.returns-in_ok-next-in-Labelled-clause-puts
 returns-in_ok-next-in-Labelled-clause-puts c = λ slot is.
-    let class = slot.member.class in
+    let class = slot.class in
     let e = c.in-Labelled.labelled in
     let i = e.container in
     let ls = c.get-labels.result.now in
-    let shown = subst (IsShown slot.index slot.member) c.in-Labelled.is is.shown in
+    let shown = subst (IsShown slot.index slot.class) c.in-Labelled.is is.shown in
     let bytes = c.args.placed.packet.now.bytes.now in
     let content = c.args.placed.packet.now.end in
     let begin = c.up-place.result in

@@ -8,10 +8,9 @@ use Rattle.ctf_format.proofs.StandingLemmas.{as_one, same_front, puts_next, form
 use Rattle.ctf_format.proofs.planned_record.put_lone.Goals as goal
 
 pub returns-clause-puts : goal.returns-clause-puts
-returns-clause-puts c = λ index member is.
-    let class = member.class in
-    let i = c.args.are.now.integer in
-    let align = c.args.are.now.align in
+returns-clause-puts c = λ index class is.
+    let i = c.args.lone.now.integer in
+    let align = c.args.lone.now.align in
     let ends = c.in_ok-ends.ends in
     let bytes = c.args.packet.now.bytes.now in
     let content = c.args.packet.now.end in

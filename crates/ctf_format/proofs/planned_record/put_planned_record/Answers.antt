@@ -1,7 +1,8 @@
-use Rattle.std.proofs.Common.{◌≡◌, ◌+◌, ◌<◌, ◌≤◌, ◌++◌, ◌∷◌, [], None, take, length, sym, subst, append-nil, rules, arith}
+use Rattle.std.proofs.Common.{◌≡◌, ◌+◌, ◌<◌, ◌≤◌, ◌++◌, ◌∷◌, [], None, take, length, sym, ap, subst, ◌∙◌, append_assoc, append-nil, rules, arith}
 use Rattle.std.specs.List.{All}
-use Rattle.ctf_class.specs.Records.{AreRuns, all_slots, values_in}
+use Rattle.ctf_class.specs.Records.{AreRuns, all_slots, ended_last, ends, values_in}
 use Rattle.ctf_decode.specs.declared.scopes.TheConstants.{MOST_VALUES}
+use Rattle.ctf_class.proofs.RecordsLemmas.{ends_on}
 use Rattle.ctf_format.specs.Records.{IsNear, PutsScopes, reached}
 use Rattle.ctf_format.proofs.RecordsLemmas.{numbers_to, runs_near, scopes_puts}
 use Rattle.ctf_format.proofs.planned_record.put_planned_record.Goals as goal
@@ -11,7 +12,7 @@ put_runs-requires-clause-near c =
     let plan = c.args.plan.now in
     let some : 0 < length plan.runs = search (rules, arith) in
     let is = c.requires.plan.1 some in
-    subst (All IsNear) (sym c.as_slice-runs.ensures) (runs_near (all_slots [] is.0) plan.runs is.3)
+    subst (All IsNear) (sym c.as_slice-runs.ensures) (runs_near (all_slots [] is.0) plan.runs is.4)
 
 pub returns-clause-puts : goal.returns-clause-puts
 returns-clause-puts c = λ classes several planned.
@@ -22,17 +23,20 @@ returns-clause-puts c = λ classes several planned.
     let spent = c.args.from.spent in
     let to = c.put_runs.new.reach in
     let before = take c.args.from.end c.args.buffer.now.items in
-    let after = take c.in_ok-text.text c.put_runs.new.buffer.items in
+    let written = take c.in_ok-text.text c.put_runs.new.buffer.items in
+    let after = take c.in_ok-end.end c.put_ends.new.buffer.items in
     let some : 0 < length plan.runs = search (rules, arith) in
     let is = planned some in
     let slots = all_slots [] is.0 in
-    let puts = c.in_ok-text.ensures.puts slots (subst (AreRuns slots) (sym c.as_slice-runs.ensures) is.3) in
+    let puts = c.in_ok-text.ensures.puts slots (subst (AreRuns slots) (sym c.as_slice-runs.ensures) is.4) in
     let line = puts.0 in
     let whole = scopes_puts classes is.0 [] bytes content spent (numbers_to place 0 None before) (reached to line) several is.1 puts.1 in
-    let count = c.in_ok-count.count in
+    let count = c.from.result + to.more in
     let sum : count ≡ plan.count + to.more = search rules in
     let total : spent + values_in is.0 + whole.0 ≡ spent + count = omega (arith, is.2, whole.1, sum) in
     let few : spent + count ≤ MOST_VALUES = search (rules, arith) in
+    let closed = line ++ (ends (ended_last 0 is.0) ++ (32 ∷ 125 ∷ [])) in
+    let text : closed ≡ after = ap (λ xs. line ++ xs) (ends_on (ended_last 0 is.0)) ∙ sym (append_assoc line (32 ∷ 125 ∷ []) (ends (ended_last 0 is.0))) ∙ (λ j. sym puts.2 j ++ ends (sym is.3 j)) ∙ sym c.in_ok-end.ensures.text in
     subst (λ n. PutsScopes classes bytes content place spent to.place n before after) total
-    (subst (λ xs. PutsScopes classes bytes content place spent to.place (spent + values_in is.0 + whole.0) before xs) (sym puts.2)
-    (subst (λ xs. PutsScopes classes bytes content place spent to.place (spent + values_in is.0 + whole.0) xs (line ++ (32 ∷ 125 ∷ []))) (append-nil before) (whole.2 (omega (arith, few, total)))))
+    (subst (λ xs. PutsScopes classes bytes content place spent to.place (spent + values_in is.0 + whole.0) before xs) text
+    (subst (λ xs. PutsScopes classes bytes content place spent to.place (spent + values_in is.0 + whole.0) xs closed) (append-nil before) (whole.2 (omega (arith, few, total)))))

@@ -1,0 +1,496 @@
+//! Plans of event records while they are built.
+
+ghost use Rattle.std.specs.Prelude.{◌≡◌, ◌+◌, ◌%◌, ◌∷◌, ◌++◌, [], ◌^◌, ◌<◌, ◌≤◌, ℕ, length, max, IsTrue, IsFalse, IfOk, IfSome, OnOk, option_copied};
+ghost use Rattle.std.specs.Int.{next_multiple_of};
+ghost use Rattle.ctf_class.specs.Alignment.{IsLarger};
+ghost use Rattle.ctf_class.specs.PlanBuilding.{AddsPiece, AddsPieces, IsMade, IsMadeOf, at_of, before_scope, slot_of, with_number, with_field};
+ghost use Rattle.ctf_class.specs.Records.{Slot, IsPlanOf, and_scope, ends, first_at, opened_lead};
+ghost use Rattle.ctf_class.specs.Names.{field_text};
+ghost use Rattle.ctf_class.specs.declared.class.Kind as kinds;
+
+use crate::align::{Align, one_bit};
+use crate::class::{Class, Kind, Member};
+use crate::field_name::FieldName;
+use crate::integer::Integer;
+use crate::planned_number::{PlannedNumber, have_special, is_special};
+use crate::prepared_text::PreparedText;
+use crate::record_plan::{PlannedField, PlannedRun, RecordPlan};
+use crate::shown::shown_of;
+use ctf_bits::Window;
+use ctf_list::{List, NoMemory};
+use std::alloc::Global;
+use std::mem;
+
+/// How many bytes of a line a run may take where it gets one more number, so that buffers stay short.
+const MOST_ROOM: usize = 8192;
+
+/// The farthest distance of a number, in bits.
+const FARTHEST: u64 = 1 << 32;
+
+/// The longest text before a value, in bytes. A name of the stream event context is in the plan of each event, so a
+/// longer one could take much memory.
+const LONGEST_TEXT: usize = 1 << 10;
+
+/// What is before a member of a structure.
+#[derive(Clone, Copy)]
+pub(crate) struct Lead<'a> {
+    /// What is printed before its name.
+    pub(crate) text: &'a [u8],
+    /// The alignment of the structures that it begins, or 1.
+    pub(crate) align: Align,
+    /// How many members of its structure are before it, or 0 where the one before it is a structure that is gone into.
+    pub(crate) index: usize,
+}
+
+/// A plan on its way.
+#[derive(Drop)]
+pub(crate) struct PlanBuilder {
+    /// The runs that are whole.
+    pub(crate) runs: List<PlannedRun>,
+    /// The alignment of the open run, and its numbers.
+    pub(crate) align: Align,
+    pub(crate) numbers: List<PlannedNumber>,
+    pub(crate) span: u64,
+    pub(crate) room: usize,
+    /// How many values the scopes so far have, and the structures that were gone into since.
+    pub(crate) count: u32,
+    /// How many structures end, one in the other, where the last field does.
+    pub(crate) ended: u32,
+}
+
+impl PlanBuilder {
+    /// A plan of no scopes.
+    pub(crate) fn new(alloc: Global) -> PlanBuilder
+        ensures made { IsMadeOf [] result }
+        ensures runs { result.runs ≡ [] }
+        ensures count { result.count ≡ 0 }
+        ensures few { result.room ≤ 2 ^ 18 }
+        ensures near { result.span ≤ 2 ^ 33 }
+    {
+        PlanBuilder {
+            runs: List::new(alloc),
+            align: one_bit(),
+            numbers: List::new(alloc),
+            span: 0,
+            room: 24,
+            count: 0,
+            ended: 0,
+        }
+    }
+
+    /// The plan of the scopes that were added.
+    pub(crate) fn finish(self) -> Result<RecordPlan, NoMemory>
+        ensures { IfOk result (λ plan. (ks : List Class) → IsMadeOf ks self → IsPlanOf ks plan) }
+    {
+        let PlanBuilder {
+            mut runs,
+            align,
+            numbers,
+            span,
+            room,
+            count,
+            ended,
+        } = self;
+        if numbers.is_empty() && !runs.is_empty() {
+            return Ok(RecordPlan { runs, count, ended });
+        }
+        runs.push(PlannedRun {
+            align,
+            has_special: have_special(numbers.as_slice()),
+            numbers,
+            span,
+            room,
+            field: None,
+        })?;
+        Ok(RecordPlan { runs, count, ended })
+    }
+
+    /// Adds a scope if there is one. Whether that could be done.
+    pub(crate) fn add_optional(
+        &mut self,
+        alloc: Global,
+        class: Option<&Class>,
+    ) -> Result<bool, NoMemory>
+        requires few { self.old.room ≤ 2 ^ 18 }
+        requires near { self.old.span ≤ 2 ^ 33 }
+        ensures few { IfOk result (λ took. IsTrue took → self.new.room ≤ 2 ^ 18) }
+        ensures near { IfOk result (λ took. IsTrue took → self.new.span ≤ 2 ^ 33) }
+        ensures made { IfOk result (λ took. IsTrue took → (ks : List Class) → IsMadeOf ks self.old →
+            IsMadeOf (ks ++ and_scope (option_copied class.entry) []) self.new) }
+    {
+        match class {
+            Some(class) => self.add_scope(alloc, class),
+            None => Ok(true),
+        }
+    }
+
+    /// Adds a scope. Whether that could be done.
+    pub(crate) fn add_scope(&mut self, alloc: Global, class: &Class) -> Result<bool, NoMemory>
+        requires few { self.old.room ≤ 2 ^ 18 }
+        requires near { self.old.span ≤ 2 ^ 33 }
+        ensures few { IfOk result (λ took. IsTrue took → self.new.room ≤ 2 ^ 18) }
+        ensures near { IfOk result (λ took. IsTrue took → self.new.span ≤ 2 ^ 33) }
+        ensures made { IfOk result (λ took. IsTrue took → (ks : List Class) → IsMadeOf ks self.old →
+            IsMadeOf (ks ++ class.now ∷ []) self.new) }
+    {
+        let Kind::Structure { members } = &class.kind else {
+            return Ok(false);
+        };
+        let members = members.as_slice();
+        if members.is_empty() {
+            return Ok(false);
+        }
+        let text = self.opening(alloc)?;
+        if !self.add_members(alloc, text, class.align, members)? {
+            return Ok(false);
+        }
+        let Some(count) = with_members(self.count, members.len() + 1) else {
+            return Ok(false);
+        };
+        self.count = count;
+        Ok(true)
+    }
+
+    /// What is printed before the name of the first field of the next scope.
+    fn opening(&self, alloc: Global) -> Result<List<u8>, NoMemory>
+        ensures { IfOk result
+            (λ lead. lead ≡ before_scope self.now.count self.now.ended ++ (123 ∷ 32 ∷ [])) }
+    {
+        if self.count == 0 {
+            return after_ends(alloc, 0, b"{ ");
+        }
+        after_ends(alloc, self.ended, b" }, { ")
+    }
+
+    /// Adds the members of a structure, the first after a text and at an alignment. Whether that could be done.
+    #[cycle(plan)]
+    fn add_members(
+        &mut self,
+        alloc: Global,
+        first: List<u8>,
+        begin: Align,
+        members: &[Member],
+    ) -> Result<bool, NoMemory>
+        requires few { self.old.room ≤ 2 ^ 18 }
+        requires near { self.old.span ≤ 2 ^ 33 }
+        ensures few { IfOk result (λ took. IsTrue took → self.new.room ≤ 2 ^ 18) }
+        ensures near { IfOk result (λ took. IsTrue took → self.new.span ≤ 2 ^ 33) }
+        ensures made { IfOk result (λ took. IsTrue took → (done : List Slot) →
+            IsMade done self.old →
+            AddsPieces (first_at first begin) members.now done self.old self.new) }
+    {
+        let mut text = first;
+        let mut align = begin;
+        let mut index = 0;
+        for (i, member) in members.iter().enumerate() {
+            let lead = Lead {
+                text: text.as_slice(),
+                align,
+                index,
+            };
+            if !self.add_member(alloc, &lead, member)? {
+                return Ok(false);
+            }
+            text = after_ends(alloc, self.ended, b", ")?;
+            align = one_bit();
+            index = if self.ended == 0 { i + 1 } else { 0 };
+        }
+        Ok(true)
+    }
+
+    /// Adds a member of a structure. Whether that could be done.
+    #[cycle(plan)]
+    fn add_member(
+        &mut self,
+        alloc: Global,
+        lead: &Lead<'_>,
+        member: &Member,
+    ) -> Result<bool, NoMemory>
+        requires few { self.old.room ≤ 2 ^ 18 }
+        requires near { self.old.span ≤ 2 ^ 33 }
+        ensures few { IfOk result (λ took. IsTrue took → self.new.room ≤ 2 ^ 18) }
+        ensures near { IfOk result (λ took. IsTrue took → self.new.span ≤ 2 ^ 33) }
+        ensures made { IfOk result (λ took. IsTrue took → (done : List Slot) →
+            IsMade done self.old → AddsPiece (at_of lead.now) member.now done self.old self.new) }
+    {
+        if self.add_integer(alloc, lead, member)? {
+            return Ok(true);
+        }
+        if let Kind::Structure { members } = &member.class.kind {
+            if !members.is_empty() {
+                return self.add_inner(alloc, lead, member, members.as_slice());
+            }
+        }
+        self.add_shown(alloc, lead, member)
+    }
+
+    /// Adds the members of a member that is a structure. Whether that could be done.
+    #[cycle(plan)]
+    fn add_inner(
+        &mut self,
+        alloc: Global,
+        lead: &Lead<'_>,
+        member: &Member,
+        members: &[Member],
+    ) -> Result<bool, NoMemory>
+        requires few { self.old.room ≤ 2 ^ 18 }
+        requires near { self.old.span ≤ 2 ^ 33 }
+        requires is { member.now.class.kind ≡ kinds.Structure members.now }
+        requires some { 0 < length members.now }
+        ensures few { IfOk result (λ took. IsTrue took → self.new.room ≤ 2 ^ 18) }
+        ensures near { IfOk result (λ took. IsTrue took → self.new.span ≤ 2 ^ 33) }
+        ensures made { IfOk result (λ took. IsTrue took → (done : List Slot) →
+            IsMade done self.old → AddsPiece (at_of lead.now) member.now done self.old self.new) }
+    {
+        // Structures that begin with one another have all their names in one text.
+        if is_long(lead.text, &member.name) {
+            return Ok(false);
+        }
+        let text = opened(alloc, lead.text, &member.name)?;
+        let begin = lead.align.larger(member.class.align);
+        if !self.add_members(alloc, text, begin, members)? {
+            return Ok(false);
+        }
+        let Some(count) = with_members(self.count, members.len()) else {
+            return Ok(false);
+        };
+        let Some(ended) = self.ended.checked_add(1) else {
+            return Ok(false);
+        };
+        self.count = count;
+        self.ended = ended;
+        Ok(true)
+    }
+
+    /// Adds a member as a field after the open run, if it can be shown so. Whether it can.
+    fn add_shown(
+        &mut self,
+        alloc: Global,
+        lead: &Lead<'_>,
+        member: &Member,
+    ) -> Result<bool, NoMemory>
+        requires few { self.old.room ≤ 2 ^ 18 }
+        ensures few { IfOk result (λ took. IsTrue took → self.new.room ≤ 2 ^ 18) }
+        ensures near { IfOk result (λ took. IsTrue took → self.new.span ≤ 2 ^ 33) }
+        ensures made { IfOk result (λ took. IsTrue took → (done : List Slot) →
+            IsMade done self.old →
+            AddsPiece (at_of lead.now) member.now done self.old self.new) }
+    {
+        let Some(ready) = ready_after(alloc, lead.text, &member.name)? else {
+            return Ok(false);
+        };
+        let known = shown_of(alloc, &member.class, lead.index)?;
+        let Some(shown) = known else {
+            return Ok(false);
+        };
+        self.add_field(
+            alloc,
+            PlannedField {
+                ready,
+                align: lead.align,
+                shown,
+            },
+        )?;
+        Ok(true)
+    }
+
+    /// Adds a member as the next number of the open run, if it can be one. Whether it can.
+    pub(crate) fn add_integer(
+        &mut self,
+        alloc: Global,
+        lead: &Lead<'_>,
+        member: &Member,
+    ) -> Result<bool, NoMemory>
+        requires few { self.old.room ≤ 2 ^ 18 }
+        requires near { self.old.span ≤ 2 ^ 33 }
+        ensures few { IfOk result (λ took. IsTrue took → self.new.room ≤ 2 ^ 18) }
+        ensures near { IfOk result (λ took. IsTrue took → self.new.span ≤ 2 ^ 33) }
+        ensures count { IfOk result (λ took. IsTrue took → self.new.count ≡ self.old.count) }
+        ensures ended { IfOk result (λ took. IsTrue took → self.new.ended ≡ 0) }
+        ensures runs { IfOk result (λ took. IsTrue took → self.new.runs ≡ self.old.runs) }
+        ensures made { IfOk result (λ took. IsTrue took → (done : List Slot) →
+            IsMade done self.old → IsMade (done ++ slot_of lead.now member.now ∷ []) self.new) }
+        ensures left { IfOk result (λ took. IsFalse took → self.new ≡ self.old) }
+    {
+        let align = lead.align;
+        let run_align = self.align_with(align, member.class.align);
+        let Some((integer, window)) = self.as_number(&member.class, align, run_align) else {
+            return Ok(false);
+        };
+        let Some(ready) = ready_after(alloc, lead.text, &member.name)? else {
+            return Ok(false);
+        };
+        let number = PlannedNumber {
+            is_special: is_special(&integer),
+            integer,
+            window,
+            ready,
+        };
+        self.add_number(number, run_align)?;
+        Ok(true)
+    }
+
+    /// The alignment of the open run with one number more, of the alignment `own`, that begins structures of the
+    /// alignment `begin`, or 1.
+    fn align_with(&self, begin: Align, own: Align) -> Align
+        ensures first { self.now.numbers ≡ [] → IsLarger result begin own }
+        ensures later { 0 < length self.now.numbers → result ≡ self.now.align }
+    {
+        if self.numbers.is_empty() {
+            begin.larger(own)
+        } else {
+            self.align
+        }
+    }
+
+    /// A field of a class as the next number of the open run, which is of the alignment `run` then, if it can be one.
+    /// It begins structures of the alignment `begin`, or 1.
+    fn as_number(&self, class: &Class, begin: Align, run: Align) -> Option<(Integer, Window)>
+        requires { self.now.span ≤ 2 ^ 33 }
+        ensures is { IfSome result (λ found. class.now.kind ≡ kinds.Integer found.0) }
+        ensures begins { IfSome result (λ _. max 8 run % begin ≡ 0) }
+        ensures divides { IfSome result (λ _. max 8 run % class.now.align ≡ 0) }
+        ensures window { IfSome result
+            (λ found. found.1 ≡
+            record {
+              place = next_multiple_of (next_multiple_of self.now.span begin)
+                  class.now.align;
+              size = max 1 found.0.size;
+              is_signed = found.0.is_signed;
+            }) }
+        ensures near { IfSome result (λ found. found.1.place + found.1.size ≤ 2 ^ 33) }
+        ensures few { IfSome result (λ _. self.now.room ≤ MOST_ROOM) }
+    {
+        let Kind::Integer(integer) = &class.kind else {
+            return None;
+        };
+        if self.room > MOST_ROOM {
+            return None;
+        }
+        if run.bits() < 8 && !self.begins_at_byte() {
+            return None;
+        }
+        let unit = run.bits().max(8);
+        if unit % begin.bits() != 0 || unit % class.align.bits() != 0 {
+            return None;
+        }
+        let from = begin.up(self.span);
+        let place = class.align.up(from);
+        if place > FARTHEST {
+            return None;
+        }
+        let window = Window::new(place, integer.size.bits(), integer.is_signed)?;
+        Some((*integer, window))
+    }
+
+    /// Whether the open run begins at a byte, wherever it is, as far as the field before it tells.
+    fn begins_at_byte(&self) -> bool {
+        let runs = self.runs.as_slice();
+        match runs.last() {
+            Some(
+                PlannedRun {
+                    field: Some(field),
+                    ..
+                },
+            ) => field.shown.ends_at_byte(),
+            _ => true,
+        }
+    }
+
+    /// One more number of the open run, which is of this alignment then.
+    fn add_number(&mut self, number: PlannedNumber, align: Align) -> Result<(), NoMemory>
+        requires near { number.window.place + number.window.size ≤ 2 ^ 33 }
+        requires short { length number.ready ≤ LONGEST_TEXT }
+        requires few { self.old.room ≤ 2 ^ 18 }
+        ensures { OnOk result (self.new ≡ with_number self.old align number) }
+    {
+        let span = number.window.end();
+        let room = number.ready.len() + 66;
+        self.numbers.push(number)?;
+        self.align = align;
+        self.span = span;
+        self.room += room;
+        self.ended = 0;
+        Ok(())
+    }
+
+    /// A field after the open run, which is whole then.
+    fn add_field(&mut self, alloc: Global, field: PlannedField) -> Result<(), NoMemory>
+        requires short { length field.ready ≤ LONGEST_TEXT }
+        requires few { self.old.room ≤ 2 ^ 18 }
+        ensures { OnOk result (self.new ≡ with_field self.old field) }
+    {
+        let room = self.room + (field.ready.len() + 66);
+        let numbers = mem::replace(&mut self.numbers, List::new(alloc));
+        self.runs.push(PlannedRun {
+            align: self.align,
+            has_special: have_special(numbers.as_slice()),
+            numbers,
+            span: self.span,
+            room,
+            field: Some(field),
+        })?;
+        self.align = one_bit();
+        self.span = 0;
+        self.room = 24;
+        self.ended = 0;
+        Ok(())
+    }
+}
+
+/// What is printed where so many structures end, one in the other, and a text after that.
+fn after_ends(alloc: Global, ended: u32, text: &[u8]) -> Result<List<u8>, NoMemory>
+    ensures { IfOk result (λ lead. lead ≡ ends ended ++ text.now) }
+{
+    let mut lead = List::new(alloc);
+    for i in 0..ended {
+        lead.extend_from_slice(b" }")?;
+    }
+    lead.extend_from_slice(text)?;
+    Ok(lead)
+}
+
+/// What is printed before the value of a member of this name, after a text, unless it is too long.
+fn ready_after(
+    alloc: Global,
+    lead: &[u8],
+    name: &FieldName,
+) -> Result<Option<PreparedText>, NoMemory>
+    ensures is { IfOk result
+        (λ ready. IfSome ready (λ text. text ≡ lead.now ++ field_text name.now)) }
+    ensures short { IfOk result (λ ready. IfSome ready (λ text. length text ≤ LONGEST_TEXT)) }
+{
+    if is_long(lead, name) {
+        return Ok(None);
+    }
+    let ready = name.after(alloc, lead)?;
+    if ready.len() > LONGEST_TEXT {
+        return Ok(None);
+    }
+    Ok(Some(ready))
+}
+
+/// Whether a name after a text is too long to be copied.
+fn is_long(lead: &[u8], name: &FieldName) -> bool {
+    lead.len() > LONGEST_TEXT || name.as_slice().len() > LONGEST_TEXT
+}
+
+/// What is printed before the name of the first member of a structure of this name, which is a member after a text.
+fn opened(alloc: Global, lead: &[u8], name: &FieldName) -> Result<List<u8>, NoMemory>
+    ensures { IfOk result (λ text. text ≡ opened_lead lead.now name.now) }
+{
+    let mut text = List::from_slice(alloc, lead)?;
+    text.extend_from_slice(name.visible())?;
+    text.extend_from_slice(b" = { ")?;
+    Ok(text)
+}
+
+/// A count of values, and so many members more, where that can be counted.
+fn with_members(count: u32, members: usize) -> Option<u32>
+    ensures { IfSome result (λ sum. sum ≡ count + members) }
+{
+    let Ok(more) = u32::try_from(members) else {
+        return None;
+    };
+    count.checked_add(more)
+}
