@@ -220,7 +220,7 @@ CASES = scope_cases() + [
     Case("metadata: `ABCD,` after `string`, as fields", "bytes", strings_as_fields, TEXT_SIZES),
     Case("metadata: `a,` after `string`, 53 fields an event", "bytes", short_strings_of_events, TEXT_SIZES),
     Case("metadata: events of a long context", "members and events", events_of_a_long_context, (1000, 2000, 4000)),
-    Case("metadata: events of a long name", "16 bytes of a name, and events", events_of_a_long_name, (1000, 2000, 4000)),
+    Case("metadata: events of a long name", "events, and 16 bytes of a name each", events_of_a_long_name, (1000, 2000, 4000)),
     Case("metadata: events as LTTng's", "bytes", events_of_metadata, TEXT_SIZES),
 ]
 
