@@ -137,6 +137,20 @@ def options(folder: pathlib.Path, count: int) -> None:
     shapes.write_trace(folder, text, s0=b"\0\0" + bytes(count))
 
 
+def last_option_of_each_event(folder: pathlib.Path, count: int) -> None:
+    labels = ", ".join(f"l{number}" for number in range(count))
+    members = " ".join(f"u8 l{number};" for number in range(count))
+    text = TRACE % "" + EVENT % f"enum : u16 {{ {labels} }} t; variant <t> {{ {members} }} v;"
+    shapes.write_trace(folder, text, s0=struct.pack("<HB", count - 1, 1) * count)
+
+
+def streams_of_a_header_with_labels(folder: pathlib.Path, count: int) -> None:
+    labels = ", ".join(f"l{number}" for number in range(count))
+    tag = f"enum : u16 {{ {labels} }} id; variant <id> {{ struct {{ u8 a; }} l{count - 1}; }} v;"
+    streams = "".join(f"stream {{ id = {number}; event.header := struct h; }};\n" for number in range(count))
+    shapes.write_trace(folder, TRACE % "" + f"struct h {{ {tag} }};\n{streams}")
+
+
 # Streams and values.
 
 
@@ -149,6 +163,30 @@ def streams_of_packets(folder: pathlib.Path, count: int) -> None:
     shapes.write_trace(folder, packets.METADATA)
     for number in range(count):
         packets.write_stream(folder / f"s{number}", number, 1, 512)
+
+
+def streams_of_a_long_host(folder: pathlib.Path, count: int) -> None:
+    clock = "clock { name = m; };\ntypealias integer { size = 8; map = clock.m.value; } := t;\n"
+    text = f'{SHORT}env {{ hostname = "{"h" * 1024 * 16}"; }};\n{clock}stream {{ event.header := struct {{ t timestamp; }}; }};\n'
+    shapes.write_trace(folder, text + EVENT % "u a;", **{f"s{number}": b"\1\2" for number in range(count)})
+
+
+def packets_without_events(folder: pathlib.Path, count: int) -> None:
+    text = TRACE % "" + STREAM % f"packet.context := struct {{ u8 packet_size; u8 {'n' * count}; }}; " + EVENT % "u8 a;"
+    shapes.write_trace(folder, text, s0=b"\x10\0" * count)
+
+
+def elements_that_are_not_there(folder: pathlib.Path, count: int) -> None:
+    members = "".join(f"u8 m{number};" for number in range(count))
+    context = f"u8 packet_size; u8 n; struct {{ {members} }} e[n];"
+    text = TRACE % "" + STREAM % f"packet.context := struct {{ {context} }}; " + EVENT % "u8 a;"
+    shapes.write_trace(folder, text, s0=b"\x18\0\1" * count)
+
+
+def headers_of_no_bits(folder: pathlib.Path, count: int) -> None:
+    members = "".join(f" n m{number};" for number in range(count))
+    header = f"typealias struct {{ }} := n;\nstream {{ event.header := struct {{ u8 a;{members} }}; }};\n"
+    shapes.write_trace(folder, TRACE % "" + header + EVENT % "", s0=bytes(count))
 
 
 def values_of_no_bits(folder: pathlib.Path, count: int) -> None:
@@ -193,6 +231,39 @@ def events_of_a_long_name(folder: pathlib.Path, count: int) -> None:
     shapes.write_trace(folder, f"{SHORT}stream {{ {header} }};\n{events}\n")
 
 
+def events_of_a_long_host(folder: pathlib.Path, count: int) -> None:
+    host = "h" * 16 * count
+    events = "".join(f"event{{id={number};name=a;fields:=struct{{u a;}};}};" for number in range(count))
+    header = "stream { event.header := struct { integer { size = 32; } id; }; };"
+    shapes.write_trace(folder, f'{SHORT}env {{ hostname = "{host}"; }};\n{header}\n{events}\n')
+
+
+def streams_of_a_long_clock(folder: pathlib.Path, count: int) -> None:
+    name = "c" * 16 * count
+    streams = "".join(f"stream{{id={number};event.header:=struct{{u timestamp;}};}};" for number in range(count))
+    shapes.write_trace(folder, f"{SHORT}clock {{ name = {name}; }};\n{streams}\n")
+
+
+def enumerations_of_a_long_clock(folder: pathlib.Path, count: int) -> None:
+    name = "c" * 16 * count
+    clock = f"clock {{ name = {name}; }};\ntypealias integer {{ size = 8; map = clock.{name}.value; }} := t;\n"
+    members = "".join(f"enum:t{{A}}m{number};" for number in range(count))
+    shapes.write_trace(folder, f"{SHORT}{clock}stream {{ }};\nevent {{ name = e; fields := struct {{ {members} }}; }};\n")
+
+
+def mapped_to_a_long_clock(folder: pathlib.Path, count: int) -> None:
+    name = "c" * 16 * count
+    clock = f"clock {{ name = {name}; }};\ntypealias integer {{ size = 8; map = clock.{name}.value; }} := t;\n"
+    members = "".join(f"t m{number};" for number in range(count))
+    shapes.write_trace(folder, f"{SHORT}{clock}stream {{ }};\nevent {{ name = e; fields := struct {{ {members} }}; }};\n")
+
+
+def lengths_of_a_long_name(folder: pathlib.Path, count: int) -> None:
+    name = "n" * 16 * count
+    members = "".join(f"t m{number};" for number in range(count))
+    shapes.write_trace(folder, f"{SHORT}typealias struct {{ u {name}; u a[{name}]; }} := t;\n{EVENT % members}")
+
+
 def events_of_metadata(folder: pathlib.Path, size: int) -> None:
     shapes.write_trace(folder, "")
     metadata.main(size, str(folder / "metadata"))
@@ -208,9 +279,15 @@ CASES = scope_cases() + [
     Case("labels of a number each", "labels and events", labels_apart, (5000, 10_000, 20_000)),
     Case("labels of one number, ten events", "labels", labels_of_one_number, (5000, 10_000, 20_000)),
     Case("labels of one name and one number", "labels and events", labels_of_one_name, (5000, 10_000, 20_000)),
+    Case("the last option of a variant", "options and events", last_option_of_each_event, (2500, 5000, 10_000)),
+    Case("headers with labels", "labels and stream classes", streams_of_a_header_with_labels, (1250, 2500, 5000)),
     Case("variants of one enumeration", "labels and places", options, (1000, 2000, 4000)),
     Case("streams of 6 bytes", "streams", short_streams, (5000, 10_000, 20_000)),
     Case("streams of a packet of 512 bytes", "streams", streams_of_packets, (1024, 2048, 4096)),
+    Case("streams of a host of 16 KiB", "streams", streams_of_a_long_host, (512, 1024, 2048)),
+    Case("packets without events", "packets, and bytes of a name in their context", packets_without_events, (12_500, 25_000, 50_000)),
+    Case("packets with elements that are not there", "packets, and members of an element", elements_that_are_not_there, (2500, 5000, 10_000)),
+    Case("event headers of no bits", "members and events", headers_of_no_bits, (1250, 2500, 5000)),
     Case("`u32 n; struct { } e[n];`", "n", values_of_no_bits, (2**16, 2**18, 2**20)),
     Case("the same, n nearly as large as it may be", "n", values_of_no_bits, (16_777_000,)),
     Case("metadata: `u a;` in a structure", "bytes", repeated(SHORT + "struct s { ", "u a;", " };\n"), TEXT_SIZES),
@@ -221,6 +298,11 @@ CASES = scope_cases() + [
     Case("metadata: `a,` after `string`, 53 fields an event", "bytes", short_strings_of_events, TEXT_SIZES),
     Case("metadata: events of a long context", "members and events", events_of_a_long_context, (1000, 2000, 4000)),
     Case("metadata: events of a long name", "events, and 16 bytes of a name each", events_of_a_long_name, (1000, 2000, 4000)),
+    Case("metadata: events of a long host", "events, and 16 bytes of a host each", events_of_a_long_host, (1000, 2000, 4000)),
+    Case("metadata: streams of a long clock", "streams, and 16 bytes of its name each", streams_of_a_long_clock, (1000, 2000, 4000)),
+    Case("metadata: enumerations of a long clock", "enumerations, and 16 bytes of its name each", enumerations_of_a_long_clock, (1000, 2000, 4000)),
+    Case("metadata: integers of a long clock", "integers, and 16 bytes of its name each", mapped_to_a_long_clock, (2500, 5000, 10_000)),
+    Case("metadata: lengths of a long name", "lengths, and 16 bytes of the name each", lengths_of_a_long_name, (2500, 5000, 10_000)),
     Case("metadata: events as LTTng's", "bytes", events_of_metadata, TEXT_SIZES),
 ]
 

@@ -5,12 +5,13 @@
 //! - `field NAME` is the name of a member and what is printed for it, `copy NAME` those of its copy, `after NAME LEAD`
 //!   a text and what is printed for the name after it, and `same NAME NAME` whether two names are equal.
 //! - `label NAME` is a label, what is printed for it, and whether it is equal to itself.
-//! - `heading HOST NAME` is a host, the name of an event class, and what is printed for both.
+//! - `heading HOST NAME` is a host, the name of an event class, and what is printed for both, in two texts where the
+//!   host's is long.
 
 ghost use Rattle.std.specs.Prelude.{◌≤◌};
 
 use crate::row::{Row, unquote};
-use ctf_class::{FieldName, Heading, LabelName, PreparedText, escaped};
+use ctf_class::{FieldName, Heading, Host, LabelName, PreparedText, escaped};
 use ctf_list::{List, NoMemory};
 use std::alloc::Global;
 
@@ -109,11 +110,23 @@ fn put_label_row(row: &mut Row<'_>) {
 fn put_heading_row(row: &mut Row<'_>) {
     let host = match row.word() {
         "-" => None,
-        host => Some(list_of(row.alloc, host)),
+        host => Host::new(row.alloc, &unquote(row.alloc, host)).ok(),
     };
     if let Ok(heading) = Heading::new(row.alloc, host, list_of(row.alloc, row.words)) {
         row.put(heading.host().unwrap_or(b"-"));
         row.put(b" ");
-        put_printed(row, heading.name(), heading.ready());
+        match heading.ready() {
+            Some(ready) => put_printed(row, heading.name(), ready),
+            None => put_apart(row, &heading),
+        }
+    }
+}
+
+/// Puts a name, and what is printed for a long host and for the name.
+fn put_apart(row: &mut Row<'_>, heading: &Heading) {
+    let texts = heading.texts();
+    if let Some(host) = texts.host {
+        put_printed(row, heading.name(), host);
+        put_printed(row, b",", texts.rest);
     }
 }

@@ -14,8 +14,8 @@ use crate::classes::{front, members_of, put_class, scope};
 use crate::plans::put_runs;
 use crate::row::Row;
 use ctf_class::{
-    Class, EventClass, HasId, Heading, Indexed, PlanRoom, PlannedEvent, StreamClass, StreamParts,
-    TraceClass,
+    Class, EventClass, HasId, Heading, Host, Indexed, PlanRoom, PlannedEvent, StreamClass,
+    StreamParts, TraceClass,
 };
 use ctf_list::{List, NoMemory};
 use std::alloc::Global;
@@ -203,7 +203,7 @@ fn add_trace(
         }
     }
     let streams = Indexed::new(alloc, streams)?;
-    let host = List::from_slice(alloc, host.as_bytes())?;
+    let host = Host::new(alloc, host.as_bytes())?;
     traces.push(TraceClass {
         uuid: None,
         host: Some(host),

@@ -14,7 +14,7 @@ use crate::reading;
 use crate::value::{count, number, text};
 use ctf_bits::Order;
 use ctf_class::{Align, Base, Width};
-use ctf_list::List;
+use ctf_list::{List, Shared};
 use ctf_meaning::ResolveFault;
 use std::alloc::Global;
 use tsdl_tree::{Setting, Value};
@@ -118,7 +118,7 @@ pub fn is_text(settings: &[Setting]) -> Result<bool, ResolveFault>
 }
 
 /// The clock to which an integer is mapped.
-pub fn clock(alloc: Global, settings: &[Setting]) -> Result<Option<List<u8>>, ResolveFault>
+pub fn clock(alloc: Global, settings: &[Setting]) -> Result<Option<Shared<List<u8>>>, ResolveFault>
     ensures told { Tells (wrong clock_of (value_of settings.now (codes "map")))
         (λ clock. clock ≡ option_and_then clock_of (value_of settings.now (codes "map"))) result }
 {
@@ -127,5 +127,6 @@ pub fn clock(alloc: Global, settings: &[Setting]) -> Result<Option<List<u8>>, Re
     };
     let text = text(alloc, value)?.ok_or(ResolveFault::Attribute)?;
     let name = reading::clock_name(text.as_slice()).ok_or(ResolveFault::Attribute)?;
-    Ok(Some(List::from_slice(alloc, name)?))
+    let name = List::from_slice(alloc, name)?;
+    Ok(Some(Shared::new(alloc, name)?))
 }

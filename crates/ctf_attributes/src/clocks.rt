@@ -10,6 +10,7 @@ use crate::lookup::{attribute, each_once};
 use crate::reading;
 use crate::value::required_text;
 use ctf_class::{Clock, Frequency};
+use ctf_list::Shared;
 use ctf_meaning::ResolveFault;
 use std::alloc::Global;
 use tsdl_tree::Setting;
@@ -27,6 +28,7 @@ pub fn clock(alloc: Global, settings: &[Setting]) -> Result<Clock, ResolveFault>
     let frequency = frequency(settings)?;
     let offset_seconds = offset(settings, b"offset_s")?;
     let offset = offset(settings, b"offset")?;
+    let name = Shared::new(alloc, name)?;
     Ok(Clock {
         name,
         frequency,

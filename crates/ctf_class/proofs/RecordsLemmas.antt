@@ -329,11 +329,6 @@ scopes_are None (Some o) fields = refl
 scopes_are (Some s) None fields = refl
 scopes_are (Some s) (Some o) fields = refl
 
--- an array of elements of such a class, of this length
-pub are_many : (Is : Class → Type 0) (index : ℕ) (m : Class) (length : Length) (k : Class) (several : Many) → m.kind ≡ kind.Array length k → IsLength index length several → Is k → AreMany Is index m several
-are_many Is index m length k (many.Fixed count) is long one = (k, is ∙ ap (λ l. kind.Array l k) long, one)
-are_many Is index m length k many.Counted is long one = (long.0, k, is ∙ ap (λ l. kind.Array l k) long.1, long.2, one)
-
 -- the room of numbers without a field
 room_plain : (ns : List PlannedNumber) → room_of ns None ≡ numbers_room ns
 room_plain [] = refl

@@ -248,11 +248,9 @@ IsLength index length many.Counted =
 
 -- the class of a member after so many others is an array of elements of such a class
 abbrev pub AreMany : (Class → Type 0) → ℕ → Class → Many → Type 0
-AreMany Is index c (many.Fixed count) =
-    (k : Class) × (c.kind ≡ kind.Array (lengths.Fixed count) k) × Is k
-AreMany Is index c many.Counted =
-    (route : Route) × (k : Class) × (c.kind ≡ kind.Array (lengths.Field route) k)
-    × LeadsBefore route index × Is k
+AreMany Is index c many =
+    (length : Length) × IsLength index length many
+    × ((k : Class) × (c.kind ≡ kind.Array length k) × Is k)
 
 -- a class is this integer of this alignment
 abbrev pub IsInteger : Class → Integer → ℕ → Type 0
@@ -278,9 +276,8 @@ pub record IsStructure (k : Class) (s : Structures) : Type 0 where
 -- what a member of a class after so many others is shown as
 abbrev pub IsShown : ℕ → Class → Shown → Type 0
 IsShown index c shown.String = c.kind ≡ kind.String
-IsShown index c (shown.Text count) = c.kind ≡ kind.Text (lengths.Fixed count)
-IsShown index c shown.CountedText =
-    (route : Route) × (c.kind ≡ kind.Text (lengths.Field route)) × LeadsBefore route index
+IsShown index c (shown.Text many) =
+    (length : Length) × IsLength index length many × (c.kind ≡ kind.Text length)
 IsShown index c (shown.Empty align) = (c.kind ≡ kind.Structure []) × (align ≡ c.align)
 IsShown index c (shown.Integer lone) = IsInteger c lone.integer lone.align
 IsShown index c (shown.Integers are) = AreIntegers index c are.integer are.align are.many

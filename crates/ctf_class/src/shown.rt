@@ -19,10 +19,8 @@ use std::alloc::Global;
 pub enum Shown {
     /// As a string (CTF 1.8.3, section 4.2.5).
     String,
-    /// As a text of so many bytes.
-    Text(u64),
-    /// As a text of as many bytes as the field before says.
-    CountedText,
+    /// As a text of so many bytes (CTF 1.8.3, sections 4.2.3 and 4.2.4).
+    Text(Many),
     /// As a structure without members, of this alignment.
     Empty(Align),
     Integer(LoneInteger),
@@ -35,7 +33,7 @@ impl Shown {
     /// Whether each field that is shown so ends where a byte does, wherever it begins.
     pub(crate) fn ends_at_byte(&self) -> bool {
         match self {
-            Shown::String | Shown::Text(_) | Shown::CountedText => true,
+            Shown::String | Shown::Text(_) => true,
             Shown::Empty(align) => align.bits() >= 8,
             Shown::Integer(lone) => are_bytes(&lone.integer, lone.align),
             Shown::Integers(are) => are_bytes(&are.integer, are.align),
@@ -117,16 +115,7 @@ pub(crate) fn shown_of(
 fn text_of(length: &Length, index: usize) -> Option<Shown>
     ensures { (c : Class) → c.kind ≡ kinds.Text length.now → IfSome result (IsShown index c) }
 {
-    match length {
-        Length::Fixed(count) => Some(Shown::Text(*count)),
-        Length::Field(route) => {
-            if route.leads_before(index) {
-                Some(Shown::CountedText)
-            } else {
-                None
-            }
-        }
-    }
+    Some(Shown::Text(many_of(length, index)?))
 }
 
 /// How an array of so many elements of this class is shown.

@@ -11,17 +11,19 @@ use crate::frequency::Frequency;
 use crate::front_class::FrontClass;
 use crate::header_plan::{HeaderPlan, header_plan};
 use crate::heading::Heading;
+use crate::host::Host;
 use crate::indexed::{HasId, Indexed};
 use crate::plan_room::PlanRoom;
 use crate::record_plan::RecordPlan;
-use ctf_list::{List, NoMemory};
+use ctf_list::{List, NoMemory, Shared};
 use std::alloc::Global;
 use std::marker::Model;
 
 /// A clock (CTF 1.8.3, section 8).
 #[derive(Drop)]
 pub struct Clock {
-    pub name: List<u8>,
+    /// Shared by the stream classes that have the clock.
+    pub name: Shared<List<u8>>,
     pub frequency: Frequency,
     /// In seconds, from the epoch.
     pub offset_seconds: i64,
@@ -100,7 +102,7 @@ impl Model for StreamClass {
 #[derive(Drop)]
 pub struct TraceClass {
     pub uuid: Option<[u8; 16]>,
-    pub host: Option<List<u8>>,
+    pub host: Option<Host>,
     pub packet_header: Option<FrontClass>,
     /// In the order of the text.
     pub streams: Indexed<StreamClass>,

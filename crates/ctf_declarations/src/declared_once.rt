@@ -139,7 +139,8 @@ impl DeclaredOnce {
         match kind {
             TableKind::Clock => {
                 let clock = clock(alloc, settings)?;
-                self.add_clock(clock.name.into_vec())
+                let name = Vec::from_slice(alloc, clock.name.get().as_slice())?;
+                self.add_clock(name)
             }
             TableKind::Env => Ok(()),
             TableKind::Callsite => Ok(()),

@@ -93,7 +93,7 @@ fn integer_named(
     let class = class_of_name(alloc, seen, Name::Plain(words))?;
     match class.integer_in() {
         Some(integer) => {
-            let copy = copy_integer(alloc, integer)?;
+            let copy = copy_integer(integer)?;
             Ok(copy)
         }
         None => Err(ResolveFault::Attribute),

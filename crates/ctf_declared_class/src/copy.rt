@@ -4,15 +4,15 @@ ghost use Rattle.std.specs.Prelude.{◌≡◌, IfOk};
 
 use ctf_list::{List, NoMemory};
 use ctf_meaning::DeclaredInteger;
-use std::alloc::Global;
+use std::alloc::{AllocError, Global};
 use tsdl_tree::Path;
 
-/// A copy of an integer.
-pub fn copy_integer(alloc: Global, integer: &DeclaredInteger) -> Result<DeclaredInteger, NoMemory>
+/// A copy of an integer, which shares the name of its clock.
+pub fn copy_integer(integer: &DeclaredInteger) -> Result<DeclaredInteger, AllocError>
     ensures { IfOk result (λ copy. copy ≡ integer.now) }
 {
     let clock = match &integer.clock {
-        Some(name) => Some(List::from_slice(alloc, name.as_slice())?),
+        Some(name) => Some(name.clone()?),
         None => None,
     };
     Ok(DeclaredInteger {

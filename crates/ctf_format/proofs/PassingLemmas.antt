@@ -16,7 +16,6 @@ use Rattle.ctf_class.specs.declared.record_plan.PlannedField.{PlannedField}
 use Rattle.ctf_class.specs.declared.record_plan.PlannedRun.{PlannedRun}
 use Rattle.ctf_class.specs.declared.route.Length.{Length}
 use Rattle.ctf_class.specs.declared.route.Length.TheVariants as lengths
-use Rattle.ctf_class.specs.declared.route.Route.{Route}
 use Rattle.ctf_class.specs.declared.class.Class.{Class}
 use Rattle.ctf_class.specs.declared.class.Kind as kind
 use Rattle.ctf_class.specs.declared.integer.Integer.{Integer}
@@ -74,8 +73,7 @@ integer_element packet e i align k is aligned spans counted = record {
 
 -- what holds of the classes of a field, and what follows
 pub many_so : (Is So : Class → Type 0) → ((k : Class) → Is k → So k) → (index : ℕ) (m : Class) (several : Many) → AreMany Is index m several → AreMany So index m several
-many_so Is So so index m (many.Fixed count) are = (are.0, are.1, so are.0 are.2)
-many_so Is So so index m many.Counted are = (are.0, are.1, are.2, are.3, so are.1 are.4)
+many_so Is So so index m several are = (are.0, are.1, (are.2.0, are.2.1, so are.2.0 are.2.2))
 
 -- The loop over elements, where so many were passed over.
 abbrev pub PassesGoing : Form → Shown → ℕ → ℕ → List ℕ → ℕ → ℕ → ℕ → ℕ → Type 0
@@ -160,10 +158,9 @@ class_passes k l shown told packet content place end forms_are texts_are passes 
     (p.0, as_one k l shown told packet content place end before p.0 p.0 forms_are texts_are refl p.1)
 
 -- a text whose length is the number before
-pub counted_passes : (m : Class) (route : Route) (before : Before) (n : ℕ) (packet : List ℕ) (content place end : ℕ) → m.kind ≡ kind.Text (lengths.Field route) → Counts (lengths.Field route) before n → ((a : ℕ) → Passes (PutsOne (forms.text a (lengths.Fixed n)) string_text packet content place end))
+pub counted_passes : (m : Class) (many : Length) (before : Before) (n : ℕ) (packet : List ℕ) (content place end : ℕ) → m.kind ≡ kind.Text many → Counts many before n → ((a : ℕ) → Passes (PutsOne (forms.text a (lengths.Fixed n)) string_text packet content place end))
     → Passes (λ line after. PutsNext before (form m) (value_text m) packet content place line (record { place = end; text = 0; more = 0; last = lasts.Unknown }) after)
-counted_passes m route before n packet content place end is counts passes line =
-    let many = lengths.Field route in
+counted_passes m many before n packet content place end is counts passes line =
     let a = m.align in
     let p = passes a line in
     let to : Next = record { place = end; text = 0; more = 0; last = lasts.Unknown } in

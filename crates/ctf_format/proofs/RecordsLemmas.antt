@@ -1,5 +1,5 @@
 -- Event records that are written by their plan are shown as their classes say.
-use Rattle.std.proofs.Common.{◌≡◌, ℕ, zero, suc, ◌+◌, ◌-◌, ◌*◌, ◌%◌, ◌<◌, ◌≤◌, max, false, ℤ, pos, negsuc, List, [], ◌∷◌, ◌++◌, map, take, drop, length, get_or, Option, Some, None, IfSome, Ok, Err, cond, codes, inl, inr, refl, sym, ap, subst, ◌∙◌, arith, append_assoc, append-nil}
+use Rattle.std.proofs.Common.{◌≡◌, ℕ, zero, suc, ◌+◌, ◌-◌, ◌*◌, ◌%◌, ◌/◌, ◌<◌, ◌≤◌, max, false, ℤ, pos, negsuc, List, [], ◌∷◌, ◌++◌, map, take, drop, length, get_or, Option, Some, None, IfSome, Ok, Err, cond, codes, inl, inr, refl, sym, ap, subst, ◌∙◌, arith, append_assoc, append-nil}
 use Rattle.std.specs.Prelude.{⊤, if◌then◌else◌}
 use Rattle.std.specs.Int.{next_multiple_of}
 use Rattle.ctf_bits.specs.Number.{number, signed_number}
@@ -13,7 +13,7 @@ use Rattle.ctf_class.proofs.RecordsLemmas.{ends_on}
 use Rattle.ctf_class.specs.Alignment.{IsLarger}
 use Rattle.ctf_class.specs.Integers.{bits_of}
 use Rattle.ctf_class.specs.Names.{field_text}
-use Rattle.ctf_class.specs.Records.{Slot, At, Piece, Pieces, alone, inner, no_pieces, more_pieces, Scoped, IsPiece, ArePieces, member_of, members_of, inside, insides, ended_by, ended_after, ends, ended_last, first_at, later_at, known_index, member_slots, opened_lead, piece_slots, pieces_slots, slots, before_next, all_slots, values_in, AreScoped, IsNumber, AreInRun, TakesNumbers, AreMany, IsShown, IsStructure, IsField, After, LeadsBefore, numbers_room, room_of, AreRuns}
+use Rattle.ctf_class.specs.Records.{Slot, At, Piece, Pieces, alone, inner, no_pieces, more_pieces, Scoped, IsPiece, ArePieces, member_of, members_of, inside, insides, ended_by, ended_after, ends, ended_last, first_at, later_at, known_index, member_slots, opened_lead, piece_slots, pieces_slots, slots, before_next, all_slots, values_in, AreScoped, IsNumber, AreInRun, TakesNumbers, IsLength, IsShown, IsStructure, IsField, After, LeadsBefore, numbers_room, room_of, AreRuns}
 use Rattle.ctf_class.specs.declared.class.Class.{Class}
 use Rattle.ctf_class.specs.declared.class.Kind as kind
 use Rattle.ctf_class.specs.declared.class.Member.{Member}
@@ -22,15 +22,16 @@ use Rattle.ctf_class.specs.declared.integer.Integer.{Integer}
 use Rattle.ctf_class.specs.declared.record_plan.PlannedRun.{PlannedRun}
 use Rattle.ctf_class.specs.declared.shown.Shown.{Shown as PlannedShown}
 use Rattle.ctf_class.specs.declared.shown.Shown.TheVariants as fields
-use Rattle.ctf_class.specs.declared.many.Many.{Many}
 use Rattle.ctf_class.specs.declared.many.Many.TheVariants as many
 use Rattle.ctf_class.specs.declared.planned_number.PlannedNumber.{PlannedNumber}
 use Rattle.ctf_class.specs.declared.structures.Structures.{Structures}
+use Rattle.ctf_class.specs.declared.route.Length.{Length}
 use Rattle.ctf_class.specs.declared.route.Length.TheVariants as lengths
 use Rattle.ctf_class.specs.declared.route.Route.{Route}
 use Rattle.ctf_decode.specs.Forms.{integer, parts_of, structure}
 use Rattle.ctf_decode.specs.Input.{Input, Env, integer_at}
 use Rattle.ctf_decode.specs.Breaks.{past}
+use Rattle.ctf_decode.specs.Routes.{length_of}
 use Rattle.ctf_decode.specs.Values.{Val, group, vals_of}
 use Rattle.std.proofs.lemmas.Bool.{le-ltb}
 use Rattle.ctf_decode.specs.Walk.{and_then, as_group, begin, leaf, open_at, walk, walk_members}
@@ -40,10 +41,11 @@ use Rattle.ctf_decode.specs.declared.scopes.TheConstants.{MOST_VALUES}
 use Rattle.ctf_format.specs.Structures.{IsNearStructure}
 use Rattle.ctf_format.specs.Numbers.{number_text}
 use Rattle.ctf_format.specs.RunNumbers.{IsPlaced, number_at, place_in, run_text}
-use Rattle.ctf_format.specs.Records.{Reached, IsLastNumber, PutsField, PutsFields, PutsScopes, TakesRun, IsNear, IsNearShown, after_members}
+use Rattle.ctf_format.specs.Records.{Reached, CountsAfter, IsLastNumber, IsLastOf, PutsField, PutsFields, PutsScopes, TakesRun, IsNear, IsNearShown, after_members}
 use Rattle.ctf_format.specs.Standing.{Before, mark_at, Counts, IfKnown, LastIs, Puts, PutsOne, PutsNext, StandsAsNumber, among, known}
 use Rattle.ctf_format.specs.Texts.{Shown, Part, kind_text, integer_text, value_text, part_text, member_part, member_texts}
 use Rattle.ctf_format.specs.Rows.{row}
+use Rattle.ctf_format.specs.declared.placed_run.PlacedRun.{PlacedRun}
 use Rattle.ctf_format.specs.declared.standing.Last.{Last}
 use Rattle.ctf_format.specs.declared.standing.Last.TheVariants as lasts
 use Rattle.ctf_format.specs.declared.standing.MembersEnd.{MembersEnd}
@@ -126,18 +128,13 @@ structure_near k s is =
     let fields = member_slots k.align is.members in
     record { room = is.room; bounded = is.bounded; special = is.special; within_span = run_after (max 8 s.align) 0 s.span fields [] s.numbers is.numbers.1; placed = run_placed (max 8 s.align) 0 s.span fields [] s.numbers is.numbers.1 }
 
-structures_near : (index : ℕ) (m : Class) (s : Structures) (several : Many) → AreMany (λ k. IsStructure k s) index m several → IsNearStructure s
-structures_near index m s (many.Fixed count) is = structure_near is.0 s is.2
-structures_near index m s many.Counted is = structure_near is.1 s is.4
-
 shown_near : (index : ℕ) (m : Class) (what : PlannedShown) → IsShown index m what → IsNearShown what
 shown_near index m fields.String is = tt
-shown_near index m (fields.Text count) is = tt
-shown_near index m fields.CountedText is = tt
+shown_near index m (fields.Text many) is = tt
 shown_near index m (fields.Empty align) is = tt
 shown_near index m (fields.Integer lone) is = tt
 shown_near index m (fields.Integers are) is = tt
-shown_near index m (fields.Structures are) is = structures_near index m are are.many is
+shown_near index m (fields.Structures are) is = structure_near is.2.0 are is.2.2
 shown_near index m (fields.Labelled labelled) is = tt
 
 field_near : (ss : List Slot) (f : Option PlannedField) (Holds : List Slot → Type 0) → After ss f Holds → IfSome f (λ x. IsNearShown x.shown)
@@ -605,6 +602,16 @@ run_field rest others s ns packet content first mid (Some t) to is field = (fiel
 pub counts_after : (route : Route) (index n : ℕ) → LeadsBefore route index → Counts (lengths.Field route) (after_members index (Some n)) n
 counts_after route zero n leads = absurd (omega (arith, leads.1.2))
 counts_after route (suc i) n leads = counts_last route (record { index = suc i; last = known (Some n) }) n leads refl
+
+-- as many elements as are fixed
+pub counts_fixed : (placed : PlacedRun) (index n : ℕ) (length_is : Length) → length_is ≡ lengths.Fixed n → CountsAfter placed index length_is n
+counts_fixed placed index n length_is is =
+    (None, no_number placed.run.now.numbers placed.packet.now.bytes.now ((placed.end - placed.run.now.span) / 8), (λ earlier env vs counted last. ap (λ l. length_of l earlier (vs ∷ env)) is))
+
+-- as many as the number before says, if it is known
+pub counts_number : (placed : PlacedRun) (index : ℕ) (length_is : Length) (r : Option ℕ) → IsLength index length_is many.Counted → IsLastOf placed r → IfSome r (CountsAfter placed index length_is)
+counts_number placed index length_is None is last = tt
+counts_number placed index length_is (Some n) is last = (Some n, last, subst (λ l. Counts l (after_members index (Some n)) n) (sym is.1) (counts_after is.0 index n is.2))
 
 -- what is printed before a value, and the value after it, are its field
 pub field_next : (s : Slot) (f : PlannedField) (packet : List ℕ) (content begin place more some end : ℕ) (last : Option ℕ) (before line after : List ℕ) → IsField s f → begin ≡ next_multiple_of place f.align → begin ≤ content → line ≡ before ++ f.ready

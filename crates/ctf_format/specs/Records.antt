@@ -8,6 +8,7 @@ use Rattle.ctf_class.specs.Records.{Slot, TakesNumbers, After, AreIntegers, AreM
 use Rattle.ctf_class.specs.declared.class.Class.{Class}
 use Rattle.ctf_class.specs.declared.shown.Integers.{Integers}
 use Rattle.ctf_class.specs.declared.record_plan.PlannedRun.{PlannedRun}
+use Rattle.ctf_class.specs.declared.route.Length.{Length}
 use Rattle.ctf_class.specs.declared.shown.Shown.{Shown as PlannedShown}
 use Rattle.ctf_class.specs.declared.shown.Shown.TheVariants as fields
 use Rattle.ctf_class.specs.declared.planned_number.PlannedNumber.{PlannedNumber}
@@ -15,7 +16,7 @@ use Rattle.ctf_class.specs.declared.structures.Structures.{Structures}
 use Rattle.ctf_decode.specs.Views.{form}
 use Rattle.ctf_format.specs.Structures.{IsNearStructure}
 use Rattle.ctf_format.specs.RunNumbers.{number_at, place_in, IsPlaced}
-use Rattle.ctf_format.specs.Standing.{Before, Puts, PutsNext, StandsAsNumber, known}
+use Rattle.ctf_format.specs.Standing.{Before, Counts, Puts, PutsNext, StandsAsNumber, known}
 use Rattle.ctf_decode.specs.Forms.{Form}
 use Rattle.ctf_format.specs.Texts.{Shown, value_text}
 use Rattle.ctf_format.specs.declared.content.Content.{Content}
@@ -82,6 +83,11 @@ abbrev pub IsLastOf : PlacedRun → Option ℕ → Type 0
 IsLastOf placed last =
     IsLastNumber last placed.run.now.numbers placed.packet.now.bytes.now
     ((placed.end - placed.run.now.span) / 8)
+
+-- an array of this length has so many elements after so many members and such a run
+abbrev pub CountsAfter : PlacedRun → ℕ → Length → ℕ → Type 0
+CountsAfter placed index length n =
+    (last : Option ℕ) × IsLastOf placed last × Counts length (after_members index last) n
 
 -- the texts of such a field after a run's numbers, if they were written, are in the buffer from the index that was
 -- reached before them to the one that is reached then

@@ -18,7 +18,7 @@ ghost use Rattle.ctf_format.specs.Texts as texts;
 use crate::array::begin_at;
 use crate::content::Content;
 use crate::placed_run::PlacedRun;
-use crate::planned_record::{Reach, last_number, placed_at};
+use crate::planned_record::{Reach, count_after, placed_at};
 use crate::standing::bits_at;
 use crate::window::first_zero;
 use ctf_bits::up;
@@ -144,15 +144,8 @@ fn pass_field(field: &PlannedField, placed: PlacedRun<'_>, from: Reach) -> Optio
                 more: from.more,
             })
         }
-        Shown::Text(count) => {
-            let end = end_of_text(*count, packet, place)?;
-            Some(Reach {
-                place: end,
-                more: from.more,
-            })
-        }
-        Shown::CountedText => {
-            let count = last_number(placed)?;
+        Shown::Text(many) => {
+            let count = count_after(*many, placed)?;
             let end = end_of_text(count, packet, place)?;
             Some(Reach {
                 place: end,
@@ -270,10 +263,7 @@ fn pass_elements(element: &Element, many: Many, placed: PlacedRun<'_>, from: Rea
     ensures within { IfSome result (λ to. to.place ≤ placed.entry.packet.now.end) }
     ensures few { IfSome result (λ to. to.more ≤ MOST_VALUES) }
 {
-    let count = match many {
-        Many::Fixed(count) => count,
-        Many::Counted => last_number(placed)?,
-    };
+    let count = count_after(many, placed)?;
     let values = count.checked_mul(element.count)?;
     let more = from.more.checked_add(values)?;
     if more > MOST_VALUES {

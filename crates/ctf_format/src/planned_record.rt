@@ -2,14 +2,15 @@
 
 ghost use Rattle.std.specs.Prelude.{List, ℕ, [], ◌∷◌, ◌≡◌, ◌+◌, ◌/◌, ◌-◌, ◌++◌, ◌<◌, ◌≤◌, length, pos, false, take, vec_len, Option, None, IfSome};
 ghost use Rattle.std.specs.List.{All, flat_map};
-ghost use Rattle.ctf_class.specs.Records.{After, Slot, AreRuns, IsField, IsInteger, IsPlanOf, ends, numbers_room, room_of};
+ghost use Rattle.ctf_class.specs.Records.{After, Slot, AreRuns, IsField, IsInteger, IsLength, IsPlanOf, ends, numbers_room, room_of};
 ghost use Rattle.ctf_class.specs.declared.class.Class.{Class};
 ghost use Rattle.ctf_class.specs.declared.class.Kind as kinds;
+ghost use Rattle.ctf_class.specs.declared.route.Length.{Length};
 ghost use Rattle.ctf_decode.specs.Views.{form};
 ghost use Rattle.ctf_format.specs.Structures.{IsNearStructure};
 ghost use Rattle.ctf_format.specs.Put.{IsPut, IsWithin};
 ghost use Rattle.ctf_format.specs.RunNumbers.{IsInside, number_at, place_in, run_text};
-ghost use Rattle.ctf_format.specs.Records.{BeginsAt, IsNear, IsLastOf, PutsField, PutsFields, IsNearShown, PutsIntegers, PutsOther, PutsRun, PutsScopes, PutsShown, PutsStructures, after_number, reached};
+ghost use Rattle.ctf_format.specs.Records.{BeginsAt, CountsAfter, IsNear, IsLastOf, PutsField, PutsFields, IsNearShown, PutsIntegers, PutsOther, PutsRun, PutsScopes, PutsShown, PutsStructures, after_number, reached};
 ghost use Rattle.ctf_format.specs.Texts as texts;
 
 use crate::array::{begin_at, put_integers};
@@ -347,13 +348,8 @@ fn put_field(
             reach.place = ends.place;
             Some(ends.text)
         }
-        Shown::Text(count) => {
-            let ends = put_fixed_text(*count, packet, from, buffer)?;
-            reach.place = ends.place;
-            Some(ends.text)
-        }
-        Shown::CountedText => {
-            let count = last_number(placed)?;
+        Shown::Text(many) => {
+            let count = count_after(*many, placed)?;
             let ends = put_fixed_text(count, packet, from, buffer)?;
             reach.place = ends.place;
             Some(ends.text)
@@ -431,7 +427,7 @@ fn put_after_numbers(
         Shown::Integer(lone) => put_lone(lone, placed.packet, reach, buffer, at),
         Shown::Structures(are) => put_many_structures(are, placed, reach, buffer, at),
         // These are written by `put_field` itself.
-        Shown::String | Shown::Text(_) | Shown::CountedText | Shown::Labelled(_) => None,
+        Shown::String | Shown::Text(_) | Shown::Labelled(_) => None,
     }
 }
 
@@ -478,10 +474,7 @@ fn put_many(
     ensures within { IfSome result (IsWithin placed.entry.packet.now reach.new.place buffer.new) }
     ensures few { IfSome result (λ _. reach.new.more ≤ MOST_VALUES) }
 {
-    let count = match are.many {
-        Many::Fixed(count) => count,
-        Many::Counted => last_number(placed)?,
-    };
+    let count = count_after(are.many, placed)?;
     let class = AlignedInteger {
         integer: &are.integer,
         align: are.align,
@@ -552,10 +545,7 @@ fn put_many_structures(
     ensures within { IfSome result (IsWithin placed.entry.packet.now reach.new.place buffer.new) }
     ensures few { IfSome result (λ _. reach.new.more ≤ MOST_VALUES) }
 {
-    let count = match are.many {
-        Many::Fixed(count) => count,
-        Many::Counted => last_number(placed)?,
-    };
+    let count = count_after(are.many, placed)?;
     let from = Position {
         place: reach.place,
         text: at,
@@ -570,9 +560,21 @@ fn put_many_structures(
     Some(next.text)
 }
 
+/// How many elements an array has after the numbers of a run, if that is known.
+#[inline(always)]
+pub(crate) fn count_after(many: Many, placed: PlacedRun<'_>) -> Option<u64>
+    ensures { (index : ℕ) (length : Length) → IsLength index length many →
+        IfSome result (CountsAfter placed.entry index length) }
+{
+    match many {
+        Many::Fixed(count) => Some(count),
+        Many::Counted => last_number(placed),
+    }
+}
+
 /// The last of the numbers of a run, if it is unsigned.
 #[inline(always)]
-pub(crate) fn last_number(placed: PlacedRun<'_>) -> Option<u64>
+fn last_number(placed: PlacedRun<'_>) -> Option<u64>
     ensures { IsLastOf placed.entry result }
 {
     let run = placed.run;

@@ -10,7 +10,7 @@ ghost use Rattle.ctf_format.specs.Put.{IsPut};
 use crate::mark::{put_lead, put_short_bytes};
 use crate::room::with_room;
 use crate::value::put_value;
-use ctf_class::{Class, EventClass, Heading, StreamClass};
+use ctf_class::{Class, EventClass, Heading, PreparedText, StreamClass};
 use ctf_decode::Value;
 use ctf_list::NoMemory;
 
@@ -78,7 +78,33 @@ fn put_heading(heading: &Heading, buffer: &mut Vec<u8>, at: usize) -> Result<usi
     requires { at ≤ vec_len buffer.old }
     ensures { IfOk result (IsPut buffer.old at (heading_text heading.now) buffer.new) }
 {
-    let ready = heading.ready();
+    match heading.ready() {
+        Some(ready) => put_ready(ready, buffer, at),
+        None => put_apart(heading, buffer, at),
+    }
+}
+
+/// Writes a long host, and the name after it, out of the way of usual lines.
+#[cold]
+#[inline(never)]
+fn put_apart(heading: &Heading, buffer: &mut Vec<u8>, at: usize) -> Result<usize, NoMemory>
+    requires { at ≤ vec_len buffer.old }
+    ensures { IfOk result (IsPut buffer.old at (heading_text heading.now) buffer.new) }
+{
+    let texts = heading.texts();
+    let end = match texts.host {
+        Some(host) => put_ready(host, buffer, at)?,
+        None => at,
+    };
+    put_ready(texts.rest, buffer, end)
+}
+
+/// Writes a text that was made ready.
+#[inline(always)]
+fn put_ready(ready: &PreparedText, buffer: &mut Vec<u8>, at: usize) -> Result<usize, NoMemory>
+    requires { at ≤ vec_len buffer.old }
+    ensures { IfOk result (IsPut buffer.old at ready.now buffer.new) }
+{
     with_room(ready.len() + 24, buffer, at)?;
     Ok(ready.put(buffer.as_mut_slice(), at))
 }

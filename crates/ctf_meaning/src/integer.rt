@@ -2,7 +2,7 @@
 
 use ctf_bits::Order;
 use ctf_class::{Align, Base, Width};
-use ctf_list::List;
+use ctf_list::{List, Shared};
 
 /// An integer as it is declared (CTF 1.8.3, section 4.1.5).
 #[derive(Drop)]
@@ -17,6 +17,6 @@ pub struct DeclaredInteger {
     pub order: Option<Order>,
     /// Whether its encoding is one of characters.
     pub is_text: bool,
-    /// The name of the clock to which it is mapped.
-    pub clock: Option<List<u8>>,
+    /// The name of the clock to which it is mapped. Its copies share it.
+    pub clock: Option<Shared<List<u8>>>,
 }

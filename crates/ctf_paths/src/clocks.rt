@@ -7,9 +7,9 @@ ghost use Rattle.ctf_meaning.specs.Clocks as meaning;
 
 use crate::spot::Spot;
 use ctf_class::{Clock, Frequency, Names, Scope};
-use ctf_list::{List, NoMemory};
+use ctf_list::{List, NoMemory, Shared};
 use ctf_meaning::DeclaredInteger;
-use std::alloc::Global;
+use std::alloc::{AllocError, Global};
 
 /// The clocks of a trace in the order of the text, each found by its name without a walk (CTF 1.8.3,
 /// section 8).
@@ -29,7 +29,7 @@ impl<'a> Clocks<'a> {
         ensures { IfOk result (λ made. made.clocks.now ≡ clocks.now) }
     {
         let names = Names::new(alloc, names_of(alloc, clocks)?)?;
-        let plain = plain_clock(alloc);
+        let plain = plain_clock(alloc)?;
         Ok(Clocks {
             clocks,
             names,
@@ -61,7 +61,7 @@ impl<'a> Clocks<'a> {
     {
         match &integer.clock {
             None => false,
-            Some(name) => self.clock_of_name(name.as_slice()).is_none(),
+            Some(name) => self.clock_of_name(name.get().as_slice()).is_none(),
         }
     }
 
@@ -71,7 +71,7 @@ impl<'a> Clocks<'a> {
             meaning.clock_at self.now.clocks.now (spot_by spot.now) integer.now }
     {
         match &integer.clock {
-            Some(name) => self.clock_of_name(name.as_slice()),
+            Some(name) => self.clock_of_name(name.get().as_slice()),
             None => {
                 if !integer.is_signed && is_stamp_in(spot) {
                     self.only()
@@ -108,21 +108,21 @@ fn names_of(alloc: Global, clocks: &[Clock]) -> Result<List<List<u8>>, NoMemory>
 {
     let mut names = List::new(alloc);
     for clock in clocks {
-        names.push(List::from_slice(alloc, clock.name.as_slice())?)?;
+        names.push(List::from_slice(alloc, clock.name.get().as_slice())?)?;
     }
     Ok(names)
 }
 
 /// The clock of a trace that declares none: 1 GHz from the epoch on.
-fn plain_clock(alloc: Global) -> Clock
-    ensures { result ≡ meaning.plain_clock }
+fn plain_clock(alloc: Global) -> Result<Clock, AllocError>
+    ensures { IfOk result (λ clock. clock ≡ meaning.plain_clock) }
 {
-    Clock {
-        name: List::new(alloc),
+    Ok(Clock {
+        name: Shared::new(alloc, List::new(alloc))?,
         frequency: Frequency::new(1_000_000_000).unwrap(),
         offset_seconds: 0,
         offset: 0,
-    }
+    })
 }
 
 /// Whether a class is itself the member of a name.

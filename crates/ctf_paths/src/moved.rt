@@ -57,7 +57,8 @@ impl<'a> Moved<'a> {
             },
             Some(first) => Moved {
                 first: Some(first),
-                has_other: self.has_other || next.name.as_slice() != first.name.as_slice(),
+                has_other: self.has_other
+                    || next.name.get().as_slice() != first.name.get().as_slice(),
             },
         }
     }

@@ -1,5 +1,5 @@
 -- The class of a scope at its place.
-use Rattle.std.proofs.Common.{◌≡◌, false, List, [], Some, None, Ok, Err, sym, ap, ◌∙◌, subst}
+use Rattle.std.proofs.Common.{◌≡◌, false, List, [], Option, Some, None, Ok, Err, sym, ap, ◌∙◌, subst}
 use Rattle.std.specs.Prelude.{option_map, Contains}
 use Rattle.std.specs.Option.{option_map_or}
 use Rattle.ctf_bits.specs.declared.number.Order.{Order}
@@ -18,6 +18,11 @@ use Rattle.ctf_meaning_steps.specs.Told.{Told}
 use Rattle.ctf_meaning_steps.specs.Linking.{class_told}
 use Rattle.ctf_meaning_steps.proofs.Linked.{linking_gives_class, linking_tells_fault}
 use Rattle.ctf_types.specs.Texts.{IsScopeLinked, scope_fails}
+
+-- what was made is there
+never_none : (made : Option Class) → option_map (λ (c : Class). Some c) made ≡ Some None → ⊥
+never_none None e = absurd cc
+never_none (Some c) e = absurd cc
 
 module _ (text : List Declaration) (order : Order) (home : Home) (scope : Scope) where
   pub not_declared : scope_of text home scope ≡ None → IsScopeLinked text order home scope None
@@ -46,3 +51,9 @@ module _ (text : List Declaration) (order : Order) (home : Home) (scope : Scope)
       class_told order (clocks_of text) (spot_of text home scope) s ≡ told
   told_at clocks before s here told c b q h =
       (λ j. class_told order (sym c j) (record { scope = scope; around = []; before = sym b j; member = None; is_top = false; name = Some [] }) (sym q j)) ∙ h
+
+  -- a scope that is declared has a class
+  pub always_made : (s : Shape) → scope_of text home scope ≡ Some s → IsScopeLinked text order home scope None → ⊥
+  always_made s e linked =
+      let make = class_at order (clocks_of text) (spot_of text home scope) in
+      never_none (make s) (sym (ap (if_there make) e) ∙ linked.made)

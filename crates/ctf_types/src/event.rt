@@ -18,8 +18,7 @@ use crate::ids::Ids;
 use crate::linked::Linked;
 use crate::text::KnownText;
 use ctf_attributes::EventSettings;
-use ctf_class::{EventClass, Heading, Scope};
-use ctf_list::List;
+use ctf_class::{EventClass, Heading, Host, Scope};
 use ctf_meaning::ResolveFault;
 use std::alloc::{AllocError, Global};
 use tsdl_tree::BlockEntry;
@@ -76,7 +75,7 @@ impl<'a> KnownText<'a> {
             (λ f. (f ≡ fault.NoMemory) ⊎
             Contains (scope_links text (home_by home.now) kind.Event) f) }
     {
-        let heading = Heading::new(alloc, copy_host(alloc, self.host)?, event.name)?;
+        let heading = Heading::new(alloc, copy_host(self.host)?, event.name)?;
         let context = self.class(alloc, home, Scope::EventContext)?;
         let fields = self.class(alloc, home, Scope::EventFields)?;
         match fields {
@@ -92,12 +91,12 @@ impl<'a> KnownText<'a> {
     }
 }
 
-/// A copy of a host.
-pub fn copy_host(alloc: Global, host: Option<&[u8]>) -> Result<Option<List<u8>>, AllocError>
+/// A second owner of a host.
+fn copy_host(host: Option<&Host>) -> Result<Option<Host>, AllocError>
     ensures { IfOk result (λ copy. copy ≡ option_copied host.entry) }
 {
     match host {
-        Some(host) => Ok(Some(List::from_slice(alloc, host)?)),
+        Some(host) => Ok(Some(host.clone()?)),
         None => Ok(None),
     }
 }

@@ -1,19 +1,18 @@
 //! The trace class of a metadata text.
 
-ghost use Rattle.std.specs.Prelude.{◌≡◌, ◌⊎◌, List, Some, map, MatchResult, IfOk, option_map, option_and_then, option_copied};
+ghost use Rattle.std.specs.Prelude.{◌≡◌, ◌⊎◌, List, Some, map, MatchResult, IfOk, option_map, option_and_then};
 ghost use Rattle.ctf_meaning.specs.There.{first};
 ghost use Rattle.ctf_types.specs.declared.trace.TraceAt.{TraceAt};
 ghost use Rattle.std.specs.List.{list_any};
 ghost use Rattle.ctf_declarations.specs.DeclaredSoFar.{placed_seen};
 ghost use Rattle.ctf_meaning.specs.declared.fault.ResolveFault.TheVariants as fault;
-ghost use Rattle.ctf_meaning.specs.Denotes.{Denotes, Faulty};
+ghost use Rattle.ctf_meaning.specs.Denotes.{Denotes, Faulty, host_of};
 ghost use Rattle.ctf_meaning.specs.Reading.{declaration_of};
 ghost use Rattle.ctf_meaning.specs.Written.{Declaration as WrittenDeclaration};
 ghost use Rattle.ctf_types.specs.Gathered.{joined_all};
 ghost use Rattle.ctf_types.specs.Resolved.{IsWalked, Resolves, IsFinished, or_plain_head};
 
 use crate::clocks::clocks;
-use crate::event::copy_host;
 use crate::gather::TraceParts;
 use crate::linked::{StreamHead, front_class_of};
 use crate::streams::streams;
@@ -21,7 +20,7 @@ use crate::text::KnownText;
 use crate::trace::{TraceAt, trace};
 use ctf_attributes::host;
 use ctf_bits::Order;
-use ctf_class::{Class, EventClass, Indexed, PlanRoom, StreamClass, TraceClass};
+use ctf_class::{Class, EventClass, Host, Indexed, PlanRoom, StreamClass, TraceClass};
 use ctf_declarations::{ScopeShape, scope_classes};
 use ctf_list::{List, NoMemory};
 use ctf_meaning::ResolveFault;
@@ -55,7 +54,8 @@ fn resolve_walked(
     let streams = Indexed::new(alloc, streams(alloc, declarations)?)?;
     let clocks = clocks(alloc, declarations)?;
     let clocks = Clocks::new(alloc, clocks.as_slice())?;
-    let host = host(declarations);
+    let owned = host_of(alloc, declarations)?;
+    let host = owned.as_ref();
     let text = KnownText {
         rows,
         clocks: &clocks,
@@ -65,7 +65,17 @@ fn resolve_walked(
         host,
     };
     let parts = text.link(alloc, declarations)?;
-    trace_class_of(alloc, trace, host, parts)
+    trace_class_of(alloc, trace, owned, parts)
+}
+
+/// The host of the trace.
+fn host_of(alloc: Global, declarations: &[Declaration]) -> Result<Option<Host>, NoMemory>
+    ensures { IfOk result (λ some. some ≡ host_of (map declaration_of declarations.now)) }
+{
+    match host(declarations) {
+        Some(name) => Ok(Some(Host::new(alloc, name)?)),
+        None => Ok(None),
+    }
 }
 
 /// The native byte order. Without a trace block any serves.
@@ -89,11 +99,11 @@ fn number_of(trace: Option<TraceAt>) -> Option<usize>
 fn trace_class_of(
     alloc: Global,
     trace: Option<TraceAt>,
-    host: Option<&[u8]>,
+    host: Option<Host>,
     parts: TraceParts,
 ) -> Result<TraceClass, ResolveFault>
     ghost text: { List WrittenDeclaration }
-    requires { IsFinished text trace (option_copied host) parts }
+    requires { IsFinished text trace host parts }
     ensures { Resolves text result }
 {
     let Some(trace) = trace else {
@@ -106,7 +116,7 @@ fn trace_class_of(
     let streams = join_events(alloc, heads, parts.events)?;
     Ok(TraceClass {
         uuid: trace.settings.uuid,
-        host: copy_host(alloc, host)?,
+        host,
         streams: Indexed::new(alloc, streams)?,
         packet_header: front_class_of(alloc, header_of(parts.headers))?,
     })

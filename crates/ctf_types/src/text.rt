@@ -12,7 +12,7 @@ use crate::home::{Home, scopes_before};
 use crate::rows::class_in;
 use crate::streams::StreamAt;
 use ctf_bits::Order;
-use ctf_class::{Class, Indexed, Scope};
+use ctf_class::{Class, Host, Indexed, Scope};
 use ctf_declarations::ScopeShape;
 use ctf_declared_class::{Known, Shape};
 use ctf_list::{List, NoMemory};
@@ -31,7 +31,7 @@ pub struct KnownText<'a> {
     pub streams: &'a Indexed<StreamAt>,
     /// The number of the trace block.
     pub trace: Option<usize>,
-    pub host: Option<&'a [u8]>,
+    pub host: Option<&'a Host>,
 }
 
 impl<'a> KnownText<'a> {

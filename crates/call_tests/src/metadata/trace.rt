@@ -41,7 +41,7 @@ fn put_stream(row: &mut Row<'_>, stream: &StreamClass) {
 
 fn put_clock(row: &mut Row<'_>, clock: &Clock) {
     row.put(b" clock ");
-    row.put(clock.name.as_slice());
+    row.put(clock.name.get().as_slice());
     row.put_number(b" of ", clock.frequency.cycles() as i128);
     row.put_number(b" Hz from ", clock.offset_seconds as i128);
     row.put_number(b" s and ", clock.offset as i128);

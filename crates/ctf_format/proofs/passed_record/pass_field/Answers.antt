@@ -1,18 +1,17 @@
-use Rattle.std.proofs.Common.{◌≡◌, ◌+◌, ◌-◌, ◌/◌, ◌≤◌, ◌∷◌, ◌++◌, [], ◌∙◌, Some, None, refl, sym, ap, subst, arith, rules}
+use Rattle.std.proofs.Common.{◌≡◌, ◌+◌, ◌-◌, ◌/◌, ◌≤◌, ◌∷◌, ◌++◌, [], ◌∙◌, None, refl, sym, ap, subst, arith}
 use Rattle.std.specs.Int.{next_multiple_of}
 use Rattle.std.proofs.lemmas.Option.{IfSome_then}
 use Rattle.ctf_class.specs.Records.{IsInteger, IsShown}
-use Rattle.ctf_class.specs.declared.route.Length.TheVariants.{Fixed}
 use Rattle.ctf_decode.specs.Forms as forms
 use Rattle.ctf_decode.specs.Views.{form}
 use Rattle.ctf_format.specs.Passing.{IsElement, Passes}
-use Rattle.ctf_format.specs.Records.{IsLastNumber, PutsField, after_members}
+use Rattle.ctf_format.specs.Records.{PutsField, after_members}
 use Rattle.ctf_format.specs.Standing.{PutsOne}
 use Rattle.ctf_format.specs.Texts.{string_text, value_text}
 use Rattle.ctf_format.proofs.ByClassLemmas.{form_enumeration}
 use Rattle.ctf_format.proofs.PassingLemmas.{integer_passes, alone_passes, class_passes, counted_passes, enumeration_passes, integer_element, many_so, next_passes, other_passes}
-use Rattle.ctf_format.proofs.RecordsLemmas.{empty_puts, numbers_to, counts_after, no_number}
-use Rattle.ctf_format.proofs.StandingLemmas.{form_integer, form_string, form_text, text_string, text_text}
+use Rattle.ctf_format.proofs.RecordsLemmas.{empty_puts, numbers_to, no_number}
+use Rattle.ctf_format.proofs.StandingLemmas.{form_integer, form_string, text_string}
 use Rattle.ctf_format.proofs.passed_record.pass_field.Goals as goal
 
 pub returns-in_ok-end-in-String-clause-passes : goal.returns-in_ok-end-in-String-clause-passes
@@ -30,34 +29,20 @@ returns-in_ok-end-in-String-clause-passes c = λ slot is before.
 
 pub returns-in_ok-end-in-Text-clause-passes : goal.returns-in_ok-end-in-Text-clause-passes
 returns-in_ok-end-in-Text-clause-passes c = λ slot is before.
-    let class = slot.class in
-    let many = Fixed c.in-Text.count in
-    let text = subst (IsShown slot.index slot.class) c.in-Text.is is.shown in
+    let shown = subst (IsShown slot.index slot.class) c.in-Text.is is.shown in
     let placed = c.args.placed in
     let bytes = placed.packet.now.bytes.now in
     let content = placed.packet.now.end in
     let begin = c.in_ok-place.place in
     let end = c.in_ok-end-in-Text.end in
-    let passes = class_passes (forms.text class.align many) (form class) string_text (value_text class) bytes content begin end (form_text class many text) (text_text class many text) (c.in_ok-end-in-Text.ensures.passes class.align) in
-    let p = alone_passes slot c.args.field.now bytes content begin c.args.from.place c.args.from.more end None is c.in_ok-place.ensures.begin c.in_ok-place.ensures.within passes before in
-    (p.0, (None, no_number placed.run.now.numbers bytes ((placed.end - placed.run.now.span) / 8), p.1))
-
-pub returns-in_ok-end-in-CountedText-clause-passes : goal.returns-in_ok-end-in-CountedText-clause-passes
-returns-in_ok-end-in-CountedText-clause-passes c = λ slot is before.
-    let shown = subst (IsShown slot.index slot.class) c.in-CountedText.is is.shown in
-    let placed = c.args.placed in
-    let bytes = placed.packet.now.bytes.now in
-    let content = placed.packet.now.end in
-    let begin = c.in_ok-place.place in
-    let end = c.in_ok-end-in-CountedText.end in
-    let count = c.in_ok-count-in-CountedText.count in
-    let known = Some count in
-    let last : IsLastNumber known placed.run.now.numbers bytes ((placed.end - placed.run.now.span) / 8) = search rules in
+    let count = c.in_ok-count-in-Text.count in
+    let counted = c.in_ok-count-in-Text.ensures slot.index shown.0 shown.1 in
+    let known = counted.0 in
     let more = c.args.from.more in
-    let passes = counted_passes slot.class shown.0 (after_members slot.index known) count bytes content begin end shown.1 (counts_after shown.0 slot.index count shown.2) c.in_ok-end-in-CountedText.ensures.passes in
+    let passes = counted_passes slot.class shown.0 (after_members slot.index known) count bytes content begin end shown.2 counted.2 c.in_ok-end-in-Text.ensures.passes in
     let p = next_passes slot c.args.field.now bytes content begin c.args.from.place more 0 end known is c.in_ok-place.ensures.begin c.in_ok-place.ensures.within passes before in
     let none : more + 0 ≡ more = omega arith in
-    (p.0, (known, last, subst (λ n. PutsField slot bytes content (numbers_to c.args.from.place more known before) (numbers_to end n None p.0)) none p.1))
+    (p.0, (known, counted.1, subst (λ n. PutsField slot bytes content (numbers_to c.args.from.place more known before) (numbers_to end n None p.0)) none p.1))
 
 pub returns-in_ok-end-in-Empty-clause-passes : goal.returns-in_ok-end-in-Empty-clause-passes
 returns-in_ok-end-in-Empty-clause-passes c = λ slot is before.

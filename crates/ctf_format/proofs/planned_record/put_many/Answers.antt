@@ -1,17 +1,13 @@
-use Rattle.std.proofs.Common.{◌-◌, ◌/◌, ◌∙◌, Some, None, take, refl, sym, ap, subst}
-use Rattle.ctf_class.specs.Records.{AreIntegers}
-use Rattle.ctf_class.specs.declared.route.Length.TheVariants as lengths
+use Rattle.std.proofs.Common.{◌∙◌, take, refl, ap}
 use Rattle.ctf_decode.specs.Forms as forms
 use Rattle.ctf_decode.specs.Views.{form}
-use Rattle.ctf_format.specs.Records.{IsLastNumber, after_members}
-use Rattle.ctf_format.specs.Standing.{Before, elements_text}
+use Rattle.ctf_format.specs.Records.{after_members}
+use Rattle.ctf_format.specs.Standing.{elements_text}
 use Rattle.ctf_format.specs.Texts.{value_text}
-use Rattle.ctf_format.specs.declared.standing.Next.{Next}
+use Rattle.std.proofs.Common.{Some}
 use Rattle.ctf_format.proofs.ByClassLemmas.{forget}
 use Rattle.ctf_format.proofs.ArrayLemmas.{next_class, form_array, text_array}
-use Rattle.ctf_format.proofs.RecordsLemmas.{no_number, counts_after}
 use Rattle.ctf_format.proofs.planned_record.put_many.Goals as goal
-use Rattle.ctf_format.proofs.planned_record.put_many.Goals.{in-Fixed, in-Counted+in_ok-count-in-Counted}
 
 pub returns-clause-puts : goal.returns-clause-puts
 returns-clause-puts c = λ index class are.
@@ -21,39 +17,20 @@ returns-clause-puts c = λ index class are.
     let bytes = c.args.placed.packet.now.bytes.now in
     let content = c.args.placed.packet.now.end in
     let place = c.args.reach.now.place in
-    let before = take c.args.at c.args.buffer.now.items in
+    let line = take c.args.at c.args.buffer.now.items in
     let items = c.put_integers.new.buffer.items in
-    let after = take next.text items in
-    let forget_it = λ (b : Before) (n : Next). forget b (form class) (value_text class) bytes content place before n after in
-    elim c.match-are.branch [
-      | in-Fixed w ↦
-          let is = subst (AreIntegers index class i align) w.in-Fixed.is are in
-          let many = lengths.Fixed w.in-Fixed.count in
-          let k = is.0 in
-          let puts = c.in_ok-next.ensures.puts (after_members index None) many class.align (λ earlier env vs counted last. sym w.count-is) in (
-            None,
-            no_number c.args.placed.run.now.numbers bytes ((c.args.placed.end - c.args.placed.run.now.span) / 8),
-            (
-              next.more,
-              refl,
-              forget_it (after_members index None) next (next_class (Some next) (after_members index None) (forms.array class.align many (forms.integer align i)) (form class) (elements_text i) (value_text class) bytes content place before items
-                  (ap (λ a. forms.array class.align many (forms.integer a i)) is.2.1 ∙ form_array class k many i is.1 is.2.0) (text_array class k many i is.1 is.2.0) puts),
-            ),
-          )
-      | in-Counted+in_ok-count-in-Counted w ↦
-          let is = subst (AreIntegers index class i align) w.in-Counted.is are in
-          let many = lengths.Field is.0 in
-          let k = is.1 in
-          let last = Some c.match-are.count in
-          let known : IsLastNumber last c.args.placed.run.now.numbers bytes ((c.args.placed.end - c.args.placed.run.now.span) / 8) = subst (λ o. IsLastNumber o c.args.placed.run.now.numbers bytes ((c.args.placed.end - c.args.placed.run.now.span) / 8)) (w.in_ok-count-in-Counted.was ∙ ap Some (sym w.count-is)) w.last_number.ensures in
-          let puts = c.in_ok-next.ensures.puts (after_members index last) many class.align (counts_after is.0 index c.match-are.count is.3) in (
-            last,
-            known,
-            (
-              next.more,
-              refl,
-              forget_it (after_members index last) next (next_class (Some next) (after_members index last) (forms.array class.align many (forms.integer align i)) (form class) (elements_text i) (value_text class) bytes content place before items
-                  (ap (λ a. forms.array class.align many (forms.integer a i)) is.4.1 ∙ form_array class k many i is.2 is.4.0) (text_array class k many i is.2 is.4.0) puts),
-            ),
-          )
-    ]
+    let many = are.0 in
+    let k = are.2.0 in
+    let counts = c.in_ok-count.ensures index many are.1 in
+    let before = after_members index counts.0 in
+    let puts = c.in_ok-next.ensures.puts before many class.align counts.2 in (
+      counts.0,
+      counts.1,
+      (
+        next.more,
+        refl,
+        forget before (form class) (value_text class) bytes content place line next (take next.text items)
+            (next_class (Some next) before (forms.array class.align many (forms.integer align i)) (form class) (elements_text i) (value_text class) bytes content place line items
+            (ap (λ a. forms.array class.align many (forms.integer a i)) are.2.2.1 ∙ form_array class k many i are.2.1 are.2.2.0) (text_array class k many i are.2.1 are.2.2.0) puts),
+      ),
+    )

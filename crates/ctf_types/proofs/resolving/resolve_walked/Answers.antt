@@ -37,7 +37,7 @@ link-requires g c =
         places = subst ArePlaced (sym c.in_ok-streams-2.ensures) c.in_ok-streams.ensures.1;
         solid = starting.solid g.text rows c.requires.1;
         trace = c.number_of.ensures ∙ starting.traced (map declaration_of c.args.declarations.now) c.in_ok-trace.trace c.in_ok-trace.ensures ∙ ap trace_of (sym c.requires.0);
-        host = c.host-host.ensures ∙ ap host_of (sym c.requires.0);
+        host = c.as_ref-host.ensures.value ∙ c.in_ok-owned.ensures ∙ ap host_of (sym c.requires.0);
         settled = settled g.text own;
         fields = starting.fields g.text rows c.requires.1;
       },
@@ -47,7 +47,7 @@ pub trace_class_of-requires : goal.trace_class_of-requires
 trace_class_of-requires g c = record {
   own = starting.own g.text (map (map placed_seen) c.args.rows.now) c.requires.1;
   traced = subst (λ t. IsTraceOf t c.in_ok-trace.trace) (sym c.requires.0) c.in_ok-trace.ensures;
-  hosted = c.host-host.ensures ∙ ap host_of (sym c.requires.0);
+  hosted = c.in_ok-owned.ensures ∙ ap host_of (sym c.requires.0);
   order = c.order_of.result;
   ordered = c.order_of.ensures;
   given = c.in_ok-parts.ensures;

@@ -1,4 +1,4 @@
-use Rattle.std.proofs.Common.{refl, ◌++◌, subst, List}
+use Rattle.std.proofs.Common.{refl, ◌++◌, ◌∙◌, subst, List}
 use Rattle.std.proofs.lemmas.Result.{err_from_is_err_and}
 use Rattle.tsdl_tree.specs.declared.tree.TableKind.TheVariants.{Clock, Env, Callsite}
 use Rattle.ctf_meaning.specs.declared.fault.ResolveFault.{ResolveFault}
@@ -18,13 +18,13 @@ returns-in_err-clock-in-Clock-clause-told c before r =
     front_fault (minus_faults s ++ clock_faults s) (twice_faults before (Table Clock s)) c.in_err-clock-in-Clock.field-0.0
     (after_fault (minus_faults s) (clock_faults s) c.in_err-clock-in-Clock.field-0.0 c.in_ok-numbers.ensures.told.0 c.in_err-clock-in-Clock.ensures.told))
 
-pub returns-in_ok-clock-in-Clock-clause-told : goal.returns-in_ok-clock-in-Clock-clause-told
-returns-in_ok-clock-in-Clock-clause-told c before r =
+pub returns-in_ok-name-in-Clock-clause-told : goal.returns-in_ok-name-in-Clock-clause-told
+returns-in_ok-name-in-Clock-clause-told c before r =
     rw c.in-Clock.is
     (let s = c.args.settings.now in
     tells_after (minus_faults s ++ clock_faults s) (twice_faults before (Table Clock s)) Nothing c.add_clock.result
     (both_empty (minus_faults s) (clock_faults s) c.in_ok-numbers.ensures.told.0 c.in_ok-clock-in-Clock.ensures.told.0)
-    (subst (λ (fs : List ResolveFault). Tells fs Nothing c.add_clock.result) (clock_twice s before c.in_ok-clock-in-Clock.clock c.into_vec.result.items c.in_ok-clock-in-Clock.ensures.told.1 c.into_vec.ensures) (c.add_clock.ensures.told before r)))
+    (subst (λ (fs : List ResolveFault). Tells fs Nothing c.add_clock.result) (clock_twice s before c.in_ok-clock-in-Clock.clock c.in_ok-name-in-Clock.name.items c.in_ok-clock-in-Clock.ensures.told.1 (c.in_ok-name-in-Clock.ensures.items ∙ c.as_slice.ensures ∙ c.get.ensures)) (c.add_clock.ensures.told before r)))
 
 pub returns-in-Env-clause-kept : goal.returns-in-Env-clause-kept
 returns-in-Env-clause-kept c before r = rw c.in-Env.is (nothing_kept c.args.self.now before (Table Env c.args.settings.now) r refl refl refl)
