@@ -171,6 +171,11 @@ def streams_of_a_long_host(folder: pathlib.Path, count: int) -> None:
     shapes.write_trace(folder, text + EVENT % "u a;", **{f"s{number}": b"\1\2" for number in range(count)})
 
 
+def streams_of_a_long_label(folder: pathlib.Path, count: int) -> None:
+    text = TRACE % "" + EVENT % f'enum : u8 {{ "{"l" * 2048 * count}" = 1 }} a;'
+    shapes.write_trace(folder, text, **{f"s{number}": b"\1" for number in range(count)})
+
+
 def packets_without_events(folder: pathlib.Path, count: int) -> None:
     text = TRACE % "" + STREAM % f"packet.context := struct {{ u8 packet_size; u8 {'n' * count}; }}; " + EVENT % "u8 a;"
     shapes.write_trace(folder, text, s0=b"\x10\0" * count)
@@ -285,6 +290,7 @@ CASES = scope_cases() + [
     Case("streams of 6 bytes", "streams", short_streams, (5000, 10_000, 20_000)),
     Case("streams of a packet of 512 bytes", "streams", streams_of_packets, (1024, 2048, 4096)),
     Case("streams of a host of 16 KiB", "streams", streams_of_a_long_host, (512, 1024, 2048)),
+    Case("streams of a long label", "streams, and 2,048 bytes of a label each", streams_of_a_long_label, (64, 128, 256)),
     Case("packets without events", "packets, and bytes of a name in their context", packets_without_events, (12_500, 25_000, 50_000)),
     Case("packets with elements that are not there", "packets, and members of an element", elements_that_are_not_there, (2500, 5000, 10_000)),
     Case("event headers of no bits", "members and events", headers_of_no_bits, (1250, 2500, 5000)),

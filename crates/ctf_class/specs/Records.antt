@@ -25,8 +25,8 @@ use Rattle.ctf_class.specs.declared.planned_number.PlannedNumber.{PlannedNumber}
 use Rattle.ctf_class.specs.declared.structures.Structures.{Structures}
 
 -- A field: what is printed between the value before it and its own, the alignment of the structures that it begins, or
--- 1, how many members of its structure are before it, or 0 where the one before it is a structure that is gone into, and
--- its class.
+-- 1, how many members of its structure are before it, or 0 where the one before it is a structure that is gone into,
+-- and its class.
 pub record Slot : Type 0 where
   pub lead : List ℕ
   pub align : ℕ

@@ -1,6 +1,6 @@
 //! The choices of a variant.
 
-ghost use Rattle.std.specs.Prelude.{◌≡◌, take, slice_get, IfOk};
+ghost use Rattle.std.specs.Prelude.{◌≡◌, take, slice_get, Some, IfOk, IfSome};
 ghost use Rattle.ctf_class.specs.Choices as choosing;
 
 use crate::labels::Labels;
@@ -9,6 +9,9 @@ use crate::span::{Choice, Label};
 use ctf_list::{Boxed, List, NoMemory, Shared};
 use std::alloc::Global;
 use std::marker::Model;
+
+/// The most labels whose choices are kept as a list, which is gone through for each number.
+const MOST_LISTED: usize = 32;
 
 /// What makes choices: the labels of a tag, and names, of which the first `count` are those of the options.
 #[derive(Drop)]
@@ -28,9 +31,9 @@ enum KeptChoices {
 
 /// The choices of a variant in their order (CTF 1.8.3, section 4.2.2). Contracts see the list of the choices.
 ///
-/// A tag may have far more labels than the variant has options, and may be that of many variants. Then no list is
-/// kept, so that classes take no more memory than the text that declares them asks for. What is kept is on the heap,
-/// since each class of a field has room for the largest.
+/// A tag may have far more labels than the variant has options, and may be that of many variants. So a list is kept
+/// only of few: among many the option of a number is found by its label, and classes take no more memory than the text
+/// that declares them asks for. What is kept is on the heap, since each class of a field has room for the largest.
 #[derive(Drop)]
 pub struct Choices {
     kept: Boxed<KeptChoices>,
@@ -77,13 +80,13 @@ impl Choices {
         }
     }
 
-    /// The first choice.
-    pub fn first(&self) -> Option<Choice>
-        ensures { result ≡ slice_get self.now 0 }
+    /// The first choice, if a list is kept.
+    pub fn first_listed(&self) -> Option<Choice>
+        ensures { IfSome result (λ first. slice_get self.now 0 ≡ Some first) }
     {
         match self.kept.get() {
             KeptChoices::Listed(choices) => choices.as_slice().first().copied(),
-            KeptChoices::Named(named) => named.first(),
+            KeptChoices::Named(_) => None,
         }
     }
 
@@ -101,11 +104,12 @@ impl Choices {
 impl KeptChoices {
     ghost use Rattle.ctf_class.specs.ChoiceSearch.{choices_named, choices_kept};
 
-    /// How choices are kept: as a list where there are at most `2 * count + 1` labels.
+    /// How choices are kept: as a list where there are at most 32 labels, and at most `2 * count + 1`.
     fn of(alloc: Global, named: Named) -> Result<KeptChoices, NoMemory>
         ensures { IfOk result (λ kept. choices_kept kept ≡ choices_named named) }
     {
-        if named.labels.get().as_slice().len() / 2 > named.count {
+        let label_count = named.labels.get().as_slice().len();
+        if label_count > MOST_LISTED || label_count / 2 > named.count {
             return Ok(KeptChoices::Named(named));
         }
         Ok(KeptChoices::Listed(named.to_list(alloc)?))
@@ -145,18 +149,6 @@ impl Named {
             }
         }
         Ok(choices)
-    }
-
-    /// The first choice.
-    fn first(&self) -> Option<Choice>
-        ensures { result ≡ slice_get (choices_named self.now) 0 }
-    {
-        for label in self.labels.get().as_slice() {
-            if let Some(choice) = self.choice_by(label) {
-                return Some(choice);
-            }
-        }
-        None
     }
 
     /// The option of the first choice that covers a number. Of labels of one name that cover it the first stands

@@ -81,7 +81,7 @@ struct TaggedOptions<'a> {
 }
 
 /// The plan for event headers of a class; `None` where there is no class, or it is of another form than those that
-/// `HeaderPlan` has.
+/// `HeaderPlan` has, or where no list of its choices is kept.
 pub(crate) fn header_plan(class: Option<&Class>) -> Option<HeaderPlan>
     ensures { IsHeaderPlanOf (option_copied class.entry) result }
 {
@@ -91,7 +91,8 @@ pub(crate) fn header_plan(class: Option<&Class>) -> Option<HeaderPlan>
     }
 }
 
-/// The plan for headers of this class; `None` where it is of another form than those that `HeaderPlan` has.
+/// The plan for headers of this class; `None` where it is of another form than those that `HeaderPlan` has, or where no
+/// list of its choices is kept.
 fn plan_of(class: &Class) -> Option<HeaderPlan>
     ensures { IfSome result (λ plan. IsHeaderPlan plan class.now) }
 {
@@ -111,7 +112,8 @@ fn plan_of(class: &Class) -> Option<HeaderPlan>
     })
 }
 
-/// The plan for headers of this alignment that are an enumeration and a variant on it.
+/// The plan for headers of this alignment that are an enumeration and a variant on it. `None` where no list of its
+/// choices is kept: they are not gone through for each stream class.
 fn tagged_plan(align: Align, tag: &Member, variant: &Member) -> Option<HeaderPlan>
     ensures { IfSome result (λ plan. (k : Class) → k.align ≡ align →
         k.kind ≡ kinds.Structure (tag.now ∷ variant.now ∷ []) → IsHeaderPlan plan k) }
@@ -133,7 +135,7 @@ fn tagged_plan(align: Align, tag: &Member, variant: &Member) -> Option<HeaderPla
     if !divides(tag.class.align, align) || !leads_to_first(route) {
         return None;
     }
-    let choice = choices.first()?;
+    let choice = choices.first_listed()?;
     let last = unsigned(choice.span.last)?;
     let variant = TaggedOptions {
         tag: container,

@@ -41,8 +41,8 @@ pub struct PlannedRun {
 
 /// The fields of an event record's scopes after its header (CTF 1.8.3, section 6), one after the other, if all of them
 /// are integers, enumerations, strings, structures without members, texts and arrays of integers and of structures of
-/// integers whose length is fixed or the field before, or structures of such fields; else nothing. The fields of a
-/// structure within are among those around it.
+/// integers whose length is fixed or the field before, or structures of such fields; else nothing, also where a text
+/// before a value has more than 1,024 bytes. The fields of a structure within are among those around it.
 #[derive(Drop)]
 pub struct RecordPlan {
     pub runs: List<PlannedRun>,

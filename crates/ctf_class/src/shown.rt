@@ -73,7 +73,8 @@ pub struct Integers {
 
 /// How a field of a class after so many others of its structure is shown after a run, if it can be: an integer, an
 /// enumeration, a string, a structure without members, or a text or an array of integers or of structures of integers
-/// whose length is fixed or the field before. It fails where an allocation fails, and where no more owners of labels can be counted.
+/// whose length is fixed or the field before. It fails where an allocation fails, and where no more owners of labels
+/// can be counted.
 pub(crate) fn shown_of(
     alloc: Global,
     class: &Class,

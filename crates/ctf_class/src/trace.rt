@@ -255,7 +255,8 @@ impl StreamClass {
         self.parts.event_header.as_ref()
     }
 
-    /// The plan by which event headers are decoded; `None` where they have another form.
+    /// The plan by which event headers are read; `None` where they have another form, or where no list of their choices
+    /// is kept.
     #[inline(always)]
     pub fn header_plan(&self) -> Option<&HeaderPlan>
         ensures { IsHeaderPlanOf self.now.event_header (option_copied result) }

@@ -58,16 +58,20 @@ fn bits_of_scope(class: Option<&Class>) -> u64
 ///
 /// `None` where its size depends on values in the packet, as that of a string, a variant, or an array in a structure
 /// whose length is in a field; where a part of it is not of whole bytes, or may not begin at each of them, since its
-/// end would be further away; where its parts lie deeper than `DEEPEST`; and where no packet is so long.
+/// end would be further away; where it takes no bits; where its parts lie deeper than `DEEPEST`; and where no packet is
+/// so long.
 pub(crate) fn least_end(class: &Class, place: &ValuePlace<'_>) -> Option<u64>
     requires { place.now.end ≤ longest }
     ensures least { IfSome result (EndsAtLeast class.now place.now) }
     ensures bounded { IfSome result (λ end. end ≤ longest) }
 {
-    if class.depth > DEEPEST || !is_packed(class) {
+    if class.depth > DEEPEST {
         return None;
     }
     let bits = least_bits_at(class, place)?;
+    if bits == 0 || !is_packed(class) {
+        return None;
+    }
     in_packet(u128::from(place.end) + u128::from(bits))
 }
 
@@ -102,7 +106,7 @@ fn is_packed(class: &Class) -> bool {
             container.size.bits() % 8 == 0 && is_of_bytes(class.align)
         }
         Kind::Structure { members } => is_of_bytes(class.align) && are_packed(members.as_slice()),
-        Kind::Array { length, element } => is_packed(element.get()),
+        Kind::Array { length, element } => are_packed_elements(element.get(), length),
         Kind::String => true,
         Kind::Variant {
             tag,
@@ -122,6 +126,16 @@ fn are_packed(members: &[Member]) -> bool {
         }
     }
     true
+}
+
+/// Whether so many elements begin at a byte, and each part of them takes whole bytes and may begin at each of them.
+/// Where there are none, their alignment alone is looked at.
+#[cycle(packed)]
+fn are_packed_elements(element: &Class, length: &Length) -> bool {
+    match length {
+        Length::Fixed(0) => is_of_bytes(element.align),
+        _ => is_packed(element),
+    }
 }
 
 /// How many bits a value at a place takes at least. An array's length may be in a field.

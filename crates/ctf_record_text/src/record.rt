@@ -23,9 +23,13 @@ use ctf_format::{
 use ctf_packet::{EventRecord, Head, RecordPlace, Scratch, StreamFault, next_head, put_body};
 use std::alloc::Global;
 
-/// The longest buffer, in bytes, that is kept for the next text. So no trace makes a reader hold a long one for each of
-/// many streams.
+/// The longest buffer, in bytes, that is kept for the next text, and the longest text that is held whatever its event
+/// record has. So no trace makes a reader hold a long one for each of many streams.
 const LONGEST_KEPT: usize = 65_536;
+
+/// How many bytes a longer text may have for each bit of its event record, or for each value, where it is held. So no
+/// long label, name or host is held by each of many streams.
+const MOST_EACH: u64 = 32;
 
 /// The buffer of event records' texts, with what those of a packet share, and memory for what their scopes give to
 /// lengths and tags after them.
@@ -66,7 +70,8 @@ pub struct LineRecord<'a> {
 /// text of the record is at the beginning of `line` then: the host, the name, the part that the lines of the packet
 /// share, and the scopes.
 ///
-/// `None` where the header is not such a one, where `put_standing` gives no text, where the record has a fault, and
+/// `None` where the header is not such a one, where `put_standing` gives no text, where the record has a fault, where
+/// its text is longer than 64 KiB, than some 32 bytes for each of its bits and than as many for each of its values, and
 /// where an allocation fails. The line is unspecified then.
 #[inline(always)]
 pub fn written_line<'a>(
@@ -93,8 +98,8 @@ pub fn written_line<'a>(
 
 /// The event record at a place (CTF 1.8.3, section 6), of which `written_line` made no text in either way. The values
 /// of the packet's header and context are in `scopes`. Where the header alone was in the way, the text of the record is
-/// at the start of `line` then, as `written_line` makes it. Elsewhere the record's values are in `scopes`. The memory of
-/// `scratch` is used.
+/// at the start of `line` then, as `written_line` makes it. Elsewhere the record's values are in `scopes`. The memory
+/// of `scratch` is used.
 ///
 /// An error is the first fault of the record: F6 to F11, or `NoMemory`.
 #[inline(never)]
@@ -127,6 +132,7 @@ pub fn next_line<'a>(
         if let Some(standing) = put_record(at, told, &*scopes, line) {
             return Ok(with_text(head, standing));
         }
+        keep_short(alloc, line);
     }
     let record = read_values(alloc, at, head, scratch, scopes)?;
     Ok(LineRecord { record, text: None })
@@ -339,7 +345,7 @@ fn put_by_plan<'a>(
         end: front,
     };
     let all = put_planned_record(planned.plan, &content, from, line)?;
-    if all.place <= at.place {
+    if !is_held(at, all) {
         return None;
     }
     Some(all)
@@ -368,10 +374,23 @@ fn put_record(
         end: at.packet.content,
     };
     let all = put_scopes(at.packet.stream, &content, told, scopes, line)?;
-    if all.place <= at.place {
+    if !is_held(at, all) {
         return None;
     }
     Some(all)
+}
+
+/// Whether the text that was written of the event record at a place is held: the record has bits and, where the text is
+/// long, many bits or many values.
+#[inline(always)]
+fn is_held(at: &RecordPlace<'_, '_>, all: Standing) -> bool
+    ensures { IsTrue result → at.now.place < all.place }
+{
+    if all.place <= at.place {
+        return false;
+    }
+    let least = all.end as u64 / MOST_EACH;
+    all.end <= LONGEST_KEPT || least <= all.place - at.place || least <= all.spent
 }
 
 /// Writes the host, the name and the scopes after a header, one after the other. It is apart, out of the way of records

@@ -26,7 +26,9 @@ still_early (texts.From first) begin clock early = early
 
 still_holds : (c : ReadState) (begin : Option ℤ) (packet : Option PacketReader) (front : PacketItem) → HoldsIn c packet front → HoldsIn (record c { writes = asked_first c.writes begin }) packet front
 still_holds c begin None front holds = holds
-still_holds c begin (Some p) (fronts.Written w) holds = record { asked = still_asks c.writes begin holds.asked; read = holds.read; held = holds.held; text = holds.text }
+still_holds c begin (Some p) (fronts.Written w) holds =
+    let written = holds.1 in
+    (holds.0, record { asked = still_asks c.writes begin written.asked; read = written.read; held = written.held; text = written.text })
 still_holds c begin (Some p) (fronts.Passed r) holds = (still_early c.writes begin r.event.clock holds.0, holds.1)
 still_holds c begin (Some p) (fronts.Event r) holds = holds
 still_holds c begin (Some p) (fronts.Discarded count) holds = holds

@@ -15,7 +15,7 @@ use Rattle.ctf_packet.specs.declared.fault.StreamFault.{StreamFault}
 use Rattle.ctf_packet.specs.declared.record.EventRecord.{EventRecord}
 use Rattle.ctf_packet.proofs.Going.{goes_on}
 use Rattle.ctf_stream.specs.Asked.{AsksTexts}
-use Rattle.ctf_stream.specs.Coming.{opened_in, left_in, item_in, values_in, values_at, front_as, HoldsFront, IsRead}
+use Rattle.ctf_stream.specs.Coming.{opened_in, left_in, item_in, values_in, values_at, front_as, HasRecords, HoldsFront, IsRead}
 use Rattle.ctf_stream.specs.declared.packet.PacketItem.TheVariants as fronts
 use Rattle.ctf_stream.specs.declared.packet.PacketReader.{PacketReader}
 use Rattle.ctf_stream.specs.declared.packet.ReadRecord.{ReadRecord}
@@ -90,15 +90,17 @@ module _ (shift : Shift) (p : PacketReader) (known after : Known) (bytes : List 
         begins = inside;
       }
 
-  pub holds_made : (writes : Texts) (part line : List ℕ) (text : Option ℕ) → p.place ≤ p.opened.content → IfSome text (λ end. (end ≤ length line) × AsksTexts writes)
+  pub holds_made : (writes : Texts) (part line : List ℕ) (text : Option ℕ) → HasRecords p → p.place ≤ p.opened.content → IfSome text (λ end. (end ≤ length line) × AsksTexts writes)
       → Made p.opened.stream.now (record_at packet bytes p.clock p.place) part after line r text → HoldsFront writes shift after bytes part line p (front_as r p.clock p.place text)
-  holds_made writes part line None inside fits made = tt
-  holds_made writes part line (Some end) inside fits made =
+  holds_made writes part line None has inside fits made = has
+  holds_made writes part line (Some end) has inside fits made =
       let s = p.opened.stream.now in
-      let are = values_are made.0 made.1 in
-      record {
-        asked = fits.1;
-        read = is_read made.0 inside made.1 (made.2 ∙ same);
-        held = fits.0;
-        text = made.3 ∙ ap (values_text part s r.event.now) (sym are);
-      }
+      let are = values_are made.0 made.1 in (
+        has,
+        record {
+          asked = fits.1;
+          read = is_read made.0 inside made.1 (made.2 ∙ same);
+          held = fits.0;
+          text = made.3 ∙ ap (values_text part s r.event.now) (sym are);
+        },
+      )

@@ -83,8 +83,13 @@ one_if_some (Some count) = 1
 abbrev pub room_in : PacketReader → ℕ
 room_in p = one_if_some p.lost + one_if_some p.dropped + (p.opened.content - p.place)
 
+-- a packet has bits for event records
+abbrev pub HasRecords : PacketReader → Type 0
+HasRecords p = p.opened.first < p.opened.content
+
 -- a packet whose bytes are at hand
 pub record Within (bytes : List ℕ) (p : PacketReader) : Type 0 where
+  pub from : p.opened.first ≤ p.place
   pub place : p.place ≤ p.opened.content
   pub content : p.opened.content ≤ 2 ^ 62
   pub held : p.opened.content ≤ 8 * length bytes
@@ -121,14 +126,16 @@ pub record IsWritten (writes : Texts) (packet : Opened Classes) (stream : Stream
   pub text : take w.end line
       ≡ values_text part stream w.read.event.event.now (values_at packet bytes w.read)
 
--- an item that has no values in the scopes has its text in the line, or is before those whose texts are asked for
+-- An event record that has no values in the scopes has its text in the line, or is before those whose texts are asked
+-- for. One that is shown is in a packet with bits for event records.
 abbrev pub HoldsFront : Texts → Shift → Known → List ℕ → List ℕ → List ℕ → PacketReader
     → PacketItem → Type 0
 HoldsFront writes shift known bytes part line p (fronts.Written w) =
-    IsWritten writes (opened_in shift known p.opened) p.opened.stream.now bytes part line w
+    HasRecords p
+    × IsWritten writes (opened_in shift known p.opened) p.opened.stream.now bytes part line w
 HoldsFront writes shift known bytes part line p (fronts.Passed r) =
     IsEarly writes r.event.clock
     × IsRead (opened_in shift known p.opened) p.opened.stream.now bytes r
-HoldsFront writes shift known bytes part line p (fronts.Event r) = Unit {0}
+HoldsFront writes shift known bytes part line p (fronts.Event r) = HasRecords p
 HoldsFront writes shift known bytes part line p (fronts.Lost count) = Unit {0}
 HoldsFront writes shift known bytes part line p (fronts.Discarded count) = Unit {0}

@@ -8,7 +8,7 @@ use Rattle.ctf_packet.specs.Items.{Run, stops, before, from_bytes}
 use Rattle.ctf_packet.specs.Scopes.{Values}
 use Rattle.ctf_packet.specs.Views.{values_of, packet_values}
 use Rattle.ctf_packet.specs.declared.fault.StreamFault.{StreamFault}
-use Rattle.ctf_stream.specs.Coming.{opened_in, left_in, item_in, room_in, HoldsFront}
+use Rattle.ctf_stream.specs.Coming.{opened_in, left_in, item_in, room_in, HasRecords, HoldsFront}
 use Rattle.ctf_fetch.specs.Fetching.{OrNoMemory, most_taken, after_packet, FetchedAt}
 use Rattle.ctf_fetch.specs.Headers.{KnowsHeader}
 use Rattle.ctf_fetch.specs.declared.packet_scratch.PacketScratch.{PacketScratch}
@@ -45,6 +45,7 @@ pub record Inside (cut : PacketStart) (bytes : List ℕ) (taken : ℕ) (p : Pack
   pub fetched : FetchedAt cut.at bytes cut.shift p.opened
   pub here : taken ≡ p.opened.end
   pub near : cut.at ≤ 2 ^ 60
+  pub from : p.opened.first ≤ p.place
   pub place : p.place ≤ p.opened.content
 
 abbrev pub StandsAt : PacketStart → List ℕ → ℕ → Option PacketReader → Type 0
@@ -54,11 +55,11 @@ StandsAt cut bytes taken (Some p) = Inside cut bytes taken p
 abbrev pub Stands : ReadState → Type 0
 Stands c = StandsAt c.cut c.buffer c.taken c.packet
 
--- the text that the lines of a packet share, of one with these values
+-- the text that the lines of a packet share, of one with these values; any text where it has no bits for event records
 abbrev pub IsPartOf : Values → List ℕ → Option PacketReader → Type 0
 IsPartOf values text None = Unit {0}
 IsPartOf values text (Some p) =
-    text ≡ packet_part p.opened.stream.now.packet_context values.packet_context
+    HasRecords p → text ≡ packet_part p.opened.stream.now.packet_context values.packet_context
 
 -- what was made of a packet's header and context is that of these values: the text that its lines share,
 -- and the header that later packets may share

@@ -62,8 +62,8 @@ pub enum CurrentItem<'r> {
     Item(Item<'r>),
     /// An event record that was read as text.
     Text(EventText<'r>),
-    /// An event record before those that are asked for as texts, which was passed over: the clock after its header. There
-    /// always is one.
+    /// An event record before those that are asked for as texts, which was passed over: the clock after its header.
+    /// There always is one.
     Passed(Option<Moment>),
 }
 

@@ -105,6 +105,7 @@ impl<'a> PacketReader<'a> {
         ensures part { line.new.part ≡ line.old.part }
         ensures room { IfSome result (λ _. room_in self.new < room_in self.old) }
         ensures opened { self.new.opened ≡ self.old.opened }
+        ensures from { self.new.opened.first ≤ self.new.place }
         ensures place { self.new.place ≤ self.new.opened.content }
         ensures none { IfNone result (self.new ≡ self.old) }
     {
@@ -152,6 +153,7 @@ impl<'a> PacketReader<'a> {
             part line self.new) }
         ensures room { IfSome result (λ _. room_in self.new < room_in self.old) }
         ensures opened { self.new.opened ≡ self.old.opened }
+        ensures from { self.new.opened.first ≤ self.new.place }
         ensures place { self.new.place ≤ self.new.opened.content }
         ensures none { IfNone result (self.new ≡ self.old) }
     {
@@ -204,6 +206,7 @@ impl<'a> PacketReader<'a> {
         ensures part { line.new.part ≡ line.old.part }
         ensures room { TakesRoom (room_in self.old) (room_in self.new) result }
         ensures opened { self.new.opened ≡ self.old.opened }
+        ensures from { self.new.opened.first ≤ self.new.place }
         ensures place { self.new.place ≤ self.new.opened.content }
         ensures packet { OnOk result (packet_values (values_of scopes.new) ≡
             packet_values (values_of scopes.old)) }

@@ -42,7 +42,8 @@ pub(crate) struct ReadState<'a> {
     pub(crate) packet_scratch: PacketScratch<'a>,
     /// The event records that are read as texts, where they can.
     pub(crate) writes: Texts,
-    /// The text of the current event record, if it was read as that, and what the lines of the packet share.
+    /// The text of the current event record, if it was read as that, and what the lines of the last packet that had
+    /// room for event records share.
     pub(crate) line: LineBuffer,
     /// How many bytes were taken from the source.
     pub(crate) taken: u64,
@@ -303,10 +304,12 @@ impl<'a> ReadState<'a> {
                 Ok(false)
             }
             Ok(Some(opened)) => {
-                let context = self.scopes.get(Scope::PacketContext);
-                match self.line.part.make(opened.stream.context_front(), context) {
-                    Err(_) => return Err(StreamFault::NoMemory),
-                    Ok(()) => {}
+                if opened.first < opened.content {
+                    let context = self.scopes.get(Scope::PacketContext);
+                    match self.line.part.make(opened.stream.context_front(), context) {
+                        Err(_) => return Err(StreamFault::NoMemory),
+                        Ok(()) => {}
+                    }
                 }
                 self.packet = Some(PacketReader {
                     lost: opened.lost,

@@ -109,8 +109,8 @@ impl<'a, S: Source + Drop> StreamReader<'a, S> {
     }
 
     /// From now on the reader gives event records as texts, where these can be made without the values; of those before
-    /// `begin`, if it is given, in nanoseconds since the epoch, it may tell the clock alone. A reader that was asked for
-    /// texts before stays as it is.
+    /// `begin`, if it is given, in nanoseconds since the epoch, it may tell the clock alone. A reader that was asked
+    /// for texts before stays as it is.
     pub fn with_texts(self, begin: Option<i64>) -> StreamReader<'a, S>
         ensures { let writes = asked_first self.entry.writes begin in
             result ≡ record self.entry { writes = writes } }
@@ -282,8 +282,8 @@ impl<'a, S: Source + Drop> StreamReader<'a, S> {
         }
     }
 
-    /// The current item, if there is one: an event record as a text, if it was read as that, and as its clock alone, if it
-    /// was passed over. No memory is taken.
+    /// The current item, if there is one: an event record as a text, if it was read as that, and as its clock alone, if
+    /// it was passed over. No memory is taken.
     pub fn told(&self) -> Option<CurrentItem<'_>>
         ensures tells { Tells self.now.trace self.now.name self.now.ahead result }
         ensures made { IfSome result IsMadeTold }

@@ -16,7 +16,8 @@ pub enum Texts {
 }
 
 impl Texts {
-    /// These, if some are asked for; else all, or those from `begin` on, in nanoseconds since the epoch, if it is given.
+    /// These, if some are asked for; else all, or those from `begin` on, in nanoseconds since the epoch, if it is
+    /// given.
     pub(crate) fn or_from(self, begin: Option<i64>) -> Texts
         ensures { result ≡ asked_first self begin }
     {

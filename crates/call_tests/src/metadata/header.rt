@@ -3,9 +3,9 @@
 use crate::row::Row;
 use ctf_class::{HeaderIntegers, HeaderNumber, HeaderPlan};
 
-/// Puts how event headers are read: by values; or by a plan, with the first choice of its tag, where it has one, and then of
-/// the usual integers and of the others, where there are any, their bits and the bits before them, the count of values,
-/// and how far after their begin the class number and the clock are.
+/// Puts how event headers are read: by values; or by a plan, with the first choice of its tag, where it has one, and
+/// then of the usual integers and of the others, where there are any, their bits and the bits before them, the count of
+/// values, and how far after their begin the class number and the clock are.
 pub fn put_plan(row: &mut Row<'_>, plan: Option<&HeaderPlan>) {
     let Some(plan) = plan else {
         return row.put(b" by values");

@@ -44,7 +44,7 @@ returns c = λ k align is.
         steps = c.if-not-leads_to_first.ensures.steps refl;
         usual = λ n above below. record {
           i = choice.option;
-          chooses = chosen_first c.in-Variant.choices choice c.in_ok-unsigned.field-0 last n c.in_ok-choice.ensures first_is last_is above below;
+          chooses = chosen_first c.in-Variant.choices choice c.in_ok-unsigned.field-0 last n (sym c.in_ok-choice.ensures) first_is last_is above below;
           option = of_usual;
         };
         other = subst (λ (j : Integer). IfSome c.integers_after.result (Chooses (bits_of j) c.in-Variant.choices options (pos (last + 1)))) integer

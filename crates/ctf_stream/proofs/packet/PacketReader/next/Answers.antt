@@ -33,7 +33,7 @@ returns-clause-written c = λ shift timed.
     let held = record_held (opened_in shift known p.opened) bytes c.padded.result.now c.requires.held c.padded.ensures p.clock p.place in
     let makes = subst (λ stands. Made p.opened.stream.now stands part after line made.record made.text) held (c.in_ok-made.ensures.makes shift timed) in
     subst (HoldsFront c.args.input.writes shift after bytes part line p) (sym c.front_of.ensures)
-    (holds_made shift p known after bytes c.in_ok-made.ensures.packet made.record c.args.input.writes part line made.text (search rules) (search rules) makes)
+    (holds_made shift p known after bytes c.in_ok-made.ensures.packet made.record c.args.input.writes part line made.text (search rules) (search rules) (search rules) makes)
 
 pub returns-in_err-made-clause-takes : goal.returns-in_err-made-clause-takes
 returns-in_err-made-clause-takes c = λ shift follows timed.

@@ -31,4 +31,4 @@ returns-clause-written c = λ shift timed.
     let held = record_held (opened_in shift known p.opened) bytes c.padded.result.now c.requires.within.held c.padded.ensures p.clock p.place in
     let makes = subst (λ stands. Made p.opened.stream.now stands part known line made.record made.text) held (c.in_ok-made.ensures.makes shift timed) in
     subst (HoldsFront c.args.input.writes shift known bytes part line p) (sym c.front_of.ensures)
-    (holds_made shift p known known bytes refl made.record c.args.input.writes part line made.text (search rules) (search rules) makes)
+    (holds_made shift p known known bytes refl made.record c.args.input.writes part line made.text (search rules) (search rules) (search rules) makes)

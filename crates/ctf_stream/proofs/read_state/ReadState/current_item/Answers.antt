@@ -15,7 +15,8 @@ returns-in-Event-clause-tells c =
     let p = c.in-Some.packet.opened in
     let read_state = c.args.self.now in
     let made = subst (IsPartOf (packet_values (values_of read_state.scopes)) read_state.line.part) c.in-Some.is c.requires.part in
-    ((p.end, (p.end - p.start, (λ i. item_ahead (item_at read_state (c.in-Some.is i) (c.in-Event.is i))))), (refl, c.as_slice.ensures ∙ made))
+    let holds = subst (HoldsIn read_state (Some c.in-Some.packet)) c.in-Event.is (subst (λ o. HoldsIn read_state o c.args.front.now) c.in-Some.is c.requires.holds) in
+    ((p.end, (p.end - p.start, (λ i. item_ahead (item_at read_state (c.in-Some.is i) (c.in-Event.is i))))), (refl, c.as_slice.ensures ∙ made holds))
 
 pub returns-in-Written-clause-tells : goal.returns-in-Written-clause-tells
 returns-in-Written-clause-tells c =
@@ -24,7 +25,7 @@ returns-in-Written-clause-tells c =
     let w = c.in-Written.written in
     let made = subst (IsPartOf (packet_values (values_of read_state.scopes)) read_state.line.part) c.in-Some.is c.requires.part in
     let holds = subst (HoldsIn read_state (Some p)) c.in-Written.is (subst (λ o. HoldsIn read_state o c.args.front.now) c.in-Some.is c.requires.holds) in
-    (the_event read_state.cut.shift read_state.scopes read_state.buffer p w.read, (λ i. item_ahead (item_at read_state (c.in-Some.is i) (c.in-Written.is i))), refl, ap (take w.end) c.deref.ensures.value ∙ text_is read_state.writes read_state.cut.shift read_state.scopes read_state.buffer read_state.line.part read_state.line.bytes.items p w holds made)
+    (the_event read_state.cut.shift read_state.scopes read_state.buffer p w.read, (λ i. item_ahead (item_at read_state (c.in-Some.is i) (c.in-Written.is i))), refl, ap (take w.end) c.deref.ensures.value ∙ text_is read_state.writes read_state.cut.shift read_state.scopes read_state.buffer read_state.line.part read_state.line.bytes.items p w holds.1 holds.0 made)
 
 pub returns-in-Passed-clause-tells : goal.returns-in-Passed-clause-tells
 returns-in-Passed-clause-tells c =
