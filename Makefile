@@ -18,7 +18,7 @@ run:
 prove:
 	@tools/prove
 
-# The whole gate: every proof from nothing, the must-fail edits, the tests and the programs.
+# The whole gate: every proof, the must-fail edits, the tests and the programs.
 test:
 	@files=$$(tools/built --sum) && RT_JOBS=$${RT_JOBS:-$$(tools/lanes)} rt ci && tools/built --record "$$files"
 
@@ -33,7 +33,8 @@ check:
 	cd crates/$(CRATE) && rt check && rt test
 	rt must-fail $(CRATE)
 
-# Measures the program over each shape of event records, beside BEFORE=PROGRAM and beside babeltrace2 where it is installed.
+# Measures the program over each shape of event records, beside BEFORE=PROGRAM and beside babeltrace2 where it is
+# installed.
 bench:
 	@tools/built
 	bench/compare.py $(PROGRAM) $(BEFORE) $$(command -v babeltrace2 > /dev/null && echo --babeltrace2 babeltrace2)

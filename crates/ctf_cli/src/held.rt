@@ -91,7 +91,8 @@ impl Held {
         self.end += bytes.len();
     }
 
-    /// Holds the line of an event record that a printer makes out of its text, if there is room for it. Whether it does.
+    /// Holds the line of an event record that a printer makes out of its text, if there is room for it. Whether it
+    /// does.
     #[inline(always)]
     pub(crate) fn put_line(
         &mut self,

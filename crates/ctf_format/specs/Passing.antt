@@ -37,7 +37,8 @@ PassesField slot placed from to =
     × PutsField slot placed.packet.now.bytes.now placed.packet.now.end
     (after_number from last before) (reached to after))
 
--- a value of a class after so many members of its structure, and after the numbers of a run, goes from a place to another
+-- a value of a class after so many members of its structure, and after the numbers of a run, goes from a place to
+-- another
 abbrev pub PassesOther : ℕ → Class → PlacedRun → Reach → Reach → Type 0
 PassesOther index class placed from to =
     Passes (λ before after. (last : Option ℕ) × IsLastOf placed last

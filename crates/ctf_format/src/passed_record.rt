@@ -48,8 +48,8 @@ pub(crate) struct Element {
 /// without a text: `from` has the place after the header, in bits from the packet's first one, and how many values were
 /// begun before.
 ///
-/// `None` where `put_planned_record` gives none, but where it lacks memory, or eight bytes after a structure in an array:
-/// neither is needed here. No memory is taken.
+/// `None` where `put_planned_record` gives none, but where it lacks memory, or eight bytes after a structure in an
+/// array: neither is needed here. No memory is taken.
 #[inline(never)]
 pub fn pass_planned_record(plan: &RecordPlan, packet: &Content<'_>, from: Passed) -> Option<Passed>
     requires plan { (classes : List Class) × IsPlanOf classes plan.now }

@@ -45,8 +45,8 @@ pub(crate) struct Reach {
 /// begun before, and the index, in bytes. What is before the index is kept, and the buffer grows where it has no room.
 ///
 /// `None` where there is no plan; where the record has a fault; where a run of numbers would begin within a byte; where
-/// the packet has fewer than eight bytes after the numbers of a run or of a structure in an array, or after the begin of
-/// a run without any; and where an allocation fails. The buffer is then unspecified.
+/// the packet has fewer than eight bytes after the numbers of a run or of a structure in an array, or after the begin
+/// of a run without any; and where an allocation fails. The buffer is then unspecified.
 #[inline(always)]
 pub fn put_planned_record(
     plan: &RecordPlan,

@@ -12,7 +12,8 @@ use tsdl_text::{metadata_text, tokens};
 use tsdl_tree::Tree;
 
 /// The trace class that metadata denotes: its text, plain or joined from packets, its tokens, their syntax
-/// tree, and what that means (CTF 1.8.3, section 7).
+/// tree, and what that means (CTF 1.8.3, section 7). An error is its first fault, M1 to M6, S1, S2 or R1 to R9, or that
+/// an allocation failed.
 pub fn load(alloc: Global, metadata: &[u8]) -> Result<TraceClass, LoadFault>
     ensures { MatchResult result (Describes metadata.now) (IsBroken metadata.now) }
 {

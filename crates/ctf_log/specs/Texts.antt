@@ -20,6 +20,7 @@ shared_text e =
 abbrev pub event_text_of : Event → List ℕ
 event_text_of e = body_text (shared_text e) (event_of e 0 0)
 
--- the line of an event record that was read as a text, where an event record at a time was printed before, or none (own)
+-- the line of an event record that was read as a text, where an event record at a time was printed before, or none
+-- (own)
 abbrev pub text_line : Style → Option ℤ → EventText → List ℕ
 text_line style last e = stamp_part style e.moment last ++ (e.text.now ++ newline)

@@ -80,8 +80,9 @@ impl Printer {
         }
     }
 
-    /// Makes the line of an event record, with its newline, out of the text of the event record. At an error there is
-    /// no text.
+    /// Makes the line of an event record, with its newline, out of the text of the event record. `last` is the time of
+    /// the event record with a time that was printed before, in nanoseconds since the epoch. At an error there is no
+    /// text.
     pub fn print_text(&mut self, event: &EventText<'_>, last: Option<i64>) -> Result<(), NoMemory>
         ensures line { OnOk result
             (self.new.text ≡ text_line self.old.style last event.now) }
@@ -280,7 +281,8 @@ fn put_body(
     put_record(event.stream, event.class, &scopes, line, at)
 }
 
-/// The line of an item, with its newline, in memory of its own.
+/// The line of an item, with its newline, in memory of its own. `last` is the time of the event record with a time that
+/// was printed before, in nanoseconds since the epoch. It fails where an allocation fails.
 pub fn line(
     alloc: Global,
     item: &Item<'_>,

@@ -235,8 +235,8 @@ impl<'a, S: Source + Drop> Merge<'a, S> {
     }
 
     /// The item that comes next, by reference: with its values; or an event record as its text, or as its clock alone,
-    /// where its reader was asked for texts and read it so. `None` where a fault comes next, and at the end. No memory is
-    /// taken.
+    /// where its reader was asked for texts and read it so. `None` where a fault comes next, and at the end. No memory
+    /// is taken.
     pub fn head(&self) -> Option<CurrentItem<'_>>
         ensures shows { ShowsHead self.now result }
         ensures made { IfSome result IsMadeTold }

@@ -23,9 +23,10 @@ pub trait Log: Sink {
         ensures failed { Self.failures self.new ≡ failures_put result (Self.failures self.old) }
         ensures refused { Self.refusals self.new ≡ refusals_put result (Self.refusals self.old) };
 
-    /// Accepts the line of an event record that a printer makes out of its text, where the line can be made in memory of
-    /// the log's own. Whether it could. It can't where the log has no room for it, as by default; then nothing is
-    /// accepted.
+    /// Accepts the line of an event record that a printer makes out of its text, where the line can be made in memory
+    /// of the log's own. Whether it could. It can't where the log has no room for it, as by default; then nothing is
+    /// accepted. `last` is the time of the event record with a time that was printed before, in nanoseconds since the
+    /// epoch.
     fn put_line(&mut self, printer: &mut Printer, event: &EventText<'_>, last: Option<i64>) -> bool
         ensures stays { IsTrue (Self.tells self.old) → IsTrue (Self.tells self.new) }
         ensures appends { IsTrue (Self.tells self.old) → IsTrue result →

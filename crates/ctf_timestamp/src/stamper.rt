@@ -114,9 +114,9 @@ impl Stamper {
         put_second(&self.text[..self.length], nanos, line, at)
     }
 
-    /// Writes the beginning of a line at an index, and gives the index after it: the stamp of the line's
-    /// moment in brackets and, where the style has it, the time since `last` in parentheses. Nothing for a
-    /// line without a moment.
+    /// Writes the beginning of a line at an index, and gives the index after it: the stamp of the line's moment in
+    /// brackets and, where the style has it, the time since `last` in parentheses, which is in nanoseconds since the
+    /// epoch. Nothing for a line without a moment.
     #[inline(always)]
     pub fn put_part(
         &mut self,

@@ -3,7 +3,7 @@ use Rattle.std.specs.Prelude.{ℕ, ◌+◌, ◌*◌, ◌^◌, ◌<◌, Bool, ◌
 use Rattle.std.specs.List.{list_all}
 use Rattle.std.specs.Char.{is_ascii_alphabetic, is_ascii_alphanumeric, digit_value, is_digit}
 
--- space, tab, newline, vertical tab, form feed, carriage return (C99, 6.4)
+-- space, tab, newline, vertical tab, form feed, carriage return, as in C
 unfoldable pub is_blank : ℕ → Bool
 is_blank b = b == 32 || (nat_le 9 b && nat_le b 13)
 
@@ -11,7 +11,7 @@ is_blank b = b == 32 || (nat_le 9 b && nat_le b 13)
 unfoldable pub is_word_start : ℕ → Bool
 is_word_start b = is_ascii_alphabetic b || b == 95
 
--- a letter, a digit or `_`, with which it goes on (CTF 1.8.3, C.1.3)
+-- a letter, a digit or `_`, with which it goes on (CTF 1.8.3, appendix C.1.3)
 unfoldable pub is_word_byte : ℕ → Bool
 is_word_byte b = is_ascii_alphanumeric b || b == 95
 

@@ -1,10 +1,10 @@
--- Strings of TSDL (CTF 1.8.3, C.1.6): their characters, their escapes, and the bytes that they spell.
+-- Strings of TSDL (CTF 1.8.3, appendix C.1.6): their characters, their escapes, and the bytes that they spell.
 use Rattle.std.specs.Prelude.{◌≡◌, ◌≢◌, ℕ, ◌<◌, ◌≤◌, false, ◌||◌, ◌==◌, if◌then◌else◌, List, [], ◌∷◌, ◌++◌, length, Option, Some, None}
 use Rattle.std.specs.Char.{is_digit}
 use Rattle.ctf_list.specs.Prefix.{begins}
 use Rattle.tsdl_text.specs.Bytes.{number, AreDigits}
 
--- the byte that a backslash and one more character stand for (CTF 1.8.3, C.1.5)
+-- the byte that a backslash and one more character stand for (CTF 1.8.3, appendix C.1.5)
 unfoldable pub simple_escape : ℕ → Option ℕ
 simple_escape c =
     if c == 97 then Some 7  -- a

@@ -1,4 +1,4 @@
--- Integer constants of TSDL (CTF 1.8.3, C.1.5).
+-- Integer constants of TSDL (CTF 1.8.3, appendix C.1.5).
 use Rattle.std.specs.Prelude.{◌≡◌, ◌≢◌, ◌⊎◌, ℕ, ◌<◌, ◌^◌, Bool, true, false, ◌&&◌, ◌||◌, ◌==◌, List, [], ◌∷◌, ◌++◌, IsTrue}
 use Rattle.tsdl_text.specs.Bytes.{number, AreDigits}
 

@@ -55,7 +55,7 @@ spelling symbols.Minus = codes "-"
 
 -- ---- tests of a token's kind
 
--- a keyword (CTF 1.8.3, C.1.2)
+-- a keyword (CTF 1.8.3, appendix C.1.2)
 abbrev pub is_keyword : Symbol → Bool
 is_keyword symbols.Align = true
 is_keyword symbols.Callsite = true

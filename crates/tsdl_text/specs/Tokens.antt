@@ -1,4 +1,4 @@
--- A text as blanks, comments and tokens (CTF 1.8.3, C.1.1 to C.1.7; C99, 6.4).
+-- A text as blanks, comments and tokens (CTF 1.8.3, appendix C.1.1 to C.1.7), as in C.
 use Rattle.std.specs.Prelude.{◌≡◌, ◌≢◌, ℕ, ◌+◌, ◌≤◌, Bool, true, false, not, ◌==◌, List, [], ◌∷◌, ◌++◌, length, Option, MatchOption, codes, count_by}
 use Rattle.std.specs.Option.{option_map, option_to_list}
 use Rattle.std.specs.List.{list_all, flat_map}

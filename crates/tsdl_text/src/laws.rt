@@ -65,7 +65,7 @@ pub fn most_bytes()
     ensures { MOST_BYTES ≡ 67108864 }
 {}
 
-/// The length of a packet's header as a number (CTF 1.8.3, 7.1).
+/// The length of a packet's header as a number (CTF 1.8.3, section 7.1).
 pub fn header_len()
     ensures { HEADER_LEN ≡ 37 }
 {}

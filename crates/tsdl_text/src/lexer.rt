@@ -315,7 +315,7 @@ fn newlines(bytes: &[u8]) -> usize
 }
 
 /// The tokens of a text, in their order, each with its slice of the text, where it starts and on which
-/// line (CTF 1.8.3, C.1). It fails with the line of the first place at which no token, blank or comment
+/// line (CTF 1.8.3, appendix C.1). It fails with the line of the first place at which no token, blank or comment
 /// begins (S1), and where an allocation fails.
 pub fn tokens<'a>(alloc: Global, text: &'a [u8]) -> Result<Vec<Token<'a>>, MetaFault>
     ensures { MatchResult result (λ found. Lexes text.now (map lexeme found.items))

@@ -11,7 +11,7 @@ use std::alloc::Global;
 /// How many bytes metadata has at the most (own).
 pub const MOST_BYTES: usize = 67_108_864;
 
-/// How many bytes the header of a metadata packet has (CTF 1.8.3, 7.1).
+/// How many bytes the header of a metadata packet has (CTF 1.8.3, section 7.1).
 pub const HEADER_LEN: usize = 37;
 
 /// The byte order of the headers.
@@ -137,7 +137,7 @@ fn contents(alloc: Global, order: HeaderOrder, bytes: &[u8]) -> Result<Vec<u8>, 
 }
 
 /// The text of metadata, which is plain text or packets whose contents, joined, are the text
-/// (CTF 1.8.3, 7.1). It fails where the bytes are more than 67,108,864 (M6) or a packet is not good (M1
+/// (CTF 1.8.3, section 7.1). It fails where the bytes are more than 67,108,864 (M6) or a packet is not good (M1
 /// to M5), and where an allocation fails.
 pub fn metadata_text(alloc: Global, bytes: &[u8]) -> Result<Vec<u8>, MetaFault>
     ensures { MatchResult result (λ text. MetaText bytes.now text.items) (MetaRefused bytes.now) }
