@@ -242,6 +242,7 @@ ENUMERATIONS = [
     Shape("an enumeration of 64 labels", labels(64, "u8", "<B"), COMPACT),
     Shape("an enumeration of 1,000 labels", labels(1000, "u16", "<H"), COMPACT, fewer=5),
     Shape("labels that overlap", labels(8, "u8", "<B", ", LOW = 0 ... 3, HIGH = 4 ... 7, ANY = 0 ... 255"), COMPACT),
+    Shape("error numbers, two labels of one", labels(131, "u8", "<B", ", AGAIN = 11"), COMPACT),
     Shape("numbers without a label", numbers("enum : u16 { A = 1, B = 2, C = 3 } e;", "<H", 65536), COMPACT),
 ]
 
@@ -299,7 +300,7 @@ HEADERS = [
 
 SHAPES = INTEGERS + TEXTS + ENUMERATIONS + COMPOUNDS + HEADERS
 # babeltrace2 2.0.4 writes no braces around several labels, and no name of an option.
-WRITTEN_OTHERWISE = {"labels that overlap", "a variant of four options"}
+WRITTEN_OTHERWISE = {"labels that overlap", "error numbers, two labels of one", "a variant of four options"}
 
 
 # Traces.

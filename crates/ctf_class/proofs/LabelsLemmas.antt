@@ -11,7 +11,7 @@ use Rattle.std.proofs.lemmas.Slice.Eq.{bytes_eq-Decides}
 use Rattle.ctf_class.specs.declared.span.Span.{Span}
 use Rattle.ctf_class.specs.declared.span.Label.{Label}
 use Rattle.ctf_class.specs.Labels.{covers, no_label, label_at, is_shown, shows_at, NoneShown, IsNextShown}
-use Rattle.ctf_class.specs.LabelSearch.{span_in, AreApart, IsLast}
+use Rattle.ctf_class.specs.LabelSearch.{span_in, AreApart, IsRanked, IsLast}
 use Rattle.ctf_class.specs.Ranks.{place_in, HasRanks}
 
 -- what a span covers
@@ -58,7 +58,7 @@ crossed s t u v z is also apart here there =
     omega (arith, ints, less, p.1, q.0)
 
 -- the label that covers a number is the only one
-pub only : (labels : List Label) (order : List ℕ) (z : ℤ) (place : ℕ) → AreApart labels order → HasRanks labels order → covers (label_at labels place).span z ≡ true → (other : ℕ) → (other ≡ place → ⊥) → covers (label_at labels other).span z ≡ false
+pub only : (labels : List Label) (order : List ℕ) (z : ℤ) (place : ℕ) → AreApart labels order (length labels) → HasRanks labels order → covers (label_at labels place).span z ≡ true → (other : ℕ) → (other ≡ place → ⊥) → covers (label_at labels other).span z ≡ false
 only labels order z place apart ranks here other differs =
     let span = λ (i : ℕ). (label_at labels i).span in
     false_from_ne_true (covers (label_at labels other).span z) (λ there.
@@ -79,7 +79,7 @@ none_any test (x ∷ xs) (suc n) d h =
     ap (λ b. b || list_any test (take n xs)) (h 0 (omega arith)) ∙ none_any test xs n d (λ k less. h (suc k) (omega arith))
 
 -- the test of a label that is before one of a name
-abbrev shown_by : List Label → ℤ → ℕ → ℕ → Bool
+abbrev pub shown_by : List Label → ℤ → ℕ → ℕ → Bool
 shown_by labels z place before = covers (label_at labels before).span z && bytes_eq (label_at labels before).name (label_at labels place).name
 
 pub none-before : (labels : List Label) (z : ℤ) (place : ℕ) → ((before : ℕ) → before < place → shown_by labels z place before ≡ false) → is_shown (take place labels) z (label_at labels place).name ≡ false
@@ -100,7 +100,7 @@ pub hidden : (labels : List Label) (z : ℤ) (place : ℕ) → covers (label_at 
 hidden labels z place h = and_left (covers (label_at labels place).span z) (not (is_shown (take place labels) z (label_at labels place).name)) h
 
 -- what is shown where no two labels cover one number
-pub only_shown : (labels : List Label) (order : List ℕ) (z : ℤ) (begin place : ℕ) → AreApart labels order → HasRanks labels order → covers (label_at labels place).span z ≡ true → begin ≤ place → IsNextShown labels z begin place
+pub only_shown : (labels : List Label) (order : List ℕ) (z : ℤ) (begin place : ℕ) → AreApart labels order (length labels) → HasRanks labels order → covers (label_at labels place).span z ≡ true → begin ≤ place → IsNextShown labels z begin place
 only_shown labels order z begin place apart ranks here after =
     let others = only labels order z place apart ranks here in
     record {
@@ -110,9 +110,15 @@ only_shown labels order z begin place apart ranks here after =
       first = λ before from less. hidden labels z before (others before (omega arith));
     }
 
-pub none_later : (labels : List Label) (order : List ℕ) (z : ℤ) (begin place : ℕ) → AreApart labels order → HasRanks labels order → covers (label_at labels place).span z ≡ true → place < begin → NoneShown labels z begin
+pub none_later : (labels : List Label) (order : List ℕ) (z : ℤ) (begin place : ℕ) → AreApart labels order (length labels) → HasRanks labels order → covers (label_at labels place).span z ≡ true → place < begin → NoneShown labels z begin
 none_later labels order z begin place apart ranks here before =
     record { none = λ later from within. hidden labels z later (only labels order z place apart ranks here later (omega arith)) }
+
+-- after the one label that covers a number none is shown for it
+pub alone-apart : (labels : List Label) (order : List ℕ) → AreApart labels order (length labels) → HasRanks labels order → (z : ℤ) (place : ℕ) → shows_at labels z place ≡ true → NoneShown labels z (place + 1)
+alone-apart labels order apart ranks z place shown =
+    let here = (and_parts (covers (label_at labels place).span z) (not (is_shown (take place labels) z (label_at labels place).name)) shown).0 in
+    none_later labels order z (place + 1) place apart ranks here (omega arith)
 
 pub none_covering : (labels : List Label) (z : ℤ) (begin : ℕ) → ((place : ℕ) → place < length labels → covers (label_at labels place).span z ≡ false) → NoneShown labels z begin
 none_covering labels z begin none = record { none = λ place from within. hidden labels z place (none place within) }
@@ -151,16 +157,16 @@ ordered-more span i before s is so_far over forward =
     subst (λ (x : Span). Ordered span (i + 1) x.last) (sym is)
     (ordered-next span i before so_far (subst (λ (x : Span). before <ℤ x.first) is over) (subst (λ (x : Span). x.first ≤ℤ x.last) is forward))
 
-pub ordered-all : (labels : List Label) (order : List ℕ) (count : ℕ) (before : ℤ) → length labels ≤ count → Ordered (span_in labels order) count before → AreApart labels order
-ordered-all labels order count before all so_far =
+pub ordered-all : (labels : List Label) (order : List ℕ) (count all : ℕ) (before : ℤ) → count ≤ all → Ordered (span_in labels order) all before → AreApart labels order count
+ordered-all labels order count all before few so_far =
     record {
       forward = λ rank within. so_far.forward rank (omega arith);
       apart = λ rank later less within. so_far.apart rank later less (omega arith);
     }
 
 -- halving: the middle one and those after it, or before it, do not cover a number
-pub none-above : (labels : List Label) (order : List ℕ) (z : ℤ) (middle rank : ℕ) → AreApart labels order → z <ℤ (span_in labels order middle).first → middle ≤ rank → rank < length labels → covers (span_in labels order rank) z ≡ false
-none-above labels order z middle rank apart less from within =
+pub none-above : (labels : List Label) (order : List ℕ) (count : ℕ) (z : ℤ) (middle rank : ℕ) → AreApart labels order count → z <ℤ (span_in labels order middle).first → middle ≤ rank → rank < count → covers (span_in labels order rank) z ≡ false
+none-above labels order count z middle rank apart less from within =
     ⊎_elim
     (λ later.
     let over = apart.apart middle rank later within in
@@ -171,8 +177,8 @@ none-above labels order z middle rank apart less from within =
     subst (λ n. covers (span_in labels order n) z ≡ false) is (covers-below (span_in labels order middle) z less))
     (cases_lt middle rank)
 
-pub none-below : (labels : List Label) (order : List ℕ) (z : ℤ) (middle rank : ℕ) → AreApart labels order → (span_in labels order middle).last <ℤ z → rank < middle + 1 → middle < length labels → covers (span_in labels order rank) z ≡ false
-none-below labels order z middle rank apart over less within =
+pub none-below : (labels : List Label) (order : List ℕ) (count : ℕ) (z : ℤ) (middle rank : ℕ) → AreApart labels order count → (span_in labels order middle).last <ℤ z → rank < middle + 1 → middle < count → covers (span_in labels order rank) z ≡ false
+none-below labels order count z middle rank apart over less within =
     ⊎_elim
     (λ earlier.
     let under = apart.apart rank middle earlier within in
@@ -182,6 +188,20 @@ none-below labels order z middle rank apart over less within =
     let is : middle ≡ rank = omega arith in
     subst (λ n. covers (span_in labels order n) z ≡ false) is (covers-above (span_in labels order middle) z over))
     (cases_lt rank middle)
+
+-- the label of a rank that covers a number is the only one
+pub ranked : (labels : List Label) (order : List ℕ) (count : ℕ) (z : ℤ) (middle : ℕ) → AreApart labels order count → middle < count → covers (span_in labels order middle) z ≡ true → IsRanked labels order count z (place_in order middle)
+ranked labels order count z middle apart within here =
+    record {
+      here = here;
+      only = λ rank inside there.
+          ⊎_elim
+          (λ same. ap (place_in order) same)
+          (⊎_elim
+          (λ below. absurd (crossed (span_in labels order rank) (span_in labels order middle) (span_in labels order rank) (span_in labels order middle) z refl refl (apart.apart rank middle below within) there here))
+          (λ above. absurd (crossed (span_in labels order middle) (span_in labels order rank) (span_in labels order middle) (span_in labels order rank) z refl refl (apart.apart middle rank above inside) here there)))
+          (cases_order rank middle);
+    }
 
 -- no label covers a number where none of a rank does
 pub none_of_ranks : (labels : List Label) (order : List ℕ) (z : ℤ) → HasRanks labels order → ((rank : ℕ) → rank < length labels → covers (span_in labels order rank) z ≡ false) → (place : ℕ) → place < length labels → covers (label_at labels place).span z ≡ false

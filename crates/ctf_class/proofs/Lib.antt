@@ -4,6 +4,7 @@ pub mod EscapesLemmas
 pub mod HeaderPlanLemmas
 pub mod KeysLemmas
 pub mod LabelsLemmas
+pub mod LayersLemmas
 pub mod NamesLemmas
 pub mod PlacesLemmas
 pub mod RanksLemmas

@@ -99,11 +99,11 @@ counted-firsts id_of items id counted =
 pub ranks-same : {X : Type 0} (items : List X) → HasRanks items []
 ranks-same items = record { rank = λ place within. (place, within, refl) }
 
-range-length : (first count : ℕ) → length (range_with_len first count) ≡ count
+pub range-length : (first count : ℕ) → length (range_with_len first count) ≡ count
 range-length first zero = refl
 range-length first (suc count) = ap suc (range-length (first + 1) count)
 
-range-at : (first count i d : ℕ) → i < count → get_or (range_with_len first count) i d ≡ first + i
+pub range-at : (first count i d : ℕ) → i < count → get_or (range_with_len first count) i d ≡ first + i
 range-at first zero i d less = absurd (omega arith)
 range-at first (suc count) zero d less = omega arith
 range-at first (suc count) (suc i) d less = range-at (first + 1) count i d (omega arith) ∙ omega arith

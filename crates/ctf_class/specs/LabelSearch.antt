@@ -1,30 +1,40 @@
 -- How the labels that cover a number are found.
-use Rattle.std.specs.Prelude.{◌≡◌, ℕ, ℤ, true, false, ◌-◌, ◌<◌, ◌≤◌, ◌≤ℤ◌, ◌<ℤ◌, List, length, get_or, Option, MatchOption}
+use Rattle.std.specs.Prelude.{◌≡◌, ℕ, ℤ, true, false, ◌-◌, ◌<◌, ◌≤◌, ◌≤ℤ◌, ◌<ℤ◌, List, [], length, get_or, Option, MatchOption}
 use Rattle.std.specs.Str.{bytes_eq}
 use Rattle.ctf_class.specs.declared.span.Span.{Span}
 use Rattle.ctf_class.specs.declared.span.Label.{Label}
 use Rattle.ctf_class.specs.declared.labels.Search.{Search}
-use Rattle.ctf_class.specs.declared.labels.Search.TheVariants.{Apart, Chained}
+use Rattle.ctf_class.specs.declared.labels.Search.TheVariants.{Apart, Layered, Chained}
 use Rattle.ctf_class.specs.Labels.{covers, label_at}
-use Rattle.ctf_class.specs.Ranks.{place_in, HasRanks}
+use Rattle.ctf_class.specs.Ranks.{place_in, Holds, HasRanks}
 
 -- the numbers of the label of a rank
 abbrev pub span_in : List Label → List ℕ → ℕ → Span
 span_in labels order rank = (label_at labels (place_in order rank)).span
 
--- the labels' numbers are one after the other in an order
-pub record AreApart (labels : List Label) (order : List ℕ) : Type 0 where
-  pub forward : (rank : ℕ) → rank < length labels
+-- the numbers of the labels of so many ranks are one after the other
+pub record AreApart (labels : List Label) (order : List ℕ) (count : ℕ) : Type 0 where
+  pub forward : (rank : ℕ) → rank < count
       → (span_in labels order rank).first ≤ℤ (span_in labels order rank).last
-  pub apart : (rank later : ℕ) → rank < later → later < length labels
+  pub apart : (rank later : ℕ) → rank < later → later < count
       → (span_in labels order rank).last <ℤ (span_in labels order later).first
 
--- the place of a label that covers a number, if there is one
-abbrev pub FindsCovering : List Label → ℤ → Option ℕ → Type 0
-FindsCovering labels z found =
+-- the label at a place covers a number, and of the labels of so many ranks no other does
+pub record IsRanked (labels : List Label) (order : List ℕ) (count : ℕ) (z : ℤ) (place : ℕ) : Type 0 where
+  pub here : covers (label_at labels place).span z ≡ true
+  pub only : (rank : ℕ) → rank < count → covers (span_in labels order rank) z ≡ true
+      → place_in order rank ≡ place
+
+-- the place of the label that covers a number among those of so many ranks, if there is one
+abbrev pub FindsRanked : List Label → List ℕ → ℕ → ℤ → Option ℕ → Type 0
+FindsRanked labels order count z found =
     MatchOption found
-    ((place : ℕ) → place < length labels → covers (label_at labels place).span z ≡ false)
-    (λ place. covers (label_at labels place).span z ≡ true)
+    ((rank : ℕ) → rank < count → covers (span_in labels order rank) z ≡ false)
+    (IsRanked labels order count z)
+
+-- a place is in a layer
+abbrev pub InLayers : List (List ℕ) → ℕ → Type 0
+InLayers layers place = (i : ℕ) × (i < length layers) × Holds (get_or layers i []) place
 
 -- one past the place of the last label of a name before an end, or 0
 pub record IsLast (labels : List Label) (end : ℕ) (name : List ℕ) (kept : ℕ) : Type 0 where
@@ -38,7 +48,14 @@ pub record IsChain (labels : List Label) (earlier : List ℕ) : Type 0 where
   pub links : (place : ℕ) → place < length labels
       → IsLast labels place (label_at labels place).name (get_or earlier place 0)
 
+-- the labels' numbers are one after the other in each layer, and each label is in one
+pub record AreLayers (labels : List Label) (layers : List (List ℕ)) : Type 0 where
+  pub apart : (i : ℕ) → i < length layers
+      → AreApart labels (get_or layers i []) (length (get_or layers i []))
+  pub all : (place : ℕ) → place < length labels → InLayers layers place
+
 -- what is kept finds the labels
 abbrev pub Finds : List Label → Search → Type 0
-Finds labels (Apart order) = AreApart labels order × HasRanks labels order
+Finds labels (Apart order) = AreApart labels order (length labels) × HasRanks labels order
+Finds labels (Layered layers) = AreLayers labels layers
 Finds labels (Chained earlier) = IsChain labels earlier

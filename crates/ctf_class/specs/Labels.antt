@@ -1,5 +1,5 @@
 -- Which labels of an enumeration are shown for a number.
-use Rattle.std.specs.Prelude.{◌≡◌, ℕ, ℤ, pos, Bool, true, false, not, ◌&&◌, ◌<◌, ◌≤◌, List, [], take, length, get_or, Option, MatchOption}
+use Rattle.std.specs.Prelude.{◌≡◌, ℕ, ℤ, pos, Bool, true, false, not, ◌&&◌, ◌+◌, ◌<◌, ◌≤◌, List, [], take, length, get_or, Option, MatchOption}
 use Rattle.std.specs.Int.Signed.{le_z}
 use Rattle.std.specs.List.{list_any}
 use Rattle.std.specs.Str.{bytes_eq}
@@ -44,3 +44,7 @@ pub record IsNextShown (labels : List Label) (z : ℤ) (begin place : ℕ) : Typ
 abbrev pub FindsNext : List Label → ℤ → ℕ → Option ℕ → Type 0
 FindsNext labels z begin found =
     MatchOption found (NoneShown labels z begin) (IsNextShown labels z begin)
+
+-- after a label that is shown for a number none is
+abbrev pub AreAlone : List Label → Type 0
+AreAlone labels = (z : ℤ) (place : ℕ) → shows_at labels z place ≡ true → NoneShown labels z (place + 1)

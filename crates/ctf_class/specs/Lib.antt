@@ -9,6 +9,7 @@ pub mod Integers
 pub mod Items
 pub mod LabelSearch
 pub mod Labels
+pub mod Layers
 pub mod NameFirsts
 pub mod NamePlaces
 pub mod NameRanks

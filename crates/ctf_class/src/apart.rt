@@ -4,7 +4,7 @@ ghost use Rattle.std.specs.Prelude.{◌≡◌, length, IsTrue, IfOk};
 ghost use Rattle.std.specs.List.{range_with_len};
 ghost use Rattle.std.specs.List.Sorted.{IsPermutation};
 ghost use Rattle.ctf_class.specs.Labels.{FindsNext};
-ghost use Rattle.ctf_class.specs.LabelSearch.{AreApart, FindsCovering};
+ghost use Rattle.ctf_class.specs.LabelSearch.{AreApart, FindsRanked};
 ghost use Rattle.ctf_class.specs.Ranks.{HasRanks};
 
 use crate::label_at::{covers, number_at, span_at};
@@ -36,7 +36,7 @@ pub fn places_of(alloc: Global, count: usize) -> Result<Vec<usize>, NoMemory>
 
 /// Whether the numbers of labels are one after the other in an order of the labels.
 pub fn are_apart(labels: &[Label], order: &[usize]) -> bool
-    ensures { IsTrue result → AreApart labels.now order.now }
+    ensures { IsTrue result → AreApart labels.now order.now (length labels.now) }
 {
     let mut before = i128::MIN;
     for rank in 0..labels.len() {
@@ -54,27 +54,26 @@ pub fn are_apart(labels: &[Label], order: &[usize]) -> bool
 
 /// The place of the first label from a place on that covers a number, found by halving.
 pub fn next_apart(labels: &[Label], order: &[usize], begin: usize, number: i128) -> Option<usize>
-    requires apart { AreApart labels.now order.now }
+    requires apart { AreApart labels.now order.now (length labels.now) }
     requires ranks { HasRanks labels.now order.now }
     ensures { FindsNext labels.now number begin result }
 {
     if begin > 0 && covers(span_at(labels, begin - 1), number) {
         return None;
     }
-    match place_of_label(labels, order, number) {
+    match ranked_label(labels, order, labels.len(), number) {
         None => None,
         Some(place) => { if place < begin { None } else { Some(place) } }
     }
 }
 
-/// The place of the label that covers a number.
-fn place_of_label(labels: &[Label], order: &[usize], number: i128) -> Option<usize>
-    requires apart { AreApart labels.now order.now }
-    requires ranks { HasRanks labels.now order.now }
-    ensures { FindsCovering labels.now number result }
+/// The place of the label that covers a number, among the labels of the first `count` ranks.
+pub fn ranked_label(labels: &[Label], order: &[usize], count: usize, number: i128) -> Option<usize>
+    requires { AreApart labels.now order.now count }
+    ensures { FindsRanked labels.now order.now count number result }
 {
     let mut low = 0;
-    let mut high = labels.len();
+    let mut high = count;
     while low < high {
         let middle = low + (high - low) / 2;
         let place = number_at(order, middle, middle);

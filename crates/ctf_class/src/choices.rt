@@ -68,8 +68,8 @@ impl Choices {
         Ok(Choices { kept })
     }
 
-    /// The option of the first choice that covers a number. Where no list is kept and no two labels cover one
-    /// number, its label is found by halving.
+    /// The option of the first choice that covers a number. Where no list is kept, its label is found as `Labels`
+    /// finds it.
     #[inline(always)]
     pub fn option(&self, number: i128) -> Option<usize>
         ensures { result ≡ choosing.chosen self.now number }

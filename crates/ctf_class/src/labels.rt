@@ -1,10 +1,11 @@
 //! The labels of an enumeration.
 
-ghost use Rattle.std.specs.Prelude.{◌≡◌, ◌<◌, ◌^◌, IfOk, IfSome};
-ghost use Rattle.ctf_class.specs.Labels.{FindsNext};
+ghost use Rattle.std.specs.Prelude.{◌≡◌, ◌<◌, ◌^◌, IsTrue, IfOk, IfSome};
+ghost use Rattle.ctf_class.specs.Labels.{AreAlone, FindsNext};
 
 use crate::apart::{are_apart, next_apart, sorted_places};
 use crate::chain::{chain_of, next_chained};
+use crate::layers::{layers_of, next_layered};
 use crate::span::Label;
 use ctf_list::{List, NoMemory};
 use std::alloc::Global;
@@ -16,6 +17,8 @@ enum Search {
     /// No two labels cover one number. The labels' places in the order of their numbers; none where that is
     /// the order in which they are.
     Apart(List<usize>),
+    /// The labels' places in layers, in each of which no two cover one number. A number has few labels.
+    Layered(List<List<usize>>),
     /// One past the place of the last label before each of its name; 0 where there is none.
     Chained(List<usize>),
 }
@@ -43,7 +46,7 @@ impl Model for Labels {
 
 impl Labels {
     /// Labels that are found by the numbers that they cover. Of `n` labels, takes time like `n` times its
-    /// logarithm, and 8 bytes for each where they are not in the order of their numbers.
+    /// logarithm, and up to 16 bytes for each where they are not one after the other in the order of their numbers.
     pub fn new(alloc: Global, labels: List<Label>) -> Result<Labels, NoMemory>
         ensures { IfOk result (λ made. made ≡ labels) }
     {
@@ -58,9 +61,21 @@ impl Labels {
         self.labels.as_slice()
     }
 
+    /// Whether it is known that no number has two labels that are shown for it.
+    #[inline(always)]
+    pub fn are_apart(&self) -> bool
+        ensures { IsTrue result → AreAlone self.now }
+    {
+        match &self.search {
+            Search::Apart(_) => true,
+            Search::Layered(_) => false,
+            Search::Chained(_) => false,
+        }
+    }
+
     /// The place of the first label, from a place on, that is shown for a number: it covers the number, and no
     /// label that is before it and covers the number has its name. Where no number has two labels it is
-    /// found by halving, else by a walk.
+    /// found by halving, and so it is among many of which each number has few; else by a walk.
     pub fn next_shown(&self, begin: usize, number: i128) -> Option<usize>
         ensures next { FindsNext self.now number begin result }
         ensures bounded { IfSome result (λ place. place < 2 ^ 63) }
@@ -68,6 +83,7 @@ impl Labels {
         let labels = self.labels.as_slice();
         match &self.search {
             Search::Apart(order) => next_apart(labels, order.as_slice(), begin, number),
+            Search::Layered(layers) => next_layered(labels, layers.as_slice(), begin, number),
             Search::Chained(earlier) => next_chained(labels, earlier.as_slice(), begin, number),
         }
     }
@@ -87,6 +103,9 @@ impl Search {
         if are_apart(labels, order.as_slice()) {
             return Ok(Search::Apart(order));
         }
-        Ok(Search::Chained(chain_of(alloc, labels)?))
+        match layers_of(alloc, labels, order)? {
+            Some(layers) => Ok(Search::Layered(layers)),
+            None => Ok(Search::Chained(chain_of(alloc, labels)?)),
+        }
     }
 }

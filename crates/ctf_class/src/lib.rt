@@ -20,6 +20,7 @@ mod integer;
 mod label_at;
 mod label_name;
 mod labels;
+mod layers;
 mod many;
 mod names;
 mod plan_builder;

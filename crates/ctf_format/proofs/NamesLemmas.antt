@@ -1,11 +1,11 @@
 -- The names that show a number, one label more at a time.
-use Rattle.std.proofs.Common.{◌≡◌, ℕ, zero, suc, ◌+◌, ◌-◌, ◌<◌, ◌≤◌, true, false, cond, List, [], ◌∷◌, ◌++◌, map, take, drop, length, get_or, ℤ, refl, sym, ap, ◌∙◌, ⊎_elim, arith, append-nil, append_assoc}
+use Rattle.std.proofs.Common.{◌≡◌, ℕ, zero, suc, ◌+◌, ◌-◌, ◌<◌, ◌≤◌, true, false, cond, List, [], ◌∷◌, ◌++◌, map, take, drop, length, get_or, Option, Some, None, is_some, ℤ, refl, sym, ap, ◌∙◌, ⊎_elim, arith, append-nil, append_assoc}
 use Rattle.std.proofs.Math.Seq.{drop-cons}
 use Rattle.std.specs.Prelude.{codes}
-use Rattle.std.proofs.lemmas.Bool.{cases_lt}
+use Rattle.std.proofs.lemmas.Bool.{cases_lt, false≢true}
 use Rattle.std.proofs.lemmas.List.{take_more, get_or_default}
 use Rattle.ctf_class.specs.declared.span.Label.{Label}
-use Rattle.ctf_class.specs.Labels.{no_label, label_at, shows_at, NoneShown, IsNextShown}
+use Rattle.ctf_class.specs.Labels.{no_label, label_at, shows_at, NoneShown, IsNextShown, FindsNext}
 use Rattle.ctf_class.specs.Names.{label_text}
 use Rattle.ctf_format.specs.Labels.{shows, names_after, names_of, names_text}
 use Rattle.ctf_format.specs.Rows.{row}
@@ -109,3 +109,26 @@ pub row_all_names : (labels : List Label) (z : ℤ) (begin : ℕ) (line before :
     → line ++ row lead (map label_text (from labels begin z)) ≡ before ++ row mark all → line ≡ before ++ row mark all
 row_all_names labels z begin line before lead mark all none already =
     sym (append-nil line) ∙ (ap (λ names. line ++ row lead (map label_text names)) (sym (names_none labels z begin none)) ∙ already)
+
+-- several names are written: what is before them, the first, the others, and what is after them
+pub several_written : (labels : List Label) (z : ℤ) (first : ℕ) (before lead one others : List ℕ) → IsNextShown labels z 0 first
+    → lead ≡ before ++ (40 ∷ 32 ∷ []) → one ≡ lead ++ (123 ∷ 32 ∷ label_text (label_at labels first).name) → others ≡ one ++ row 44 (map label_text (from labels (first + 1) z))
+    → others ++ (32 ∷ 125 ∷ []) ≡ before ++ (40 ∷ 32 ∷ (row 123 (map label_text (names_of labels z)) ++ (32 ∷ 125 ∷ [])))
+several_written labels z first before lead one others next led named rest =
+    let text = label_text (label_at labels first).name in
+    let more = row 44 (map label_text (from labels (first + 1) z)) in
+    let mark = 40 ∷ 32 ∷ [] in
+    let name = 123 ∷ 32 ∷ text in
+    let close = 32 ∷ 125 ∷ [] in
+    ap (λ xs. xs ++ close) (rest ∙ ap (λ xs. xs ++ more) (named ∙ ap (λ xs. xs ++ name) led ∙ append_assoc before mark name) ∙ append_assoc before (mark ++ name) more)
+    ∙ append_assoc before ((mark ++ name) ++ more) close
+    ∙ ap (λ names. before ++ (40 ∷ 32 ∷ (row 123 (map label_text names) ++ close))) (sym (names_next labels z 0 first next))
+
+-- what was looked for is not there, or it is
+pub none_there : (labels : List Label) (z : ℤ) (begin : ℕ) (found : Option ℕ) → is_some found ≡ false → FindsNext labels z begin found → NoneShown labels z begin
+none_there labels z begin None none next = next
+none_there labels z begin (Some place) none next = absurd (false≢true (sym none))
+
+pub one_there : (labels : List Label) (z : ℤ) (begin : ℕ) (found : Option ℕ) → is_some found ≡ true → FindsNext labels z begin found → (place : ℕ) × IsNextShown labels z begin place
+one_there labels z begin None some next = absurd (false≢true some)
+one_there labels z begin (Some place) some next = (place, next)

@@ -1,10 +1,10 @@
 //! Numbers of enumerations.
 
-ghost use Rattle.std.specs.Prelude.{◌≡◌, ◌+◌, ◌++◌, ◌∷◌, ◌<◌, ◌≤◌, length, take, map, vec_len, codes, IfOk};
-ghost use Rattle.ctf_class.specs.Labels.{label_at};
+ghost use Rattle.std.specs.Prelude.{◌≡◌, ◌+◌, ◌++◌, ◌∷◌, ◌^◌, ◌<◌, ◌≤◌, length, take, drop, map, vec_len, codes, IfOk};
+ghost use Rattle.ctf_class.specs.Labels.{label_at, IsNextShown};
 ghost use Rattle.ctf_class.specs.Names.{label_text};
 ghost use Rattle.ctf_format.specs.Numbers.{number_text};
-ghost use Rattle.ctf_format.specs.Labels.{names_of, names_text, labelled_text};
+ghost use Rattle.ctf_format.specs.Labels.{names_after, names_of, names_text, labelled_text};
 ghost use Rattle.ctf_format.specs.Put.{IsPut};
 ghost use Rattle.ctf_format.specs.Rows.{row};
 
@@ -56,13 +56,13 @@ fn put_names(
     ensures { let piece = codes "( " ++ names_text (names_of labels.now number) in
         IfOk result (IsPut buffer.old at piece buffer.new) }
 {
-    match labels.next_shown(0, number) {
-        None => put_unknown(buffer, at),
-        Some(first) => match labels.next_shown(first + 1, number) {
-            None => put_name(b'(', labels, first, buffer, at),
-            Some(second) => put_several(labels, number, buffer, at),
-        },
+    let Some(first) = labels.next_shown(0, number) else {
+        return put_unknown(buffer, at);
+    };
+    if labels.are_apart() || labels.next_shown(first + 1, number).is_none() {
+        return put_name(b'(', labels, first, buffer, at);
     }
+    put_several(labels, number, first, buffer, at)
 }
 
 fn put_unknown(buffer: &mut Vec<u8>, at: usize) -> Result<usize, NoMemory>
@@ -73,41 +73,44 @@ fn put_unknown(buffer: &mut Vec<u8>, at: usize) -> Result<usize, NoMemory>
     Ok(put_bytes(b"( <unknown>", buffer.as_mut_slice(), at))
 }
 
+/// Writes the names of several labels that cover a number, from the first that is shown on.
 fn put_several(
     labels: &Labels,
     number: i128,
+    first: usize,
     buffer: &mut Vec<u8>,
     at: usize,
 ) -> Result<usize, NoMemory>
-    requires { at ≤ vec_len buffer.old }
+    requires first { IsNextShown labels.now number 0 first }
+    requires bounded { first < 2 ^ 63 }
+    requires index { at ≤ vec_len buffer.old }
     ensures { let names = map label_text (names_of labels.now number) in
         let piece = codes "( " ++ (row 123 names ++ codes " }") in
         IfOk result (IsPut buffer.old at piece buffer.new) }
 {
     with_room(2, buffer, at)?;
     let begin = put_lead(b'(', buffer.as_mut_slice(), at);
-    let end = put_each_name(b'{', labels, number, buffer, begin)?;
+    let one = put_name(b'{', labels, first, buffer, begin)?;
+    let end = put_others(labels, number, first + 1, buffer, one)?;
     put_end(b'}', buffer, end)
 }
 
-/// Writes the names of the labels that cover a number, each once, the first after a mark.
-fn put_each_name(
-    mark: u8,
+/// Writes the names of the labels from a place on that are shown for a number, each after a comma.
+fn put_others(
     labels: &Labels,
     number: i128,
+    from: usize,
     buffer: &mut Vec<u8>,
     at: usize,
 ) -> Result<usize, NoMemory>
     requires { at ≤ vec_len buffer.old }
-    ensures { let piece = row mark (map label_text (names_of labels.now number)) in
-        IfOk result (IsPut buffer.old at piece buffer.new) }
+    ensures { let names = names_after (take from labels.now) (drop from labels.now) number in
+        IfOk result (IsPut buffer.old at (row 44 (map label_text names)) buffer.new) }
 {
     let mut end = at;
-    let mut lead = mark;
-    let mut begin = 0;
+    let mut begin = from;
     while let Some(place) = labels.next_shown(begin, number) {
-        end = put_name(lead, labels, place, buffer, end)?;
-        lead = b',';
+        end = put_name(b',', labels, place, buffer, end)?;
         begin = place + 1;
     }
     Ok(end)

@@ -1,7 +1,7 @@
 use Rattle.std.proofs.Common.{◌≡◌, true, ◌-◌, sym, ap, ◌∙◌, arith}
 use Rattle.std.proofs.Math.Facts.{to_z-of_z}
 use Rattle.ctf_class.specs.Labels.{covers, label_at}
-use Rattle.ctf_class.proofs.LabelsLemmas.{only_shown, none_later}
+use Rattle.ctf_class.proofs.LabelsLemmas.{only_shown, none_later, none_covering, none_of_ranks}
 use Rattle.ctf_class.proofs.apart.next_apart.Goals as goal
 
 pub returns-then-covers : goal.returns-then-covers
@@ -14,8 +14,12 @@ returns-then-covers c =
 
 pub returns-then-place-begin : goal.returns-then-place-begin
 returns-then-place-begin c =
-    none_later c.args.labels.now c.args.order.now c.args.number c.args.begin c.in-Some.place c.requires.apart c.requires.ranks (rw (to_z-of_z c.ranges.number) at c.in-Some.ensures) c.if-place-begin.true
+    none_later c.args.labels.now c.args.order.now c.args.number c.args.begin c.in-Some.place c.requires.apart c.requires.ranks (rw (to_z-of_z c.ranges.number) at c.in-Some.ensures).here c.if-place-begin.true
 
 pub returns-else-place-begin : goal.returns-else-place-begin
 returns-else-place-begin c =
-    only_shown c.args.labels.now c.args.order.now c.args.number c.args.begin c.in-Some.place c.requires.apart c.requires.ranks (rw (to_z-of_z c.ranges.number) at c.in-Some.ensures) c.if-place-begin.false
+    only_shown c.args.labels.now c.args.order.now c.args.number c.args.begin c.in-Some.place c.requires.apart c.requires.ranks (rw (to_z-of_z c.ranges.number) at c.in-Some.ensures).here c.if-place-begin.false
+
+pub returns-in-None : goal.returns-in-None
+returns-in-None c =
+    none_covering c.args.labels.now c.args.number c.args.begin (none_of_ranks c.args.labels.now c.args.order.now c.args.number c.requires.ranks (rw (to_z-of_z c.ranges.number) at c.in-None.ensures))
