@@ -63,7 +63,7 @@ divides_too place base a whole divides =
     sym (mod-mod_of_dvd a {b = base} place (dvd_of_mod-eq-zero a divides)) ∙ ap (λ r. r % a) whole ∙ zero-mod a
 
 -- rounding up after a place that an alignment divides
-mod-after : (b x a : ℕ) → b % a ≡ 0 → (b + x) % a ≡ x % a
+pub mod-after : (b x a : ℕ) → b % a ≡ 0 → (b + x) % a ≡ x % a
 mod-after b x a divides = let whole : b ≡ b / a * a = omega (arith, mod-add-div' b a, divides) in ap (λ k. (k + x) % a) whole ∙ mul-add-mod_self_right (b / a) a x
 
 pub next_after : (b x a : ℕ) → b % a ≡ 0 → next_multiple_of (b + x) a ≡ b + next_multiple_of x a

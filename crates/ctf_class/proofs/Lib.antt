@@ -1,6 +1,7 @@
 pub mod AlignmentLemmas
 pub mod ChoicesLemmas
 pub mod EscapesLemmas
+mod FrontsLemmas
 pub mod HeaderPlanLemmas
 pub mod KeysLemmas
 pub mod LabelsLemmas

@@ -11,11 +11,9 @@ use Rattle.ctf_class.specs.declared.plan_builder.PlanBuilder.{PlanBuilder}
 use Rattle.ctf_class.specs.declared.plan_builder.Lead.{Lead}
 use Rattle.ctf_class.specs.declared.record_plan.PlannedRun.{PlannedRun}
 use Rattle.ctf_class.specs.declared.many.Many.{Many}
-use Rattle.ctf_class.specs.declared.many.Many.TheVariants as many
 use Rattle.ctf_class.specs.declared.planned_number.PlannedNumber.{PlannedNumber}
-use Rattle.ctf_class.specs.declared.route.Length.{Length}
 use Rattle.ctf_class.specs.PlanBuilding.{AddsPiece, AddsPieces, IsOpen, IsMade, IsMadeOf, at_of, before_scope, slot_of, with_number, with_field}
-use Rattle.ctf_class.specs.Records.{Slot, At, Piece, Pieces, alone, inner, no_pieces, more_pieces, Scoped, IsPiece, ArePieces, member_of, members_of, inside, insides, ended_by, ended_after, ends, ended_last, first_at, later_at, known_index, opened_lead, piece_slots, pieces_slots, all_alone, member_slots, slots, between, before_next, all_slots, values_in, AreScoped, and_scope, scopes_of, IsNumber, AreInRun, TakesNumbers, IsLength, AreMany, IsStructure, IsField, AreRuns, IsPlanOf, have_special, numbers_room, room_of}
+use Rattle.ctf_class.specs.Records.{Slot, At, Piece, Pieces, alone, inner, no_pieces, more_pieces, Scoped, IsPiece, ArePieces, member_of, members_of, inside, insides, ended_by, ended_after, ends, ended_last, first_at, later_at, known_index, opened_lead, piece_slots, pieces_slots, all_alone, member_slots, slots, between, before_next, all_slots, values_in, AreScoped, and_scope, scopes_of, IsNumber, AreInRun, TakesNumbers, IsStructure, IsField, AreRuns, IsPlanOf, have_special, numbers_room, room_of}
 
 -- one number more after the others
 numbers_more : (base from span : ℕ) (ss : List Slot) (ns : List PlannedNumber) (s : Slot) (rest : List Slot) (n : PlannedNumber) → AreInRun base from ss ns span (s ∷ rest) → IsNumber base span s n → AreInRun base from ss (ns ++ n ∷ []) (n.window.place + n.window.size) rest

@@ -1,14 +1,16 @@
--- Which members of a packet's header and context say something of the packet.
-use Rattle.std.specs.Prelude.{◌≡◌, ℕ, Bool, List, [], ◌∷◌, map, Option, codes}
-use Rattle.std.specs.List.{list_any, position_from}
+-- Which members of a packet's header and context say something of the packet, and after which none sets the clock.
+use Rattle.std.specs.Prelude.{◌≡◌, ℕ, Bool, false, List, [], ◌∷◌, ◌++◌, map, Option, codes}
+use Rattle.std.specs.List.{All, list_any, position_from}
 use Rattle.std.specs.Str.{bytes_eq}
 use Rattle.ctf_class.specs.RoleNames.{role_name}
 use Rattle.ctf_class.specs.declared.class.Class.{Class}
 use Rattle.ctf_class.specs.declared.class.Kind.{Kind}
+use Rattle.ctf_class.specs.declared.class.Kind as kinds
 use Rattle.ctf_class.specs.declared.class.Kind.TheOpen.{Kind-F}
 use Rattle.ctf_class.specs.declared.class.Kind.TheViews.{out-Kind}
 use Rattle.ctf_class.specs.declared.class.Member.{Member}
 use Rattle.ctf_class.specs.declared.front_class.RolePlaces.{RolePlaces}
+use Rattle.ctf_class.specs.declared.integer.Integer.{Integer}
 use Rattle.ctf_class.specs.declared.role.Role.TheVariants.{Magic, Uuid, StreamId, PacketSize, ContentSize, TimestampEnd, EventsDiscarded, SequenceNumber}
 
 -- the members of a structure
@@ -46,3 +48,12 @@ pub record ArePlaces (members : List Member) (places : RolePlaces) : Type 0 wher
   pub timestamp_end : places.timestamp_end ≡ place_named (role_name TimestampEnd) members
   pub events_discarded : places.events_discarded ≡ place_named (role_name EventsDiscarded) members
   pub sequence_number : places.sequence_number ≡ place_named (role_name SequenceNumber) members
+
+-- a class is that of an integer that sets no clock
+abbrev pub SetsNoClock : Class → Type 0
+SetsNoClock class = (i : Integer) × (class.kind ≡ kinds.Integer i) × (i.is_moving ≡ false)
+
+-- members are these first ones, and after them integers that set no clock
+abbrev pub AreClockMembers : List Member → List Member → Type 0
+AreClockMembers first members =
+    (rest : List Member) × (members ≡ first ++ rest) × All (λ (m : Member). SetsNoClock m.class) rest

@@ -1,7 +1,8 @@
 //! Classes of a packet's header and context.
 
-ghost use Rattle.std.specs.Prelude.{◌≡◌, IfOk};
-ghost use Rattle.ctf_class.specs.Fronts.{ArePlaces, are_of_packet, is_of_packet, members_of, place_named};
+ghost use Rattle.std.specs.Prelude.{◌≡◌, ◌≤◌, drop, length, IfOk, IsTrue};
+ghost use Rattle.std.specs.List.{All, prefix_len};
+ghost use Rattle.ctf_class.specs.Fronts.{AreClockMembers, ArePlaces, SetsNoClock, are_of_packet, is_of_packet, members_of, place_named};
 ghost use Rattle.ctf_class.specs.RoleNames.{role_name};
 
 use crate::class::{Class, Kind, Member};
@@ -11,7 +12,8 @@ use std::alloc::Global;
 use std::marker::Model;
 
 /// The class of a packet's header or context (CTF 1.8.3, section 5). Contracts see the class; with it is kept which of
-/// its members say something of the packet, so that no name is compared for a packet.
+/// its members say something of the packet, so that no name is compared for a packet, and after which of them none sets
+/// the clock.
 #[derive(Drop)]
 pub struct FrontClass {
     class: Class,
@@ -19,6 +21,10 @@ pub struct FrontClass {
     /// For each member, in their order, whether lines leave a member of its name out of a packet context, as
     /// `packet_size`. Settled once, so that no name is compared for a line.
     hidden: List<bool>,
+    /// How many of them are before the first one that is shown.
+    first_shown: usize,
+    /// How many members there are up to the last one that is not an integer without a clock.
+    clock_count: usize,
 }
 
 /// The index of the first member of each role's name.
@@ -35,8 +41,9 @@ struct RolePlaces {
 }
 
 impl Model for FrontClass {
-    ghost use Rattle.std.specs.Prelude.{◌≡◌};
-    ghost use Rattle.ctf_class.specs.Fronts.{ArePlaces, are_of_packet, members_of};
+    ghost use Rattle.std.specs.Prelude.{◌≡◌, ◌≤◌, drop, length};
+    ghost use Rattle.std.specs.List.{All, prefix_len};
+    ghost use Rattle.ctf_class.specs.Fronts.{ArePlaces, SetsNoClock, are_of_packet, members_of};
     ghost use Rattle.ctf_class.specs.declared.class.Class.{Class as ClassOf};
     ghost use Rattle.ctf_class.specs.contracts.class.Class as classes;
 
@@ -47,7 +54,10 @@ impl Model for FrontClass {
     ghost view = { λ front. front.class };
 
     ghost invariant = { λ front. ArePlaces (members_of front.class) front.places ×
-        (front.hidden ≡ are_of_packet (members_of front.class)) };
+        (front.hidden ≡ are_of_packet (members_of front.class)) ×
+        (front.first_shown ≡ prefix_len (λ hidden. hidden) front.hidden) ×
+        (front.clock_count ≤ length (members_of front.class)) ×
+        All (λ m. SetsNoClock m.class) (drop front.clock_count (members_of front.class)) };
 }
 
 impl FrontClass {
@@ -58,10 +68,14 @@ impl FrontClass {
         let members = members_in(&class);
         let places = places_in(members);
         let hidden = hidden_in(alloc, members)?;
+        let first_shown = count_hidden_first(hidden.as_slice());
+        let clock_count = clock_count_in(members);
         Ok(FrontClass {
             class,
             places,
             hidden,
+            first_shown,
+            clock_count,
         })
     }
 
@@ -103,6 +117,23 @@ impl FrontClass {
         ensures { result.now ≡ are_of_packet (members_of self.now) }
     {
         self.hidden.as_slice()
+    }
+
+    /// The index of the first member that lines show of a packet context, or how many members there are where they show
+    /// none.
+    #[inline(always)]
+    pub fn first_shown(&self) -> usize
+        ensures { result ≡ prefix_len (λ hidden. hidden) (are_of_packet (members_of self.now)) }
+    {
+        self.first_shown
+    }
+
+    /// The members up to the last one that is not an integer without a clock: each after them is one that sets none.
+    #[inline(always)]
+    pub fn clock_members(&self) -> &[Member]
+        ensures { AreClockMembers result.now (members_of self.now) }
+    {
+        &self.members()[..self.clock_count]
     }
 }
 
@@ -171,4 +202,37 @@ fn says_of_packet(name: &[u8]) -> bool
         || name == b"timestamp_end".as_slice()
         || name == b"events_discarded".as_slice()
         || name == b"packet_seq_num".as_slice()
+}
+
+/// How many are true before the first one that is not.
+fn count_hidden_first(hidden: &[bool]) -> usize
+    ensures { result ≡ prefix_len (λ hidden. hidden) hidden.now }
+{
+    let mut count = 0;
+    while count < hidden.len() && hidden[count] {
+        count += 1;
+    }
+    count
+}
+
+/// How many members there are up to the last one that is not an integer without a clock.
+fn clock_count_in(members: &[Member]) -> usize
+    ensures within { result ≤ length members.now }
+    ensures none { All (λ m. SetsNoClock m.class) (drop result members.now) }
+{
+    let mut count = members.len();
+    while count > 0 && sets_no_clock(&members[count - 1].class) {
+        count -= 1;
+    }
+    count
+}
+
+/// Whether a class is that of an integer that sets no clock.
+fn sets_no_clock(class: &Class) -> bool
+    ensures { IsTrue result → SetsNoClock class.now }
+{
+    if let Kind::Integer(integer) = &class.kind {
+        return !integer.is_moving;
+    }
+    false
 }

@@ -1,6 +1,6 @@
 -- Packet contexts and lines, part by part.
 use Rattle.std.proofs.Common.{◌≡◌, ℕ, zero, suc, ◌+◌, ◌<◌, ◌≤◌, Bool, true, false, cond, List, [], ◌∷◌, ◌++◌, map, drop, length, get_or, refl, sym, ap, ◌∙◌, arith, append_assoc, append-nil, length-append}
-use Rattle.std.specs.List.{flat_map}
+use Rattle.std.specs.List.{flat_map, prefix_len}
 use Rattle.std.proofs.lemmas.Grind.{flat_map-append}
 use Rattle.ctf_class.specs.declared.class.Member.{Member}
 use Rattle.ctf_class.specs.Fronts.{are_of_packet, is_of_packet}
@@ -28,6 +28,22 @@ shown_past [] vs i past = ap (λ left. shown_of left (drop i vs)) (drop-all [] i
 shown_past (m ∷ ms) [] i past = shown_end (m ∷ ms) [] i (omega arith)
 shown_past (m ∷ ms) (v ∷ vs) zero past = absurd (past (omega arith) (omega arith))
 shown_past (m ∷ ms) (v ∷ vs) (suc i) past = shown_past ms vs i (λ a b. past (omega arith) (omega arith))
+
+-- how many members are before the first one that is shown
+abbrev first_shown : List Member → ℕ
+first_shown ms = prefix_len (λ hidden. hidden) (are_of_packet ms)
+
+first_passed : (ms : List Member) (vs : List Value) (m : Member) (v : Value) (b : Bool) → is_of_packet m.name ≡ b → shown_of (drop (first_shown ms) ms) (drop (first_shown ms) vs) ≡ shown_of ms vs
+    → shown_of (drop (cond b (1 + first_shown ms) 0) (m ∷ ms)) (drop (cond b (1 + first_shown ms) 0) (v ∷ vs)) ≡ shown_of (m ∷ ms) (v ∷ vs)
+first_passed ms vs m v true is later =
+    let next : 1 + first_shown ms ≡ suc (first_shown ms) = omega arith in
+    ap (λ i. shown_of (drop i (m ∷ ms)) (drop i (v ∷ vs))) next ∙ later ∙ sym (ap (λ c. cond c (shown_of ms vs) (part_text (member_part m) (val v) ∷ shown_of ms vs)) is)
+first_passed ms vs m v false is later = refl
+
+pub shown_from : (ms : List Member) (vs : List Value) → shown_of (drop (prefix_len (λ hidden. hidden) (are_of_packet ms)) ms) (drop (prefix_len (λ hidden. hidden) (are_of_packet ms)) vs) ≡ shown_of ms vs
+shown_from [] vs = refl
+shown_from (m ∷ ms) [] = shown_end (m ∷ ms) [] (first_shown (m ∷ ms)) (omega arith)
+shown_from (m ∷ ms) (v ∷ vs) = first_passed ms vs m v (is_of_packet m.name) refl (shown_from ms vs)
 
 next : (ms : List Member) (vs : List Value) (i : ℕ) (m : Member) (v : Value) (b : Bool) → i < length ms → i < length vs → m ≡ get_or ms i m → v ≡ get_or vs i v → is_of_packet m.name ≡ b
     → shown_of (drop i ms) (drop i vs) ≡ cond b (shown_of (drop (i + 1) ms) (drop (i + 1) vs)) (part_text (member_part m) (val v) ∷ shown_of (drop (i + 1) ms) (drop (i + 1) vs))

@@ -76,7 +76,7 @@ fn put_shown(
     let members = class.members();
     let hidden = class.hidden();
     let count = hidden.len().min(values.len());
-    for i in 0..count {
+    for i in class.first_shown()..count {
         if hidden[i] {
             continue;
         }

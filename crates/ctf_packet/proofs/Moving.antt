@@ -1,7 +1,14 @@
 -- The clock after members, one more at a time.
-use Rattle.std.proofs.Common.{◌≡◌, ℕ, zero, suc, ℤ, ◌+◌, ◌-◌, ◌%◌, ◌^◌, ◌<◌, ◌≤◌, List, [], ◌∷◌, ◌++◌, map, drop, length, get_or, Option, Some, None, refl, sym, ap, ◌∙◌, arith, rules}
+use Rattle.std.proofs.Common.{◌≡◌, ℕ, cond, zero, suc, ℤ, ◌+◌, ◌-◌, ◌%◌, ◌^◌, ◌<◌, ◌≤◌, List, [], ◌∷◌, ◌++◌, map, drop, length, get_or, Option, Some, None, refl, sym, ap, ◌∙◌, arith, rules}
 use Rattle.std.specs.Prelude.{option_and_then}
 use Rattle.std.proofs.Math.Nat.{mod-add-mod}
+use Rattle.std.proofs.lemmas.List.Elements.{All-head, All-tail}
+use Rattle.std.specs.List.{All}
+use Rattle.ctf_class.specs.Fronts.{AreClockMembers, SetsNoClock, members_of, members_of_kind}
+use Rattle.ctf_class.specs.declared.class.Class as class
+use Rattle.ctf_class.specs.declared.class.Class.{Class}
+use Rattle.ctf_class.specs.declared.class.Kind.TheViews.{out-Kind}
+use Rattle.ctf_class.specs.declared.class.Kind as kind
 use Rattle.ctf_class.specs.declared.class.Member.{Member}
 use Rattle.ctf_clock.specs.declared.moment.Moment.{Moment}
 use Rattle.ctf_clock.specs.Clock.{Line, moment_at, advanced, advanced_by}
@@ -9,12 +16,12 @@ use Rattle.ctf_clock.specs.Counting.{steps_up}
 use Rattle.std.specs.Int.{w64, cast_unsigned}
 use Rattle.ctf_decode.specs.Values.{Val, signed, vals_of}
 use Rattle.ctf_decode.specs.Forms.{Form, parts_of}
-use Rattle.ctf_decode.specs.Views.{form, member_part, val}
+use Rattle.ctf_decode.specs.Views.{form, shape, member_part, val}
 use Rattle.ctf_decode.specs.declared.value.Value as value
 use Rattle.ctf_decode.specs.declared.value.Value.{Value}
-use Rattle.ctf_decode.proofs.Views.{part-is}
-use Rattle.ctf_decode.specs.Fields.{of_each}
-use Rattle.ctf_packet.specs.Moved.{low_bits, signed_pair, moved, member_moved, option_moved}
+use Rattle.ctf_decode.proofs.Views.{form-is, part-is, shape-Integer, shape-Structure}
+use Rattle.ctf_decode.specs.Fields.{members_in, of_each}
+use Rattle.ctf_packet.specs.Moved.{low_bits, signed_pair, unsigned_pair, moved, member_moved, option_moved}
 use Rattle.ctf_packet.proofs.Named.{here, drop-all}
 
 through : (line : Line) (xs ys : List (ℕ × ℕ)) (ih : (n : Moment) → advanced_by line n (xs ++ ys) ≡ option_and_then (λ d. advanced_by line d ys) (advanced_by line n xs)) (o : Option Moment)
@@ -56,6 +63,37 @@ members_end line c ms vs i h = sym (ap (advanced_by line c) (no_more (drop i ms)
     no_more : (ns : List Member) (ws : List Value) → ws ≡ [] → members ns ws ≡ []
     no_more [] ws e = refl
     no_more (n ∷ ns) ws e = ap (λ xs. members (n ∷ ns) xs) e
+
+-- members that set no clock
+unmoved : (m : Member) (v : Val) → SetsNoClock m.class → moved (form m.class) v ≡ []
+unmoved m v (i, is, none) =
+    let whole = form-is m.class ∙ ap (λ k. shape k m.class.align) is ∙ shape-Integer i m.class.align in
+    ap (λ k. moved k v) whole ∙ ap (λ b. cond b (cond i.is_signed (signed_pair i.size v) (unsigned_pair i.size v)) []) none
+
+none_moved : (ms : List Member) (vs : List Value) → All (λ (m : Member). SetsNoClock m.class) ms → members ms vs ≡ []
+none_moved [] vs none = refl
+none_moved (m ∷ ms) [] none = refl
+none_moved (m ∷ ms) (v ∷ vs) none =
+    ap (λ p. moved p.1 (val v) ++ members ms vs) (part-is m)
+    ∙ ap (λ xs. xs ++ members ms vs) (unmoved m (val v) (All-head (λ (m : Member). SetsNoClock m.class) m ms none))
+    ∙ none_moved ms vs (All-tail (λ (m : Member). SetsNoClock m.class) m ms none)
+
+-- only the first members set the clock
+pub first_move : (first rest : List Member) (vs : List Value) → All (λ (m : Member). SetsNoClock m.class) rest → members (first ++ rest) vs ≡ members first vs
+first_move [] rest vs none = none_moved rest vs none
+first_move (m ∷ ms) rest [] none = refl
+first_move (m ∷ ms) rest (v ∷ vs) none = ap (λ xs. moved (member_part m).1 (val v) ++ xs) (first_move ms rest vs none)
+
+members_are : (ms : List Member) → members_of_kind (out-Kind (kind.Structure ms)) ≡ ms
+members_are ms = search (rules, class.the_lemmas)
+
+pub structure_moves : (class : Class) (first ms : List Member) (value : Value) (vs : List Value) → class.kind ≡ kind.Structure ms → AreClockMembers first (members_of class) → vals_of (map val vs) ≡ members_in (val value) → members first vs ≡ moved (form class) (val value)
+structure_moves class first ms value vs is (rest, all, none) are =
+    let whole = form-is class ∙ ap (λ k. shape k class.align) is ∙ shape-Structure ms class.align in
+    sym (first_move first rest vs none)
+    ∙ ap (λ xs. members xs vs) (sym all ∙ ap (λ k. members_of_kind (out-Kind k)) is ∙ members_are ms)
+    ∙ ap (member_moved (parts_of (map member_part ms))) are
+    ∙ sym (ap (λ k. moved k (val value)) whole)
 
 pub elements_next : (line : Line) (c d : Moment) (k : Form) (vs : List Value) (i : ℕ) (v : Value) → i < length vs → v ≡ get_or vs i v
     → Some d ≡ advanced_by line c (moved k (val v)) → advanced_by line d (of_each (moved k) (vals_of (map val (drop (i + 1) vs)))) ≡ advanced_by line c (of_each (moved k) (vals_of (map val (drop i vs))))

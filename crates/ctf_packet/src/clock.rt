@@ -9,7 +9,7 @@ use crate::fault::StreamFault;
 use crate::field::UnsignedField;
 use crate::moves::moment_after;
 use crate::reached::Reached;
-use ctf_class::Class;
+use ctf_class::FrontClass;
 use ctf_clock::{Moment, Timeline, discarded_between, lost_between};
 use ctf_decode::Value;
 
@@ -35,13 +35,13 @@ pub fn clock_before(
     }
 }
 
-/// The clock after a scope whose integers set it.
+/// The clock after a packet's context, whose integers set it.
 ///
 /// F9 exactly where one of them is refused.
 pub fn clock_after(
     timeline: Option<&Timeline>,
     clock: Option<Moment>,
-    class: Option<&Class>,
+    class: Option<&FrontClass>,
     value: Option<&Value>,
 ) -> Result<Option<Moment>, StreamFault>
     ensures { result ≡ packets.clock_after (option_copied timeline.entry) clock
@@ -61,7 +61,7 @@ pub fn clock_after(
 fn set(
     timeline: &Timeline,
     clock: Moment,
-    class: Option<&Class>,
+    class: Option<&FrontClass>,
     value: Option<&Value>,
 ) -> Result<Option<Moment>, StreamFault>
     ensures { result ≡ packets.clock_after (Some timeline.now) (Some clock)

@@ -7,7 +7,7 @@ ghost use Rattle.ctf_decode.specs.Views.{form, val};
 ghost use Rattle.ctf_packet.specs.Moved as moved;
 ghost use Rattle.ctf_packet.specs.Telling.{Moves, KeepsLast, integer_moves, value_moves, member_moves, element_moves, option_moves, choice_moves, value_ids, member_ids, element_ids, option_ids, choice_ids};
 
-use ctf_class::{Class, Integer, Kind, Member};
+use ctf_class::{Class, FrontClass, Integer, Kind, Member};
 use ctf_clock::{Moment, Timeline};
 use ctf_decode::{Value, choice_in, elements_in, members_in, named_id};
 
@@ -18,11 +18,11 @@ pub(crate) struct IdAndClock {
     pub(crate) clock: Moment,
 }
 
-/// The moment that is reached where the integers of a value that set the clock do so, in the order in which they were
-/// decoded. `None` exactly where one of them is refused.
+/// The moment that is reached where the integers of the value of a packet's context that set the clock do so, in the
+/// order in which they were decoded. `None` exactly where one of them is refused.
 pub fn moment_after(
     timeline: &Timeline,
-    class: &Class,
+    class: &FrontClass,
     value: &Value,
     clock: Moment,
 ) -> Option<Moment>
@@ -37,14 +37,20 @@ pub fn moment_after(
     }
 }
 
-/// Sets the clock by the integers of a scope, of which no `id` is asked for. Mostly it is a structure.
-fn set_by_scope(timeline: &Timeline, class: &Class, value: &Value, told: &mut IdAndClock) -> bool
+/// Sets the clock by the integers of the value of a packet's context. Mostly it is a structure.
+fn set_by_scope(
+    timeline: &Timeline,
+    class: &FrontClass,
+    value: &Value,
+    told: &mut IdAndClock,
+) -> bool
     ensures { Moves timeline.now (value_moves class.now value.now) told.old result told.new }
 {
-    if let Kind::Structure { members } = &class.kind {
-        return set_by_members(timeline, members.as_slice(), members_in(value), told);
+    let whole = class.class();
+    if let Kind::Structure { .. } = &whole.kind {
+        return set_by_members(timeline, class.clock_members(), members_in(value), told);
     }
-    tell(timeline, class, value, told)
+    tell(timeline, whole, value, told)
 }
 
 /// Sets the clock by the integers of members, of which no `id` is asked for.

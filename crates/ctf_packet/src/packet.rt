@@ -96,9 +96,8 @@ pub fn packet_of_sizes<'a>(
     let timeline = timeline_of(stream, place.shift);
     let reached = place.reached;
     let before = clock_before(timeline.as_ref(), reached)?;
-    let class = stream.packet_context();
-    let clock = clock_after(timeline.as_ref(), before, class, context)?;
     let front = stream.context_front();
+    let clock = clock_after(timeline.as_ref(), before, front, context)?;
     let counts = fields_of_roles(front, context, Role::SequenceNumber, Role::EventsDiscarded);
     let sequence = number_of(&counts.0);
     let discarded = number_of(&counts.1);

@@ -1,14 +1,26 @@
-use Rattle.std.proofs.Common.{◌≡◌, ◌+◌, ◌++◌, ◌<◌, ◌≤◌, min, false, List, map, length, get_or, take, ap, sym, ◌∙◌, arith}
+use Rattle.std.proofs.Common.{◌≡◌, ℕ, drop, ◌+◌, ◌++◌, ◌<◌, ◌≤◌, min, false, List, map, length, get_or, take, ap, sym, ◌∙◌, arith}
 use Rattle.std.proofs.Math.Nat.{min-le_left, min-le_right, le-min}
 use Rattle.std.proofs.lemmas.List.{length-map}
+use Rattle.std.specs.List.{prefix_len}
 use Rattle.ctf_class.specs.Fronts.{are_of_packet}
 use Rattle.ctf_class.specs.declared.class.Member.{Member}
 use Rattle.ctf_decode.specs.Values.{vals_of}
 use Rattle.ctf_decode.specs.Views.{val}
 use Rattle.ctf_format.specs.Lines.{shown_members}
 use Rattle.ctf_format.specs.Rows.{row}
-use Rattle.ctf_format.proofs.LinesLemmas.{hidden_same, shown_all}
+use Rattle.ctf_format.proofs.LinesLemmas.{hidden_same, shown_all, shown_from}
 use Rattle.ctf_format.proofs.packet.put_shown.Goals as goal
+
+pub loop-i-init : goal.loop-i-init
+loop-i-init c =
+    let ms = c.members-members.result.now in
+    let vs = c.args.values.now in
+    let before = take c.args.at c.args.buffer.now.items in
+    let first = c.first_shown-i.ensures ∙ ap (λ (xs : List Member). prefix_len (λ hidden. hidden) (are_of_packet xs)) (sym c.members-members.ensures) in
+    record {
+      held = c.requires;
+      text = ap (λ (i : ℕ). before ++ row 123 (shown_members (drop i ms) (vals_of (map val (drop i vs))))) first ∙ ap (λ texts. before ++ row 123 texts) (shown_from ms vs);
+    }
 
 pub loop-i-preserved-then-hidden-i : goal.loop-i-preserved-then-hidden-i
 loop-i-preserved-then-hidden-i c =
