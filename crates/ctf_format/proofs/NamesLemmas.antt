@@ -1,14 +1,15 @@
 -- The names that show a number, one label more at a time.
-use Rattle.std.proofs.Common.{◌≡◌, ℕ, zero, suc, ◌+◌, ◌-◌, ◌<◌, ◌≤◌, true, false, cond, List, [], ◌∷◌, ◌++◌, map, take, drop, length, get_or, Option, Some, None, is_some, ℤ, refl, sym, ap, ◌∙◌, ⊎_elim, arith, append-nil, append_assoc}
+use Rattle.std.proofs.Common.{◌≡◌, ℕ, zero, suc, ◌+◌, ◌-◌, ◌<◌, ◌≤◌, true, false, cond, List, [], ◌∷◌, ◌++◌, map, take, drop, length, get_or, ℤ, refl, sym, ap, ◌∙◌, ⊎_elim, arith, append-nil, append_assoc}
 use Rattle.std.proofs.Math.Seq.{drop-cons}
 use Rattle.std.specs.Prelude.{codes}
-use Rattle.std.proofs.lemmas.Bool.{cases_lt, false≢true}
+use Rattle.std.proofs.lemmas.Bool.{cases_lt}
 use Rattle.std.proofs.lemmas.List.{take_more, get_or_default}
 use Rattle.ctf_class.specs.declared.span.Label.{Label}
-use Rattle.ctf_class.specs.Labels.{no_label, label_at, shows_at, NoneShown, IsNextShown, FindsNext}
+use Rattle.ctf_class.specs.Labels.{no_label, label_at, shows_at, NoneShown, IsNextShown}
 use Rattle.ctf_class.specs.Names.{label_text}
 use Rattle.ctf_format.specs.Labels.{shows, names_after, names_of, names_text}
 use Rattle.ctf_format.specs.Rows.{row}
+use Rattle.ctf_format.proofs.Chains.{three}
 
 abbrev from : List Label → ℕ → ℤ → List (List ℕ)
 from labels i z = names_after (take i labels) (drop i labels) z
@@ -90,11 +91,16 @@ pub text_one : (labels : List Label) (z : ℤ) (first : ℕ) → IsNextShown lab
 text_one labels z first next none =
     ap names_text (names_next labels z 0 first next ∙ ap (λ names. (label_at labels first).name ∷ names) (names_none labels z (first + 1) none))
 
-pub text_several : (labels : List Label) (z : ℤ) (first second : ℕ) → IsNextShown labels z 0 first → IsNextShown labels z (first + 1) second → names_text (names_of labels z) ≡ row 123 (map label_text (names_of labels z)) ++ codes " }"
+-- texts after the first ones of a row
+row_rest : (mark : ℕ) (text : List ℕ) (texts more : List (List ℕ)) → row mark (text ∷ texts) ++ row 44 more ≡ row mark (text ∷ (texts ++ more))
+row_rest mark text [] more = ap (λ xs. mark ∷ 32 ∷ (xs ++ row 44 more)) (append-nil text)
+row_rest mark text (t ∷ texts) more =
+    ap (λ xs. mark ∷ 32 ∷ xs) (append_assoc text (row 44 (t ∷ texts)) (row 44 more) ∙ ap (λ xs. text ++ xs) (row_rest 44 t texts more))
+
+text_several : (labels : List Label) (z : ℤ) (first second : ℕ) → IsNextShown labels z 0 first → IsNextShown labels z (first + 1) second
+    → names_text (names_of labels z) ≡ row 123 (label_text (label_at labels first).name ∷ label_text (label_at labels second).name ∷ map label_text (from labels (second + 1) z)) ++ codes " }"
 text_several labels z first second next then =
-    let name = (label_at labels first).name in
-    let names : names_of labels z ≡ name ∷ ((label_at labels second).name ∷ from labels (second + 1) z) = names_next labels z 0 first next ∙ ap (λ rest. name ∷ rest) (names_next labels z (first + 1) second then) in
-    ap names_text names ∙ ap (λ all. row 123 (map label_text all) ++ codes " }") (sym names)
+    ap names_text (names_next labels z 0 first next ∙ ap (λ rest. (label_at labels first).name ∷ rest) (names_next labels z (first + 1) second then))
 
 -- a label that shows the number is written
 pub row_next_name : (labels : List Label) (z : ℤ) (begin place : ℕ) (line more before : List ℕ) (lead mark : ℕ) (all : List (List ℕ)) → IsNextShown labels z begin place
@@ -110,25 +116,23 @@ pub row_all_names : (labels : List Label) (z : ℤ) (begin : ℕ) (line before :
 row_all_names labels z begin line before lead mark all none already =
     sym (append-nil line) ∙ (ap (λ names. line ++ row lead (map label_text names)) (sym (names_none labels z begin none)) ∙ already)
 
--- several names are written: what is before them, the first, the others, and what is after them
-pub several_written : (labels : List Label) (z : ℤ) (first : ℕ) (before lead one others : List ℕ) → IsNextShown labels z 0 first
-    → lead ≡ before ++ (40 ∷ 32 ∷ []) → one ≡ lead ++ (123 ∷ 32 ∷ label_text (label_at labels first).name) → others ≡ one ++ row 44 (map label_text (from labels (first + 1) z))
-    → others ++ (32 ∷ 125 ∷ []) ≡ before ++ (40 ∷ 32 ∷ (row 123 (map label_text (names_of labels z)) ++ (32 ∷ 125 ∷ [])))
-several_written labels z first before lead one others next led named rest =
-    let text = label_text (label_at labels first).name in
-    let more = row 44 (map label_text (from labels (first + 1) z)) in
-    let mark = 40 ∷ 32 ∷ [] in
-    let name = 123 ∷ 32 ∷ text in
+-- two names are written: what is before them, the first, and the second
+pub two_written : (before lead one first second : List ℕ) → lead ≡ before ++ (40 ∷ 32 ∷ []) → one ≡ lead ++ (123 ∷ 32 ∷ first) → one ++ (44 ∷ 32 ∷ second) ≡ before ++ (40 ∷ 32 ∷ row 123 (first ∷ second ∷ []))
+two_written before lead one first second led named =
+    three before (40 ∷ 32 ∷ []) (123 ∷ 32 ∷ first) (44 ∷ 32 ∷ second) lead one (one ++ (44 ∷ 32 ∷ second)) led named refl
+    ∙ ap (λ xs. before ++ (40 ∷ 32 ∷ 123 ∷ 32 ∷ (first ++ (44 ∷ 32 ∷ xs)))) (sym (append-nil second))
+
+-- several names are written: the first two and what is before them, the others, and what is after them
+pub several_written : (labels : List Label) (z : ℤ) (first second : ℕ) (before two others : List ℕ) → IsNextShown labels z 0 first → IsNextShown labels z (first + 1) second
+    → two ≡ before ++ (40 ∷ 32 ∷ row 123 (label_text (label_at labels first).name ∷ label_text (label_at labels second).name ∷ [])) → others ≡ two ++ row 44 (map label_text (from labels (second + 1) z))
+    → others ++ (32 ∷ 125 ∷ []) ≡ before ++ (40 ∷ 32 ∷ names_text (names_of labels z))
+several_written labels z first second before two others next then wrote rest =
+    let one = label_text (label_at labels first).name in
+    let other = label_text (label_at labels second).name in
+    let more = map label_text (from labels (second + 1) z) in
+    let start = 40 ∷ 32 ∷ row 123 (one ∷ other ∷ []) in
     let close = 32 ∷ 125 ∷ [] in
-    ap (λ xs. xs ++ close) (rest ∙ ap (λ xs. xs ++ more) (named ∙ ap (λ xs. xs ++ name) led ∙ append_assoc before mark name) ∙ append_assoc before (mark ++ name) more)
-    ∙ append_assoc before ((mark ++ name) ++ more) close
-    ∙ ap (λ names. before ++ (40 ∷ 32 ∷ (row 123 (map label_text names) ++ close))) (sym (names_next labels z 0 first next))
-
--- what was looked for is not there, or it is
-pub none_there : (labels : List Label) (z : ℤ) (begin : ℕ) (found : Option ℕ) → is_some found ≡ false → FindsNext labels z begin found → NoneShown labels z begin
-none_there labels z begin None none next = next
-none_there labels z begin (Some place) none next = absurd (false≢true (sym none))
-
-pub one_there : (labels : List Label) (z : ℤ) (begin : ℕ) (found : Option ℕ) → is_some found ≡ true → FindsNext labels z begin found → (place : ℕ) × IsNextShown labels z begin place
-one_there labels z begin None some next = absurd (false≢true some)
-one_there labels z begin (Some place) some next = (place, next)
+    ap (λ xs. xs ++ close) (rest ∙ ap (λ xs. xs ++ row 44 more) wrote ∙ append_assoc before start (row 44 more))
+    ∙ append_assoc before (start ++ row 44 more) close
+    ∙ ap (λ xs. before ++ (40 ∷ 32 ∷ (xs ++ close))) (row_rest 123 one (other ∷ []) more)
+    ∙ ap (λ xs. before ++ (40 ∷ 32 ∷ xs)) (sym (text_several labels z first second next then))

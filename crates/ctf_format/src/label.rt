@@ -1,7 +1,7 @@
 //! Numbers of enumerations.
 
-ghost use Rattle.std.specs.Prelude.{◌≡◌, ◌+◌, ◌++◌, ◌∷◌, ◌^◌, ◌<◌, ◌≤◌, length, take, drop, map, vec_len, codes, IfOk};
-ghost use Rattle.ctf_class.specs.Labels.{label_at, IsNextShown};
+ghost use Rattle.std.specs.Prelude.{◌≡◌, ℕ, ◌+◌, ◌++◌, [], ◌∷◌, ◌^◌, ◌<◌, ◌≤◌, length, take, drop, map, vec_len, codes, IfOk, IfSome};
+ghost use Rattle.ctf_class.specs.Labels.{label_at, FindsNext, IsNextShown};
 ghost use Rattle.ctf_class.specs.Names.{label_text};
 ghost use Rattle.ctf_format.specs.Numbers.{number_text};
 ghost use Rattle.ctf_format.specs.Labels.{names_after, names_of, names_text, labelled_text};
@@ -59,10 +59,26 @@ fn put_names(
     let Some(first) = labels.next_shown(0, number) else {
         return put_unknown(buffer, at);
     };
-    if labels.are_apart() || labels.next_shown(first + 1, number).is_none() {
+    let Some(second) = second_shown(labels, number, first) else {
         return put_name(b'(', labels, first, buffer, at);
+    };
+    let two = put_two(labels, first, second, buffer, at)?;
+    let end = put_others(labels, number, second + 1, buffer, two)?;
+    put_end(b'}', buffer, end)
+}
+
+/// The place of the second label that is shown for a number, after the first one's.
+#[inline(always)]
+fn second_shown(labels: &Labels, number: i128, first: usize) -> Option<usize>
+    requires first { IsNextShown labels.now number 0 first }
+    requires bounded { first < 2 ^ 63 }
+    ensures next { FindsNext labels.now number (first + 1) result }
+    ensures bounded { IfSome result (λ place. place < 2 ^ 63) }
+{
+    if labels.are_apart() {
+        return None;
     }
-    put_several(labels, number, first, buffer, at)
+    labels.next_shown(first + 1, number)
 }
 
 fn put_unknown(buffer: &mut Vec<u8>, at: usize) -> Result<usize, NoMemory>
@@ -73,26 +89,25 @@ fn put_unknown(buffer: &mut Vec<u8>, at: usize) -> Result<usize, NoMemory>
     Ok(put_bytes(b"( <unknown>", buffer.as_mut_slice(), at))
 }
 
-/// Writes the names of several labels that cover a number, from the first that is shown on.
-fn put_several(
+/// Writes `( { ` and the names of the labels at two places.
+fn put_two(
     labels: &Labels,
-    number: i128,
     first: usize,
+    second: usize,
     buffer: &mut Vec<u8>,
     at: usize,
 ) -> Result<usize, NoMemory>
-    requires first { IsNextShown labels.now number 0 first }
-    requires bounded { first < 2 ^ 63 }
+    requires first { first < length labels.now }
+    requires second { second < length labels.now }
     requires index { at ≤ vec_len buffer.old }
-    ensures { let names = map label_text (names_of labels.now number) in
-        let piece = codes "( " ++ (row 123 names ++ codes " }") in
+    ensures { let name = λ (place : ℕ). label_text (label_at labels.now place).name in
+        let piece = codes "( " ++ row 123 (name first ∷ name second ∷ []) in
         IfOk result (IsPut buffer.old at piece buffer.new) }
 {
     with_room(2, buffer, at)?;
     let begin = put_lead(b'(', buffer.as_mut_slice(), at);
     let one = put_name(b'{', labels, first, buffer, begin)?;
-    let end = put_others(labels, number, first + 1, buffer, one)?;
-    put_end(b'}', buffer, end)
+    put_name(b',', labels, second, buffer, one)
 }
 
 /// Writes the names of the labels from a place on that are shown for a number, each after a comma.
