@@ -18,3 +18,4 @@ pub mod ArrayLemmas
 pub mod ByClassLemmas
 pub mod PassingLemmas
 pub mod WindowLemmas
+pub mod ByteIntegersLemmas

@@ -20,7 +20,6 @@ use Rattle.ctf_class.specs.declared.class.Class.{Class}
 use Rattle.ctf_class.specs.declared.class.Kind as kind
 use Rattle.ctf_class.specs.declared.integer.Integer.{Integer}
 use Rattle.ctf_class.specs.declared.many.Many.{Many}
-use Rattle.ctf_class.specs.declared.many.Many.TheVariants as many
 use Rattle.ctf_class.specs.declared.structures.Structures.{Structures}
 use Rattle.ctf_decode.specs.Forms as forms
 use Rattle.ctf_decode.specs.Forms.{Form, align_of, integer}

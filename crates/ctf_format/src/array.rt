@@ -9,6 +9,7 @@ ghost use Rattle.ctf_format.specs.Rows.{row, enclosed};
 ghost use Rattle.ctf_format.specs.Standing.{Before, PutsOne, PutsElements, Counts, Writes, elements_text};
 ghost use Rattle.ctf_format.specs.Texts as texts;
 
+use crate::byte_integers::ByteIntegers;
 use crate::content::Content;
 use crate::element::{ElementLead, put_index};
 use crate::mark::{put_end, put_nothing};
@@ -73,7 +74,8 @@ fn put_elements(
     from: Position,
     buffer: &mut Vec<u8>,
 ) -> Option<Position>
-    requires { IsWithin packet.now from.place buffer.old from.text }
+    requires few { count ≤ MOST_VALUES }
+    requires within { IsWithin packet.now from.place buffer.old from.text }
     ensures puts { let line = take from.text buffer.old.items in
         let integer = class.now.integer.now in let k = forms.integer class.now.align integer in
         IfSome result (λ e. PutsElements (enclosed 91 93) k (texts.integer_text integer) 1 count
@@ -100,8 +102,41 @@ fn put_elements(
     })
 }
 
-/// Writes so many integers, the first after `[`.
+/// Writes so many integers, the first after `[`. Mostly they are little endian and of whole bytes.
+#[inline(always)]
 fn put_row(
+    class: &AlignedInteger<'_>,
+    count: u64,
+    packet: &Content<'_>,
+    from: Position,
+    buffer: &mut Vec<u8>,
+) -> Option<Position>
+    requires few { count ≤ MOST_VALUES }
+    requires within { IsWithin packet.now from.place buffer.old from.text }
+    ensures puts { let line = take from.text buffer.old.items in
+        let integer = class.now.integer.now in let k = forms.integer class.now.align integer in
+        IfSome result (λ e. PutsElements (row 91) k (texts.integer_text integer) 1 count
+        packet.now.bytes.now packet.now.end from.place e.place line
+        (take e.text buffer.new.items)) }
+    ensures within { IfSome result (λ e. IsWithin packet.now e.place buffer.new e.text) }
+{
+    match ByteIntegers::new(class, count, packet, from.place) {
+        Some(are) => {
+            let Ok(text) = are.put_row(buffer, from.text) else {
+                return None;
+            };
+            Some(Position {
+                place: are.end(),
+                text,
+            })
+        }
+        None => put_any_row(class, count, packet, from, buffer),
+    }
+}
+
+/// Writes so many integers of any order and size, wherever they begin, the first after `[`.
+#[inline(never)]
+fn put_any_row(
     class: &AlignedInteger<'_>,
     count: u64,
     packet: &Content<'_>,

@@ -44,8 +44,23 @@ fn put_brackets(lead: ElementLead, line: &mut [u8], at: usize) -> usize
     ensures near { result ≤ at + 27 }
 {
     let begin = put_open(lead.mark, line, at);
-    let end = put_unsigned(lead.index as u64, line, begin);
+    let end = put_index_digits(lead.index, line, begin);
     put_bytes(b"] = ", line, end)
+}
+
+/// Writes an index in decimal. Mostly it has one digit.
+#[inline(always)]
+fn put_index_digits(index: usize, line: &mut [u8], at: usize) -> usize
+    requires { at + 20 ≤ length line.old }
+    ensures text { take result line.new ≡ take at line.old ++ decimal index }
+    ensures near { result ≤ at + 20 }
+    ensures length { length line.new ≡ length line.old }
+{
+    if index < 10 {
+        line[at] = b'0' + index as u8;
+        return at + 1;
+    }
+    put_unsigned(index as u64, line, at)
 }
 
 fn put_open(mark: u8, line: &mut [u8], at: usize) -> usize

@@ -5,6 +5,7 @@ mod around;
 mod array;
 mod binary;
 mod by_class;
+mod byte_integers;
 mod content;
 mod decimal;
 mod digits;

@@ -197,7 +197,7 @@ fn is_negative(integer: &Integer, bits: u64) -> bool
 /// Writes the number of an integer, out of the way of those that are not negative.
 #[cold]
 #[inline(never)]
-fn put_negative(integer: &Integer, number: i64, line: &mut [u8], at: usize) -> usize
+pub(crate) fn put_negative(integer: &Integer, number: i64, line: &mut [u8], at: usize) -> usize
     requires room { at + LONGEST_NUMBER ≤ length line.old }
     ensures text { take result line.new ≡ take at line.old ++ number_text integer.now number }
     ensures near { result ≤ at + LONGEST_NUMBER }

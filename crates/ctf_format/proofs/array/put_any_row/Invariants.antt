@@ -4,7 +4,7 @@ use Rattle.ctf_format.proofs.ArrayLemmas.{Going}
 use Rattle.ctf_format.specs.Put.{IsWithin}
 use Rattle.ctf_format.specs.Standing.{mark_at}
 use Rattle.ctf_format.specs.Texts.{integer_text}
-use Rattle.ctf_format.proofs.array.put_row.Given as goal
+use Rattle.ctf_format.proofs.array.put_any_row.Given as goal
 
 abbrev pub invariant-loop-i : goal.invariant-loop-i
 invariant-loop-i l = record {
