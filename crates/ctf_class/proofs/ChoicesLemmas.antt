@@ -2,6 +2,7 @@
 use Rattle.std.proofs.Common.{◌≡◌, ℕ, zero, suc, ◌+◌, ◌<◌, ◌≤◌, ltb, ℤ, Bool, true, false, not, ◌&&◌, ◌||◌, cond, List, [], ◌∷◌, length, take, get_or, Option, Some, None, option_map, refl, sym, ap, subst, ◌∙◌, ⊎_elim, length-take, arith}
 use Rattle.std.specs.List.{list_any, find, position_from, position, cons_option}
 use Rattle.std.specs.Str.{bytes_eq}
+use Rattle.std.proofs.lemmas.Int.{ints}
 use Rattle.std.proofs.lemmas.Bool.{cases_lt, cases_Bool, and_parts, false≢true}
 use Rattle.std.proofs.lemmas.Bool.Decides.{nat_tests}
 use Rattle.std.proofs.lemmas.Iterator.Adapters.{position_from-zero}
@@ -12,6 +13,8 @@ use Rattle.ctf_class.specs.declared.span.Label.{Label}
 use Rattle.ctf_class.specs.declared.span.Span.{Span}
 use Rattle.ctf_class.specs.Labels.{covers, no_label, label_at, is_shown, shows_at, NoneShown, IsNextShown}
 use Rattle.ctf_class.specs.Choices.{option_named, choices_by, chosen}
+use Rattle.ctf_class.specs.ListedChoices.{choice_at, ChoicesApart}
+use Rattle.ctf_class.proofs.LabelsLemmas.{covers-parts, covers-above}
 
 -- a label at a place that names no option, if it covers a number
 abbrev pub Silent : List (List ℕ) → List Label → ℤ → ℕ → Type 0
@@ -140,3 +143,19 @@ pub position-take : {X : Type 0} (p : X → Bool) (count : ℕ) (xs : List X) �
 position-take p count xs =
     let none : 0 + count ≡ count = omega arith in
     position_from-zero p (take count xs) ∙ (from-take p 0 count xs ∙ ap (λ n. before_end n (position_from p 0 xs)) none ∙ ap (before_end count) (sym (position_from-zero p xs)))
+
+-- a choice that covers a number, where none before it does
+chosen_first : (choices : List Choice) (z : ℤ) (place : ℕ) → place < length choices → covers (choice_at choices place).span z ≡ true → ((before : ℕ) → before < place → covers (choice_at choices before).span z ≡ false) → chosen choices z ≡ Some (choice_at choices place).option
+chosen_first [] z place within here none = absurd (omega arith)
+chosen_first (choice ∷ choices) z zero within here none =
+    ap (λ b. option_map (λ (c : Choice). c.option) (cond b (Some choice) (find (λ (c : Choice). covers c.span z) choices))) here
+chosen_first (choice ∷ choices) z (suc place) within here none =
+    ap (λ b. option_map (λ (c : Choice). c.option) (cond b (Some choice) (find (λ (c : Choice). covers c.span z) choices))) (none 0 (omega arith)) ∙ chosen_first choices z place (omega arith) here (λ before less. none (suc before) (omega arith))
+
+-- of choices that are one after the other the one that covers a number is the first
+pub chosen_apart : (choices : List Choice) (z : ℤ) (place : ℕ) → ChoicesApart choices → place < length choices → covers (choice_at choices place).span z ≡ true → chosen choices z ≡ Some (choice_at choices place).option
+chosen_apart choices z place apart within here =
+    chosen_first choices z place within here (λ before less.
+    let below = apart.apart before place less within in
+    let from = (covers-parts (choice_at choices place).span z here).0 in
+    covers-above (choice_at choices before).span z (omega (arith, ints, below, from)))

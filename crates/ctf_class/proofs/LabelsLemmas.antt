@@ -24,7 +24,7 @@ le_to a b h = grind (arith, ints)
 le_not : (a b : ℤ) → b <ℤ a → le_z a b ≡ false
 le_not a b h = grind (arith, ints)
 
-covers-parts : (s : Span) (z : ℤ) → covers s z ≡ true → (s.first ≤ℤ z) × (z ≤ℤ s.last)
+pub covers-parts : (s : Span) (z : ℤ) → covers s z ≡ true → (s.first ≤ℤ z) × (z ≤ℤ s.last)
 covers-parts s z h =
     let both = and_parts (le_z s.first z) (le_z z s.last) h in
     (le_from s.first z both.0, le_from z s.last both.1)
@@ -35,7 +35,7 @@ covers-within s z low high = and_from (le_z s.first z) (le_z z s.last) (le_to s.
 covers-below : (s : Span) (z : ℤ) → z <ℤ s.first → covers s z ≡ false
 covers-below s z h = and_left (le_z s.first z) (le_z z s.last) (le_not s.first z h)
 
-covers-above : (s : Span) (z : ℤ) → s.last <ℤ z → covers s z ≡ false
+pub covers-above : (s : Span) (z : ℤ) → s.last <ℤ z → covers s z ≡ false
 covers-above s z h = and_right (le_z s.first z) (le_z z s.last) (le_not z s.last h)
 
 none-covered : (z : ℤ) → covers no_label.span z ≡ false

@@ -11,5 +11,5 @@ abbrev pub choices_named : Named → List Choice
 choices_named named = choices_by (take named.count named.names) named.labels
 
 abbrev pub choices_kept : KeptChoices → List Choice
-choices_kept (kept.Listed choices) = choices
+choices_kept (kept.Listed choices) = choices.list
 choices_kept (kept.Named named) = choices_named named

@@ -1,5 +1,5 @@
 -- How the labels that cover a number are found.
-use Rattle.std.specs.Prelude.{◌≡◌, ℕ, ℤ, true, false, ◌-◌, ◌<◌, ◌≤◌, ◌≤ℤ◌, ◌<ℤ◌, List, [], length, get_or, Option, MatchOption}
+use Rattle.std.specs.Prelude.{◌≡◌, ℕ, ℤ, true, false, ◌-◌, ◌<◌, ◌≤◌, List, [], length, get_or, Option, MatchOption}
 use Rattle.std.specs.Str.{bytes_eq}
 use Rattle.ctf_class.specs.declared.span.Span.{Span}
 use Rattle.ctf_class.specs.declared.span.Label.{Label}
@@ -7,17 +7,15 @@ use Rattle.ctf_class.specs.declared.labels.Search.{Search}
 use Rattle.ctf_class.specs.declared.labels.Search.TheVariants.{Apart, Layered, Chained}
 use Rattle.ctf_class.specs.Labels.{covers, label_at}
 use Rattle.ctf_class.specs.Ranks.{place_in, Holds, HasRanks}
+use Rattle.ctf_class.specs.Spans.{AreInOrder}
 
 -- the numbers of the label of a rank
 abbrev pub span_in : List Label → List ℕ → ℕ → Span
 span_in labels order rank = (label_at labels (place_in order rank)).span
 
 -- the numbers of the labels of so many ranks are one after the other
-pub record AreApart (labels : List Label) (order : List ℕ) (count : ℕ) : Type 0 where
-  pub forward : (rank : ℕ) → rank < count
-      → (span_in labels order rank).first ≤ℤ (span_in labels order rank).last
-  pub apart : (rank later : ℕ) → rank < later → later < count
-      → (span_in labels order rank).last <ℤ (span_in labels order later).first
+abbrev pub AreApart : List Label → List ℕ → ℕ → Type 0
+AreApart labels order count = AreInOrder (span_in labels order) count
 
 -- the label at a place covers a number, and of the labels of so many ranks no other does
 pub record IsRanked (labels : List Label) (order : List ℕ) (count : ℕ) (z : ℤ) (place : ℕ) : Type 0 where

@@ -10,6 +10,7 @@ pub mod Items
 pub mod LabelSearch
 pub mod Labels
 pub mod Layers
+pub mod ListedChoices
 pub mod NameFirsts
 pub mod NamePlaces
 pub mod NameRanks
@@ -20,5 +21,6 @@ pub mod Ranks
 pub mod Records
 pub mod RoleNames
 pub mod SameNames
+pub mod Spans
 pub mod Streams
 pub mod Words

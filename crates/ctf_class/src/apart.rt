@@ -1,14 +1,15 @@
 //! Labels of which no two cover one number.
 
-ghost use Rattle.std.specs.Prelude.{◌≡◌, length, IsTrue, IfOk};
+ghost use Rattle.std.specs.Prelude.{◌≡◌, ◌<◌, length, IsTrue, IfOk, IfSome};
 ghost use Rattle.std.specs.List.{range_with_len};
 ghost use Rattle.std.specs.List.Sorted.{IsPermutation};
 ghost use Rattle.ctf_class.specs.Labels.{FindsNext};
-ghost use Rattle.ctf_class.specs.LabelSearch.{AreApart, FindsRanked};
+ghost use Rattle.ctf_class.specs.LabelSearch.{AreApart, FindsRanked, IsRanked};
 ghost use Rattle.ctf_class.specs.Ranks.{HasRanks};
 
-use crate::label_at::{covers, number_at, span_at};
-use crate::span::Label;
+use crate::label_at::{number_at, span_at};
+use crate::likely::{rank_after, rank_before};
+use crate::span::{Label, covers, is_above};
 use ctf_list::{List, NoMemory};
 use std::alloc::Global;
 
@@ -41,10 +42,7 @@ pub fn are_apart(labels: &[Label], order: &[usize]) -> bool
     let mut before = i128::MIN;
     for rank in 0..labels.len() {
         let span = span_at(labels, number_at(order, rank, rank));
-        if span.first <= before {
-            return false;
-        }
-        if span.last < span.first {
+        if !is_above(span, before) {
             return false;
         }
         before = span.last;
@@ -52,7 +50,7 @@ pub fn are_apart(labels: &[Label], order: &[usize]) -> bool
     true
 }
 
-/// The place of the first label from a place on that covers a number, found by halving.
+/// The place of the first label from a place on that covers a number. No walk is needed.
 pub fn next_apart(labels: &[Label], order: &[usize], begin: usize, number: i128) -> Option<usize>
     requires apart { AreApart labels.now order.now (length labels.now) }
     requires ranks { HasRanks labels.now order.now }
@@ -67,8 +65,63 @@ pub fn next_apart(labels: &[Label], order: &[usize], begin: usize, number: i128)
     }
 }
 
-/// The place of the label that covers a number, among the labels of the first `count` ranks.
+/// The place of the label that covers a number, among the labels of the first `count` ranks. Mostly it is where it
+/// probably is; else it is found by halving.
+#[inline(always)]
 pub fn ranked_label(labels: &[Label], order: &[usize], count: usize, number: i128) -> Option<usize>
+    requires { AreApart labels.now order.now count }
+    ensures { FindsRanked labels.now order.now count number result }
+{
+    match likely_label(labels, order, count, number) {
+        Some(place) => Some(place),
+        None => halved_label(labels, order, count, number),
+    }
+}
+
+/// The place of the label that covers a number, if it is as far from the first label, or from the last one, as the
+/// number is from theirs.
+#[inline(always)]
+fn likely_label(labels: &[Label], order: &[usize], count: usize, number: i128) -> Option<usize>
+    requires { AreApart labels.now order.now count }
+    ensures { IfSome result (IsRanked labels.now order.now count number) }
+{
+    if count == 0 {
+        return None;
+    }
+    let first = span_at(labels, number_at(order, 0, 0)).first;
+    let rank = rank_after(first, number, count)?;
+    if let Some(place) = label_of_rank(labels, order, count, rank, number) {
+        return Some(place);
+    }
+    let last = span_at(labels, number_at(order, count - 1, count - 1)).last;
+    let other = rank_before(last, number, count);
+    label_of_rank(labels, order, count, other, number)
+}
+
+/// The place of the label of a rank, one of the first `count`, if it covers a number.
+#[inline(always)]
+fn label_of_rank(
+    labels: &[Label],
+    order: &[usize],
+    count: usize,
+    rank: usize,
+    number: i128,
+) -> Option<usize>
+    requires apart { AreApart labels.now order.now count }
+    requires within { rank < count }
+    ensures { IfSome result (IsRanked labels.now order.now count number) }
+{
+    let place = number_at(order, rank, rank);
+    if covers(span_at(labels, place), number) {
+        Some(place)
+    } else {
+        None
+    }
+}
+
+/// The place of the label that covers a number, among the labels of the first `count` ranks, found by halving.
+#[inline(always)]
+fn halved_label(labels: &[Label], order: &[usize], count: usize, number: i128) -> Option<usize>
     requires { AreApart labels.now order.now count }
     ensures { FindsRanked labels.now order.now count number result }
 {

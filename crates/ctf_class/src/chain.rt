@@ -4,8 +4,8 @@ ghost use Rattle.std.specs.Prelude.{◌≡◌, not, ◌<◌, length, take, IfOk}
 ghost use Rattle.ctf_class.specs.Labels.{label_at, is_shown, shows_at, FindsNext};
 ghost use Rattle.ctf_class.specs.LabelSearch.{IsChain};
 
-use crate::label_at::{covers, number_at, span_at};
-use crate::span::Label;
+use crate::label_at::{number_at, span_at};
+use crate::span::{Label, covers};
 use ctf_list::{List, NoMemory};
 use std::alloc::Global;
 use std::collections::BTreeMap;

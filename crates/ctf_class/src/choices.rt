@@ -4,13 +4,14 @@ ghost use Rattle.std.specs.Prelude.{◌≡◌, take, slice_get, Some, IfOk, IfSo
 ghost use Rattle.ctf_class.specs.Choices as choosing;
 
 use crate::labels::Labels;
+use crate::listed_choices::ListedChoices;
 use crate::names::Names;
 use crate::span::{Choice, Label};
 use ctf_list::{Boxed, List, NoMemory, Shared};
 use std::alloc::Global;
 use std::marker::Model;
 
-/// The most labels whose choices are kept as a list, which is gone through for each number.
+/// The most labels whose choices are kept as a list, which may be gone through for each number.
 const MOST_LISTED: usize = 32;
 
 /// What makes choices: the labels of a tag, and names, of which the first `count` are those of the options.
@@ -24,7 +25,7 @@ struct Named {
 /// How choices are kept.
 #[derive(Drop)]
 enum KeptChoices {
-    Listed(List<Choice>),
+    Listed(ListedChoices),
     /// By what makes them, which classes of one declaration share.
     Named(Named),
 }
@@ -75,7 +76,7 @@ impl Choices {
         ensures { result ≡ choosing.chosen self.now number }
     {
         match self.kept.get() {
-            KeptChoices::Listed(choices) => first_option(choices.as_slice(), number),
+            KeptChoices::Listed(choices) => choices.option(number),
             KeptChoices::Named(named) => named.look_up(number),
         }
     }
@@ -85,7 +86,7 @@ impl Choices {
         ensures { IfSome result (λ first. slice_get self.now 0 ≡ Some first) }
     {
         match self.kept.get() {
-            KeptChoices::Listed(choices) => choices.as_slice().first().copied(),
+            KeptChoices::Listed(choices) => choices.list.as_slice().first().copied(),
             KeptChoices::Named(_) => None,
         }
     }
@@ -95,7 +96,9 @@ impl Choices {
         ensures { IfOk result (λ choices. choices ≡ self.now) }
     {
         match self.kept.get() {
-            KeptChoices::Listed(choices) => Ok(List::from_slice(alloc, choices.as_slice())?),
+            KeptChoices::Listed(choices) => {
+                Ok(List::from_slice(alloc, choices.list.as_slice())?)
+            }
             KeptChoices::Named(named) => named.to_list(alloc),
         }
     }
@@ -112,7 +115,8 @@ impl KeptChoices {
         if label_count > MOST_LISTED || label_count / 2 > named.count {
             return Ok(KeptChoices::Named(named));
         }
-        Ok(KeptChoices::Listed(named.to_list(alloc)?))
+        let choices = named.to_list(alloc)?;
+        Ok(KeptChoices::Listed(ListedChoices::new(choices)))
     }
 }
 
@@ -167,19 +171,6 @@ impl Named {
         }
         None
     }
-}
-
-/// The option of the first of some choices that covers a number.
-#[inline(always)]
-fn first_option(choices: &[Choice], number: i128) -> Option<usize>
-    ensures { result ≡ choosing.chosen choices.now number }
-{
-    for choice in choices {
-        if choice.span.first <= number && number <= choice.span.last {
-            return Some(choice.option);
-        }
-    }
-    None
 }
 
 /// The place of the first of so many names that has these bytes.

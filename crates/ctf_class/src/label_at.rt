@@ -2,7 +2,6 @@
 
 ghost use Rattle.std.specs.Prelude.{◌≡◌, get_or};
 ghost use Rattle.ctf_class.specs.Labels.{label_at};
-ghost use Rattle.ctf_class.specs.Labels as labels_of;
 
 use crate::span::{Label, Span};
 
@@ -26,12 +25,4 @@ pub fn number_at(numbers: &[usize], place: usize, other: usize) -> usize
         Some(number) => *number,
         None => other,
     }
-}
-
-/// Whether a number is one of a span's.
-#[inline(always)]
-pub fn covers(span: Span, number: i128) -> bool
-    ensures { result ≡ labels_of.covers span number }
-{
-    span.first <= number && number <= span.last
 }

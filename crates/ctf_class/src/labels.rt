@@ -75,7 +75,8 @@ impl Labels {
 
     /// The place of the first label, from a place on, that is shown for a number: it covers the number, and no
     /// label that is before it and covers the number has its name. Where no number has two labels it is
-    /// found by halving, and so it is among many of which each number has few; else by a walk.
+    /// looked for where it probably is, then by halving, and so it is among many of which each number has
+    /// few; else by a walk.
     pub fn next_shown(&self, begin: usize, number: i128) -> Option<usize>
         ensures next { FindsNext self.now number begin result }
         ensures bounded { IfSome result (λ place. place < 2 ^ 63) }

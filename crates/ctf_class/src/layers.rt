@@ -10,7 +10,7 @@ ghost use Rattle.ctf_class.specs.Layers.{Splits, FindsCovering};
 
 use crate::apart::ranked_label;
 use crate::label_at::span_at;
-use crate::span::Label;
+use crate::span::{Label, is_above};
 use ctf_list::{List, NoMemory};
 use std::alloc::Global;
 
@@ -80,7 +80,7 @@ fn split_layer(alloc: Global, labels: &[Label], places: &[usize]) -> Result<Spli
     let mut before = i128::MIN;
     for place in places {
         let span = span_at(labels, *place);
-        if span.first > before && span.first <= span.last {
+        if is_above(span, before) {
             layer.push(*place)?;
             before = span.last;
         } else {
@@ -91,7 +91,7 @@ fn split_layer(alloc: Global, labels: &[Label], places: &[usize]) -> Result<Spli
 }
 
 /// The place of the first label from a place on that covers a number, and whose name no label before it has that covers
-/// the number. Labels of which no two cover one number are found without a call, so this is not part of `next_shown`.
+/// the number. Labels of which no two cover one number are mostly found without a call, so this is not part of `next_shown`.
 #[inline(never)]
 pub fn next_layered(
     labels: &[Label],

@@ -21,6 +21,8 @@ mod label_at;
 mod label_name;
 mod labels;
 mod layers;
+mod likely;
+mod listed_choices;
 mod many;
 mod names;
 mod plan_builder;

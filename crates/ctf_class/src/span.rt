@@ -1,6 +1,7 @@
 //! Ranges of an enumeration's numbers.
 
-ghost use Rattle.std.specs.Prelude.{◌↔◌, ◌≤ℤ◌, IsTrue};
+ghost use Rattle.std.specs.Prelude.{◌≡◌, ◌↔◌, ◌≤ℤ◌, ◌<ℤ◌, IsTrue};
+ghost use Rattle.ctf_class.specs.Labels as labels_of;
 
 use crate::label_name::LabelName;
 
@@ -19,6 +20,23 @@ impl Span {
     {
         self.first <= number && number <= self.last
     }
+}
+
+/// Whether a number is one of a span's.
+#[inline(always)]
+pub fn covers(span: Span, number: i128) -> bool
+    ensures { result ≡ labels_of.covers span number }
+{
+    span.first <= number && number <= span.last
+}
+
+/// Whether a span has numbers, and all of them are above another one.
+#[inline(always)]
+pub fn is_above(span: Span, number: i128) -> bool
+    ensures above { IsTrue result → number <ℤ span.first }
+    ensures some { IsTrue result → span.first ≤ℤ span.last }
+{
+    number < span.first && span.first <= span.last
 }
 
 /// A label of an enumeration, with numbers that it covers.

@@ -1,7 +1,7 @@
 use Rattle.std.proofs.Common.{◌≡◌, ℕ, false, ◌-◌, ◌<◌, ◌≤◌}
 use Rattle.ctf_class.specs.Labels.{covers}
 use Rattle.ctf_class.specs.LabelSearch.{span_in}
-use Rattle.ctf_class.proofs.apart.ranked_label.Given as goal
+use Rattle.ctf_class.proofs.apart.halved_label.Given as goal
 
 abbrev pub invariant-loop-low : goal.invariant-loop-low
 invariant-loop-low l = record {

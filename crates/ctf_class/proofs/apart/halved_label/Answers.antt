@@ -5,7 +5,7 @@ use Rattle.std.proofs.lemmas.Bool.{cases_lt}
 use Rattle.ctf_class.specs.Labels.{covers, label_at}
 use Rattle.ctf_class.specs.LabelSearch.{span_in, IsRanked}
 use Rattle.ctf_class.proofs.LabelsLemmas.{covers-within, none-above, none-below, ranked}
-use Rattle.ctf_class.proofs.apart.ranked_label.Goals as goal
+use Rattle.ctf_class.proofs.apart.halved_label.Goals as goal
 
 pub loop-low-preserved-then-number-span : goal.loop-low-preserved-then-number-span
 loop-low-preserved-then-number-span c =
