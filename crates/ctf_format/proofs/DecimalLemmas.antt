@@ -1,6 +1,6 @@
--- How long numbers are in decimal.
-use Rattle.std.proofs.Common.{◌≡◌, ℕ, zero, suc, ◌+◌, ◌-◌, ◌*◌, ◌/◌, ◌%◌, ◌^◌, ◌<◌, ◌≤◌, Bool, true, false, nat_lt, w32, List, [], ◌∷◌, ◌++◌, length, take, drop, refl, sym, ap, ◌∙◌, arith, length-append, append_assoc}
-use Rattle.std.proofs.Math.Seq.{take-add, take-append-add, take-append_seam}
+-- Numbers in decimal, four digits at a time.
+use Rattle.std.proofs.Common.{◌≡◌, ℕ, zero, suc, ◌+◌, ◌-◌, ◌*◌, ◌/◌, ◌%◌, ◌^◌, ◌<◌, ◌≤◌, Bool, true, false, nat_lt, w32, List, [], ◌∷◌, ◌++◌, length, take, refl, sym, ap, ◌∙◌, arith, length-append, append_assoc}
+use Rattle.std.proofs.Math.Seq.{take-append-add}
 use Rattle.std.proofs.lemmas.List.{take-take, length-take-le}
 use Rattle.std.specs.Fmt.{decimal}
 use mir.Val.{bool_byte}
@@ -9,10 +9,7 @@ use Rattle.std.specs.Int.Count.{count_leading_zeros, leading_unique}
 use Rattle.std.proofs.lemmas.Bool.{ltb-true, ltb-false}
 use Rattle.ctf_digits.specs.Fours.{four, missing, few}
 use Rattle.ctf_format.proofs.Chains as chains
-use Rattle.std.proofs.lemmas.Fmt.{decimal_digit, decimal_step, length-decimal-le}
-
-pub length_one : (n : ℕ) → n < 10 → length (decimal n) ≡ 1
-length_one n low = ap length (decimal_digit n low)
+use Rattle.std.proofs.lemmas.Fmt.{decimal_digit, decimal_step}
 
 pub length_more : (n : ℕ) → 10 ≤ n → n < 2 ^ 64 → length (decimal n) ≡ length (decimal (n / 10)) + 1
 length_more n high fits = ap length (decimal_step n high fits) ∙ length-append (decimal (n / 10)) ((48 + n % 10) ∷ [])
@@ -28,15 +25,12 @@ length_four n high fits =
     let d = length_more (n / 1000) (omega arith) (omega arith) ∙ ap (λ m. length (decimal m) + 1) fourth in
     omega arith
 
-pub length_bounded : (n : ℕ) → n < 2 ^ 64 → length (decimal n) ≤ 20
-length_bounded n fits = length-decimal-le 20 n (omega arith) (omega arith) fits
-
--- a text that is written at an index, with nothing changed before it
-pub written_at : (line before text after : List ℕ) (at end : ℕ) → end ≡ at + length text → at ≤ length line → drop at line ≡ text ++ after → take at line ≡ take at before → take end line ≡ take at before ++ text
-written_at line before text after at end ends within written kept =
-    let split = take-add at (length text) line in
-    let seam = ap (take (length text)) written ∙ take-append_seam text after in
-    cc
+pub length_eight : (n : ℕ) → 100000000 ≤ n → n < 2 ^ 64 → length (decimal n) ≡ length (decimal (n / 100000000)) + 8
+length_eight n high fits =
+    let same : n / 10000 / 10000 ≡ n / 100000000 = omega arith in
+    let upper = length_four (n / 10000) (omega arith) (omega arith) ∙ ap (λ m. length (decimal m) + 4) same in
+    let lower = length_four n (omega arith) fits in
+    omega arith
 
 -- ---- four digits in a word
 
@@ -157,3 +151,10 @@ last_four n high fits =
 pub four_written : (before mid line : List ℕ) (n : ℕ) → 10000 ≤ n → n < 2 ^ 64 → mid ≡ before ++ decimal (n / 10000) → line ≡ mid ++ to_le_bytes w32 (four (n % 10000)) → line ≡ before ++ decimal n
 four_written before mid line n high fits front last =
     chains.two before (decimal (n / 10000)) (to_le_bytes w32 (four (n % 10000))) mid line front last ∙ ap (λ xs. before ++ xs) (sym (last_four n high fits))
+
+-- the last eight digits of a number, written after those before them
+pub eight_written : (before mid next line : List ℕ) (n : ℕ) → 100000000 ≤ n → n < 2 ^ 64 → mid ≡ before ++ decimal (n / 100000000) → next ≡ mid ++ to_le_bytes w32 (four (n / 10000 % 10000)) → line ≡ next ++ to_le_bytes w32 (four (n % 10000)) → line ≡ before ++ decimal n
+eight_written before mid next line n high fits front middle last =
+    let same : n / 10000 / 10000 ≡ n / 100000000 = omega arith in
+    let upper = four_written before mid next (n / 10000) (omega arith) (omega arith) (front ∙ ap (λ m. before ++ decimal m) (sym same)) middle in
+    four_written before next line n (omega arith) fits upper last

@@ -1,35 +1,12 @@
 //! Numbers in decimal.
 
-ghost use Rattle.std.specs.Prelude.{◌≡◌, ◌+◌, ◌/◌, ◌++◌, ◌<◌, ◌≤◌, length, take};
+ghost use Rattle.std.specs.Prelude.{◌≡◌, ℕ, List, ◌+◌, ◌/◌, ◌++◌, ◌<◌, ◌≤◌, length, take};
 ghost use Rattle.std.specs.Fmt.{decimal, signed_decimal};
 ghost use Rattle.std.specs.Int.{w32, to_le_bytes, leading_zeros};
 ghost use Rattle.ctf_digits.specs.Fours.{four};
 
 use ctf_digits::{few_digits, two_digits};
-use itoa::{Buffer, write_digits};
-
-/// How many digits a number has in decimal.
-#[tactic(auto, using(crate::proofs::DecimalLemmas::length_more, crate::proofs::DecimalLemmas::length_four, crate::proofs::DecimalLemmas::length_one, crate::proofs::DecimalLemmas::length_bounded))]
-fn count_digits(number: u64) -> usize
-    ensures value { result ≡ length (decimal number) }
-    ensures bounded { result ≤ 20 }
-{
-    let mut left = number;
-    let mut count = 1;
-    while left >= 10_000 {
-        left /= 10_000;
-        count += 4;
-    }
-    if left >= 1000 {
-        count + 3
-    } else if left >= 100 {
-        count + 2
-    } else if left >= 10 {
-        count + 1
-    } else {
-        count
-    }
-}
+use itoa::Buffer;
 
 /// Writes a number in decimal at an index of a line that has room for 20 bytes there, and gives the index
 /// after it. Mostly it has up to four digits.
@@ -58,7 +35,7 @@ fn put_5_digits_or_more(number: u64, line: &mut [u8], at: usize) -> usize
     if number < 100_000_000 {
         return put_5_to_8_digits(number as u32, line, at);
     }
-    put_any_number(number, line, at)
+    put_9_digits_or_more(number, line, at)
 }
 
 /// Writes a number of five to eight digits: up to four, and then four.
@@ -77,18 +54,53 @@ fn put_5_to_8_digits(number: u32, line: &mut [u8], at: usize) -> usize
     end + 4
 }
 
-/// Writes a number of any size, two digits at a time.
-#[tactic(auto, using(crate::proofs::DecimalLemmas::written_at))]
+/// Writes a number of more than eight digits.
+#[tactic(auto, using(crate::proofs::DecimalLemmas::length_eight))]
 #[inline(never)]
-fn put_any_number(number: u64, line: &mut [u8], at: usize) -> usize
+fn put_9_digits_or_more(number: u64, line: &mut [u8], at: usize) -> usize
+    requires many { 100_000_000 ≤ number }
     requires room { at + 20 ≤ length line.old }
     ensures text { take result line.new ≡ take at line.old ++ decimal number }
     ensures end { result ≡ at + length (decimal number) }
     ensures near { result ≤ at + 20 }
 {
-    let end = at + count_digits(number);
-    write_digits(number, line, end);
-    end
+    let end = put_up_to_12_digits(number / 100_000_000, line, at);
+    put_last_8_digits(number, line, end)
+}
+
+/// Writes a number of up to twelve digits.
+#[tactic(auto, using(crate::proofs::DecimalLemmas::length_eight))]
+#[inline(always)]
+fn put_up_to_12_digits(number: u64, line: &mut [u8], at: usize) -> usize
+    requires few { number < 1_000_000_000_000 }
+    requires room { at + 12 ≤ length line.old }
+    ensures text { take result line.new ≡ take at line.old ++ decimal number }
+    ensures end { result ≡ at + length (decimal number) }
+    ensures near { result ≤ at + 12 }
+{
+    if number < 10_000 {
+        return put_up_to_4_digits(number as u32, line, at);
+    }
+    if number < 100_000_000 {
+        return put_5_to_8_digits(number as u32, line, at);
+    }
+    let end = put_up_to_4_digits((number / 100_000_000) as u32, line, at);
+    put_last_8_digits(number, line, end)
+}
+
+/// Writes the last eight digits of a number after those before them.
+#[inline(always)]
+fn put_last_8_digits(number: u64, line: &mut [u8], at: usize) -> usize
+    requires many { 100_000_000 ≤ number }
+    requires room { at + 8 ≤ length line.old }
+    ensures text { (before : List ℕ) →
+        take at line.old ≡ before ++ decimal (number / 100_000_000) →
+        take result line.new ≡ before ++ decimal number }
+    ensures end { result ≡ at + 8 }
+{
+    put_word(four_digits((number / 10_000 % 10_000) as u32), line, at);
+    put_word(four_digits((number % 10_000) as u32), line, at + 4);
+    at + 8
 }
 
 /// Writes a number of up to four digits. They are one word of a table, so that no jump depends on how many there are: a
