@@ -157,6 +157,13 @@ def labels(count: int, container: str, form: str, more: str = "") -> Members:
     return numbers(f"enum : {container} {{ {text}{more} }} e;", form, count)
 
 
+def ranges(spans: list[range], container: str, form: str) -> Members:
+    """An enumeration with a label for each of these ranges of numbers."""
+    text = ", ".join(f"LABEL_{index} = {span[0]} ... {span[-1]}" for index, span in enumerate(spans))
+    values = [number for span in spans for number in span]
+    return Members(f"enum : {container} {{ {text} }} e;", lambda rng: struct.pack(form, rng.choice(values)))
+
+
 def optional(rng: random.Random) -> bytes:
     """A tag and the option of its label."""
     tag = rng.randrange(4)
@@ -243,6 +250,21 @@ ENUMERATIONS = [
     Shape("an enumeration of 1,000 labels", labels(1000, "u16", "<H"), COMPACT, fewer=5),
     Shape("labels that overlap", labels(8, "u8", "<B", ", LOW = 0 ... 3, HIGH = 4 ... 7, ANY = 0 ... 255"), COMPACT),
     Shape("error numbers, two labels of one", labels(131, "u8", "<B", ", AGAIN = 11"), COMPACT),
+    Shape(
+        "error numbers, two left out",
+        ranges([range(number, number + 1) for number in range(1, 134) if number not in (41, 58)], "u8", "<B"),
+        COMPACT,
+    ),
+    Shape(
+        "labels of powers of two",
+        ranges([range(1 << bit, (1 << bit) + 1) for bit in range(32)], "u32", "<I"),
+        COMPACT,
+    ),
+    Shape(
+        "labels of ten numbers each",
+        ranges([range(first, first + 10) for first in range(0, 640, 10)], "u16", "<H"),
+        COMPACT,
+    ),
     Shape("numbers without a label", numbers("enum : u16 { A = 1, B = 2, C = 3 } e;", "<H", 65536), COMPACT),
 ]
 
