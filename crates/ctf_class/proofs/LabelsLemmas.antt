@@ -1,5 +1,5 @@
 -- Labels of which no two cover one number, and labels with the last one before each of its name.
-use Rattle.std.proofs.Common.{◌≡◌, ℕ, zero, suc, ◌+◌, ◌-◌, ◌<◌, ◌≤◌, ℤ, ◌≤ℤ◌, ◌<ℤ◌, Bool, true, false, not, ◌&&◌, ◌||◌, cond, List, [], ◌∷◌, ◌++◌, length, take, get_or, Option, Some, unwrap_or, refl, sym, ap, subst, ◌∙◌, ⊎_elim, below_more, arith}
+use Rattle.std.proofs.Common.{◌≡◌, ℕ, zero, suc, ◌+◌, ◌-◌, ◌<◌, ◌≤◌, ℤ, ◌≤ℤ◌, ◌<ℤ◌, Bool, true, false, not, ◌&&◌, ◌||◌, cond, List, [], ◌∷◌, ◌++◌, length, take, get_or, Option, None, Some, unwrap_or, refl, sym, ap, subst, ◌∙◌, ⊎_elim, below_more, arith}
 use Rattle.std.specs.Int.Signed.{le_z}
 use Rattle.std.specs.List.{list_any}
 use Rattle.std.specs.Str.{bytes_eq}
@@ -10,8 +10,8 @@ use Rattle.std.proofs.lemmas.List.Folds.{list_any_at}
 use Rattle.std.proofs.lemmas.Slice.Eq.{bytes_eq-Decides}
 use Rattle.ctf_class.specs.declared.span.Span.{Span}
 use Rattle.ctf_class.specs.declared.span.Label.{Label}
-use Rattle.ctf_class.specs.Labels.{covers, no_label, label_at, is_shown, shows_at, NoneShown, IsNextShown}
-use Rattle.ctf_class.specs.LabelSearch.{span_in, AreApart, IsRanked, IsLast}
+use Rattle.ctf_class.specs.Labels.{covers, no_label, label_at, is_shown, shows_at, FindsNext, NoneShown, IsNextShown}
+use Rattle.ctf_class.specs.LabelSearch.{span_in, AreApart, FindsRanked, IsRanked, IsLast}
 use Rattle.ctf_class.specs.Ranks.{place_in, HasRanks}
 
 -- what a span covers
@@ -208,6 +208,11 @@ pub none_of_ranks : (labels : List Label) (order : List ℕ) (z : ℤ) → HasRa
 none_of_ranks labels order z ranks none place within =
     let r = ranks.rank place within in
     ap (λ (i : ℕ). covers (label_at labels i).span z) (sym r.2) ∙ none r.0 r.1
+
+-- where no two labels cover one number, the only label is the first one
+pub first_of_ranks : (labels : List Label) (order : List ℕ) (z : ℤ) → AreApart labels order (length labels) → HasRanks labels order → (found : Option ℕ) → FindsRanked labels order (length labels) z found → FindsNext labels z 0 found
+first_of_ranks labels order z apart ranks None none = none_covering labels z 0 (none_of_ranks labels order z ranks none)
+first_of_ranks labels order z apart ranks (Some place) is = only_shown labels order z 0 place apart ranks is.here (omega arith)
 
 -- the last label of a name, at the beginning and one label further
 pub last-none : (labels : List Label) (name : List ℕ) → IsLast labels 0 name 0

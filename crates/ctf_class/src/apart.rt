@@ -65,6 +65,29 @@ pub fn next_apart(labels: &[Label], order: &[usize], begin: usize, number: i128)
     }
 }
 
+/// The place of the only label that covers a number. Mostly it is where it probably is: then no call is needed.
+#[inline(always)]
+pub fn first_apart(labels: &[Label], order: &[usize], number: i128) -> Option<usize>
+    requires apart { AreApart labels.now order.now (length labels.now) }
+    requires ranks { HasRanks labels.now order.now }
+    ensures { FindsNext labels.now number 0 result }
+{
+    match likely_label(labels, order, labels.len(), number) {
+        Some(place) => Some(place),
+        None => first_halved(labels, order, number),
+    }
+}
+
+/// The place of the only label that covers a number, found by halving.
+#[inline(never)]
+fn first_halved(labels: &[Label], order: &[usize], number: i128) -> Option<usize>
+    requires apart { AreApart labels.now order.now (length labels.now) }
+    requires ranks { HasRanks labels.now order.now }
+    ensures { FindsNext labels.now number 0 result }
+{
+    halved_label(labels, order, labels.len(), number)
+}
+
 /// The place of the label that covers a number, among the labels of the first `count` ranks. Mostly it is where it
 /// probably is; else it is found by halving.
 #[inline(always)]

@@ -3,7 +3,7 @@
 ghost use Rattle.std.specs.Prelude.{◌≡◌, ◌<◌, ◌^◌, IsTrue, IfOk, IfSome};
 ghost use Rattle.ctf_class.specs.Labels.{AreAlone, FindsNext};
 
-use crate::apart::{are_apart, next_apart, sorted_places};
+use crate::apart::{are_apart, first_apart, next_apart, sorted_places};
 use crate::chain::{chain_of, next_chained};
 use crate::layers::{layers_of, next_layered};
 use crate::span::Label;
@@ -73,10 +73,24 @@ impl Labels {
         }
     }
 
+    /// The place of the first label that is shown for a number, as `next_shown` finds it. Mostly no number has two
+    /// labels, and the label is where it probably is: then no call is needed.
+    #[inline(always)]
+    pub fn first_shown(&self, number: i128) -> Option<usize>
+        ensures next { FindsNext self.now number 0 result }
+        ensures bounded { IfSome result (λ place. place < 2 ^ 63) }
+    {
+        match &self.search {
+            Search::Apart(order) => first_apart(self.labels.as_slice(), order.as_slice(), number),
+            Search::Layered(_) | Search::Chained(_) => self.next_shown(0, number),
+        }
+    }
+
     /// The place of the first label, from a place on, that is shown for a number: it covers the number, and no
     /// label that is before it and covers the number has its name. Where no number has two labels it is
     /// looked for where it probably is, then by halving, and so it is among many of which each number has
     /// few; else by a walk.
+    #[inline(never)]
     pub fn next_shown(&self, begin: usize, number: i128) -> Option<usize>
         ensures next { FindsNext self.now number begin result }
         ensures bounded { IfSome result (λ place. place < 2 ^ 63) }

@@ -91,7 +91,7 @@ fn split_layer(alloc: Global, labels: &[Label], places: &[usize]) -> Result<Spli
 }
 
 /// The place of the first label from a place on that covers a number, and whose name no label before it has that covers
-/// the number. Labels of which no two cover one number are mostly found without a call, so this is not part of `next_shown`.
+/// the number. It is apart from `next_shown`, so that labels of which no two cover one number do not pay for it.
 #[inline(never)]
 pub fn next_layered(
     labels: &[Label],

@@ -1,21 +1,25 @@
 //! Numbers of enumerations.
 
-ghost use Rattle.std.specs.Prelude.{◌≡◌, ℕ, ◌+◌, ◌++◌, [], ◌∷◌, ◌^◌, ◌<◌, ◌≤◌, length, take, drop, map, vec_len, codes, IfOk, IfSome};
-ghost use Rattle.ctf_class.specs.Labels.{label_at, FindsNext, IsNextShown};
+ghost use Rattle.std.specs.Prelude.{◌≡◌, ℕ, ◌+◌, ◌++◌, [], ◌∷◌, ◌^◌, ◌<◌, ◌≤◌, length, take, drop, map, vec_len, codes, IfOk};
+ghost use Rattle.ctf_class.specs.Labels.{label_at, IsNextShown};
 ghost use Rattle.ctf_class.specs.Names.{label_text};
 ghost use Rattle.ctf_format.specs.Numbers.{number_text};
 ghost use Rattle.ctf_format.specs.Labels.{names_after, names_of, names_text, labelled_text};
 ghost use Rattle.ctf_format.specs.Put.{IsPut};
 ghost use Rattle.ctf_format.specs.Rows.{row};
 
-use crate::mark::{put_bytes, put_end, put_lead, put_ready};
-use crate::number::{LONGEST_NUMBER, put_number};
+use crate::mark::{put_after_space, put_bytes, put_end, put_lead, put_ready, put_short_bytes};
+use crate::number::{LONGEST_NUMBER, put_number, put_unsigned_number};
 use crate::room::with_room;
 use ctf_class::{Integer, Labels};
 use ctf_list::NoMemory;
 
+/// How many bytes follow the names of labels at the most: the number of the container, and what is around it.
+const AFTER_NAMES: usize = LONGEST_NUMBER + 17;
+
 /// Writes an enumeration's number, with the names of the labels that cover it, at an index of a buffer, and
 /// gives the index after it. What is before the index is kept. At an error the buffer is unspecified.
+#[inline(always)]
 pub fn put_labelled(
     container: &Integer,
     labels: &Labels,
@@ -28,24 +32,38 @@ pub fn put_labelled(
         IfOk result (IsPut buffer.old at piece buffer.new) }
 {
     let end = put_names(labels, number, buffer, at)?;
-    with_room(LONGEST_NUMBER + 20, buffer, end)?;
     Ok(put_container(container, number, buffer.as_mut_slice(), end))
 }
 
 /// Writes what follows the names.
+#[inline(always)]
 fn put_container(container: &Integer, number: i128, line: &mut [u8], at: usize) -> usize
-    requires { at + (LONGEST_NUMBER + 20) ≤ length line.old }
+    requires { at + AFTER_NAMES ≤ length line.old }
     ensures text { take result line.new ≡
         take at line.old ++
         (codes " : container = " ++ (number_text container.now number ++ codes " )")) }
-    ensures near { result ≤ at + (LONGEST_NUMBER + 20) }
+    ensures near { result ≤ at + AFTER_NAMES }
 {
-    let begin = put_bytes(b" : container = ", line, at);
-    let end = put_number(container, number, line, begin);
-    put_bytes(b" )", line, end)
+    let begin = put_short_bytes(b" : container = ", line, at);
+    let end = put_contained(container, number, line, begin);
+    put_after_space(b')', line, end)
 }
 
-/// Writes `( ` and the names of the labels that cover a number.
+/// Writes the number of a container. Mostly it is not below zero.
+#[inline(always)]
+fn put_contained(container: &Integer, number: i128, line: &mut [u8], at: usize) -> usize
+    requires room { at + LONGEST_NUMBER ≤ length line.old }
+    ensures text { take result line.new ≡ take at line.old ++ number_text container.now number }
+    ensures near { result ≤ at + LONGEST_NUMBER }
+{
+    match u64::try_from(number) {
+        Ok(number) => put_unsigned_number(container, number, line, at),
+        Err(_) => put_number(container, number, line, at),
+    }
+}
+
+/// Writes `( ` and the names of the labels that cover a number. Then there is room for what follows them.
+#[inline(always)]
 fn put_names(
     labels: &Labels,
     number: i128,
@@ -53,39 +71,54 @@ fn put_names(
     at: usize,
 ) -> Result<usize, NoMemory>
     requires { at ≤ vec_len buffer.old }
-    ensures { let piece = codes "( " ++ names_text (names_of labels.now number) in
+    ensures put { let piece = codes "( " ++ names_text (names_of labels.now number) in
         IfOk result (IsPut buffer.old at piece buffer.new) }
+    ensures room { IfOk result (λ end. end + AFTER_NAMES ≤ vec_len buffer.new) }
 {
-    let Some(first) = labels.next_shown(0, number) else {
+    let Some(first) = labels.first_shown(number) else {
         return put_unknown(buffer, at);
     };
-    let Some(second) = second_shown(labels, number, first) else {
+    if labels.are_apart() {
+        return put_name(b'(', labels, first, buffer, at);
+    }
+    put_several(labels, number, first, buffer, at)
+}
+
+/// Writes `( ` and the names of the labels that cover a number, of which the one at the place `first` is the first.
+/// Then there is room for what follows them.
+#[inline(never)]
+fn put_several(
+    labels: &Labels,
+    number: i128,
+    first: usize,
+    buffer: &mut Vec<u8>,
+    at: usize,
+) -> Result<usize, NoMemory>
+    requires first { IsNextShown labels.now number 0 first }
+    requires bounded { first < 2 ^ 63 }
+    requires index { at ≤ vec_len buffer.old }
+    ensures put { let piece = codes "( " ++ names_text (names_of labels.now number) in
+        IfOk result (IsPut buffer.old at piece buffer.new) }
+    ensures room { IfOk result (λ end. end + AFTER_NAMES ≤ vec_len buffer.new) }
+{
+    let Some(second) = labels.next_shown(first + 1, number) else {
         return put_name(b'(', labels, first, buffer, at);
     };
     let two = put_two(labels, first, second, buffer, at)?;
-    let end = put_others(labels, number, second + 1, buffer, two)?;
-    put_end(b'}', buffer, end)
+    let others = put_others(labels, number, second + 1, buffer, two)?;
+    let end = put_end(b'}', buffer, others)?;
+    with_room(AFTER_NAMES, buffer, end)?;
+    Ok(end)
 }
 
-/// The place of the second label that is shown for a number, after the first one's.
-#[inline(always)]
-fn second_shown(labels: &Labels, number: i128, first: usize) -> Option<usize>
-    requires first { IsNextShown labels.now number 0 first }
-    requires bounded { first < 2 ^ 63 }
-    ensures next { FindsNext labels.now number (first + 1) result }
-    ensures bounded { IfSome result (λ place. place < 2 ^ 63) }
-{
-    if labels.are_apart() {
-        return None;
-    }
-    labels.next_shown(first + 1, number)
-}
-
+/// Writes what is shown where no label covers the number. Then there is room for what follows it.
+#[inline(never)]
 fn put_unknown(buffer: &mut Vec<u8>, at: usize) -> Result<usize, NoMemory>
     requires { at ≤ vec_len buffer.old }
-    ensures { IfOk result (IsPut buffer.old at (codes "( <unknown>") buffer.new) }
+    ensures put { IfOk result (IsPut buffer.old at (codes "( <unknown>") buffer.new) }
+    ensures room { IfOk result (λ end. end + AFTER_NAMES ≤ vec_len buffer.new) }
 {
-    with_room(11, buffer, at)?;
+    with_room(11 + AFTER_NAMES, buffer, at)?;
     Ok(put_bytes(b"( <unknown>", buffer.as_mut_slice(), at))
 }
 
@@ -131,7 +164,7 @@ fn put_others(
     Ok(end)
 }
 
-/// Writes the name of the label at a place after a mark.
+/// Writes the name of the label at a place after a mark. Then there is room for what follows names.
 #[inline(always)]
 fn put_name(
     mark: u8,
@@ -142,9 +175,10 @@ fn put_name(
 ) -> Result<usize, NoMemory>
     requires within { place < length labels.now }
     requires index { at ≤ vec_len buffer.old }
-    ensures { let piece = mark ∷ 32 ∷ label_text (label_at labels.now place).name in
+    ensures put { let piece = mark ∷ 32 ∷ label_text (label_at labels.now place).name in
         IfOk result (IsPut buffer.old at piece buffer.new) }
+    ensures room { IfOk result (λ end. end + AFTER_NAMES ≤ vec_len buffer.new) }
 {
     let label = &labels.as_slice()[place];
-    put_ready(mark, label.name.ready(), 0, buffer, at)
+    put_ready(mark, label.name.ready(), AFTER_NAMES, buffer, at)
 }

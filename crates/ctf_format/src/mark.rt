@@ -116,6 +116,18 @@ pub fn put_ready(
     Ok(ready.put(line, begin))
 }
 
+/// Writes a space and a mark at an index of a line, and gives the index after them.
+#[inline(always)]
+pub fn put_after_space(mark: u8, line: &mut [u8], at: usize) -> usize
+    requires { at + 2 ≤ length line.old }
+    ensures text { take result line.new ≡ take at line.old ++ (32 ∷ mark ∷ []) }
+    ensures end { result ≡ at + 2 }
+{
+    line[at] = b' ';
+    line[at + 1] = mark;
+    at + 2
+}
+
 /// Writes a space and a mark after texts.
 #[inline(always)]
 pub fn put_end(mark: u8, buffer: &mut Vec<u8>, at: usize) -> Result<usize, NoMemory>
@@ -123,10 +135,7 @@ pub fn put_end(mark: u8, buffer: &mut Vec<u8>, at: usize) -> Result<usize, NoMem
     ensures { IfOk result (IsPut buffer.old at (32 ∷ mark ∷ []) buffer.new) }
 {
     with_room(2, buffer, at)?;
-    let line = buffer.as_mut_slice();
-    line[at] = b' ';
-    line[at + 1] = mark;
-    Ok(at + 2)
+    Ok(put_after_space(mark, buffer.as_mut_slice(), at))
 }
 
 /// Writes two marks that have nothing between them.
@@ -137,7 +146,5 @@ pub fn put_nothing(left: u8, right: u8, buffer: &mut Vec<u8>, at: usize) -> Resu
     with_room(3, buffer, at)?;
     let line = buffer.as_mut_slice();
     line[at] = left;
-    line[at + 1] = b' ';
-    line[at + 2] = right;
-    Ok(at + 3)
+    Ok(put_after_space(right, line, at + 1))
 }

@@ -6,5 +6,5 @@ use Rattle.ctf_format.proofs.label.put_container.Goals as goal
 
 pub returns-clause-text : goal.returns-clause-text
 returns-clause-text c =
-    let number = rw (to_z-of_z c.ranges.number) at c.put_number-end.ensures.text in
-    three (take c.args.at c.args.line.now) (codes " : container = ") (number_text c.args.container.now c.args.number) (codes " )") _ _ _ c.put_bytes-begin.ensures.text number c.put_bytes.ensures.text
+    let number = rw (to_z-of_z c.ranges.number) at c.put_contained-end.ensures.text in
+    three (take c.args.at c.args.line.now) (codes " : container = ") (number_text c.args.container.now c.args.number) (codes " )") _ _ _ c.put_short_bytes-begin.ensures.text number c.put_after_space.ensures.text

@@ -13,8 +13,8 @@ loop-place-preserved c =
     let so_far = rw (to_z-of_z c.ranges.number) at c.loop-place.invariant in
     let next = rw (to_z-of_z c.ranges.number) at c.in-Some.ensures.next in
     rw (to_z-of_z c.ranges.number) (record {
-      held = c.in_ok-end.ensures.held;
-      text = row_next_name labels z c.loop-place.begin c.in-Some.place (take c.loop-place.end c.loop-place.buffer.items) (take c.in_ok-end.end c.put_name.new.buffer.items) (take c.args.at c.args.buffer.now.items) 44 44 all next so_far.text c.in_ok-end.ensures.text;
+      held = c.in_ok-end.ensures.put.held;
+      text = row_next_name labels z c.loop-place.begin c.in-Some.place (take c.loop-place.end c.loop-place.buffer.items) (take c.in_ok-end.end c.put_name.new.buffer.items) (take c.args.at c.args.buffer.now.items) 44 44 all next so_far.text c.in_ok-end.ensures.put.text;
     })
 
 pub returns : goal.returns

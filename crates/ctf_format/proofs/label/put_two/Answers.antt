@@ -15,5 +15,5 @@ returns c =
     let size : length line ≡ c.with_room.new.buffer.len = search rules in
     let kept : take at c.as_mut_slice.result.now ≡ before = ap (take at) c.as_mut_slice.ensures.value ∙ c.in_ok-with_room.ensures.kept in
     let lead = ap (take c.put_lead-begin.result) (with_items_is c.with_room.new.buffer line size) ∙ (c.put_lead-begin.ensures.text ∙ ap (λ xs. xs ++ (40 ∷ 32 ∷ [])) kept) in
-    let written = two_written before _ (take c.in_ok-one.one c.put_name.new.buffer.items) (label_text (label_at labels c.args.first).name) (label_text (label_at labels c.args.second).name) lead c.in_ok-one.ensures.text in
-    put_after c.args.buffer.now c.put_name.new.buffer c.put_name-2.new.buffer at c.in_ok-one.one _ _ c.put_name-2.result written c.put_name-2.ensures
+    let written = two_written before _ (take c.in_ok-one.one c.put_name.new.buffer.items) (label_text (label_at labels c.args.first).name) (label_text (label_at labels c.args.second).name) lead c.in_ok-one.ensures.put.text in
+    put_after c.args.buffer.now c.put_name.new.buffer c.put_name-2.new.buffer at c.in_ok-one.one _ _ c.put_name-2.result written c.put_name-2.ensures.put
