@@ -1,15 +1,16 @@
 //! Texts of integers at fixed distances.
 
-ghost use Rattle.std.specs.Prelude.{◌≡◌, ◌+◌, ◌/◌, ◌++◌, ◌≤◌, length, take, false, true};
+ghost use Rattle.std.specs.Prelude.{◌≡◌, ◌+◌, ◌/◌, ◌++◌, ◌≤◌, length, pos, take, false, true, IfSome};
 ghost use Rattle.std.specs.Fmt.{signed_decimal};
 ghost use Rattle.std.specs.List.{All, flat_map};
 ghost use Rattle.ctf_bits.specs.Placed.{number_after};
 ghost use Rattle.ctf_class.specs.Records.{have_special, numbers_room};
-ghost use Rattle.ctf_format.specs.RunNumbers.{IsInside, IsPlaced, run_text};
+ghost use Rattle.ctf_format.specs.RunNumbers.{IsInside, IsPlaced, number_at, place_in, run_text};
 
 use crate::decimal::{put_signed_short, put_unsigned};
+use crate::number::put_unsigned_number;
 use crate::standing::put_integer_at;
-use ctf_bits::Window;
+use ctf_bits::{Order, Window};
 use ctf_class::PlannedNumber;
 
 /// Writes numbers of a run that begins after so many bytes at an index of a line, and gives the index after them. All
@@ -98,7 +99,7 @@ fn put_below_zero(window: &Window, bytes: &[u8], first: usize, line: &mut [u8], 
     put_signed_short(window.signed(bytes, first), line, at)
 }
 
-/// Writes a number of any base and byte order.
+/// Writes a number of any base and byte order. Mostly it is little endian.
 #[inline(always)]
 fn put_any_number(
     number: &PlannedNumber,
@@ -117,7 +118,25 @@ fn put_any_number(
     if !number.is_special {
         return put_number(number, bytes, first, line, at);
     }
+    let integer = &number.integer;
     let begin = number.ready.put(line, at);
+    if let Some(value) = little_number(number, bytes, first) {
+        return put_unsigned_number(integer, value, line, begin);
+    }
     let place = 8 * first as u64 + number.window.place();
-    put_integer_at(&number.integer, bytes, place, line, begin)
+    put_integer_at(integer, bytes, place, line, begin)
+}
+
+/// The number of an integer, if it is little endian and not below zero.
+#[inline(always)]
+fn little_number(number: &PlannedNumber, bytes: &[u8], first: usize) -> Option<u64>
+    requires held { first + number.now.window.place / 8 + 8 ≤ length bytes.now }
+    requires placed { IsPlaced number.now }
+    ensures { let n = number.now in
+        IfSome result (λ v. number_at n.integer bytes.now (place_in first n) ≡ pos v) }
+{
+    if number.integer.order != Order::Le {
+        return None;
+    }
+    number.window.number(bytes, first)
 }
