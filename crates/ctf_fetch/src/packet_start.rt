@@ -247,19 +247,15 @@ impl<'a> PacketStart<'a> {
         ensures few { length intake.new.buffer.now ≤ longest_bytes + 1 }
     {
         let opening = self.begin(alloc, intake, scopes, scratch)?;
-        match fill_sizes(intake, opening) {
-            Err(fault) => Err(fault),
-            Ok(sizes) => {
-                let Begun { stream, first } = opening.begun;
-                let place = PacketPlace {
-                    shift: self.shift,
-                    reached: self.reached.as_ref(),
-                    start: self.at,
-                };
-                let context = scopes.get(Scope::PacketContext);
-                packet_of_sizes(stream, &place, context, first, sizes)
-            }
-        }
+        let sizes = fill_sizes(intake, opening)?;
+        let Begun { stream, first } = opening.begun;
+        let place = PacketPlace {
+            shift: self.shift,
+            reached: self.reached.as_ref(),
+            start: self.at,
+        };
+        let context = scopes.get(Scope::PacketContext);
+        packet_of_sizes(stream, &place, context, first, sizes)
     }
 
     /// The header of the packet whose first bytes are in the buffer, with its value alone in `scopes`: the one that is
@@ -466,17 +462,12 @@ fn fill_sizes<S: Source>(
 {
     match opening.sizes {
         Some(sizes) => {
-            match fill_whole(intake, (sizes.packet / 8) as usize) {
-                Err(fault) => Err(fault),
-                Ok(()) => Ok(sizes),
-            }
+            fill_whole(intake, (sizes.packet / 8) as usize)?;
+            Ok(sizes)
         }
         None => {
-            let first = opening.begun.first;
-            match fill_rest(intake) {
-                Err(fault) => Err(fault),
-                Ok(ending) => sizes_checked(None, None, ending, intake.as_slice(), first),
-            }
+            let ending = fill_rest(intake)?;
+            sizes_checked(None, None, ending, intake.as_slice(), opening.begun.first)
         }
     }
 }

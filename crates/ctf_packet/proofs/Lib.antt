@@ -1,4 +1,5 @@
 pub mod Named
+pub mod Members
 pub mod Moving
 pub mod Streams
 pub mod Octets

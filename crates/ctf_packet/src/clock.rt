@@ -89,19 +89,13 @@ pub fn clock_until(
 ) -> Option<Moment>
     ensures { result ≡ packets.clock_until (option_copied timeline.entry) clock end }
 {
-    match timeline {
-        None => None,
-        Some(timeline) => match clock {
-            None => None,
-            Some(clock) => match end {
-                None => Some(clock),
-                Some(field) => match timeline.advance(clock, field.width.bits(), field.number) {
-                    Some(until) => Some(until),
-                    None => Some(clock),
-                },
-            },
-        },
-    }
+    let timeline = timeline?;
+    let clock = clock?;
+    let Some(field) = end else {
+        return Some(clock);
+    };
+    let until = timeline.advance(clock, field.width.bits(), field.number);
+    Some(until.unwrap_or(clock))
 }
 
 /// How many packets were lost since one with a sequence number; `None` at the first packet, and where
@@ -109,13 +103,9 @@ pub fn clock_until(
 pub fn lost_since(before: Option<u64>, number: Option<UnsignedField>) -> Option<u64>
     ensures { result ≡ packets.since counting.lost_between before number }
 {
-    match before {
-        None => None,
-        Some(before) => match number {
-            None => None,
-            Some(field) => lost_between(field.width, before, field.number),
-        },
-    }
+    let before = before?;
+    let field = number?;
+    lost_between(field.width, before, field.number)
 }
 
 /// How many event records were discarded since a packet with a count; `None` at the first packet, and
@@ -123,11 +113,7 @@ pub fn lost_since(before: Option<u64>, number: Option<UnsignedField>) -> Option<
 pub fn discarded_since(before: Option<u64>, count: Option<UnsignedField>) -> Option<u64>
     ensures { result ≡ packets.since counting.discarded_between before count }
 {
-    match before {
-        None => None,
-        Some(before) => match count {
-            None => None,
-            Some(field) => discarded_between(field.width, before, field.number),
-        },
-    }
+    let before = before?;
+    let field = count?;
+    discarded_between(field.width, before, field.number)
 }

@@ -12,7 +12,7 @@ use crate::clock::{clock_after, clock_before, clock_until, discarded_since, lost
 use crate::fault::StreamFault;
 use crate::packet_place::PacketPlace;
 use crate::reached::Reached;
-use crate::roles::{field_of_role, fields_of_roles, number_of};
+use crate::roles::{field_of_role, fields_of_roles, number_in};
 use crate::sizes::{LONGEST_PACKET, Sizes};
 use ctf_class::{Role, StreamClass};
 use ctf_clock::{Moment, Shift, Timeline};
@@ -99,8 +99,8 @@ pub fn packet_of_sizes<'a>(
     let front = stream.context_front();
     let clock = clock_after(timeline.as_ref(), before, front, context)?;
     let counts = fields_of_roles(front, context, Role::SequenceNumber, Role::EventsDiscarded);
-    let sequence = number_of(&counts.0);
-    let discarded = number_of(&counts.1);
+    let sequence = number_in(counts.0);
+    let discarded = number_in(counts.1);
     Ok(OpenPacket {
         stream,
         timeline,

@@ -152,17 +152,15 @@ fn put_head<'a>(
     let place = scope_place(at, Scope::EventHeader, at.place);
     let end = record_scope(alloc, class, &place, spare, scopes)?;
     let header = scopes.get(Scope::EventHeader);
-    match told_by(packet.timeline.as_ref(), at.clock, class, header) {
-        Err(fault) => Err(fault),
-        Ok(told) => match event_named(stream, told.id) {
-            Some(event) => Ok(Head {
-                event,
-                clock: told.clock,
-                end,
-            }),
-            None => Err(StreamFault::UnknownEvent),
-        },
-    }
+    let told = told_by(packet.timeline.as_ref(), at.clock, class, header)?;
+    let Some(event) = event_named(stream, told.id) else {
+        return Err(StreamFault::UnknownEvent);
+    };
+    Ok(Head {
+        event,
+        clock: told.clock,
+        end,
+    })
 }
 
 /// Leaves the packet's values alone.

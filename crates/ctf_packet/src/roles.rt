@@ -68,25 +68,11 @@ fn fields_in(
     ensures second { result.1 ≡ roles.role (role_name second) (Some (form class.now))
         (Some (val value.now)) }
 {
-    match &class.class().kind {
-        Kind::Structure { members } => {
-            let members = members.as_slice();
-            let values = members_in(value);
-            let first = unsigned_at(members, values, class.place(first));
-            let second = unsigned_at(members, values, class.place(second));
-            (first, second)
-        }
-        Kind::Integer(_) => (None, None),
-        Kind::Enumeration { container, labels } => (None, None),
-        Kind::String => (None, None),
-        Kind::Variant {
-            tag,
-            choices,
-            options,
-        } => (None, None),
-        Kind::Array { length, element } => (None, None),
-        Kind::Text { length } => (None, None),
-    }
+    let members = class.members();
+    let values = members_in(value);
+    let first = unsigned_at(members, values, class.place(first));
+    let second = unsigned_at(members, values, class.place(second));
+    (first, second)
 }
 
 /// The number of the member at an index, if one is given and it is an unsigned integer.
@@ -106,16 +92,6 @@ fn unsigned_at(members: &[Member], values: &[Value], place: Option<usize>) -> Op
 /// The number of a field.
 pub fn number_in(field: Option<UnsignedField>) -> Option<u64>
     ensures { result ≡ roles.number_in field }
-{
-    match field {
-        None => None,
-        Some(field) => Some(field.number),
-    }
-}
-
-/// The number of a field that is looked at again.
-pub(crate) fn number_of(field: &Option<UnsignedField>) -> Option<u64>
-    ensures { result ≡ roles.number_in field.now }
 {
     match field {
         None => None,
@@ -152,21 +128,7 @@ fn member_of<'a>(
     ensures { option_map (λ f. (form f.0.now, val f.1.now)) result ≡
         roles.member_of (role_name role) (form class.now) (val value.now) }
 {
-    match &class.class().kind {
-        Kind::Structure { members } => {
-            member_at(members.as_slice(), members_in(value), class.place(role))
-        }
-        Kind::Integer(_) => None,
-        Kind::Enumeration { container, labels } => None,
-        Kind::String => None,
-        Kind::Variant {
-            tag,
-            choices,
-            options,
-        } => None,
-        Kind::Array { length, element } => None,
-        Kind::Text { length } => None,
-    }
+    member_at(class.members(), members_in(value), class.place(role))
 }
 
 /// The member at an index, if one is given and it has a value.

@@ -52,14 +52,10 @@ pub fn scope_into(
         content: at.content,
         scopes: &*scopes,
     };
-    match decode_into(alloc, class, &packet, at.place, spare) {
-        Ok(reached) => {
-            scopes.exchange(at.scope, spare);
-            scopes.set_spent(reached.spent);
-            Ok(reached.end)
-        }
-        Err(fault) => Err(fault),
-    }
+    let reached = decode_into(alloc, class, &packet, at.place, spare)?;
+    scopes.exchange(at.scope, spare);
+    scopes.set_spent(reached.spent);
+    Ok(reached.end)
 }
 
 /// The content of the beginning of a stream, as far as a packet may reach, in bits.

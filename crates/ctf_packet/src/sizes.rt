@@ -68,17 +68,13 @@ pub fn sizes_checked(
         (8 * length left.now) end }
     ensures fits { IfOk result (Fitting end (length left.now)) }
 {
-    match told_sizes(packet_size, content_size, end) {
-        Err(fault) => Err(fault),
-        Ok(None) => rest_sizes(ending, left, end),
-        Ok(Some(sizes)) => {
-            if (left.len() as u64) < sizes.packet / 8 {
-                Err(cut_short(ending))
-            } else {
-                Ok(sizes)
-            }
-        }
+    let Some(sizes) = told_sizes(packet_size, content_size, end)? else {
+        return rest_sizes(ending, left, end);
+    };
+    if (left.len() as u64) < sizes.packet / 8 {
+        return Err(cut_short(ending));
     }
+    Ok(sizes)
 }
 
 /// The sizes of a packet that is the rest of its stream.

@@ -1,5 +1,5 @@
 -- Where a packet that asked for more begins its event records.
-use Rattle.std.proofs.Common.{◌≡◌, ◌∙◌, ℕ, ◌*◌, ◌<◌, ◌≤◌, Bool, true, false, List, [], ◌++◌, length, if◌then◌else◌, Option, Some, None, Result, Ok, Err, inl, inr, refl, sym, subst, arith, codes, length-append}
+use Rattle.std.proofs.Common.{◌≡◌, ℕ, ◌*◌, ◌≤◌, Bool, true, false, List, [], ◌++◌, length, if◌then◌else◌, Option, Some, None, Result, Ok, Err, inl, inr, refl, sym, subst, arith, codes, length-append}
 use Rattle.std.specs.Prelude.{min, max}
 use Rattle.ctf_class.specs.declared.route.Scope.{Scope}
 use Rattle.ctf_class.specs.declared.route.Scope.TheVariants.{PacketHeader, PacketContext}
@@ -7,7 +7,6 @@ use Rattle.ctf_decode.specs.Forms.{Form}
 use Rattle.ctf_decode.specs.Values.{Val}
 use Rattle.ctf_decode.specs.Input.{Input, Env}
 use Rattle.ctf_decode.specs.Breaks.{too_many, past, no_option}
-use Rattle.ctf_decode.specs.Stands.{Stands}
 use Rattle.ctf_decode.specs.Walk.{Step, walk}
 use Rattle.ctf_decode.specs.Laws.{Is, input_of}
 use Rattle.ctf_decode.specs.declared.scopes.TheConstants.{MOST_VALUES}

@@ -31,9 +31,8 @@ pub fn judge_sizes<'a>(begun: Begun<'a>, context: Option<&Value>) -> Result<Want
     let sizes = fields_of_roles(front, context, Role::PacketSize, Role::ContentSize);
     let packet = number_in(sizes.0);
     let content = number_in(sizes.1);
-    match told_sizes(packet, content, begun.first) {
-        Err(fault) => Err(fault),
-        Ok(None) => Ok(Want::Rest(begun)),
-        Ok(Some(sizes)) => Ok(Want::Whole(begun, sizes)),
-    }
+    Ok(match told_sizes(packet, content, begun.first)? {
+        None => Want::Rest(begun),
+        Some(sizes) => Want::Whole(begun, sizes),
+    })
 }

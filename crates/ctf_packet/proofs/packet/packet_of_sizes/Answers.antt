@@ -20,6 +20,6 @@ returns-clause-exactly c = λ values e.
     let clock = c.in_ok-clock.ensures ∙ (λ i. packets.clock_after (line-2 i) c.in_ok-before.before (packets.moves (option_map form (front i)) context)) in
     let gone = c.lost_since.ensures ∙ (λ i. packets.since counting.lost_between (c.number_before.ensures i) ((c.fields_of_roles-counts.ensures.first ∙ role (codes "packet_seq_num")) i)) in
     let left_out = c.discarded_since.ensures ∙ (λ i. packets.since counting.discarded_between (c.discarded_before.ensures i) ((c.fields_of_roles-counts.ensures.second ∙ role (codes "events_discarded")) i)) in
-    let count = c.number_of-discarded.ensures ∙ ap roles.number_in (c.fields_of_roles-counts.ensures.second ∙ role (codes "events_discarded")) in
-    let sequence = c.number_of-sequence.ensures ∙ ap roles.number_in (c.fields_of_roles-counts.ensures.first ∙ role (codes "packet_seq_num")) in
-    placed_ok s (option_copied place.reached) place.start values c.args.first c.args.sizes context c.in_ok-before.before c.in_ok-clock.clock c.lost_since.result c.discarded_since.result c.number_of-discarded.result c.number_of-sequence.result e before clock (record { gone = gone; left_out = left_out; count = count; sequence = sequence })
+    let count = c.number_in-discarded.ensures ∙ ap roles.number_in (c.fields_of_roles-counts.ensures.second ∙ role (codes "events_discarded")) in
+    let sequence = c.number_in-sequence.ensures ∙ ap roles.number_in (c.fields_of_roles-counts.ensures.first ∙ role (codes "packet_seq_num")) in
+    placed_ok s (option_copied place.reached) place.start values c.args.first c.args.sizes context c.in_ok-before.before c.in_ok-clock.clock c.lost_since.result c.discarded_since.result c.number_in-discarded.result c.number_in-sequence.result e before clock (record { gone = gone; left_out = left_out; count = count; sequence = sequence })
