@@ -33,6 +33,7 @@ pub use environment::host;
 pub use event::EventSettings;
 pub use integers::integer;
 pub use labelled::labels;
+pub use naming::{is_two_words, is_word};
 pub use numbered::{number_in, numbers};
 pub use stream::stream_id;
 pub use strings::string;

@@ -2,9 +2,9 @@
 
 ghost use Rattle.std.specs.Prelude.{◌≡◌};
 ghost use Rattle.ctf_meaning.specs.Name.{same_words};
-ghost use Rattle.ctf_meaning.specs.Settings.{one};
-ghost use Rattle.ctf_meaning.specs.Blocks.{two, entry_name};
+ghost use Rattle.ctf_meaning.specs.Blocks.{entry_name};
 
+use ctf_attributes::{is_two_words, is_word};
 use ctf_class::Scope;
 use tsdl_tree::Path;
 
@@ -19,23 +19,5 @@ pub fn is_entry_of(name: &Path, scope: Scope) -> bool
         Scope::StreamEventContext => is_two_words(name, b"event", b"context"),
         Scope::EventContext => is_word(name, b"context"),
         Scope::EventFields => is_word(name, b"fields"),
-    }
-}
-
-fn is_word(name: &Path, word: &[u8]) -> bool
-    ensures { result ≡ same_words name.now (one word.now) }
-{
-    match name.as_slice() {
-        [only] => only.as_slice() == word,
-        _ => false,
-    }
-}
-
-fn is_two_words(name: &Path, word: &[u8], next: &[u8]) -> bool
-    ensures { result ≡ same_words name.now (two word.now next.now) }
-{
-    match name.as_slice() {
-        [a, b] => a.as_slice() == word && b.as_slice() == next,
-        _ => false,
     }
 }

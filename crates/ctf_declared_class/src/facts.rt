@@ -75,17 +75,3 @@ fn larger(first: Align, second: Align) -> Align
         first
     }
 }
-
-/// An alignment of one bit.
-pub fn one_bit() -> Align
-    ensures { result ≡ 1 }
-{
-    Align::new(1).unwrap()
-}
-
-/// An alignment of a byte.
-pub fn one_byte() -> Align
-    ensures { result ≡ 8 }
-{
-    Align::new(8).unwrap()
-}

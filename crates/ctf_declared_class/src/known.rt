@@ -11,7 +11,7 @@ ghost use Rattle.ctf_declared_class.specs.Kept.{KeepsOf};
 ghost use Rattle.ctf_declared_class.specs.Stopped.{stopped};
 
 use crate::copy::copied_path;
-use crate::facts::{Facts, one_bit, one_byte};
+use crate::facts::Facts;
 use crate::parts::{distinct_members, facts_of};
 use crate::shape::Shape;
 use ctf_class::{Align, Label, Labels};
@@ -56,7 +56,7 @@ impl Known {
     {
         let facts = Facts {
             has_float: true,
-            ..Facts::leaf(one_bit())
+            ..Facts::leaf(Align::one_bit())
         };
         Known::with_facts(alloc, Shape::Float, facts)
     }
@@ -65,7 +65,7 @@ impl Known {
     pub fn string(alloc: Global) -> Result<Known, NoMemory>
         ensures { IfOk result (λ k. known k ≡ plain.string) }
     {
-        Known::with_facts(alloc, Shape::String, Facts::leaf(one_byte()))
+        Known::with_facts(alloc, Shape::String, Facts::leaf(Align::one_byte()))
     }
 
     /// The class of an enumeration of a container.
@@ -127,8 +127,8 @@ impl Known {
             Follows (compound_told all (plain.variant tag (members_from all))) known result }
     {
         let facts = Facts {
-            align: one_bit(),
-            ..facts_of(one_bit(), fields.as_slice()).around()
+            align: Align::one_bit(),
+            ..facts_of(Align::one_bit(), fields.as_slice()).around()
         };
         let options = distinct_members(alloc, fields)?;
         Ok(Known::with_facts(alloc, Shape::Variant { tag, options }, facts)?)

@@ -156,7 +156,7 @@ fn found_in<'a>(
 }
 
 /// The place of a scope in their order.
-fn rank(scope: Scope) -> u32
+pub fn rank(scope: Scope) -> u32
     ensures { result ≡ paths.rank scope }
 {
     match scope {

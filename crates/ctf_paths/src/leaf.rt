@@ -80,23 +80,9 @@ pub fn string_class() -> Class
     ensures { result ≡ links.class_by string kind.String }
 {
     Class {
-        align: one_byte(),
+        align: Align::one_byte(),
         depth: 1,
         nodes: 1,
         kind: Kind::String,
     }
-}
-
-/// An alignment of one bit.
-pub fn one_bit() -> Align
-    ensures { result ≡ 1 }
-{
-    Align::new(1).unwrap()
-}
-
-/// An alignment of a byte.
-fn one_byte() -> Align
-    ensures { result ≡ 8 }
-{
-    Align::new(8).unwrap()
 }

@@ -17,6 +17,7 @@ mod spot;
 mod trail;
 
 pub use clocks::Clocks;
+pub use find::rank;
 pub use link::Linker;
 pub use moved::Moved;
 pub use scope::{scope_class, scope_moved};

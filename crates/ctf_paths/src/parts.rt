@@ -7,7 +7,6 @@ ghost use Rattle.ctf_meaning.specs.Links as links;
 ghost use Rattle.ctf_declared_class.specs.Views as views;
 ghost use Rattle.ctf_paths.specs.Telling.{depth_in, nodes_in, class_around};
 
-use crate::leaf::one_bit;
 use crate::reach::Tag;
 use ctf_class::{Align, Class, Kind, Length, Member};
 use ctf_declared_class::{Members, Shape};
@@ -98,7 +97,7 @@ pub fn variant_of(
         choices,
         options,
     };
-    around(one_bit(), sums, kind)
+    around(Align::one_bit(), sums, kind)
 }
 
 /// The class of an array, or of a text where its elements are characters (CTF 1.8.3, section 4.2.3).

@@ -1,7 +1,6 @@
 //! The scopes that declarations give classes to.
 
 ghost use Rattle.std.specs.Prelude.{◌≡◌, map, option_map, option_copied};
-ghost use Rattle.ctf_meaning.specs.Paths.{rank};
 ghost use Rattle.ctf_declared_class.specs.Knowns.{known};
 ghost use Rattle.ctf_meaning_steps.specs.Laws.{class_among, class_in_row};
 ghost use Rattle.ctf_declarations.specs.DeclaredSoFar.{placed_seen};
@@ -10,6 +9,7 @@ use ctf_class::Scope;
 use ctf_declarations::ScopeShape;
 use ctf_declared_class::Known;
 use ctf_list::List;
+use ctf_paths::rank;
 
 /// The class that a declaration gives to a scope.
 pub fn class_in<'a>(rows: &'a [List<ScopeShape>], number: usize, scope: Scope) -> Option<&'a Known>
@@ -30,18 +30,4 @@ fn class_of(row: &[ScopeShape], scope: Scope) -> Option<&Known>
         }
     }
     None
-}
-
-/// The number of a scope in their order.
-fn rank(scope: Scope) -> u8
-    ensures { result ≡ rank scope }
-{
-    match scope {
-        Scope::PacketHeader => 0,
-        Scope::PacketContext => 1,
-        Scope::EventHeader => 2,
-        Scope::StreamEventContext => 3,
-        Scope::EventContext => 4,
-        Scope::EventFields => 5,
-    }
 }
