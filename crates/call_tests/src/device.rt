@@ -27,6 +27,9 @@ impl Write for Device {
     }
 
     fn flush(&mut self) -> io::Result<()> {
-        Ok(())
+        match self {
+            Device::Silent => Ok(()),
+            Device::Broken => Err(Error::from(ErrorKind::BrokenPipe)),
+        }
     }
 }

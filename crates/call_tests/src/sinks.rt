@@ -2,7 +2,8 @@
 //!
 //! `sink KIND TEXT` is how many bytes a sink takes at each call, `failed` where it fails, and what it has then.
 //! `memory` is a sink in memory, `drip:N` takes at most so many bytes at a call, `failing:N` so many bytes in all,
-//! `write` is a writer in memory, `silent` a writer that takes nothing, and `broken` one that fails.
+//! `write` is a writer in memory, `silent` a writer that takes nothing, and `broken` one that fails. `flush KIND` is what
+//! comes of passing on what such a writer holds back.
 
 use crate::device::Device;
 use crate::row::Row;
@@ -11,7 +12,10 @@ use ctf_bits::{DripSink, FailingSink, Sink, SinkFault, ToWrite, VecSink};
 
 /// Puts what comes of a row of sinks.
 pub fn put_row(row: &mut Row<'_>) {
-    row.word();
+    if row.word() == "flush" {
+        put_flushed(row);
+        return;
+    }
     let (kind, count) = kind_and_count(row.word());
     match kind {
         "drip" => put_drip(row, DripSink::new(row.alloc, count)),
@@ -20,6 +24,19 @@ pub fn put_row(row: &mut Row<'_>) {
         "write" => put_write(row, ToWrite::new(Vec::new(row.alloc))),
         "silent" => put_poured(row, &mut ToWrite::new(Device::Silent)),
         _ => put_poured(row, &mut ToWrite::new(Device::Broken)),
+    }
+}
+
+/// Puts what comes of passing on what a writer holds back.
+fn put_flushed(row: &mut Row<'_>) {
+    let device = match row.word() {
+        "silent" => Device::Silent,
+        _ => Device::Broken,
+    };
+    match ToWrite::new(device).flush() {
+        Ok(()) => row.put(b" passed on"),
+        Err(SinkFault::Failed) => row.put(b" failed"),
+        Err(SinkFault::NoMemory) => row.put(b" no memory"),
     }
 }
 

@@ -1,16 +1,15 @@
 //! Integers that lie in eight bytes wherever they begin.
 
 ghost use Rattle.std.specs.Prelude.{◌≡◌, ◌+◌, ◌/◌, ◌≤◌, length, SomeIff};
-ghost use Rattle.ctf_bits.specs.declared.number.Order.TheVariants.{Le};
 ghost use Rattle.ctf_bits.specs.Number.{number};
 
-use crate::window::word;
+use crate::number::{Order, masked_bits};
 use std::marker::Model;
 
 /// The longest integer, in bits, that lies in eight bytes at any bit of the first.
 const LONGEST: u32 = 57;
 
-/// A little endian integer of 1 to 57 bits, which is read at once wherever it begins (CTF 1.8.3, section 4.1.5).
+/// An integer of 1 to 57 bits, which is read at once wherever it begins (CTF 1.8.3, section 4.1.5).
 /// Contracts see its size, in bits.
 #[derive(Clone, Copy)]
 pub struct ShortInteger {
@@ -49,11 +48,11 @@ impl ShortInteger {
 
     /// The number of the integer at a bit of some bytes, which hold eight bytes from that bit's byte on.
     #[inline(always)]
-    pub fn number(&self, bytes: &[u8], place: u64) -> u64
+    pub fn number(&self, bytes: &[u8], place: u64, order: Order) -> u64
         requires held { place / 8 + 8 ≤ length bytes.now }
-        ensures { result ≡ number Le bytes.now place self.now }
+        ensures { result ≡ number order bytes.now place self.now }
     {
         let (_, from) = bytes.split_at((place / 8) as usize);
-        (word(from) >> (place % 8)) & self.mask
+        masked_bits(from, (place % 8) as u32, self.size, self.mask, order)
     }
 }

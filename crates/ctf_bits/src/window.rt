@@ -1,15 +1,14 @@
 //! Integers that are read at once, since it is known beforehand where they are.
 
 ghost use Rattle.std.specs.Prelude.{◌≡◌, ◌+◌, ◌*◌, ◌/◌, ◌%◌, ◌^◌, ◌≤◌, true, pos, length, None, SomeIff, IfSome};
-ghost use Rattle.ctf_bits.specs.declared.number.Order.TheVariants.{Le};
 ghost use Rattle.ctf_bits.specs.Number.{number, signed_number};
 ghost use Rattle.ctf_bits.specs.Placed.{number_after};
 
+use crate::number::{Order, masked_bits};
 use crate::signed::twos_complement;
-use byteorder::{ByteOrder, LittleEndian};
 use std::marker::Model;
 
-/// Where a little endian integer is after the first bit of a byte, if it lies in the eight bytes from its own first one
+/// Where an integer is after the first bit of a byte, if it lies in the eight bytes from its own first one
 /// on (CTF 1.8.3, section 4.1.5). Contracts see its place and its size, in bits, and whether it is in two's complement.
 #[derive(Drop)]
 pub struct Window {
@@ -86,12 +85,12 @@ impl Window {
     /// The number of the integer after the first `first` of some bytes, which hold the eight bytes that it lies in.
     /// `None` where it is below zero, which no unsigned one is.
     #[inline(always)]
-    pub fn number(&self, bytes: &[u8], first: usize) -> Option<u64>
+    pub fn number(&self, bytes: &[u8], first: usize, order: Order) -> Option<u64>
         requires held { first + self.now.place / 8 + 8 ≤ length bytes.now }
-        ensures value { IfSome result (λ n. number_after self.now bytes.now first ≡ pos n) }
+        ensures value { IfSome result (λ n. number_after order self.now bytes.now first ≡ pos n) }
         ensures signed { result ≡ None → self.now.is_signed ≡ true }
     {
-        let number = self.bits(bytes, first);
+        let number = self.bits(bytes, first, order);
         if number > self.last {
             return None;
         }
@@ -99,29 +98,21 @@ impl Window {
     }
 
     /// The number that a window's bits are in two's complement.
-    pub fn signed(&self, bytes: &[u8], first: usize) -> i64
+    pub fn signed(&self, bytes: &[u8], first: usize, order: Order) -> i64
         requires held { first + self.now.place / 8 + 8 ≤ length bytes.now }
-        ensures { result ≡ signed_number Le bytes.now (8 * first + self.now.place) self.now.size }
+        ensures { let place = 8 * first + self.now.place in
+            result ≡ signed_number order bytes.now place self.now.size }
     {
-        twos_complement(self.bits(bytes, first), self.size)
+        twos_complement(self.bits(bytes, first, order), self.size)
     }
 
     /// The number that the integer's bits are without a sign.
     #[inline(always)]
-    fn bits(&self, bytes: &[u8], first: usize) -> u64
+    fn bits(&self, bytes: &[u8], first: usize, order: Order) -> u64
         requires held { first + self.now.place / 8 + 8 ≤ length bytes.now }
-        ensures { result ≡ number Le bytes.now (8 * first + self.now.place) self.now.size }
+        ensures { result ≡ number order bytes.now (8 * first + self.now.place) self.now.size }
     {
         let (_, from) = bytes.split_at(first + self.bytes);
-        (word(from) >> self.shift) & self.mask
+        masked_bits(from, self.shift, self.size, self.mask, order)
     }
-}
-
-/// The first eight bytes as one number, little endian.
-#[inline(always)]
-pub(crate) fn word(bytes: &[u8]) -> u64
-    requires { 8 ≤ length bytes.now }
-    ensures { result ≡ number Le bytes.now 0 64 }
-{
-    LittleEndian::read_u64(bytes)
 }

@@ -1,15 +1,18 @@
 -- Event headers, as far as they are known before they are read (all own).
-use Rattle.std.specs.Prelude.{◌≡◌, ℕ, ℤ, pos, ◌<◌, ◌≤◌, ◌+◌, ◌%◌, ◌^◌, true, false, if◌then◌else◌, List, [], ◌∷◌, length, get_or, Option, Some, None, IfSome, codes}
+use Rattle.std.specs.Prelude.{◌≡◌, ℕ, ℤ, pos, ◌<◌, ◌≤◌, ◌+◌, ◌%◌, ◌^◌, true, false, if◌then◌else◌, List, [], ◌∷◌, length, get_or, Option, Some, None, IfSome, ⊤, codes}
 use Rattle.std.specs.Int.{next_multiple_of}
 use Rattle.std.specs.Str.{bytes_eq}
-use Rattle.ctf_bits.specs.declared.number.Order.TheVariants.{Le}
+use Rattle.ctf_bits.specs.declared.number.Order.TheVariants.{Le, Be}
 use Rattle.ctf_class.specs.declared.class.Class.{Class}
 use Rattle.ctf_class.specs.declared.class.Kind as kind
 use Rattle.ctf_class.specs.declared.class.Member.{Member}
 use Rattle.ctf_class.specs.declared.header_plan.HeaderIntegers.{HeaderIntegers}
 use Rattle.ctf_class.specs.declared.header_plan.HeaderNumber.{HeaderNumber}
 use Rattle.ctf_class.specs.declared.header_plan.HeaderPlan.{HeaderPlan}
+use Rattle.ctf_class.specs.declared.header_plan.HeaderReading.{HeaderReading}
+use Rattle.ctf_class.specs.declared.header_plan.HeaderReading.TheVariants as readings
 use Rattle.ctf_class.specs.declared.header_plan.HeaderTag.{HeaderTag}
+use Rattle.ctf_class.specs.declared.integer.Integer.{Integer}
 use Rattle.ctf_class.specs.declared.route.Origin.TheVariants.{Enclosing}
 use Rattle.ctf_class.specs.declared.route.Route.{Route}
 use Rattle.ctf_class.specs.declared.span.Choice.{Choice}
@@ -17,9 +20,14 @@ use Rattle.ctf_class.specs.declared.span.Label.{Label}
 use Rattle.ctf_class.specs.Choices.{chosen}
 use Rattle.ctf_class.specs.Integers.{bits_of}
 
--- an integer is read at once only where it is little endian, and by its own size
+-- an integer that is read at once is read by its own size, and in its own order
+abbrev pub IsReading : Integer → HeaderReading → Type 0
+IsReading i (readings.Little size) = (size ≡ bits_of i) × (i.order ≡ Le)
+IsReading i (readings.Big size) = (size ≡ bits_of i) × (i.order ≡ Be)
+IsReading i readings.Long = ⊤
+
 abbrev pub IsRead : HeaderNumber → Type 0
-IsRead n = IfSome n.short (λ size. (size ≡ bits_of n.integer) × (n.integer.order ≡ Le))
+IsRead n = IsReading n.integer n.reading
 
 -- A member is this integer, and at this distance wherever its structure begins. None with a sign is named `id` or sets
 -- the clock, and none before it sets the clock too.

@@ -42,6 +42,20 @@ impl Align {
         Some(Align { bits: bits as u32 })
     }
 
+    /// One bit, on which a field begins anywhere.
+    pub fn one_bit() -> Align
+        ensures { result ≡ 1 }
+    {
+        Align { bits: 1 }
+    }
+
+    /// One byte.
+    pub fn one_byte() -> Align
+        ensures { result ≡ 8 }
+    {
+        Align { bits: 8 }
+    }
+
     /// The number of bits.
     pub fn bits(self) -> u32
         ensures value { result ≡ self }
@@ -70,13 +84,6 @@ impl Align {
         let unit = u64::from(self.bits);
         cut(place + (unit - 1), unit)
     }
-}
-
-/// An alignment of one bit, at which a field begins anywhere.
-pub(crate) fn one_bit() -> Align
-    ensures { result ≡ 1 }
-{
-    Align::new(1).unwrap()
 }
 
 /// The last multiple of a power of two that is not above a place.

@@ -9,7 +9,7 @@ ghost use Rattle.ctf_class.specs.Ranks.{HasRanks};
 
 use crate::label_at::{number_at, span_at};
 use crate::likely::{rank_after, rank_before};
-use crate::span::{Label, covers, is_above};
+use crate::span::Label;
 use ctf_list::{List, NoMemory};
 use std::alloc::Global;
 
@@ -42,7 +42,7 @@ pub fn are_apart(labels: &[Label], order: &[usize]) -> bool
     let mut before = i128::MIN;
     for rank in 0..labels.len() {
         let span = span_at(labels, number_at(order, rank, rank));
-        if !is_above(span, before) {
+        if !span.is_above(before) {
             return false;
         }
         before = span.last;
@@ -56,13 +56,14 @@ pub fn next_apart(labels: &[Label], order: &[usize], begin: usize, number: i128)
     requires ranks { HasRanks labels.now order.now }
     ensures { FindsNext labels.now number begin result }
 {
-    if begin > 0 && covers(span_at(labels, begin - 1), number) {
+    if begin > 0 && span_at(labels, begin - 1).covers(number) {
         return None;
     }
-    match ranked_label(labels, order, labels.len(), number) {
-        None => None,
-        Some(place) => { if place < begin { None } else { Some(place) } }
+    let place = ranked_label(labels, order, labels.len(), number)?;
+    if place < begin {
+        return None;
     }
+    Some(place)
 }
 
 /// The place of the only label that covers a number. Mostly it is where it probably is: then no call is needed.
@@ -135,7 +136,7 @@ fn label_of_rank(
     ensures { IfSome result (IsRanked labels.now order.now count number) }
 {
     let place = number_at(order, rank, rank);
-    if covers(span_at(labels, place), number) {
+    if span_at(labels, place).covers(number) {
         Some(place)
     } else {
         None

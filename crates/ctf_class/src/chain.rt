@@ -5,7 +5,7 @@ ghost use Rattle.ctf_class.specs.Labels.{label_at, is_shown, shows_at, FindsNext
 ghost use Rattle.ctf_class.specs.LabelSearch.{IsChain};
 
 use crate::label_at::{number_at, span_at};
-use crate::span::{Label, covers};
+use crate::span::Label;
 use ctf_list::{List, NoMemory};
 use std::alloc::Global;
 use std::collections::BTreeMap;
@@ -51,7 +51,7 @@ fn shows(labels: &[Label], earlier: &[usize], place: usize, number: i128) -> boo
     requires chain { IsChain labels.now earlier.now }
     ensures { result ≡ shows_at labels.now number place }
 {
-    covers(span_at(labels, place), number) && is_first(labels, earlier, place, number)
+    span_at(labels, place).covers(number) && is_first(labels, earlier, place, number)
 }
 
 /// Whether no label before a place covers a number and has the name of the label at the place.
@@ -64,7 +64,7 @@ fn is_first(labels: &[Label], earlier: &[usize], place: usize, number: i128) -> 
     let mut end = number_at(earlier, place, 0);
     while end > 0 {
         let before = end - 1;
-        if covers(span_at(labels, before), number) {
+        if span_at(labels, before).covers(number) {
             return false;
         }
         end = number_at(earlier, before, 0);

@@ -59,7 +59,7 @@ fn put_escape(text: &mut Vec<u8>, byte: u8) -> Result<(), AllocError>
 }
 
 /// The digit of a number from 0 to 15, in lower case.
-fn hex_digit(digit: u8) -> u8
+pub fn hex_digit(digit: u8) -> u8
     requires { digit < 16 }
     ensures { result ≡ hex_digit digit }
 {

@@ -144,15 +144,11 @@ fn members_in(class: &Class) -> &[Member]
     match &class.kind {
         Kind::Structure { members } => members.as_slice(),
         Kind::Integer(_) => &[],
-        Kind::Enumeration { container, labels } => &[],
+        Kind::Enumeration { .. } => &[],
         Kind::String => &[],
-        Kind::Variant {
-            tag,
-            choices,
-            options,
-        } => &[],
-        Kind::Array { length, element } => &[],
-        Kind::Text { length } => &[],
+        Kind::Variant { .. } => &[],
+        Kind::Array { .. } => &[],
+        Kind::Text { .. } => &[],
     }
 }
 

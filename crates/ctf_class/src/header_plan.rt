@@ -3,7 +3,7 @@
 ghost use Rattle.std.specs.Prelude.{◌≡◌, ◌≤◌, ◌+◌, ◌%◌, ◌^◌, [], ◌∷◌, codes, pos, true, false, None, Some, if◌then◌else◌, IfSome, IsTrue, option_copied};
 ghost use Rattle.std.specs.Int.{next_multiple_of};
 ghost use Rattle.std.specs.Str.{bytes_eq};
-ghost use Rattle.ctf_class.specs.HeaderPlans.{IsHeaderPlan, IsHeaderPlanOf, AreIntegers, AreNear, Chooses, Follows, IsOption, IsRead};
+ghost use Rattle.ctf_class.specs.HeaderPlans.{IsHeaderPlan, IsHeaderPlanOf, AreIntegers, AreNear, Chooses, Follows, IsOption, IsRead, IsReading};
 ghost use Rattle.ctf_class.specs.Integers.{bits_of};
 ghost use Rattle.ctf_class.specs.declared.class.Class.{Class};
 ghost use Rattle.ctf_class.specs.declared.class.Kind as kinds;
@@ -28,8 +28,16 @@ pub struct HeaderNumber {
     /// Where it begins, in bits from the begin of its structure, wherever that is.
     pub distance: u64,
     pub integer: Integer,
-    /// How it is read, where it is little endian and short.
-    pub short: Option<ShortInteger>,
+    pub reading: HeaderReading,
+}
+
+/// How an integer of an event header is read: one of at most 57 bits at once, in its byte order.
+#[derive(Clone, Copy)]
+pub enum HeaderReading {
+    Little(ShortInteger),
+    Big(ShortInteger),
+    /// As one of more bits.
+    Long,
 }
 
 /// What an event header is read for in the structure of integers that it is, or ends with (CTF 1.8.3, section 6.1).
@@ -291,14 +299,23 @@ fn numbered(distance: u64, integer: &Integer) -> HeaderNumber
     ensures integer { result.integer ≡ integer.now }
     ensures read { IsRead result }
 {
-    let short = match integer.order {
-        Order::Le => ShortInteger::new(integer.size.bits()),
-        Order::Be => None,
-    };
     HeaderNumber {
         distance,
         integer: *integer,
-        short,
+        reading: reading_of(integer),
+    }
+}
+
+/// How an integer is read.
+fn reading_of(integer: &Integer) -> HeaderReading
+    ensures { IsReading integer.now result }
+{
+    let Some(short) = ShortInteger::new(integer.size.bits()) else {
+        return HeaderReading::Long;
+    };
+    match integer.order {
+        Order::Le => HeaderReading::Little(short),
+        Order::Be => HeaderReading::Big(short),
     }
 }
 

@@ -10,7 +10,7 @@ ghost use Rattle.ctf_class.specs.Layers.{Splits, FindsCovering};
 
 use crate::apart::ranked_label;
 use crate::label_at::span_at;
-use crate::span::{Label, is_above};
+use crate::span::Label;
 use ctf_list::{List, NoMemory};
 use std::alloc::Global;
 
@@ -80,7 +80,7 @@ fn split_layer(alloc: Global, labels: &[Label], places: &[usize]) -> Result<Spli
     let mut before = i128::MIN;
     for place in places {
         let span = span_at(labels, *place);
-        if is_above(span, before) {
+        if span.is_above(before) {
             layer.push(*place)?;
             before = span.last;
         } else {

@@ -4,8 +4,8 @@
 ghost use Rattle.std.specs.Prelude.{◌<◌, ◌≤◌, IfSome};
 
 /// The rank of the span that probably covers a number, of `count` spans one after the other. Mostly each is of one
-/// number and few are missing between them, so that the distance from the first number is the rank. `None` where that is
-/// twice as far as there are spans, or the number below the first one.
+/// number and few are missing between them, so that the distance from the first number is the rank. `None` where that
+/// is twice as far as there are spans, or the number below the first one.
 #[inline(always)]
 pub fn rank_after(first: i128, number: i128, count: usize) -> Option<usize>
     requires { 0 < count }

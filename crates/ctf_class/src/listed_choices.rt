@@ -5,7 +5,7 @@ ghost use Rattle.ctf_class.specs.Choices.{chosen};
 ghost use Rattle.ctf_class.specs.ListedChoices.{ChoicesApart};
 
 use crate::likely::rank_after;
-use crate::span::{Choice, covers, is_above};
+use crate::span::Choice;
 use ctf_list::List;
 
 /// Choices in a list. It is gone through for a number that the likely choice does not cover.
@@ -48,7 +48,7 @@ impl ListedChoices {
         }
         let place = rank_after(choices[0].span.first, number, choices.len())?;
         let choice = &choices[place];
-        if covers(choice.span, number) {
+        if choice.span.covers(number) {
             Some(choice.option)
         } else {
             None
@@ -62,7 +62,7 @@ fn are_apart(choices: &[Choice]) -> bool
 {
     let mut before = i128::MIN;
     for choice in choices {
-        if !is_above(choice.span, before) {
+        if !choice.span.is_above(before) {
             return false;
         }
         before = choice.span.last;
@@ -76,7 +76,7 @@ fn first_option(choices: &[Choice], number: i128) -> Option<usize>
     ensures { result ≡ chosen choices.now number }
 {
     for choice in choices {
-        if covers(choice.span, number) {
+        if choice.span.covers(number) {
             return Some(choice.option);
         }
     }

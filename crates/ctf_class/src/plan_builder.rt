@@ -8,7 +8,7 @@ ghost use Rattle.ctf_class.specs.Records.{Slot, IsPlanOf, and_scope, ends, first
 ghost use Rattle.ctf_class.specs.Names.{field_text};
 ghost use Rattle.ctf_class.specs.declared.class.Kind as kinds;
 
-use crate::align::{Align, one_bit};
+use crate::align::Align;
 use crate::class::{Class, Kind, Member};
 use crate::field_name::FieldName;
 use crate::integer::Integer;
@@ -69,7 +69,7 @@ impl PlanBuilder {
     {
         PlanBuilder {
             runs: List::new(alloc),
-            align: one_bit(),
+            align: Align::one_bit(),
             numbers: List::new(alloc),
             span: 0,
             room: 24,
@@ -192,7 +192,7 @@ impl PlanBuilder {
                 return Ok(false);
             }
             text = after_ends(alloc, self.ended, b", ")?;
-            align = one_bit();
+            align = Align::one_bit();
             index = if self.ended == 0 { i + 1 } else { 0 };
         }
         Ok(true)
@@ -279,8 +279,7 @@ impl PlanBuilder {
         let Some(ready) = ready_after(alloc, lead.text, &member.name)? else {
             return Ok(false);
         };
-        let known = shown_of(alloc, &member.class, lead.index)?;
-        let Some(shown) = known else {
+        let Some(shown) = shown_of(alloc, &member.class, lead.index)? else {
             return Ok(false);
         };
         self.add_field(
@@ -430,7 +429,7 @@ impl PlanBuilder {
             room,
             field: Some(field),
         })?;
-        self.align = one_bit();
+        self.align = Align::one_bit();
         self.span = 0;
         self.room = 24;
         self.ended = 0;

@@ -15,28 +15,22 @@ pub struct Span {
 
 impl Span {
     /// Whether a number is one of these.
-    pub fn covers(&self, number: i128) -> bool
-        ensures { IsTrue result ↔ ((self.now.first ≤ℤ number) × (number ≤ℤ self.now.last)) }
+    #[inline(always)]
+    pub fn covers(self, number: i128) -> bool
+        ensures is { result ≡ labels_of.covers self number }
+        ensures between { IsTrue result ↔ ((self.first ≤ℤ number) × (number ≤ℤ self.last)) }
     {
         self.first <= number && number <= self.last
     }
-}
 
-/// Whether a number is one of a span's.
-#[inline(always)]
-pub fn covers(span: Span, number: i128) -> bool
-    ensures { result ≡ labels_of.covers span number }
-{
-    span.first <= number && number <= span.last
-}
-
-/// Whether a span has numbers, and all of them are above another one.
-#[inline(always)]
-pub fn is_above(span: Span, number: i128) -> bool
-    ensures above { IsTrue result → number <ℤ span.first }
-    ensures some { IsTrue result → span.first ≤ℤ span.last }
-{
-    number < span.first && span.first <= span.last
+    /// Whether there are numbers, and all of them are above another one.
+    #[inline(always)]
+    pub(crate) fn is_above(self, number: i128) -> bool
+        ensures above { IsTrue result → number <ℤ self.first }
+        ensures some { IsTrue result → self.first ≤ℤ self.last }
+    {
+        number < self.first && self.first <= self.last
+    }
 }
 
 /// A label of an enumeration, with numbers that it covers.

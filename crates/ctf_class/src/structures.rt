@@ -5,7 +5,7 @@ ghost use Rattle.ctf_class.specs.PlanBuilding.{IsMade};
 ghost use Rattle.ctf_class.specs.Records.{Slot, IsStructure, member_slots};
 ghost use Rattle.ctf_class.specs.declared.class.Kind as kinds;
 
-use crate::align::{Align, one_bit};
+use crate::align::Align;
 use crate::class::{Class, Kind, Member};
 use crate::many::Many;
 use crate::plan_builder::{Lead, PlanBuilder};
@@ -87,7 +87,7 @@ impl PlanBuilder {
                 return Ok(false);
             }
             text = b", ";
-            align = one_bit();
+            align = Align::one_bit();
         }
         Ok(true)
     }

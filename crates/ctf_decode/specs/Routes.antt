@@ -1,5 +1,5 @@
 -- What a route finds: lengths, tags and options.
-use Rattle.std.specs.Prelude.{◌≡◌, ℕ, ℤ, List, [], ◌∷◌, Option, Some, None, option_and_then, slice_get}
+use Rattle.std.specs.Prelude.{ℕ, ℤ, List, [], ◌∷◌, Option, Some, None, option_and_then, slice_get}
 pub use Rattle.ctf_class.specs.Choices.{chosen}
 pub use Rattle.ctf_class.specs.Labels.{covers}
 use Rattle.ctf_class.specs.declared.route.Scope.{Scope}

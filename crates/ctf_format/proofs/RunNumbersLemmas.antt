@@ -6,6 +6,7 @@ use Rattle.std.specs.Fmt.{signed_decimal}
 use Rattle.std.specs.Int.{next_multiple_of}
 use Rattle.ctf_bits.specs.Number.{number, signed_number}
 use Rattle.ctf_bits.specs.Placed.{number_after}
+use Rattle.ctf_bits.specs.declared.number.Order.TheVariants.{Le}
 use Rattle.ctf_class.proofs.AlignmentLemmas.{next_after}
 use Rattle.ctf_class.specs.Integers.{bits_of}
 use Rattle.ctf_class.specs.Records.{have_special, numbers_room}
@@ -18,14 +19,17 @@ use Rattle.ctf_format.specs.Standing.{PutsOne}
 use Rattle.ctf_format.specs.Texts.{integer_text}
 use Rattle.ctf_format.proofs.StandingLemmas.{puts_signed, puts_unsigned}
 
--- a number that is not special is what its window reads
-pub usual_number : (n : PlannedNumber) → IsPlaced n → n.is_special ≡ false → (packet : List ℕ) (first : ℕ) → number_after n.window packet first ≡ number_at n.integer packet (place_in first n)
-usual_number n is usual packet first =
-    let are = is.usual usual in
-    λ j. if is.sign j then signed_number (sym are.1 j) packet (place_in first n) (is.size j) else pos (number (sym are.1 j) packet (place_in first n) (is.size j))
+-- a number is what its window reads in its order
+pub window_number : (n : PlannedNumber) → IsPlaced n → (packet : List ℕ) (first : ℕ) → number_after n.integer.order n.window packet first ≡ number_at n.integer packet (place_in first n)
+window_number n is packet first =
+    λ j. if is.sign j then signed_number n.integer.order packet (place_in first n) (is.size j) else pos (number n.integer.order packet (place_in first n) (is.size j))
+
+-- which is little endian where it is not special
+pub usual_number : (n : PlannedNumber) → IsPlaced n → n.is_special ≡ false → (packet : List ℕ) (first : ℕ) → number_after Le n.window packet first ≡ number_at n.integer packet (place_in first n)
+usual_number n is usual packet first = ap (λ order. number_after order n.window packet first) (sym (is.usual usual).1) ∙ window_number n is packet first
 
 -- and is shown in decimal
-pub usual_text : (n : PlannedNumber) → IsPlaced n → n.is_special ≡ false → (packet : List ℕ) (first : ℕ) → n.ready ++ signed_decimal (number_after n.window packet first) ≡ run_text packet first n
+pub usual_text : (n : PlannedNumber) → IsPlaced n → n.is_special ≡ false → (packet : List ℕ) (first : ℕ) → n.ready ++ signed_decimal (number_after Le n.window packet first) ≡ run_text packet first n
 usual_text n is usual packet first =
     ap (λ z. n.ready ++ signed_decimal z) (usual_number n is usual packet first) ∙ ap (λ b. n.ready ++ in_base b n.integer.size (number_at n.integer packet (place_in first n))) (sym (is.usual usual).0)
 

@@ -1,5 +1,5 @@
 -- Numbers of runs and of structures: integers whose distances are known beforehand (all own).
-use Rattle.std.specs.Prelude.{◌≡◌, ℕ, ℤ, pos, ◌+◌, ◌*◌, ◌^◌, ◌≤◌, false, List, ◌++◌, length, if◌then◌else◌}
+use Rattle.std.specs.Prelude.{◌≡◌, ℕ, ℤ, pos, ◌+◌, ◌*◌, false, List, ◌++◌, if◌then◌else◌}
 use Rattle.ctf_bits.specs.Number.{number, signed_number}
 use Rattle.ctf_class.specs.Integers.{bits_of, IsUsual}
 use Rattle.ctf_class.specs.declared.integer.Integer.{Integer}
@@ -20,11 +20,6 @@ place_in first n = 8 * first + n.window.place
 abbrev pub run_text : List ℕ → ℕ → PlannedNumber → List ℕ
 run_text packet first n =
     n.ready ++ number_text n.integer (number_at n.integer packet (place_in first n))
-
--- one is within the packet there
-abbrev pub IsInside : List ℕ → ℕ → PlannedNumber → Type 0
-IsInside packet first n =
-    (place_in first n + bits_of n.integer ≤ 8 * length packet) × (place_in first n ≤ 2 ^ 62)
 
 -- a window is that of its integer, which is usual where it is not special
 pub record IsPlaced (n : PlannedNumber) : Type 0 where

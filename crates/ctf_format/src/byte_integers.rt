@@ -1,8 +1,6 @@
-//! Texts of arrays of little endian integers that are one after the other in whole bytes, straight from the packet's
-//! bits.
+//! Texts of arrays of integers that are one after the other in whole bytes, straight from the packet's bits.
 
 ghost use Rattle.std.specs.Prelude.{◌≡◌, ◌+◌, ◌*◌, ◌%◌, ◌++◌, ◌∷◌, ◌≤◌, length, take, vec_len, IfOk, IfSome};
-ghost use Rattle.ctf_bits.specs.declared.number.Order.TheVariants.{Le};
 ghost use Rattle.ctf_class.specs.Integers.{bits_of};
 ghost use Rattle.ctf_decode.specs.Forms as forms;
 ghost use Rattle.ctf_format.specs.Numbers.{number_text};
@@ -20,8 +18,8 @@ use ctf_class::{Align, Integer};
 use ctf_decode::MOST_VALUES;
 use ctf_list::NoMemory;
 
-/// Little endian integers of a packet, each of whole bytes, one after the other. Eight bytes are there from each one's
-/// begin on, so that it is a word and a mask.
+/// Integers of a packet, each of whole bytes, one after the other. Eight bytes are there from each one's begin on, so
+/// that it is a word and a mask.
 #[derive(Drop)]
 pub(crate) struct ByteIntegers<'a> {
     pub(crate) integer: &'a Integer,
@@ -35,7 +33,6 @@ pub(crate) struct ByteIntegers<'a> {
     pub(crate) step: usize,
     /// How many there are.
     pub(crate) count: u64,
-    ghost order: { integer.now.order ≡ Le },
     ghost reads: { window ≡
         record { place = 0; size = bits_of integer.now; is_signed = integer.now.is_signed } },
     ghost size: { 8 * step ≡ bits_of integer.now },
@@ -65,7 +62,7 @@ impl<'a> ByteIntegers<'a> {
     {
         let integer = class.integer;
         let size = u64::from(integer.size.bits());
-        if integer.order != Order::Le || size % 8 != 0 || place % 8 != 0 {
+        if size % 8 != 0 || place % 8 != 0 {
             return None;
         }
         if class.align.up(size) != size || class.align.up(place) != place {
@@ -109,12 +106,31 @@ impl<'a> ByteIntegers<'a> {
             (take at buffer.old.items) (take text buffer.new.items)) }
         ensures held { IfOk result (λ text. text ≤ vec_len buffer.new) }
     {
+        match self.integer.order {
+            Order::Le => self.put_elements(Order::Le, buffer, at),
+            Order::Be => self.put_elements(Order::Be, buffer, at),
+        }
+    }
+
+    /// Writes them in their byte order.
+    #[inline(always)]
+    fn put_elements(&self, order: Order, buffer: &mut Vec<u8>, at: usize) -> Result<usize, NoMemory>
+        requires order { self.now.integer.now.order ≡ order }
+        requires index { at ≤ vec_len buffer.old }
+        ensures puts { let are = self.now in let packet = are.packet.now in
+            let integer = are.integer.now in let k = forms.integer are.align integer in
+            IfOk result (λ text. PutsElements (row 91) k (texts.integer_text integer) 1 are.count
+            packet.bytes.now packet.end (8 * are.first) (8 * (are.first + are.step * are.count))
+            (take at buffer.old.items) (take text buffer.new.items)) }
+        ensures held { IfOk result (λ text. text ≤ vec_len buffer.new) }
+    {
         let mut text = at;
         let mut first = self.first;
         let mut mark = b'[';
         for i in 0..self.count {
             let index = i as usize;
-            text = self.put_element(ElementLead { mark, index }, first, buffer, text)?;
+            let lead = ElementLead { mark, index };
+            text = self.put_element(order, lead, first, buffer, text)?;
             first += self.step;
             mark = b',';
         }
@@ -125,11 +141,13 @@ impl<'a> ByteIntegers<'a> {
     #[inline(always)]
     fn put_element(
         &self,
+        order: Order,
         lead: ElementLead,
         first: usize,
         buffer: &mut Vec<u8>,
         at: usize,
     ) -> Result<usize, NoMemory>
+        requires order { self.now.integer.now.order ≡ order }
         requires begins { (8 * first) % self.now.align ≡ 0 }
         requires within { 8 * (first + self.now.step) ≤ self.now.packet.now.end }
         requires held { first + 8 ≤ length self.now.packet.now.bytes.now }
@@ -143,12 +161,13 @@ impl<'a> ByteIntegers<'a> {
         ensures held { IfOk result (λ text. text ≤ vec_len buffer.new) }
     {
         let begin = put_index(lead, buffer, at)?;
-        Ok(self.put_number(first, buffer.as_mut_slice(), begin))
+        Ok(self.put_number(order, first, buffer.as_mut_slice(), begin))
     }
 
     /// Writes the number of the one that begins after so many bytes. Mostly it is not below zero.
     #[inline(always)]
-    fn put_number(&self, first: usize, line: &mut [u8], at: usize) -> usize
+    fn put_number(&self, order: Order, first: usize, line: &mut [u8], at: usize) -> usize
+        requires order { self.now.integer.now.order ≡ order }
         requires held { first + 8 ≤ length self.now.packet.now.bytes.now }
         requires room { at + LONGEST_NUMBER ≤ length line.old }
         ensures text { let integer = self.now.integer.now in
@@ -157,9 +176,14 @@ impl<'a> ByteIntegers<'a> {
         ensures near { result ≤ at + LONGEST_NUMBER }
     {
         let bytes = self.packet.bytes;
-        match self.window.number(bytes, first) {
+        match self.window.number(bytes, first, order) {
             Some(number) => put_unsigned_number(self.integer, number, line, at),
-            None => put_negative(self.integer, self.window.signed(bytes, first), line, at),
+            None => put_negative(
+                self.integer,
+                self.window.signed(bytes, first, order),
+                line,
+                at,
+            ),
         }
     }
 }

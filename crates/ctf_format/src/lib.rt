@@ -34,6 +34,7 @@ pub use around::{MemberNumbers, ScopeInput};
 pub use by_class::put_standing;
 pub use content::Content;
 pub use ctf_class::escaped;
+pub use mark::put_bytes;
 pub use packet::put_packet_part;
 pub use passed_record::{Passed, pass_planned_record};
 pub use planned_record::put_planned_record;

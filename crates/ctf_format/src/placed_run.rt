@@ -3,7 +3,7 @@
 ghost use Rattle.std.specs.Prelude.{◌≡◌, ◌+◌, ◌-◌, ◌/◌, ◌≤◌, length};
 ghost use Rattle.std.specs.List.{All};
 ghost use Rattle.ctf_class.specs.Records.{have_special};
-ghost use Rattle.ctf_format.specs.RunNumbers.{IsInside, IsPlaced};
+ghost use Rattle.ctf_format.specs.RunNumbers.{IsPlaced};
 
 use crate::content::Content;
 use ctf_class::PlannedRun;
@@ -18,8 +18,6 @@ pub(crate) struct PlacedRun<'a> {
     ghost held: { All (λ n. (end - run.now.span) / 8 + n.window.place / 8 + 8 ≤
         length packet.now.bytes.now) run.now.numbers },
     ghost within: { end ≤ packet.now.end },
-    ghost inside: { All (λ n. IsInside packet.now.bytes.now ((end - run.now.span) / 8) n)
-        run.now.numbers },
     ghost placed: { All IsPlaced run.now.numbers },
     ghost special: { run.now.has_special ≡ have_special run.now.numbers },
 }

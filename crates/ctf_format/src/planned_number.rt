@@ -1,15 +1,17 @@
 //! Texts of integers at fixed distances.
 
-ghost use Rattle.std.specs.Prelude.{◌≡◌, ◌+◌, ◌/◌, ◌++◌, ◌≤◌, length, pos, take, false, true, IfSome};
+ghost use Rattle.std.specs.Prelude.{◌≡◌, ◌+◌, ◌/◌, ◌++◌, ◌≤◌, length, take, false, true};
+ghost use Rattle.ctf_bits.specs.declared.number.Order.TheVariants.{Le};
 ghost use Rattle.std.specs.Fmt.{signed_decimal};
 ghost use Rattle.std.specs.List.{All, flat_map};
 ghost use Rattle.ctf_bits.specs.Placed.{number_after};
 ghost use Rattle.ctf_class.specs.Records.{have_special, numbers_room};
-ghost use Rattle.ctf_format.specs.RunNumbers.{IsInside, IsPlaced, number_at, place_in, run_text};
+ghost use Rattle.ctf_format.specs.Numbers.{number_text};
+ghost use Rattle.ctf_format.specs.RunNumbers.{IsPlaced, number_at, place_in, run_text};
 
 use crate::decimal::{put_signed_short, put_unsigned};
-use crate::number::put_unsigned_number;
-use crate::standing::put_integer_at;
+use crate::number::{LONGEST_NUMBER, put_unsigned_number};
+use crate::standing::put_negative;
 use ctf_bits::{Order, Window};
 use ctf_class::PlannedNumber;
 
@@ -49,7 +51,6 @@ pub(crate) fn put_special_numbers(
 ) -> usize
     requires room { at + numbers_room numbers.now ≤ length line.old }
     requires held { All (λ n. first + n.window.place / 8 + 8 ≤ length bytes.now) numbers.now }
-    requires inside { All (λ n. IsInside bytes.now first n) numbers.now }
     requires placed { All IsPlaced numbers.now }
     ensures text { take result line.new ≡
         take at line.old ++ flat_map (run_text bytes.now first) numbers.now }
@@ -79,7 +80,7 @@ fn put_number(
     ensures near { result ≤ at + length number.now.ready + 24 }
 {
     let begin = number.ready.put(line, at);
-    match number.window.number(bytes, first) {
+    match number.window.number(bytes, first, Order::Le) {
         Some(value) => put_unsigned(value, line, begin),
         None => put_below_zero(&number.window, bytes, first, line, begin),
     }
@@ -93,13 +94,13 @@ fn put_below_zero(window: &Window, bytes: &[u8], first: usize, line: &mut [u8], 
     requires room { at + 21 ≤ length line.old }
     requires held { first + window.now.place / 8 + 8 ≤ length bytes.now }
     ensures text { take result line.new ≡
-        take at line.old ++ signed_decimal (number_after window.now bytes.now first) }
+        take at line.old ++ signed_decimal (number_after Le window.now bytes.now first) }
     ensures near { result ≤ at + 21 }
 {
-    put_signed_short(window.signed(bytes, first), line, at)
+    put_signed_short(window.signed(bytes, first, Order::Le), line, at)
 }
 
-/// Writes a number of any base and byte order. Mostly it is little endian.
+/// Writes a number of any base and byte order. Mostly it is not below zero.
 #[inline(always)]
 fn put_any_number(
     number: &PlannedNumber,
@@ -110,7 +111,6 @@ fn put_any_number(
 ) -> usize
     requires room { at + length number.now.ready + 90 ≤ length line.old }
     requires held { first + number.now.window.place / 8 + 8 ≤ length bytes.now }
-    requires inside { IsInside bytes.now first number.now }
     requires placed { IsPlaced number.now }
     ensures text { take result line.new ≡ take at line.old ++ run_text bytes.now first number.now }
     ensures near { result ≤ at + length number.now.ready + 66 }
@@ -120,23 +120,34 @@ fn put_any_number(
     }
     let integer = &number.integer;
     let begin = number.ready.put(line, at);
-    if let Some(value) = little_number(number, bytes, first) {
-        return put_unsigned_number(integer, value, line, begin);
+    let number_is = match integer.order {
+        Order::Le => number.window.number(bytes, first, Order::Le),
+        Order::Be => number.window.number(bytes, first, Order::Be),
+    };
+    match number_is {
+        Some(value) => put_unsigned_number(integer, value, line, begin),
+        None => put_special_below_zero(number, bytes, first, line, begin),
     }
-    let place = 8 * first as u64 + number.window.place();
-    put_integer_at(integer, bytes, place, line, begin)
 }
 
-/// The number of an integer, if it is little endian and not below zero.
-#[inline(always)]
-fn little_number(number: &PlannedNumber, bytes: &[u8], first: usize) -> Option<u64>
+/// Writes a number of any base and byte order that is below zero.
+#[cold]
+#[inline(never)]
+fn put_special_below_zero(
+    number: &PlannedNumber,
+    bytes: &[u8],
+    first: usize,
+    line: &mut [u8],
+    at: usize,
+) -> usize
+    requires signed { number.now.window.is_signed ≡ true }
+    requires room { at + LONGEST_NUMBER ≤ length line.old }
     requires held { first + number.now.window.place / 8 + 8 ≤ length bytes.now }
     requires placed { IsPlaced number.now }
-    ensures { let n = number.now in
-        IfSome result (λ v. number_at n.integer bytes.now (place_in first n) ≡ pos v) }
+    ensures text { let n = number.now in take result line.new ≡
+        take at line.old ++ number_text n.integer (number_at n.integer bytes.now (place_in first n)) }
+    ensures near { result ≤ at + LONGEST_NUMBER }
 {
-    if number.integer.order != Order::Le {
-        return None;
-    }
-    number.window.number(bytes, first)
+    let value = number.window.signed(bytes, first, number.integer.order);
+    put_negative(&number.integer, value, line, at)
 }

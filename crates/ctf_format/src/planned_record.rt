@@ -9,7 +9,8 @@ ghost use Rattle.ctf_class.specs.declared.route.Length.{Length};
 ghost use Rattle.ctf_decode.specs.Views.{form};
 ghost use Rattle.ctf_format.specs.Structures.{IsNearStructure};
 ghost use Rattle.ctf_format.specs.Put.{IsPut, IsWithin};
-ghost use Rattle.ctf_format.specs.RunNumbers.{IsInside, number_at, place_in, run_text};
+ghost use Rattle.ctf_format.specs.RunNumbers.{run_text};
+ghost use Rattle.ctf_bits.specs.Placed.{number_after};
 ghost use Rattle.ctf_format.specs.Records.{BeginsAt, CountsAfter, IsNear, IsLastOf, PutsField, PutsFields, IsNearShown, PutsIntegers, PutsOther, PutsRun, PutsScopes, PutsShown, PutsStructures, after_number, reached};
 ghost use Rattle.ctf_format.specs.Texts as texts;
 
@@ -24,7 +25,7 @@ use crate::standing::{
     AlignedInteger, Position, Standing, put_fixed_text, put_integer, put_string,
 };
 use crate::structures::put_structures;
-use ctf_bits::uint_within;
+use ctf_bits::Order;
 use ctf_class::{
     Align, Integers, LoneInteger, Many, PlannedField, PlannedNumber, PlannedRun, PreparedText,
     RecordPlan, Shown, Structures,
@@ -589,19 +590,17 @@ fn last_number(placed: PlacedRun<'_>) -> Option<u64>
         return None;
     }
     if last.is_special {
-        return Some(unsigned_number(last, placed.packet.bytes, first));
+        return special_number(last, placed.packet.bytes, first);
     }
-    last.window.number(placed.packet.bytes, first)
+    last.window.number(placed.packet.bytes, first, Order::Le)
 }
 
-/// The number of an unsigned integer of a run that begins after so many bytes, of any byte order.
+/// The number of an integer of a run that begins after so many bytes, if it is not below zero.
 #[inline(never)]
-fn unsigned_number(number: &PlannedNumber, bytes: &[u8], first: usize) -> u64
-    requires inside { IsInside bytes.now first number.now }
-    requires unsigned { number.now.integer.is_signed ≡ false }
-    ensures { number_at number.now.integer bytes.now (place_in first number.now) ≡ pos result }
+fn special_number(number: &PlannedNumber, bytes: &[u8], first: usize) -> Option<u64>
+    requires held { first + number.now.window.place / 8 + 8 ≤ length bytes.now }
+    ensures { let n = number.now in
+        IfSome result (λ v. number_after n.integer.order n.window bytes.now first ≡ pos v) }
 {
-    let place = 8 * first as u64 + number.window.place();
-    let integer = &number.integer;
-    uint_within(bytes, place, integer.size.bits(), integer.order)
+    number.window.number(bytes, first, number.integer.order)
 }

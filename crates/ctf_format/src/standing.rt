@@ -10,7 +10,6 @@ ghost use Rattle.ctf_class.specs.declared.route.Length.TheVariants.{Fixed};
 ghost use Rattle.ctf_decode.specs.Forms as forms;
 ghost use Rattle.ctf_format.specs.Numbers.{number_text};
 ghost use Rattle.ctf_format.specs.Put.{IsPut, IsWithin};
-ghost use Rattle.ctf_format.specs.RunNumbers.{number_at};
 ghost use Rattle.ctf_format.specs.Standing.{PutsOne, StandsAsNumber};
 ghost use Rattle.ctf_format.specs.Texts as texts;
 
@@ -156,30 +155,6 @@ pub(crate) fn put_integer(
         text: put_unsigned_number(integer, bits, line, from.text),
         bits,
     })
-}
-
-/// Writes the number of an integer that begins at a place of these bytes, in bits from their first one.
-#[inline(always)]
-pub(crate) fn put_integer_at(
-    integer: &Integer,
-    bytes: &[u8],
-    place: u64,
-    line: &mut [u8],
-    at: usize,
-) -> usize
-    requires inside { place + bits_of integer.now ≤ 8 * length bytes.now }
-    requires room { at + LONGEST_NUMBER ≤ length line.old }
-    ensures text { let number = number_at integer.now bytes.now place in
-        take result line.new ≡ take at line.old ++ number_text integer.now number }
-    ensures near { result ≤ at + LONGEST_NUMBER }
-{
-    let size = integer.size.bits();
-    let bits = uint_within(bytes, place, size, integer.order);
-    if is_negative(integer, bits) {
-        let number = sint_within(bytes, place, size, integer.order);
-        return put_negative(integer, number, line, at);
-    }
-    put_unsigned_number(integer, bits, line, at)
 }
 
 /// Whether the number of an integer with these bits is below zero.

@@ -9,7 +9,7 @@ ghost use Rattle.ctf_decode.specs.Forms as forms;
 ghost use Rattle.ctf_decode.specs.Views.{form};
 ghost use Rattle.ctf_format.specs.Put.{IsPut, IsWithin};
 ghost use Rattle.ctf_format.specs.Rows.{row, enclosed};
-ghost use Rattle.ctf_format.specs.RunNumbers.{IsInside, run_text};
+ghost use Rattle.ctf_format.specs.RunNumbers.{run_text};
 ghost use Rattle.ctf_format.specs.Standing.{Before, PutsSome, PutsElements, Counts, Writes, array_text};
 ghost use Rattle.ctf_format.specs.Structures.{IsNearStructure};
 ghost use Rattle.ctf_format.specs.Texts as texts;
@@ -201,7 +201,6 @@ fn put_numbers(
     requires near { IsNearStructure are.now }
     requires room { at + are.now.room ≤ vec_len buffer.old }
     requires held { All (λ n. first + n.window.place / 8 + 8 ≤ length bytes.now) are.now.numbers }
-    requires inside { All (λ n. IsInside bytes.now first n) are.now.numbers }
     ensures put { let piece = flat_map (run_text bytes.now first) are.now.numbers in
         IsPut buffer.old at piece buffer.new result }
     ensures near { result + 24 ≤ at + are.now.room }

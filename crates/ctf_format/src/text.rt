@@ -9,6 +9,7 @@ ghost use Rattle.ctf_format.specs.Put.{IsPut};
 use crate::mark::{put_both_ends, put_bytes};
 use crate::room::{holds_text, with_room_for_text};
 use crate::window::count_plain;
+use ctf_class::hex_digit;
 use ctf_list::NoMemory;
 
 /// Writes a text, escaped and in quotes, at an index of a buffer, and gives the index after it. What is
@@ -224,16 +225,4 @@ fn put_number(byte: u8, line: &mut [u8], at: usize) -> usize
     line[at + 2] = hex_digit(byte / 16);
     line[at + 3] = hex_digit(byte % 16);
     at + 4
-}
-
-/// The digit of a number from 0 to 15, in lower case.
-fn hex_digit(digit: u8) -> u8
-    requires { digit < 16 }
-    ensures { result ≡ hex_digit digit }
-{
-    if digit < 10 {
-        b'0' + digit
-    } else {
-        b'a' - 10 + digit
-    }
 }

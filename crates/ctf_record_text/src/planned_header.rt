@@ -9,8 +9,8 @@ ghost use Rattle.ctf_record_text.specs.Headers.{TellsPlanned};
 ghost use Rattle.ctf_record_text.specs.Planned as planned;
 ghost use Rattle.ctf_record_text.specs.Planned.{ReadsIntegers};
 
-use ctf_bits::uint_within;
-use ctf_class::{HeaderIntegers, HeaderNumber, HeaderPlan};
+use ctf_bits::{Order, uint_within};
+use ctf_class::{HeaderIntegers, HeaderNumber, HeaderPlan, HeaderReading};
 use ctf_clock::{Moment, Timeline};
 use ctf_format::Content;
 
@@ -194,9 +194,12 @@ fn number_at(number: &HeaderNumber, bytes: &[u8], begin: u64) -> u64
     ensures { result ≡ planned.number_at bytes.now begin number.now }
 {
     let place = begin + number.distance;
-    if let Some(short) = &number.short {
-        return short.number(bytes, place);
+    match &number.reading {
+        HeaderReading::Little(short) => short.number(bytes, place, Order::Le),
+        HeaderReading::Big(short) => short.number(bytes, place, Order::Be),
+        HeaderReading::Long => {
+            let integer = &number.integer;
+            uint_within(bytes, place, integer.size.bits(), integer.order)
+        }
     }
-    let integer = &number.integer;
-    uint_within(bytes, place, integer.size.bits(), integer.order)
 }

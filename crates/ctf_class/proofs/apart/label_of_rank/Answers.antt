@@ -11,7 +11,7 @@ returns-then-covers c =
     let order = c.args.order.now in
     let z = c.args.number in
     let rank = c.args.rank in
-    let tested = rw (to_z-of_z c.ranges.number) at c.covers.ensures in
+    let tested = rw (to_z-of_z c.ranges.number) at c.covers.ensures.is in
     let is : c.span_at.result ≡ span_in labels order rank = c.span_at.ensures ∙ ap (λ (k : ℕ). (label_at labels k).span) c.number_at-place.ensures in
     let here : covers (span_in labels order rank) z ≡ true = ap (λ s. covers s z) (sym is) ∙ (sym tested ∙ c.if-covers.true) in
     subst (IsRanked labels order c.args.count z) (sym c.number_at-place.ensures) (ranked labels order c.args.count z rank c.requires.apart c.requires.within here)

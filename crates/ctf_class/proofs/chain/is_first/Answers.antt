@@ -11,7 +11,7 @@ returns-then-covers c =
     let z = c.args.number in
     let end = c.loop-end.end in
     let walked = rw (to_z-of_z c.ranges.number) at c.loop-end.invariant in
-    let tested = rw (to_z-of_z c.ranges.number) at c.covers.ensures in
+    let tested = rw (to_z-of_z c.ranges.number) at c.covers.ensures.is in
     let here : covers (label_at labels (end - 1)).span z ≡ true = ap (λ s. covers s z) (sym c.span_at.ensures) ∙ (sym tested ∙ c.if-covers.true) in
     sym (ap not (walk-found labels z c.args.place end c.requires.within c.loop-end-test.true walked here))
 
@@ -21,7 +21,7 @@ loop-end-preserved c =
     let z = c.args.number in
     let end = c.loop-end.end in
     let walked = rw (to_z-of_z c.ranges.number) at c.loop-end.invariant in
-    let tested = rw (to_z-of_z c.ranges.number) at c.covers.ensures in
+    let tested = rw (to_z-of_z c.ranges.number) at c.covers.ensures.is in
     let other : covers (label_at labels (end - 1)).span z ≡ false = ap (λ s. covers s z) (sym c.span_at.ensures) ∙ (sym tested ∙ c.if-covers.false) in
     let inside : end - 1 < length labels = omega (arith, walked.within, c.requires.within) in
     let last = subst (λ (n : ℕ). IsLast labels (end - 1) (label_at labels (end - 1)).name n) (sym c.number_at-end-in-loop-end.ensures) (c.requires.chain.links (end - 1) inside) in

@@ -15,7 +15,7 @@ returns-then-covers c =
     let within : place < length choices = search rules in
     let is : get_or c.as_slice-choices.result.now place unset ≡ choice_at choices place =
     ap (λ xs. get_or xs place unset) c.as_slice-choices.ensures ∙ get_or_default choices place unset no_choice within in
-    let tested = rw (to_z-of_z c.ranges.number) at c.covers.ensures in
+    let tested = rw (to_z-of_z c.ranges.number) at c.covers.ensures.is in
     let here : covers (choice_at choices place).span c.args.number ≡ true =
     ap (λ (k : Choice). covers k.span c.args.number) (sym is) ∙ (sym tested ∙ c.if-covers.true) in
     chosen_apart choices c.args.number place (c.args.self.now.apart c.if-not-self.false) within here ∙ ap (λ (k : Choice). Some k.option) (sym is)

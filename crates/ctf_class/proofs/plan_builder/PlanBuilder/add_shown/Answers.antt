@@ -11,8 +11,8 @@ returns-clause-made c = λ _ done made.
     let lead = c.args.lead.now in
     let m = c.args.member.now in
     let s : Slot = slot_of lead m in
-    let f : PlannedField = record { ready = c.in-Some.ready; align = lead.align; shown = c.in-Some-known.shown } in
-    let is : IsField s f = record { align = refl; ready = search rules; shown = subst (λ o. IfSome o (IsShown lead.index m.class)) c.in-Some-known.is c.in_ok-known.ensures } in
+    let f : PlannedField = record { ready = c.in-Some.ready; align = lead.align; shown = c.in-Some-2.shown } in
+    let is : IsField s f = record { align = refl; ready = search rules; shown = subst (λ o. IfSome o (IsShown lead.index m.class)) c.in-Some-2.is c.in_ok-shown.ensures } in
     let new = c.add_field.new.self in
     let is_new : new ≡ with_field c.args.self.now f = c.in_ok-add_field.ensures in
     piece_alone lead m done c.args.self.now new (ap (λ (b : PlanBuilder). b.count) is_new) (ap (λ (b : PlanBuilder). b.ended) is_new) (subst (IsMade (done ++ s ∷ [])) (sym is_new) (made_field done s c.args.self.now f is made))

@@ -3,7 +3,7 @@ use Rattle.ctf_decode.specs.Forms as forms
 use Rattle.ctf_format.proofs.ArrayLemmas.{Going}
 use Rattle.ctf_format.specs.Standing.{mark_at}
 use Rattle.ctf_format.specs.Texts.{integer_text}
-use Rattle.ctf_format.proofs.byte_integers.ByteIntegers.put_row.Given as goal
+use Rattle.ctf_format.proofs.byte_integers.ByteIntegers.put_elements.Given as goal
 
 abbrev pub invariant-loop-i : goal.invariant-loop-i
 invariant-loop-i l = record {

@@ -7,7 +7,7 @@ use Rattle.ctf_format.specs.Texts.{element_text, integer_text}
 use Rattle.ctf_format.proofs.ArrayLemmas.{Going, going_on, going_ends, puts_some}
 use Rattle.ctf_class.proofs.AlignmentLemmas.{mod-after}
 use Rattle.ctf_format.proofs.StandingLemmas.{mark_next}
-use Rattle.ctf_format.proofs.byte_integers.ByteIntegers.put_row.Goals as goal
+use Rattle.ctf_format.proofs.byte_integers.ByteIntegers.put_elements.Goals as goal
 
 pub loop-i-preserved : goal.loop-i-preserved
 loop-i-preserved c =
