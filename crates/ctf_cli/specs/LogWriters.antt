@@ -11,6 +11,10 @@ writer_of log = log.writer
 abbrev pub failures_of : {O : Type 0} → LogWriter O → ℕ
 failures_of log = log.failures
 
+-- how many bytes more may be held back
+abbrev pub room_of : {O : Type 0} → LogWriter O → ℕ
+room_of log = log.held.room
+
 -- the writer's bytes and then those held back, where they are known
 abbrev pub log_contents : {O : Type 0} → (O → Option (List ℕ)) → LogWriter O → Option (List ℕ)
 log_contents contents log = append_known (contents log.writer) log.held.bytes

@@ -1,6 +1,6 @@
 //! The folders of the file system.
 
-ghost use Rattle.std.specs.Prelude.{◌≡◌, ◌<◌, ◌≤◌, length, IfOk, Ok};
+ghost use Rattle.std.specs.Prelude.{◌≡◌, ◌+◌, ◌-◌, ◌^◌, ◌<◌, ◌≤◌, [], length, min, IfOk, Ok, OnErr};
 ghost use Rattle.std.specs.Io.{ReadsAtMost};
 ghost use Rattle.std.specs.Io.KnownBytes.{ReadConsumes, prepend_known};
 
@@ -80,12 +80,12 @@ impl<'d, 'a, R: Files + AllocGlobal + Clone + Drop> Folders for &'d Disk<'a, R> 
         &self,
         alloc: Global,
         path: &str,
-        before: usize,
     ) -> Result<Option<DiskStream<'d, 'a, R>>, FolderFault> {
         let disk: &'d Disk<'a, R> = *self;
         let Some(file) = open_stream(disk.rt, path).map_err(fault_of)? else {
             return Ok(None);
         };
+        let before = disk.opened.get();
         disk.opened.set(before.saturating_add(1));
         let file = if before < KEPT_OPEN {
             let ahead = ReadAhead::new(alloc);
@@ -111,7 +111,9 @@ impl<'a, R: Files> Disk<'a, R> {
     /// Reads from a place of a file on, and moves the place to the end of what was read.
     fn read_at(&self, number: usize, path: &str, at: &mut u64, buf: &mut [u8]) -> io::Result<usize>
         requires { 0 < length buf.old }
-        ensures { IfOk result (λ count. count ≤ length buf.new) }
+        ensures bound { IfOk result (λ count. count ≤ length buf.new) }
+        ensures moved { IfOk result (λ count. at.new ≡ min (at.old + count) (2 ^ 64 - 1)) }
+        ensures stays { OnErr result (at.new ≡ at.old) }
     {
         let mut last = self.opened_at(number, path, *at)?;
         let read = last.file.read(AHEAD_OF_LAST, buf);
@@ -123,23 +125,35 @@ impl<'a, R: Files> Disk<'a, R> {
     }
 
     /// A file that is read from a place on: the last one, or one that is opened anew.
-    fn opened_at(&self, number: usize, path: &str, at: u64) -> io::Result<LastFile<R>> {
+    fn opened_at(&self, number: usize, path: &str, at: u64) -> io::Result<LastFile<R>>
+        ensures { IfOk result (λ last. last.number ≡ number) }
+    {
         let ahead = match self.last.replace(None) {
             Some(last) if last.number == number => return Ok(last),
             Some(last) => room_of(last.file.ahead),
             None => ReadAhead::new(self.alloc),
         };
+        let file = self.opened_anew(path, at, ahead)?;
+        Ok(LastFile { number, file })
+    }
+
+    /// A file that is opened anew and read from a place on. Nothing is read ahead of it yet.
+    fn opened_anew(&self, path: &str, at: u64, ahead: ReadAhead) -> io::Result<ReadFile<R>>
+        requires { ahead.held.bytes ≡ [] }
+        ensures { IfOk result (λ file. file.ahead.held.bytes ≡ []) }
+    {
         let Some(mut file) = open_file(self.rt, path, 0)? else {
             return Err(Error::from(ErrorKind::InvalidInput));
         };
         file.seek(SeekFrom::Start(at))?;
-        let file = ReadFile { file, ahead };
-        Ok(LastFile { number, file })
+        Ok(ReadFile { file, ahead })
     }
 }
 
 /// The room of what was read ahead of a file that is no longer open.
-fn room_of(mut ahead: ReadAhead) -> ReadAhead {
+fn room_of(mut ahead: ReadAhead) -> ReadAhead
+    ensures { result.held.bytes ≡ [] }
+{
     ahead.forget();
     ahead
 }
@@ -200,6 +214,7 @@ fn leads_nowhere(kind: ErrorKind) -> bool {
     }
 }
 
+/// What is told of an error of the file system.
 fn fault_of(error: Error) -> FolderFault {
     if error.kind() == ErrorKind::OutOfMemory {
         FolderFault::NoMemory

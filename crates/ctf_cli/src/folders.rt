@@ -40,14 +40,8 @@ pub trait Folders {
             (read.items ≡ take most bytes))
             (files.IsFault ((holds self.now).bytes path.now ≡ None)) };
 
-    /// Opens a file that is not empty; `None` where the path leads to something else. Links are followed. So many
-    /// files were opened before.
-    fn open(
-        &self,
-        alloc: Global,
-        path: &str,
-        before: usize,
-    ) -> Result<Option<Self::Stream>, FolderFault>
+    /// Opens a file that is not empty; `None` where the path leads to something else. Links are followed.
+    fn open(&self, alloc: Global, path: &str) -> Result<Option<Self::Stream>, FolderFault>
         ensures { IsTrue (tells self.now) → MatchResult result
             (λ opened. (holds self.now).found path.now ≡
             files.found_of (files.given_by Self.Stream.tells Self.Stream.left

@@ -5,7 +5,7 @@ ghost use Rattle.std.specs.Io.KnownBytes.{Keeps, WriteAppends};
 ghost use Rattle.ctf_bits.specs.Count.{one_more};
 ghost use Rattle.ctf_bits.specs.Putting.{failures_after};
 ghost use Rattle.ctf_session.specs.Putting.{failures_put};
-ghost use Rattle.ctf_cli.specs.LogWriters.{writer_of, failures_of, log_contents};
+ghost use Rattle.ctf_cli.specs.LogWriters.{writer_of, failures_of, log_contents, room_of};
 
 use crate::held::Held;
 use crate::interrupts::Retrying;
@@ -35,6 +35,7 @@ impl<O: Write + Drop> LogWriter<O> {
             unwrap_or (O.contents writer) []) }
         ensures failures { IfOk result (λ log. ⟦<LogWriter<O> as Sink>⟧.failures log ≡ 0) }
         ensures settled { IfOk result (λ log. IsTrue (⟦<LogWriter<O> as Log>⟧.settled log)) }
+        ensures held { IfOk result (λ log. room_of log ≡ held) }
     {
         Ok(LogWriter {
             writer: Retrying::new(writer),

@@ -80,10 +80,8 @@ pub fn open_traces<F: Folders>(
         (held.IsStop (held.AreBlocked (F.holds folders.now) dirs.now)) }
 {
     let mut traces = Vec::new(alloc);
-    let mut opened = 0usize;
     for dir in dirs {
-        let trace = open_trace(alloc, folders, dir.as_str(), opened)?;
-        opened = opened.saturating_add(trace.streams.len());
+        let trace = open_trace(alloc, folders, dir.as_str())?;
         traces.push(trace)?;
     }
     Ok(traces)
@@ -94,7 +92,6 @@ fn open_trace<F: Folders>(
     alloc: Global,
     folders: &F,
     dir: &str,
-    opened: usize,
 ) -> Result<Trace<F::Stream>, OpeningFault>
     ensures { IsTrue (F.tells folders.now) → MatchResult result
         (λ trace. held.IsTrace (F.holds folders.now) dir.now
@@ -103,7 +100,7 @@ fn open_trace<F: Folders>(
 {
     let names = list(alloc, folders, dir)?;
     let metadata = read_metadata(alloc, folders, dir)?;
-    let streams = open_streams(alloc, folders, dir, &names, opened)?;
+    let streams = open_streams(alloc, folders, dir, &names)?;
     let name = String::from_str(alloc, dir)?;
     Ok(Trace {
         name,
@@ -152,7 +149,6 @@ fn open_streams<F: Folders>(
     folders: &F,
     dir: &str,
     names: &[String],
-    opened: usize,
 ) -> Result<Vec<(String, F::Stream)>, OpeningFault>
     ensures { IsTrue (F.tells folders.now) → MatchResult result
         (λ streams. held.streams_in (F.holds folders.now) dir.now (map string_bytes names.now) ≡
@@ -163,9 +159,8 @@ fn open_streams<F: Folders>(
 {
     let mut streams = Vec::new(alloc);
     for name in names {
-        let before = opened.saturating_add(streams.len());
         let file = name.as_str();
-        let stream = open_stream(alloc, folders, dir, file, before)?;
+        let stream = open_stream(alloc, folders, dir, file)?;
         push_stream(alloc, &mut streams, file, stream)?;
     }
     Ok(streams)
@@ -199,7 +194,6 @@ fn open_stream<F: Folders>(
     folders: &F,
     dir: &str,
     name: &str,
-    before: usize,
 ) -> Result<Option<F::Stream>, OpeningFault>
     ensures { IsTrue (F.tells folders.now) → MatchResult result
         (λ opened. (F.holds folders.now).found (path_join dir.now name.now) ≡
@@ -208,7 +202,7 @@ fn open_stream<F: Folders>(
         ((F.holds folders.now).found path ≡ files.closed))) }
 {
     let path = path_in(alloc, dir, name)?;
-    match folders.open(alloc, path.as_str(), before) {
+    match folders.open(alloc, path.as_str()) {
         Ok(stream) => Ok(stream),
         Err(fault) => Err(stop_of(alloc, fault, path.as_str())),
     }

@@ -1,6 +1,6 @@
 //! The program over a runtime.
 
-ghost use Rattle.std.specs.Prelude.{◌≡◌, ◌⊎◌};
+ghost use Rattle.std.specs.Prelude.{◌≡◌, ◌⊎◌, if◌then◌else◌};
 
 use crate::disk::Disk;
 use crate::interrupts::Retrying;
@@ -12,7 +12,7 @@ use std::env;
 use std::io::{ErrorKind, Write};
 use std::rt::{Env, Files};
 
-/// How many bytes of the log are held back at the most.
+/// How many bytes of the log are held back at the most where it goes to no terminal.
 const HELD: usize = 262_144;
 
 /// Does what the command line asks for, and gives the exit status. To a terminal each line is written at once.
@@ -28,14 +28,20 @@ where
         Ok(words) => words,
         Err(usage) => return say(usage.text(), &mut messages),
     };
-    let held = if is_terminal { 0 } else { HELD };
-    let Ok(mut log) = LogWriter::new(rt.alloc(), held, out) else {
+    let Ok(mut log) = LogWriter::new(rt.alloc(), held_by(is_terminal), out) else {
         return say(Usage::NoMemory.text(), &mut messages);
     };
     let disk = Disk::new(rt);
     let status = program(rt.alloc(), &words, &&disk, &mut log, &mut messages);
     let _ = log.close();
     status
+}
+
+/// How many bytes of the log are held back at the most.
+fn held_by(is_terminal: bool) -> usize
+    ensures { result ≡ (if is_terminal then 0 else HELD) }
+{
+    if is_terminal { 0 } else { HELD }
 }
 
 /// The words of the command line. One that is no text is a bad one.

@@ -12,7 +12,7 @@ ghost use Rattle.ctf_stream.specs.Shown.{event_of, gap_of, item_of, PartIsRight,
 use crate::gap::{GapWords, append_gap};
 use ctf_class::Scope;
 use ctf_decode::Value;
-use ctf_format::{RecordScopes, put_packet_part, put_record, with_room};
+use ctf_format::{RecordScopes, put_bytes, put_packet_part, put_record, with_room};
 use ctf_list::NoMemory;
 use ctf_stream::{Event, EventText, Gap, Item};
 use ctf_timestamp::{MOST_PART, Stamper, Style};
@@ -116,6 +116,7 @@ impl Printer {
         ensures length { length memory.new ≡ length memory.old }
         ensures none { IfNone result (memory.new ≡ memory.old) }
         ensures style { self.new.style ≡ self.old.style }
+        ensures text { self.new.text ≡ self.old.text }
     {
         let room = memory.len() - at;
         if room < AROUND_TEXT || event.text.len() > room - AROUND_TEXT {
@@ -205,18 +206,6 @@ fn put_text(
     let after = put_bytes(event.text, line, begin);
     line[after] = b'\n';
     after + 1
-}
-
-/// Writes bytes at an index of a line that has room for them, and gives the index after them.
-#[inline(always)]
-fn put_bytes(bytes: &[u8], line: &mut [u8], at: usize) -> usize
-    requires { at + length bytes.now ≤ length line.old }
-    ensures text { take result line.new ≡ take at line.old ++ bytes.now }
-    ensures end { result ≡ at + length bytes.now }
-{
-    let end = at + bytes.len();
-    line[at..end].copy_from_slice(bytes);
-    end
 }
 
 /// Writes what follows the stamp of an event record. Mostly the text of its packet's part is there.

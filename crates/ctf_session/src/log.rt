@@ -69,6 +69,6 @@ impl<W: Write> Log for ToWrite<W> {
     ghost settled = { λ _. true };
 
     fn settle(&mut self) -> Result<(), SinkFault> {
-        Ok(())
+        self.flush()
     }
 }

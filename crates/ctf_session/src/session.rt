@@ -293,8 +293,53 @@ impl<'a, S: Source + Drop> Session<'a, S> {
     }
 }
 
-/// Steps until the session ends.
+/// Steps until the session ends. Where it has ended, the answer is that of before, and nothing is written.
 pub fn print_all<'a, S: Source + Drop, W: Log, E: Sink>(
+    session: &mut Session<'a, S>,
+    out: &mut W,
+    err: &mut E,
+) -> Outcome
+    ensures runs { let wrote = written_by W.accepted W.settled E.accepted in
+        session.old.ended ≡ None → Tells session.old
+        → IsTrue (W.tells out.old) → IsTrue (E.tells err.old)
+        → Answered (answer_of session.old) result (wrote out.old err.old out.new err.new) }
+    ensures counts { let counts = counts_by W.failures W.refusals E.failures E.refusals in
+        session.old.ended ≡ None
+        → CountsAfter result (counts out.old err.old) (counts out.new err.new) }
+    ensures named { session.old.ended ≡ None → IsNamed result }
+    ensures repeated { (o : Outcome) → session.old.ended ≡ Some o → (result ≡ o)
+        × ((session.new ≡ session.old) × ((out.new ≡ out.old) × (err.new ≡ err.old))) }
+
+    // Of any sources and sinks: nothing of the log is held back after the line of a fault, nor where the messages
+    // failed or ran out of memory.
+    ensures after { session.old.ended ≡ None → SettledBy result (W.settled out.new) }
+    ensures settled { let counts = counts_by W.failures W.refusals E.failures E.refusals in
+        SameForMessages (counts out.old err.old) (counts out.new err.new)
+        ⊎ IsTrue (W.settled out.new) }
+    ensures ends { session.new.ended ≡ Some result }
+    ensures setting { session.new.setting ≡ session.old.setting }
+
+    // No stream is read on from an item after the end; the bytes taken are those that the sources gave, and no more
+    // than the current items need.
+    ensures passes { Tells session.old → IsTrue (W.tells out.old) → IsTrue (E.tells err.old)
+        → PassesWithin session.old.setting session.old.readers session.new.readers }
+    ensures tells { Tells session.old → Tells session.new }
+    ensures counted { Tells session.old
+        → given_of session.new.readers ≡ given_of session.old.readers }
+    ensures on_line { EachOnLine session.old.readers → EachOnLine session.new.readers }
+    ensures all_taken { Tells session.old → EachAllTaken session.old.readers
+        → EachAllTaken session.new.readers }
+    ensures out_tells { IsTrue (W.tells out.old) → IsTrue (W.tells out.new) }
+    ensures err_tells { IsTrue (E.tells err.old) → IsTrue (E.tells err.new) }
+{
+    match session.ended {
+        Some(ending) => ending.outcome(),
+        None => print_rest(session, out, err),
+    }
+}
+
+/// Steps until a session that has not ended does.
+fn print_rest<'a, S: Source + Drop, W: Log, E: Sink>(
     session: &mut Session<'a, S>,
     out: &mut W,
     err: &mut E,

@@ -70,10 +70,13 @@ Shows trace name ahead (Some x) =
     × IsOf trace name x
 Shows trace name ahead None = item_ahead ahead ≡ None
 
--- where values are not to be had of each item, there may be none of an item that is there
+-- where texts were asked for, the values of an event record may not be had
 abbrev pub ShowsValues : Texts → TraceClass → List ℕ → Peeked → Option Item → Type 0
 ShowsValues writes trace name ahead (Some x) = Shows trace name ahead (Some x)
-ShowsValues writes trace name ahead None = (item_ahead ahead ≡ None) ⊎ AsksTexts writes
+ShowsValues writes trace name ahead None =
+    (item_ahead ahead ≡ None)
+    ⊎ (AsksTexts writes
+    × ((e : items.Event Classes) × (item_ahead ahead ≡ Some (items.event e))))
 
 -- it is the text of the current event record, with its clock
 abbrev pub ShowsText : Peeked → EventText → Type 0

@@ -14,6 +14,8 @@ pub enum Manner {
     Once(usize),
     /// No memory at the call of this number, from 1.
     Refuse(usize),
+    /// All, but what is held back cannot be passed on.
+    Hold,
 }
 
 /// How streams give their bytes, and how the output and the messages are taken.

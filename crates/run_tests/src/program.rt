@@ -4,13 +4,17 @@
 //! in hexadecimal (`-` for none), `closed` where it can't be read or listed, `other` where it is no file.
 //!
 //! - `HELD OUT ERR WORD ..` is a command line over the made-up files: how many bytes of the log are held back, after
-//!   how many bytes the log and the messages fail once (`-`: never), and the words, of which `''` is the empty one.
+//!   how many bytes the log and the messages fail once (`-`: never; `hold`: when what is held back is passed on), and
+//!   the words, of which `''` is the empty one.
 //! - `disk WORD ..` is a command line over the folders of `data/` itself.
 //! - `read BEFORE PATH` reads a file there, three bytes at a time, which is opened after BEFORE other files.
+//! - `switch BEFORE PATH OTHER` reads two files there in turns, which are opened after BEFORE other files.
 //!
-//! After a row come the lines of the log, those of the messages and the status, or the text of the file.
+//! After a row come the lines of the log, those of the messages and the status, or the text of the file; of two files
+//! how many bytes each gave, and whether they are its own.
 
 mod made_up;
+mod turns;
 
 use crate::manner::Manner;
 use crate::row::Row;
@@ -21,6 +25,7 @@ use ctf_cli::{Disk, Folders, LogWriter, program};
 use made_up::MadeUp;
 use std::alloc::Global;
 use std::fs;
+use turns::read_in_turns;
 
 /// How many bytes of the log are held back where a row does not say it.
 const HELD: usize = 65_536;
@@ -41,6 +46,7 @@ pub fn put_row(rt: &HostRuntime, row: &mut Row<'_>) {
     match row.word() {
         "disk" => put_disk(rt, row),
         "read" => put_file(rt, row),
+        "switch" => put_files(rt, row),
         held => put_made_up(rt, row, held),
     }
 }
@@ -60,8 +66,8 @@ fn put_disk(rt: &HostRuntime, row: &mut Row<'_>) {
 fn put_made_up(rt: &HostRuntime, row: &mut Row<'_>, held: &str) {
     let sides = Sides {
         held: held.parse::<usize>().unwrap_or(HELD),
-        output: once(row.word()),
-        messages: once(row.word()),
+        output: manner_of(row.word()),
+        messages: manner_of(row.word()),
     };
     if let Ok(table) = fs::read_to_string(rt, "files") {
         put_run(
@@ -74,11 +80,18 @@ fn put_made_up(rt: &HostRuntime, row: &mut Row<'_>, held: &str) {
     }
 }
 
-/// A manner that fails once after the number of bytes that a word gives, or never where it is no number.
-fn once(word: &str) -> Manner {
+/// A manner that fails once after the number of bytes that a word gives, that cannot pass on what is held back, or that
+/// takes all.
+fn manner_of(word: &str) -> Manner {
     match word.parse::<usize>() {
         Ok(count) => Manner::Once(count),
-        Err(_) => Manner::Whole,
+        Err(_) => {
+            if word == "hold" {
+                Manner::Hold
+            } else {
+                Manner::Whole
+            }
+        }
     }
 }
 
@@ -114,13 +127,41 @@ fn words_of(alloc: Global, line: &str) -> Vec<String> {
 /// Puts the text of a file, which is opened after as many other files as a word says.
 fn put_file(rt: &HostRuntime, row: &mut Row<'_>) {
     let disk = Disk::new(rt);
-    let before = row.word().parse::<usize>().unwrap_or(0);
-    put_stream(row, &&disk, before);
+    open_others(row, &&disk);
+    put_stream(row, &&disk);
+}
+
+/// Opens as many files as a word says.
+fn open_others<F: Folders>(row: &mut Row<'_>, folders: &F) {
+    let count = row.word().parse::<usize>().unwrap_or(0);
+    for _ in 0..count {
+        let _ = folders.open(row.alloc, "digits");
+    }
+}
+
+/// Puts what two files give that are read in turns, and are opened after as many other files as a word says.
+fn put_files(rt: &HostRuntime, row: &mut Row<'_>) {
+    let disk = Disk::new(rt);
+    open_others(row, &&disk);
+    let (path, other) = (row.word(), row.words);
+    if let Some((bytes, others)) = read_in_turns(row.alloc, &&disk, path, other) {
+        put_given(rt, row, path, &bytes);
+        put_given(rt, row, other, &others);
+    }
+}
+
+/// Puts how many bytes a file gave, and whether they are its own.
+fn put_given(rt: &HostRuntime, row: &mut Row<'_>, path: &str, bytes: &[u8]) {
+    row.put_number(b"", bytes.len() as i128);
+    match fs::read(rt, path) {
+        Ok(own) if own.as_slice() == bytes => row.put(b" bytes, those of the file\n"),
+        _ => row.put(b" bytes, others\n"),
+    }
 }
 
 /// Puts the text of a stream of some folders, or that there is none.
-fn put_stream<F: Folders>(row: &mut Row<'_>, folders: &F, before: usize) {
-    match folders.open(row.alloc, row.words, before) {
+fn put_stream<F: Folders>(row: &mut Row<'_>, folders: &F) {
+    match folders.open(row.alloc, row.words) {
         Ok(Some(stream)) => {
             let mut stream = stream;
             put_text(row, &mut stream);

@@ -20,6 +20,8 @@ pub struct RowSink {
     recovers: bool,
     /// How many calls are left before it is refused memory.
     calls: usize,
+    /// Whether what a writer holds back cannot be passed on.
+    holds: bool,
     failures: u64,
     refusals: u64,
     ghost some: { 1 ≤ piece },
@@ -33,6 +35,7 @@ impl RowSink {
             room: usize::MAX,
             recovers: false,
             calls: usize::MAX,
+            holds: false,
             failures: 0,
             refusals: 0,
         };
@@ -45,6 +48,7 @@ impl RowSink {
                 sink.recovers = true;
             }
             Manner::Refuse(call) => sink.calls = call.saturating_sub(1),
+            Manner::Hold => sink.holds = true,
         }
         sink
     }
@@ -103,6 +107,9 @@ impl Write for RowSink {
     }
 
     fn flush(&mut self) -> io::Result<()> {
+        if self.holds {
+            return Err(Error::from(ErrorKind::BrokenPipe));
+        }
         Ok(())
     }
 }

@@ -90,18 +90,14 @@ impl Folders for MadeUp<'_> {
     }
 
     fn read(&self, alloc: Global, path: &str, most: u64) -> Result<Vec<u8>, FolderFault> {
-        match bytes_of(alloc, self.at(path)) {
-            Some(bytes) if bytes.len() as u64 <= most => Ok(bytes),
-            _ => Err(FolderFault::Unreadable),
-        }
+        let Some(mut bytes) = bytes_of(alloc, self.at(path)) else {
+            return Err(FolderFault::Unreadable);
+        };
+        bytes.truncate(usize::try_from(most).unwrap_or(usize::MAX));
+        Ok(bytes)
     }
 
-    fn open(
-        &self,
-        alloc: Global,
-        path: &str,
-        _before: usize,
-    ) -> Result<Option<RowSource>, FolderFault> {
+    fn open(&self, alloc: Global, path: &str) -> Result<Option<RowSource>, FolderFault> {
         let entry = self.at(path);
         if let Some(PathEntry::Closed) = entry {
             return Err(FolderFault::Unreadable);

@@ -29,7 +29,7 @@ returns-in-Ok-new-clause-runs g c = λ tells out err.
     run_whole all c.args.options.now classes inputs c.in-Ok-new.session c.print_all.result _
     (have_same given c.args.traces.items classes (rw (← c.deref.ensures.value) c.in-Ok.ensures)) same
     (c.in-Ok-new.ensures.told each) c.in-Ok-new.ensures.setting c.in-Ok-new.ensures.begins
-    c.print_all.ensures.named (c.print_all.ensures.runs (c.in-Ok-new.ensures.tells each) out err)
+    (c.print_all.ensures.named c.in-Ok-new.ensures.open) (c.print_all.ensures.runs c.in-Ok-new.ensures.open (c.in-Ok-new.ensures.tells each) out err)
 
 pub returns-in-Err-Broken-clause-settled : goal.returns-in-Err-Broken-clause-settled
 returns-in-Err-Broken-clause-settled g c = same_counts g.E.Sink.failures g.E.Sink.refusals _ _ _ _ refl refl c.tell.ensures.settled

@@ -4,7 +4,7 @@ use Rattle.ctf_session.specs.Passing.{PassesWithin}
 use Rattle.ctf_session.specs.Steps.{Tells}
 use Rattle.ctf_session.specs.Writing.{written_by}
 use Rattle.ctf_session.proofs.Reaching.{Reaches}
-use Rattle.ctf_session.proofs.session.print_all.Given as goal
+use Rattle.ctf_session.proofs.session.print_rest.Given as goal
 
 abbrev pub invariant-loop-outcome : goal.invariant-loop-outcome
 invariant-loop-outcome g l = record {
