@@ -33,8 +33,7 @@ check:
 	cd crates/$(CRATE) && rt check && rt test
 	rt must-fail $(CRATE)
 
-# Measures the program over each shape of event records, beside BEFORE=PROGRAM and beside babeltrace2 where it is
-# installed.
+# Measures the program over each shape of event records, beside BEFORE=PROGRAM and beside babeltrace2.
 bench:
 	@tools/built
 	bench/compare.py $(PROGRAM) $(BEFORE) $$(command -v babeltrace2 > /dev/null && echo --babeltrace2 babeltrace2)
