@@ -2,8 +2,8 @@
 //!
 //! `sink KIND TEXT` is how many bytes a sink takes at each call, `failed` where it fails, and what it has then.
 //! `memory` is a sink in memory, `drip:N` takes at most so many bytes at a call, `failing:N` so many bytes in all,
-//! `write` is a writer in memory, `silent` a writer that takes nothing, and `broken` one that fails. `flush KIND` is what
-//! comes of passing on what such a writer holds back.
+//! `write` is a writer in memory, `silent` a writer that takes nothing, `broken` one that fails, and `interrupted` one
+//! whose first call a signal interrupts. `flush KIND` is what comes of passing on what such a writer holds back.
 
 use crate::device::Device;
 use crate::row::Row;
@@ -22,21 +22,25 @@ pub fn put_row(row: &mut Row<'_>) {
         "failing" => put_failing(row, FailingSink::new(row.alloc, count)),
         "memory" => put_memory(row, VecSink::new(row.alloc)),
         "write" => put_write(row, ToWrite::new(Vec::new(row.alloc))),
-        "silent" => put_poured(row, &mut ToWrite::new(Device::Silent)),
-        _ => put_poured(row, &mut ToWrite::new(Device::Broken)),
+        name => put_poured(row, &mut ToWrite::new(Device::named(name))),
     }
 }
 
 /// Puts what comes of passing on what a writer holds back.
 fn put_flushed(row: &mut Row<'_>) {
-    let device = match row.word() {
-        "silent" => Device::Silent,
-        _ => Device::Broken,
-    };
-    match ToWrite::new(device).flush() {
-        Ok(()) => row.put(b" passed on"),
+    let mut sink = ToWrite::new(Device::named(row.word()));
+    match sink.flush() {
+        Ok(()) => put_passed(row, &sink.into_inner()),
         Err(SinkFault::Failed) => row.put(b" failed"),
         Err(SinkFault::NoMemory) => row.put(b" no memory"),
+    }
+}
+
+/// Puts whether what a device holds back was passed on.
+fn put_passed(row: &mut Row<'_>, device: &Device) {
+    match device {
+        Device::Silent => row.put(b" passed on"),
+        Device::Broken | Device::Interrupted | Device::Resumed => row.put(b" held back"),
     }
 }
 

@@ -2,8 +2,8 @@
 //!
 //! `source KIND PIECE TEXT` is what a source of a text gives into a buffer of so many bytes, piece by piece, and how
 //! many bytes it says that it has given. `slice` is the text, `pieces:N` at most so many bytes at a call, `failing:N`
-//! so many bytes and then a failure, `read` a reader of the text, `silent` a reader that gives nothing, and `broken`
-//! one that fails.
+//! so many bytes and then a failure, `read` a reader of the text, `silent` a reader that gives nothing, `broken` one
+//! that fails, and `interrupted` one whose first call a signal interrupts.
 
 ghost use Rattle.std.specs.Prelude.{◌≡◌, ◌<◌, ◌≤◌, length};
 
@@ -25,8 +25,9 @@ pub fn put_row(row: &mut Row<'_>) {
     }
     let text = row.words.as_bytes();
     match kind {
-        "silent" => put_drained(row, &mut FromRead::new(Device::Silent), piece),
-        "broken" => put_drained(row, &mut FromRead::new(Device::Broken), piece),
+        "silent" | "broken" | "interrupted" => {
+            put_drained(row, &mut FromRead::new(Device::named(kind)), piece);
+        }
         "read" => put_drained(row, &mut FromRead::new(Cursor::new(text)), piece),
         _ => {
             let given = put_text(row, kind, count, text, piece);

@@ -1,9 +1,9 @@
 //! Integers that are read at once.
 //!
-//! `window PLACE SIZE KIND ORDER FIRST BYTES` is an integer, `u` or in two's complement `i`, whose place is counted from
-//! the end of the first FIRST bytes: its place, its end, its number if that is not below zero, and that of its bits in
-//! two's complement. `short PLACE SIZE ORDER BYTES` is one whose place is counted from the first bit: its number. The
-//! byte order is `le` or `be`.
+//! `window PLACE SIZE KIND ORDER FIRST BYTES` is an integer, `u` or in two's complement `i`, whose place is counted
+//! from the end of the first FIRST bytes: its place, its end, its number if that is not below zero, and that of its
+//! bits in two's complement. `short PLACE SIZE ORDER BYTES` is one whose place is counted from the first bit: its
+//! number. The byte order is `le` or `be`.
 
 use crate::row::Row;
 use ctf_bits::{Order, ShortInteger, Window};

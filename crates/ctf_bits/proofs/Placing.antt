@@ -1,7 +1,7 @@
 -- Integers whose place is known beforehand.
 use Rattle.std.proofs.Common.{◌≡◌, ℕ, pos, ◌+◌, ◌-◌, ◌*◌, ◌/◌, ◌^◌, ◌-ℤ◌, ◌<◌, ◌≤◌, Bool, true, false, List, drop, ap, sym, subst, refl, ◌∙◌, arith}
 use Rattle.std.specs.Prelude.{if◌then◌else◌}
-use Rattle.std.proofs.Math.Nat.{div-eq_of_lt}
+use Rattle.std.proofs.Math.Nat.{div-eq_of_lt, le-div_iff_mul-le, mul-le-mul_right}
 use Rattle.std.proofs.lemmas.Int.{ints}
 use Rattle.std.proofs.lemmas.Nat.{pow-add, pow_pos}
 use Rattle.ctf_bits.specs.declared.number.Order.{Order}
@@ -40,6 +40,24 @@ pub plain_after : (order : Order) (w : Placed) (bytes : List ℕ) (first x : ℕ
 plain_after order w bytes first x some is within = plain order w.is_signed bytes (8 * first + w.place) w.size x some is within
 
 -- what is above the greatest number is below zero
+below : (order : Order) (signed : Bool) (bytes : List ℕ) (p n x v : ℕ) → 1 ≤ n → x ≡ number order bytes p n → last_of signed n < x
+    → (if signed then signed_number order bytes p n else pos (number order bytes p n)) ≡ pos v → ⊥
+below order true bytes p n x v some is above same =
+    let few : x < 2 ^ n = subst (λ k. k < 2 ^ n) (sym is) (number-lt order bytes p n) in
+    let half : 1 * 2 ^ (n - 1) ≤ x = omega (arith, above, pow_pos (n - 1)) in
+    let one : 1 ≤ x / 2 ^ (n - 1) = (le-div_iff_mul-le (pow_pos (n - 1))).1 half in
+    let far : 1 * 2 ^ n ≤ x / 2 ^ (n - 1) * 2 ^ n = mul-le-mul_right (2 ^ n) one in
+    let back : pos x -ℤ pos (x / 2 ^ (n - 1) * 2 ^ n) ≡ pos v = signed_number-number order bytes p n x some is ∙ same in
+    omega (arith, ints, few, far, back)
+below order false bytes p n x v some is above same =
+    let few : x < 2 ^ n = subst (λ k. k < 2 ^ n) (sym is) (number-lt order bytes p n) in
+    omega (arith, above, few)
+
+pub below_after : (order : Order) (w : Placed) (bytes : List ℕ) (first x v : ℕ) → 1 ≤ w.size → x ≡ number order bytes (8 * first + w.place) w.size
+    → last_of w.is_signed w.size < x → number_after order w bytes first ≡ pos v → ⊥
+below_after order w bytes first x v some is above = below order w.is_signed bytes (8 * first + w.place) w.size x v some is above
+
+-- and so it has a sign
 pub only_signed : (order : Order) (signed : Bool) (bytes : List ℕ) (p n x : ℕ) → x ≡ number order bytes p n → last_of signed n < x → signed ≡ true
 only_signed order true bytes p n x is above = refl
 only_signed order false bytes p n x is above = let few : x < 2 ^ n = subst (λ v. v < 2 ^ n) (sym is) (number-lt order bytes p n) in absurd (omega (arith, above, few))

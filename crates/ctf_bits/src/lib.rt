@@ -5,6 +5,7 @@ mod align;
 mod drip_sink;
 mod failing_sink;
 mod from_read;
+mod interrupts;
 mod number;
 mod parts;
 mod rest;
@@ -21,6 +22,9 @@ pub use align::up;
 pub use drip_sink::DripSink;
 pub use failing_sink::FailingSink;
 pub use from_read::FromRead;
+pub use interrupts::{
+    flush_uninterrupted, read_uninterrupted, retry_interrupted, write_uninterrupted,
+};
 pub use number::{Order, uint, uint_at_byte, uint_within};
 pub use short::ShortInteger;
 pub use signed::{is_unsigned, sint, sint_within};

@@ -1,6 +1,6 @@
 //! Integers that are read at once, since it is known beforehand where they are.
 
-ghost use Rattle.std.specs.Prelude.{◌≡◌, ◌+◌, ◌*◌, ◌/◌, ◌%◌, ◌^◌, ◌≤◌, true, pos, length, None, SomeIff, IfSome};
+ghost use Rattle.std.specs.Prelude.{◌≡◌, ℕ, ◌+◌, ◌*◌, ◌/◌, ◌%◌, ◌^◌, ◌≤◌, true, pos, length, None, SomeIff, IfSome};
 ghost use Rattle.ctf_bits.specs.Number.{number, signed_number};
 ghost use Rattle.ctf_bits.specs.Placed.{number_after};
 
@@ -88,6 +88,8 @@ impl Window {
     pub fn number(&self, bytes: &[u8], first: usize, order: Order) -> Option<u64>
         requires held { first + self.now.place / 8 + 8 ≤ length bytes.now }
         ensures value { IfSome result (λ n. number_after order self.now bytes.now first ≡ pos n) }
+        ensures below { result ≡ None → (n : ℕ) →
+            number_after order self.now bytes.now first ≡ pos n → ⊥ }
         ensures signed { result ≡ None → self.now.is_signed ≡ true }
     {
         let number = self.bits(bytes, first, order);

@@ -5,9 +5,8 @@ ghost use Rattle.std.specs.Io.{ReadsAtMost};
 ghost use Rattle.std.specs.Io.KnownBytes.{ReadConsumes, prepend_known};
 
 use crate::folders::{FolderFault, Folders};
-use crate::interrupts::retry_interrupted;
 use crate::read_ahead::ReadAhead;
-use ctf_bits::{Source, SourceFault};
+use ctf_bits::{Source, SourceFault, retry_interrupted};
 use std::alloc::Global;
 use std::cell::Cell;
 use std::fs::{self, OpenFile};

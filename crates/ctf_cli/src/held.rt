@@ -4,7 +4,7 @@ ghost use Rattle.std.specs.Prelude.{◌≡◌, ◌+◌, ◌++◌, ◌<◌, ◌�
 ghost use Rattle.std.specs.Io.KnownBytes.{Consumes, Keeps, IsAtEnd};
 ghost use Rattle.ctf_log.specs.Texts.{text_line};
 
-use crate::interrupts::read_uninterrupted;
+use ctf_bits::read_uninterrupted;
 use ctf_list::NoMemory;
 use ctf_log::Printer;
 use ctf_stream::EventText;

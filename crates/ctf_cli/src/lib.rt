@@ -4,7 +4,6 @@
 mod disk;
 mod folders;
 mod held;
-mod interrupts;
 mod log_writer;
 mod opening;
 mod printing;

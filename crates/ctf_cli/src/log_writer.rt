@@ -8,8 +8,7 @@ ghost use Rattle.ctf_session.specs.Putting.{failures_put};
 ghost use Rattle.ctf_cli.specs.LogWriters.{writer_of, failures_of, log_contents, room_of};
 
 use crate::held::Held;
-use crate::interrupts::Retrying;
-use ctf_bits::{Sink, SinkFault};
+use ctf_bits::{Sink, SinkFault, flush_uninterrupted, write_uninterrupted};
 use ctf_list::NoMemory;
 use ctf_log::Printer;
 use ctf_run::Log;
@@ -17,10 +16,11 @@ use ctf_stream::EventText;
 use std::alloc::Global;
 use std::io::Write;
 
-/// A buffer for a writer. It tells its bytes where the writer does. An error of the writer is a failure.
+/// A buffer for a writer, which is asked again where a signal interrupts it. It tells its bytes where the writer does.
+/// An error of the writer is a failure.
 #[derive(Drop)]
 pub struct LogWriter<O: Write + Drop> {
-    writer: Retrying<O>,
+    writer: O,
     /// What is held back from the writer. Mostly a line is made there.
     held: Held,
     failures: u64,
@@ -38,7 +38,7 @@ impl<O: Write + Drop> LogWriter<O> {
         ensures held { IfOk result (λ log. room_of log ≡ held) }
     {
         Ok(LogWriter {
-            writer: Retrying::new(writer),
+            writer,
             held: Held::new(alloc, held)?,
             failures: 0,
         })
@@ -55,7 +55,7 @@ impl<O: Write + Drop> LogWriter<O> {
             held: _,
             failures: _,
         } = self;
-        writer.into_inner()
+        writer
     }
 
     /// Passes on what is held back. What was not taken is held on after a fault.
@@ -68,7 +68,7 @@ impl<O: Write + Drop> LogWriter<O> {
         ensures fault { IfErr result (λ fault. fault ≡ SinkFault.Failed) }
     {
         while !self.held.as_slice().is_empty() {
-            match self.writer.write(self.held.as_slice()) {
+            match write_uninterrupted(&mut self.writer, self.held.as_slice()) {
                 Ok(count) if count > 0 => self.held.pass(count),
                 Ok(_) | Err(_) => return Err(self.fail()),
             }
@@ -86,7 +86,7 @@ impl<O: Write + Drop> LogWriter<O> {
         ensures failed { failures_of self.new ≡ failures_after result (failures_of self.old) }
         ensures fault { IfErr result (λ fault. fault ≡ SinkFault.Failed) }
     {
-        match self.writer.write(bytes) {
+        match write_uninterrupted(&mut self.writer, bytes) {
             Ok(count) if count > 0 => Ok(count),
             Ok(_) | Err(_) => Err(self.fail()),
         }
@@ -153,7 +153,7 @@ impl<O: Write + Drop> Log for LogWriter<O> {
 
     fn settle(&mut self) -> Result<(), SinkFault> {
         self.pass_on()?;
-        match self.writer.flush() {
+        match flush_uninterrupted(&mut self.writer) {
             Ok(()) => Ok(()),
             Err(_) => Err(self.fail()),
         }

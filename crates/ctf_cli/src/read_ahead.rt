@@ -5,7 +5,7 @@ ghost use Rattle.std.specs.Io.{ReadsAtMost};
 ghost use Rattle.std.specs.Io.KnownBytes.{ReadConsumes, Consumes, Keeps, IsAtEnd, prepend_known};
 
 use crate::held::Held;
-use crate::interrupts::read_uninterrupted;
+use ctf_bits::read_uninterrupted;
 use std::alloc::Global;
 use std::io::{self, Read};
 

@@ -3,7 +3,6 @@
 ghost use Rattle.std.specs.Prelude.{◌≡◌, ◌⊎◌, if◌then◌else◌};
 
 use crate::disk::Disk;
-use crate::interrupts::Retrying;
 use crate::log_writer::LogWriter;
 use crate::printing::{program, say};
 use ctf_bits::ToWrite;
@@ -23,7 +22,7 @@ where
     E: Write + Drop,
     ensures status { (result ≡ 0) ⊎ (result ≡ 1) }
 {
-    let mut messages = ToWrite::new(Retrying::new(err));
+    let mut messages = ToWrite::new(err);
     let words = match words(rt) {
         Ok(words) => words,
         Err(usage) => return say(usage.text(), &mut messages),

@@ -1,8 +1,7 @@
-use Rattle.std.proofs.Common.{unwrap_or, [], ap, ◌∙◌}
 use Rattle.ctf_cli.proofs.Settled.{all_passed}
 use Rattle.ctf_cli.proofs.log_writer.LogWriter.close.Goals as goal
 
 pub returns-clause-settled : goal.returns-clause-settled
 returns-clause-settled g c = λ nothing.
     let log = c.args.self in
-    ap (λ inner. unwrap_or (g.O.Write.contents inner) []) c.into_inner.ensures ∙ all_passed (g.O.Write.contents log.writer) log.held.bytes nothing
+    all_passed (g.O.Write.contents log.writer) log.held.bytes nothing

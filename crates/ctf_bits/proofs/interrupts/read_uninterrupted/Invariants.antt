@@ -1,6 +1,6 @@
 use Rattle.std.proofs.Common.{◌≡◌, length}
 use Rattle.std.specs.Io.KnownBytes.{Keeps}
-use Rattle.ctf_cli.proofs.interrupts.read_uninterrupted.Given as goal
+use Rattle.ctf_bits.proofs.interrupts.read_uninterrupted.Given as goal
 
 abbrev pub invariant-loop : goal.invariant-loop
 invariant-loop g l = (length l.buf ≡ length l.initial.buf) × Keeps (g.R.Read.remaining l.initial.reader) (g.R.Read.remaining l.reader)
