@@ -38,6 +38,7 @@ fits (negsuc n) = nat_lt n (2 ^ 63)
 abbrev pub time_of : Line → ℕ → Option ℤ
 time_of line value = let time = nanoseconds line value in if fits time then Some time else None
 
+-- a value with its time, where there is one
 abbrev pub with_time : ℕ → Option ℤ → Option Moment
 with_time value None = None
 with_time value (Some time) = Some (record { cycles = value; time = time })

@@ -27,7 +27,8 @@ pub fn discarded_between(width: Width, before: u64, now: u64) -> Option<u64>
 }
 
 /// How many packets were lost between two with these sequence numbers, of `width` bits each; `None`
-/// where none was, and where the number went back.
+/// where none was, and where the number went back, that is more than half of all numbers on: so a jump
+/// forward of more than half gives `None` too.
 pub fn lost_between(width: Width, before: u64, now: u64) -> Option<u64>
     ensures { result ≡ counting.lost_between width before now }
 {

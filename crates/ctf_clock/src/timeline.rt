@@ -10,6 +10,7 @@ use crate::moment::{Moment, Shift};
 use ctf_class::{Clock, Frequency, Width};
 use std::marker::Model;
 
+/// Nanoseconds in a second.
 const NANOS_A_SECOND: i128 = 1_000_000_000;
 
 /// How the cycles of a clock become nanoseconds since the epoch (CTF 1.8.3, section 8). Contracts see
@@ -63,13 +64,7 @@ impl Timeline {
         ensures { result ≡ clocks.time_of self.now cycles }
     {
         let time = self.start + nanos_of(self.offset, cycles, self.frequency);
-        if time < i128::from(i64::MIN) {
-            return None;
-        }
-        if time > i128::from(i64::MAX) {
-            return None;
-        }
-        Some(time as i64)
+        i64::try_from(time).ok()
     }
 
     /// The moment at a value of the clock. `None` exactly where its time has more than 64 bits.

@@ -6,7 +6,7 @@ use Rattle.std.proofs.Math.Nat.{mod_self, pow-suc}
 use Rattle.std.proofs.Math.Seq.{drop-cons}
 use Rattle.std.proofs.lemmas.Bool.{le-ltb}
 use Rattle.std.proofs.lemmas.List.{append-nil, get_or-take, get_or-drop}
-use Rattle.std.proofs.lemmas.Nat.{pow_pos}
+use Rattle.std.proofs.lemmas.Nat.{pow_pos, div-add-mod'}
 use Rattle.ctf_bits.specs.declared.number.Order.{Order}
 use Rattle.ctf_bits.specs.declared.number.Order.TheVariants.{Le, Be}
 use Rattle.ctf_bits.specs.Number.{number, signed_number}
@@ -133,6 +133,18 @@ pub octet_is : (class : Class) (i : Integer) → class.kind ≡ kind.Integer i �
 octet_is class i is power small size sign =
     let whole = form-is class ∙ ap (λ k. shape k class.align) is ∙ shape-Integer i class.align in
     subst IsOctet (sym whole) (divides_byte class.align power small, ap (λ n. max 1 n) size, sign)
+
+-- what divides a byte is no more than a byte
+no_more : (q a : ℕ) → q * a ≡ 8 → a ≤ 8
+no_more zero a e = absurd (omega (arith, e))
+no_more (suc q) a e = omega (arith, e)
+
+-- the alignment of a class that is a byte
+pub octet_small : (class : Class) (i : Integer) → class.kind ≡ kind.Integer i → IsOctet (form class) → class.align ≤ 8
+octet_small class i is octet =
+    let whole = form-is class ∙ ap (λ k. shape k class.align) is ∙ shape-Integer i class.align in
+    let divides = subst IsOctet whole octet in
+    no_more (8 / class.align) class.align (omega (arith, div-add-mod' 8 class.align, divides.0))
 
 -- elements that are bytes see no field
 pub octets_alone : (c : Input) (k : Form) (around other : Env) (n : ℕ) (done : List Val) (p s : ℕ) → IsOctet k → repeat (walk k c around) n done p s ≡ repeat (walk k c other) n done p s

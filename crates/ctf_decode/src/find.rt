@@ -43,10 +43,7 @@ fn down<'a>(steps: &[u32], value: &'a Value) -> Option<&'a Value>
         let Value::Group(members) = at else {
             return None;
         };
-        match nth(members.as_slice(), *step as usize) {
-            Some(member) => at = member,
-            None => return None,
-        }
+        at = nth(members.as_slice(), *step as usize)?;
     }
     Some(at)
 }
@@ -75,16 +72,12 @@ fn member<'a>(members: &'a [Value], first: usize, rest: &[u32]) -> Option<&'a Va
     ensures { option_map val (option_copied result) ≡
         option_and_then (values.down rest.now) (option_map val (slice_get members.now first)) }
 {
-    if first < members.len() {
-        down(rest, &members[first])
-    } else {
-        None
-    }
+    down(rest, members.get(first)?)
 }
 
 /// The value that a route leads to, if there is one.
 #[tactic(auto, unfolding(crate::specs::Routes::found))]
-pub fn find<'a>(route: &Route, scopes: &'a Scopes, frame: &'a Frame<'a>) -> Option<&'a Value>
+pub(crate) fn find<'a>(route: &Route, scopes: &'a Scopes, frame: &'a Frame<'a>) -> Option<&'a Value>
     ensures { option_map val (option_copied result) ≡
         routes.found route.now (earlier scopes.now) (env frame.now) }
 {
@@ -101,10 +94,7 @@ pub fn length_at(length: &Length, scopes: &Scopes, frame: &Frame<'_>) -> u64
 {
     match length {
         Length::Fixed(count) => *count,
-        Length::Field(route) => match find(route, scopes, frame) {
-            Some(value) => number_of(value),
-            None => 0,
-        },
+        Length::Field(route) => find(route, scopes, frame).map_or(0, number_of),
     }
 }
 

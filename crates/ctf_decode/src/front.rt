@@ -52,10 +52,7 @@ pub fn decode_front(
 {
     let content = 8 * front.len() as u64;
     match decode(alloc, class, front, start, content, scopes) {
-        Ok(decoded) => Ok(Front::Done(decoded)),
         Err(DecodeFault::ContentEnds(bits)) => Ok(Front::Need(bits)),
-        Err(DecodeFault::NoOption) => Err(DecodeFault::NoOption),
-        Err(DecodeFault::TooManyValues) => Err(DecodeFault::TooManyValues),
-        Err(DecodeFault::NoMemory) => Err(DecodeFault::NoMemory),
+        decoded => Ok(Front::Done(decoded?)),
     }
 }

@@ -133,6 +133,7 @@ fn number_in(class: &Class, value: &Value, last: &mut Option<i128>)
     }
 }
 
+/// Keeps the number of an unsigned value; of another value, the last one stays.
 fn unsigned_in(value: &Value, last: &mut Option<i128>)
     ensures { last.new ≡ last_or last.old (fields.unsigned_in (val value.now)) }
 {
@@ -141,6 +142,7 @@ fn unsigned_in(value: &Value, last: &mut Option<i128>)
     }
 }
 
+/// Keeps the number of a signed value; of another value, the last one stays.
 fn signed_in(value: &Value, last: &mut Option<i128>)
     ensures { last.new ≡ last_or last.old (fields.signed_in (val value.now)) }
 {
@@ -149,6 +151,7 @@ fn signed_in(value: &Value, last: &mut Option<i128>)
     }
 }
 
+/// Keeps the number of an enumeration; of another value, the last one stays.
 fn label_in(value: &Value, last: &mut Option<i128>)
     ensures { last.new ≡ last_or last.old (fields.label_in (val value.now)) }
 {

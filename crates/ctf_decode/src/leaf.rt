@@ -17,7 +17,7 @@ use ctf_class::{Align, Integer};
 
 /// Makes the integer at a place the value.
 #[inline(always)]
-pub fn integer_into(
+pub(crate) fn integer_into(
     integer: &Integer,
     align: Align,
     packet: &Packet<'_>,
@@ -56,7 +56,7 @@ pub fn integer_into(
 
 /// Makes the enumeration at a place the value.
 #[inline(always)]
-pub fn enumeration_into(
+pub(crate) fn enumeration_into(
     container: &Integer,
     align: Align,
     packet: &Packet<'_>,
@@ -94,7 +94,7 @@ pub fn enumeration_into(
 }
 
 /// Makes an unsigned number the value. A value of this kind is changed in place.
-pub fn put_unsigned(value: &mut Value, number: u64)
+pub(crate) fn put_unsigned(value: &mut Value, number: u64)
     ensures { val value.new ≡ unsigned number }
 {
     if let Value::Unsigned(old) = value {
@@ -104,6 +104,7 @@ pub fn put_unsigned(value: &mut Value, number: u64)
     new_unsigned(value, number);
 }
 
+/// Puts an unsigned number in place of a value of another kind.
 #[cold]
 #[inline(never)]
 fn new_unsigned(value: &mut Value, number: u64)
@@ -123,6 +124,7 @@ fn put_signed(value: &mut Value, number: i64)
     new_signed(value, number);
 }
 
+/// Puts a signed number in place of a value of another kind.
 #[cold]
 #[inline(never)]
 fn new_signed(value: &mut Value, number: i64)
@@ -142,6 +144,7 @@ fn put_label(value: &mut Value, number: i128)
     new_label(value, number);
 }
 
+/// Puts an enumeration's number in place of a value of another kind.
 #[cold]
 #[inline(never)]
 fn new_label(value: &mut Value, number: i128)

@@ -14,7 +14,8 @@ use ctf_list::NoMemory;
 use std::alloc::Global;
 
 /// The width in bits and the unsigned number of each integer of a value that sets the clock, in the order
-/// of decoding. A part of the value that is no value of its class gives nothing.
+/// of decoding. A part of the value that is no value of its class gives nothing, nor does a number that its
+/// width does not hold.
 pub fn moving(alloc: Global, class: &Class, value: &Value) -> Result<Vec<(u32, u64)>, NoMemory>
     ensures value { IfOk result
         (λ found. found.items ≡ fields.moved (form class.now) (val value.now)) }
@@ -167,6 +168,7 @@ fn put_integer(
     }
 }
 
+/// Puts an unsigned number, if the value is one and so many bits hold it.
 fn put_unsigned(size: Width, value: &Value, found: &mut Vec<(u32, u64)>) -> Result<(), NoMemory>
     requires stamps { All IsStamp found.old.items }
     ensures value { IfOk result
@@ -198,6 +200,7 @@ fn put_number(size: Width, number: u64, found: &mut Vec<(u32, u64)>) -> Result<(
     Ok(())
 }
 
+/// Puts the bits of a signed number, if the value is one and so many hold it.
 fn put_signed(size: Width, value: &Value, found: &mut Vec<(u32, u64)>) -> Result<(), NoMemory>
     requires stamps { All IsStamp found.old.items }
     ensures value { IfOk result

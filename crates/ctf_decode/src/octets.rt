@@ -1,6 +1,6 @@
 //! Arrays of bytes: they are copied at once, where other elements are decoded one by one.
 
-ghost use Rattle.std.specs.Prelude.{◌≡◌, ◌+◌, ◌*◌, ◌/◌, ◌%◌, ◌≤◌, [], length, map, IsTrue, IfOk};
+ghost use Rattle.std.specs.Prelude.{◌≡◌, ◌↔◌, ◌+◌, ◌*◌, ◌/◌, ◌%◌, ◌≤◌, [], length, map, IsTrue, IfOk};
 ghost use Rattle.ctf_decode.specs.Values.{unsigned, list, vals_of};
 ghost use Rattle.ctf_decode.specs.Forms.{Form};
 ghost use Rattle.ctf_decode.specs.Input.{Env};
@@ -21,8 +21,8 @@ use std::alloc::{AllocError, Global};
 
 /// Whether each value of a class that begins at a byte is that byte's number, in either byte order.
 #[inline(always)]
-pub fn is_octet(class: &Class) -> bool
-    ensures { IsTrue result → IsOctet (form class.now) }
+pub(crate) fn is_octet(class: &Class) -> bool
+    ensures { IsTrue result ↔ IsOctet (form class.now) }
 {
     if let Kind::Integer(integer) = &class.kind {
         return integer.size.bits() == 8 && !integer.is_signed && class.align.bits() <= 8;
@@ -32,7 +32,7 @@ pub fn is_octet(class: &Class) -> bool
 
 /// Whether so many elements at a place are bytes, all in the content, and no value too many.
 #[inline(always)]
-pub fn are_octets(element: &Class, count: u64, packet: &Packet<'_>, at: &Cursor) -> bool
+pub(crate) fn are_octets(element: &Class, count: u64, packet: &Packet<'_>, at: &Cursor) -> bool
     requires start { at.now.end ≤ packet.now.content }
     requires spent { at.now.spent ≤ MOST_VALUES }
     ensures { IsTrue result →
@@ -46,7 +46,7 @@ pub fn are_octets(element: &Class, count: u64, packet: &Packet<'_>, at: &Cursor)
 
 /// Makes the array of so many bytes at a place, which lie in the content, the value.
 #[inline(always)]
-pub fn octets_into(
+pub(crate) fn octets_into(
     alloc: Global,
     count: u64,
     packet: &Packet<'_>,

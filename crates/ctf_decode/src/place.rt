@@ -30,7 +30,7 @@ pub enum Frame<'a> {
 
 /// What is around a value that is decoded: the packet, and the earlier members of the structures.
 #[derive(Clone, Copy)]
-pub struct Around<'a> {
+pub(crate) struct Around<'a> {
     /// What the memory of the value is taken from.
     pub alloc: Global,
     /// A copy and no reference, as each integer asks for its fields.
@@ -49,7 +49,7 @@ pub struct DecodeProgress {
 
 /// How far decoding has come. Calls hand it on in place: results of many words cost more than the values.
 #[derive(Drop)]
-pub struct Cursor {
+pub(crate) struct Cursor {
     /// The place where the last value ends, in bits from the packet's first one.
     pub end: u64,
     /// How many values were begun so far.
@@ -60,13 +60,13 @@ pub struct Cursor {
 
 /// No value was decoded. The cursor has the fault.
 #[derive(Clone, Copy)]
-pub struct Stopped;
+pub(crate) struct Stopped;
 
 impl Cursor {
     /// Stops for a fault.
     #[cold]
     #[inline(never)]
-    pub fn stop(&mut self, fault: DecodeFault) -> Stopped
+    pub(crate) fn stop(&mut self, fault: DecodeFault) -> Stopped
         ensures { self.new.fault ≡ fault }
     {
         self.fault = fault;
@@ -76,7 +76,7 @@ impl Cursor {
     /// Stops for a place, in bits, that the content does not reach.
     #[cold]
     #[inline(never)]
-    pub fn stop_beyond(&mut self, end: u64) -> Stopped
+    pub(crate) fn stop_beyond(&mut self, end: u64) -> Stopped
         ensures { self.new.fault ≡ ContentEnds end }
     {
         self.stop(DecodeFault::ContentEnds(u128::from(end)))
@@ -85,7 +85,7 @@ impl Cursor {
     /// Stops where an allocation fails.
     #[cold]
     #[inline(never)]
-    pub fn stop_refused(&mut self) -> Stopped
+    pub(crate) fn stop_refused(&mut self) -> Stopped
         ensures { self.new.fault ≡ NoMemory }
     {
         self.stop(DecodeFault::NoMemory)
@@ -94,7 +94,7 @@ impl Cursor {
     /// Stops for a tag that chooses no option.
     #[cold]
     #[inline(never)]
-    pub fn stop_unchosen(&mut self) -> Stopped
+    pub(crate) fn stop_unchosen(&mut self) -> Stopped
         ensures { self.new.fault ≡ NoOption }
     {
         self.stop(DecodeFault::NoOption)
@@ -103,7 +103,7 @@ impl Cursor {
     /// Stops for too many values.
     #[cold]
     #[inline(never)]
-    pub fn stop_full(&mut self) -> Stopped
+    pub(crate) fn stop_full(&mut self) -> Stopped
         ensures { self.new.fault ≡ TooManyValues }
     {
         self.stop(DecodeFault::TooManyValues)
@@ -111,7 +111,7 @@ impl Cursor {
 }
 
 /// Where a field begins that is next after a place, both in bits.
-pub fn begin_at(place: u64, align: Align) -> u64
+pub(crate) fn begin_at(place: u64, align: Align) -> u64
     requires { place ≤ 2 ^ 62 }
     ensures value { result ≡ next_multiple_of place align }
     ensures bound { result < 2 ^ 63 }
@@ -120,7 +120,7 @@ pub fn begin_at(place: u64, align: Align) -> u64
 }
 
 /// Where a byte begins that is next after a place, both in bits.
-pub fn byte_at(place: u64) -> u64
+pub(crate) fn byte_at(place: u64) -> u64
     requires { place ≤ 2 ^ 62 }
     ensures value { result ≡ next_multiple_of place 8 }
     ensures bound { result < 2 ^ 63 }

@@ -18,7 +18,7 @@ use ctf_class::{Class, Kind, Member};
 /// holds for all of them is looked at once: that so many values may be begun, and that there are bytes after the
 /// content, so that each integer has a whole word.
 #[inline(always)]
-pub fn plain_members_into(
+pub(crate) fn plain_members_into(
     members: &[Member],
     packet: &Packet<'_>,
     at: &mut Cursor,
@@ -51,7 +51,7 @@ fn is_padded(packet: &Packet<'_>) -> bool
     ensures { IsTrue result → packet.now.content + 64 ≤ 8 * length packet.now.bytes.now }
 {
     // As many bytes as the content takes, rounded up, and eight.
-    (packet.content + 71) / 8 <= packet.bytes.len() as u64
+    packet.content.div_ceil(8) + 8 <= packet.bytes.len() as u64
 }
 
 /// Makes the first members of a structure the values, as far as they are plain. How many these are, and where the

@@ -7,7 +7,7 @@ use ctf_list::List;
 use std::alloc::AllocError;
 
 /// Keeps so many values, or puts as many there. Mostly there are as many.
-pub fn with_room(values: &mut List<Value>, count: usize) -> Result<(), AllocError>
+pub(crate) fn with_room(values: &mut List<Value>, count: usize) -> Result<(), AllocError>
     ensures { IfOk result (λ _. length values.new ≡ count) }
 {
     if values.len() == count {

@@ -148,7 +148,8 @@ impl Scopes {
         }
     }
 
-    /// Leaves the values of the packet alone. The memory of those of an event record is kept.
+    /// Leaves the values of the packet alone, and starts counting anew: none was begun. The memory of those of an event
+    /// record is kept.
     pub fn leave_record(&mut self)
         ensures { self.new ≡ without_record self.old }
     {
@@ -159,7 +160,7 @@ impl Scopes {
         self.spent = 0;
     }
 
-    /// How many values were begun before, at most `MOST_VALUES`.
+    /// Sets how many values were begun before, at most `MOST_VALUES`.
     pub fn set_spent(&mut self, spent: u64)
         requires { spent ≤ MOST_VALUES }
         ensures { self.new ≡ with_spent self.old spent }

@@ -29,7 +29,8 @@ fn text_into(alloc: Global, bytes: &[u8], value: &mut Value) -> Result<(), Alloc
     Ok(())
 }
 
-/// The whole bytes of a packet from a place to its content's end, both in bits from its first one.
+/// As many bytes of a packet as are whole between the bit `begin` and the content's end, both counted from its first
+/// bit: from the byte on that has the bit `begin`.
 #[inline(always)]
 pub fn bytes_from(packet: &[u8], content: u64, begin: u64) -> &[u8]
     requires begin { begin ≤ content }
@@ -52,7 +53,7 @@ pub fn zero_in(bytes: &[u8]) -> Option<usize>
 
 /// Makes the string at a place the value.
 #[tactic(auto, unfolding(crate::specs::Walk::string_at))]
-pub fn string_into(
+pub(crate) fn string_into(
     alloc: Global,
     packet: &Packet<'_>,
     at: &mut Cursor,
@@ -96,7 +97,7 @@ pub fn before_zero(bytes: &[u8]) -> &[u8]
     }
 }
 
-/// The `count` bytes of a packet from the bit `begin` on, counted from its first one.
+/// The `count` bytes of a packet from the byte on that has the bit `begin`, counted from its first one.
 #[inline(always)]
 pub fn bytes_at(packet: &[u8], begin: u64, count: u64) -> &[u8]
     requires { begin + 8 * count ≤ 8 * length packet.now }
@@ -107,7 +108,7 @@ pub fn bytes_at(packet: &[u8], begin: u64, count: u64) -> &[u8]
 }
 
 /// Makes the text of so many bytes at a place the value.
-pub fn characters_into(
+pub(crate) fn characters_into(
     alloc: Global,
     count: u64,
     packet: &Packet<'_>,

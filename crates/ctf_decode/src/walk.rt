@@ -23,7 +23,7 @@ use std::mem;
 
 /// Makes the value of a class at a place the value.
 #[cycle(walk)]
-pub fn value_into(
+pub(crate) fn value_into(
     class: &Class,
     around: &Around<'_>,
     at: &mut Cursor,
@@ -70,7 +70,7 @@ pub fn value_into(
 
 /// Decodes the value of a scope in place of another. Mostly it is a structure, so that is looked at first.
 #[inline(always)]
-pub fn scope_into(
+pub(crate) fn scope_into(
     class: &Class,
     around: &Around<'_>,
     at: &mut Cursor,

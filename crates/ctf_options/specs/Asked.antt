@@ -36,6 +36,7 @@ clock_of true true seconds = None
 clock_of true false true = None
 clock_of false true true = None
 
+-- the number that a text writes, and 0 where none is given
 abbrev pub integer_or_zero : Option (List ℕ) → Option ℤ
 integer_or_zero None = Some (pos 0)
 integer_or_zero (Some text) = integer_in text
@@ -71,6 +72,7 @@ abbrev pub IsEnd : TimeZone → Option (List ℕ) → Option ℤ → Type 0
 IsEnd zone None instant = instant ≡ None
 IsEnd zone (Some text) instant = IsSomeAnd instant (Names zone text)
 
+-- there is a text, and it names no instant
 abbrev pub IsNoEnd : TimeZone → Option (List ℕ) → Type 0
 IsNoEnd zone None = ⊥
 IsNoEnd zone (Some text) = NamesNone zone text

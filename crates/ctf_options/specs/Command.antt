@@ -33,6 +33,7 @@ dirs_rule = record (new_rule (codes "dirs")) {
   required = true;
 }
 
+-- a command with further arguments
 abbrev pub with_rules : App → List Rule → App
 with_rules app [] = app
 with_rules app (rule ∷ rules) = with_rules (with_rule app rule) rules
@@ -76,16 +77,19 @@ is_help word =
 abbrev pub asks_help : List (List ℕ) → Bool
 asks_help words = list_any is_help (drop 1 words)
 
--- the folders, of which there are 1,024 at the most
+-- how many folders there may be
 abbrev pub MOST : ℕ
 MOST = 1024
 
+-- the folders that matches give
 abbrev pub AreDirs : List Row → List (List ℕ) → Type 0
 AreDirs rows dirs = (all_of (codes "dirs") rows ≡ Some dirs) × (length dirs ≤ MOST)
 
+-- no folder is given, or there are too many
 abbrev pub AreNoDirs : List Row → Type 0
 AreNoDirs rows = IfSome (all_of (codes "dirs") rows) (λ dirs. MOST < length dirs)
 
+-- the zone that matches give
 abbrev pub IsZoneOf : List Row → TimeZone → Type 0
 IsZoneOf rows = IsZone (is_flag (codes "clock-gmt") rows) (first_of (codes "zone") rows)
 

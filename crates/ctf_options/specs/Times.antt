@@ -18,6 +18,7 @@ fraction_in digits =
     option_map (λ n. n * 10 ^ (9 - length digits)) (number_in digits)
     else None
 
+-- what is before the dot, with the nanoseconds after it, out of both parts; without parts the text
 abbrev pub with_fraction : List ℕ → Option (List ℕ × List ℕ) → Option (List ℕ × ℕ)
 with_fraction text None = Some (text, 0)
 with_fraction text (Some parts) = option_map (λ nanos. (parts.0, nanos)) (fraction_in parts.1)
@@ -52,6 +53,7 @@ second_in hour minute text = option_and_then (λ parts.
     option_map (λ second. record { hour = hour; minute = minute; second = second; nanos = parts.1 })
     (number_of 2 parts.0)) (dotted text)
 
+-- mm, or what is before and after the next colon: mm and ss or ss.F
 abbrev pub minute_in : ℕ → List ℕ → Option (List ℕ × List ℕ) → Option TimeOfDay
 minute_in hour text None =
     option_map (λ minute. record { hour = hour; minute = minute; second = 0; nanos = 0 })

@@ -1,6 +1,6 @@
 //! Points in time that words of a command line name.
 
-ghost use Rattle.std.specs.Prelude.{◌≡◌, ◌<◌, ◌*◌, ◌^◌, pos, MatchOption, MatchResult, None, Some, IfSome, IsSomeAnd, IfOk, IfErr};
+ghost use Rattle.std.specs.Prelude.{◌≡◌, ◌<◌, ◌*◌, ◌^◌, MatchOption, MatchResult, None, Some, IfSome};
 ghost use Rattle.ctf_options.specs.Times as times;
 
 use crate::civil::civil;
@@ -12,6 +12,7 @@ use std::alloc::Global;
 /// The digits after a dot, at most: they count nanoseconds.
 const MOST_DIGITS: usize = 9;
 
+/// Nanoseconds in a second.
 const SECOND: u128 = 1_000_000_000;
 
 /// The nanoseconds that the digits after a dot write.

@@ -31,7 +31,7 @@ stamp_by Cycles zone moment = last_digits 20 moment.cycles
 abbrev pub stamp : Style → Moment → List ℕ
 stamp style moment = stamp_by style.clock style.zone moment
 
--- the time since the printed event before, where there is one
+-- the time since the printed event before, where there is one; with `+` also where it is later
 unfoldable pub delta_text : Option ℤ → ℤ → List ℕ
 delta_text None time = codes "+?.?????????"
 delta_text (Some before) time = codes "+" ++ seconds_text (unsigned_abs (time -ℤ before))

@@ -3,7 +3,7 @@
 ghost use Rattle.std.specs.Prelude.{◌≡◌, ◌+◌, ◌<◌, ◌≤◌, ◌++◌, length, codes, take, IfSome, Some};
 ghost use Rattle.ctf_timestamp.specs.Digits.{last_digits};
 ghost use Rattle.ctf_timestamp.specs.Putting.{IsPut};
-ghost use Rattle.ctf_timestamp.specs.Stamps.{stamp, stamp_part, stamp_by, delta_part, delta_text, signed_seconds, fraction, head_at};
+ghost use Rattle.ctf_timestamp.specs.Stamps.{stamp, stamp_part, delta_part, delta_text, signed_seconds, fraction, head_at};
 ghost use Rattle.ctf_timestamp.specs.Civil.{second_of, within_second};
 ghost use Rattle.ctf_timestamp.specs.Zones.{civil_at};
 
@@ -18,8 +18,18 @@ use std::marker::Model;
 /// The room that a stamp may need, in bytes.
 pub const MOST_STAMP: usize = 32;
 
-/// The room that the beginning of a line may need, in bytes.
+/// The room that the beginning of a line may need, in bytes: `[`, a stamp and its end take 69 at the most, rounded up
+/// to words of eight.
 pub const MOST_PART: usize = 72;
+
+/// The room that what follows a stamp may need, in bytes: `] (`, a time since another and `) `.
+const MOST_END: usize = 36;
+
+/// A bound of the bytes of seconds with a sign: the sign, 20 digits, a dot and nine digits.
+const MOST_SIGNED: usize = 31;
+
+/// The room that seconds with a sign need while they are written: their last digits come as a word of four bytes.
+const SIGNED_ROOM: usize = 32;
 
 /// The bytes of `hh:mm:ss`.
 const CLOCK: usize = 8;
@@ -53,6 +63,7 @@ struct KeptStamp {
 impl Model for Stamper {
     ghost use Rattle.std.specs.Prelude.{◌≡◌, ◌≤◌, IfSome, take};
     ghost use Rattle.ctf_timestamp.specs.declared.style.Style.{Style as PlainStyle};
+    ghost use Rattle.ctf_timestamp.specs.declared.civil.TheConstants.{MOST_HEAD};
     ghost use Rattle.ctf_timestamp.specs.Civil.{second_of, within_second};
     ghost use Rattle.ctf_timestamp.specs.Stamps.{IsHeadOf};
 
@@ -60,7 +71,7 @@ impl Model for Stamper {
 
     ghost view = { λ stamper. stamper.style };
 
-    ghost invariant = { λ stamper. (stamper.length ≤ 19)
+    ghost invariant = { λ stamper. (stamper.length ≤ MOST_HEAD)
         × IfSome stamper.start (λ start. (within_second start ≡ 0)
         × IsHeadOf stamper.style (second_of start) (take stamper.length stamper.text)) };
 }
@@ -116,7 +127,8 @@ impl Stamper {
 
     /// Writes the beginning of a line at an index, and gives the index after it: the stamp of the line's moment in
     /// brackets and, where the style has it, the time since `last` in parentheses, which is in nanoseconds since the
-    /// epoch. Nothing for a line without a moment.
+    /// epoch. A `last` after the moment is printed as one that is as far before it, with `+`. Nothing for a line
+    /// without a moment.
     #[inline(always)]
     pub fn put_part(
         &mut self,
@@ -147,7 +159,7 @@ impl Stamper {
     #[inline(always)]
     fn stamp_if_kept(&self, moment: Moment) -> Option<KeptStamp>
         ensures stamp { IfSome result
-            (λ kept. take 8 kept.text ++ (codes "." ++ last_digits 9 kept.nanos) ≡
+            (λ kept. take CLOCK kept.text ++ (codes "." ++ last_digits 9 kept.nanos) ≡
             stamp self.now moment) }
         ensures nine { IfSome result (λ kept. kept.nanos < 1000000000) }
     {
@@ -184,10 +196,10 @@ impl Stamper {
     #[inline(always)]
     #[tactic(auto, using(crate::proofs::Groups::digits_long))]
     fn put_end(&self, last: Option<i64>, time: i64, line: &mut [u8], at: usize) -> usize
-        requires { at + 36 ≤ length line.old }
+        requires { at + MOST_END ≤ length line.old }
         ensures put { IsPut line.old line.new at result
             (codes "] " ++ delta_part self.now last time) }
-        ensures short { result ≤ at + 36 }
+        ensures short { result ≤ at + MOST_END }
     {
         if !self.style.delta {
             return put_two(b']', b' ', line, at);
@@ -225,10 +237,10 @@ fn short_since(last: Option<i64>, time: i64) -> Option<u32>
 #[cold]
 #[inline(never)]
 fn put_any_delta(last: Option<i64>, time: i64, line: &mut [u8], at: usize) -> usize
-    requires { at + 36 ≤ length line.old }
+    requires { at + MOST_END ≤ length line.old }
     ensures put { IsPut line.old line.new at result
         (codes "] (" ++ (delta_text last time ++ codes ") ")) }
-    ensures short { result ≤ at + 36 }
+    ensures short { result ≤ at + MOST_END }
 {
     let at = put_bytes(b"] (", line, at);
     let at = put_delta(last, time, line, at);
@@ -293,9 +305,9 @@ fn start_to_keep(nanos: u32, time: i64) -> Option<i64>
 
 /// Writes the seconds since the epoch.
 fn put_signed(time: i64, line: &mut [u8], at: usize) -> usize
-    requires { at + 32 ≤ length line.old }
+    requires { at + SIGNED_ROOM ≤ length line.old }
     ensures put { IsPut line.old line.new at result (signed_seconds time) }
-    ensures short { result ≤ at + 31 }
+    ensures short { result ≤ at + MOST_SIGNED }
 {
     if time < 0 {
         let at = put_byte(b'-', line, at);
@@ -306,9 +318,9 @@ fn put_signed(time: i64, line: &mut [u8], at: usize) -> usize
 
 /// Writes the time since the one before.
 fn put_delta(last: Option<i64>, time: i64, line: &mut [u8], at: usize) -> usize
-    requires { at + 32 ≤ length line.old }
+    requires { at + SIGNED_ROOM ≤ length line.old }
     ensures put { IsPut line.old line.new at result (delta_text last time) }
-    ensures short { result ≤ at + 31 }
+    ensures short { result ≤ at + MOST_SIGNED }
 {
     let Some(before) = last else {
         return put_bytes(b"+?.?????????", line, at);

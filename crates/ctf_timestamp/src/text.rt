@@ -21,8 +21,8 @@ pub fn append_stamp(text: &mut Vec<u8>, style: &Style, moment: Moment) -> Result
 }
 
 /// Appends the beginning of a line: the stamp of its moment in brackets and, where the style has it, the time since
-/// `last` in parentheses, which is in nanoseconds since the epoch. Nothing for a line without a moment. Where an
-/// allocation fails the text is as it was.
+/// `last` in parentheses, which is in nanoseconds since the epoch. A `last` after the moment is printed as one that is
+/// as far before it, with `+`. Nothing for a line without a moment. Where an allocation fails the text is as it was.
 pub fn append_part(
     text: &mut Vec<u8>,
     style: &Style,

@@ -13,8 +13,11 @@ pub struct Trim {
 /// Where an item is relative to what is wanted.
 #[derive(Clone, Copy)]
 pub enum Verdict {
+    /// Its time is below the beginning.
     Before,
+    /// It is wanted: its time is between both, or it has none.
     Within,
+    /// Its time is above the end.
     After,
 }
 
@@ -27,13 +30,12 @@ impl Trim {
         let Some(time) = time else {
             return Verdict::Within;
         };
-        match self.end {
-            Some(end) if time > end => return Verdict::After,
-            _ => {}
+        if self.end.is_some_and(|end| time > end) {
+            return Verdict::After;
         }
-        match self.begin {
-            Some(begin) if time < begin => Verdict::Before,
-            _ => Verdict::Within,
+        if self.begin.is_some_and(|begin| time < begin) {
+            return Verdict::Before;
         }
+        Verdict::Within
     }
 }

@@ -97,9 +97,7 @@ impl Zone {
         ensures { result ≡ instant_in self.now civil }
     {
         let instants = self.to_jiff().to_ambiguous_timestamp(civil);
-        let Ok(instant) = instants.disambiguate(Disambiguation::Compatible) else {
-            return None;
-        };
+        let instant = instants.disambiguate(Disambiguation::Compatible).ok()?;
         i64::try_from(instant.as_nanosecond()).ok()
     }
 
