@@ -86,6 +86,11 @@ multiple_of a b small large below =
       | inr above ↦ subst (λ x. Q x b) (sym small.value) (subst (λ y. Q (2 ^ small.exponent) y) (sym large.value) (pow_multiple small.exponent large.exponent above))
     ]
 
+-- an alignment of a byte or more is one of whole bytes
+pub whole_bytes : (bits : ℕ) → IsAlignment bits → 8 ≤ bits → bits % 8 ≡ 0
+whole_bytes bits power above =
+    multiple_of 8 bits (record { exponent = 3; bounded = omega arith; value = refl }) power above
+
 pub other_is_larger : (one other : ℕ) → IsAlignment one → IsAlignment other → one < other → IsLarger other one other
 other_is_larger one other small large below = record {
   one_some = positive one small;

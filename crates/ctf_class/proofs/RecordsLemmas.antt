@@ -1,5 +1,5 @@
 -- Plans of event records that are made one field after the other.
-use Rattle.std.proofs.Common.{◌≡◌, ℕ, zero, suc, ◌+◌, ◌^◌, ◌<◌, ◌≤◌, max, List, [], ◌∷◌, ◌++◌, length, take, get_or, Option, Some, None, refl, sym, ap, subst, ◌∙◌, arith, append_assoc, append-nil}
+use Rattle.std.proofs.Common.{◌≡◌, ℕ, zero, suc, ◌+◌, ◌%◌, ◌^◌, ◌<◌, ◌≤◌, max, List, [], ◌∷◌, ◌++◌, length, take, get_or, Option, Some, None, refl, sym, ap, subst, ◌∙◌, arith, append_assoc, append-nil}
 use Rattle.std.proofs.lemmas.List.{take_more, length-take-le}
 use Rattle.ctf_class.specs.Alignment.{IsLarger}
 use Rattle.ctf_class.specs.Names.{field_text}
@@ -333,10 +333,10 @@ room_plain [] = refl
 room_plain (n ∷ ns) = ap (λ r. length n.ready + 66 + r) (room_plain ns)
 
 -- the numbers of one structure alone
-pub structure_made : (k : Class) (ms : List Member) (m : PlanBuilder) (values : ℕ) (several : Many) → k.kind ≡ kind.Structure ms → 0 < length ms → values ≡ 1 + length ms → m.runs ≡ [] → m.align ≡ k.align → IsMade (member_slots k.align ms) m
+pub structure_made : (k : Class) (ms : List Member) (m : PlanBuilder) (values : ℕ) (several : Many) → k.kind ≡ kind.Structure ms → 0 < length ms → values ≡ 1 + length ms → m.runs ≡ [] → m.align ≡ k.align → m.align % 8 ≡ 0 → IsMade (member_slots k.align ms) m
     → IsStructure k (record { align = m.align; numbers = m.numbers; has_special = have_special m.numbers; span = m.span; room = m.room; count = values; many = several })
-structure_made k ms m values several is some count none begins made =
+structure_made k ms m values several is some count none begins whole made =
     let full : made.full ≡ [] = sym (append-nil made.full) ∙ subst (λ rs. AreRuns (made.full ++ []) (rs ++ [])) none (made.whole [] [] refl) in
     let now : made.now ≡ member_slots k.align ms = sym (made.are ∙ ap (λ f. f ++ made.now) full) in
     let takes : TakesNumbers m.align made.now m.numbers m.span [] = subst (λ xs. TakesNumbers m.align xs m.numbers m.span []) (append-nil made.now) (made.last []) in
-    record { members = ms; is = is; begins = begins; some = some; count = count; numbers = subst (λ xs. TakesNumbers m.align xs m.numbers m.span []) now takes; room = made.room ∙ room_plain m.numbers; bounded = made.bounded; special = refl }
+    record { members = ms; is = is; begins = begins; whole = whole; some = some; count = count; numbers = subst (λ xs. TakesNumbers m.align xs m.numbers m.span []) now takes; room = made.room ∙ room_plain m.numbers; bounded = made.bounded; special = refl }

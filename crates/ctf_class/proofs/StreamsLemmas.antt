@@ -1,5 +1,5 @@
 -- Plans of event classes, found at their places.
-use Rattle.std.proofs.Common.{◌≡◌, ℕ, zero, suc, Bool, List, [], ◌∷◌, ◌++◌, Option, Some, None, IfSome, sym, ap, subst}
+use Rattle.std.proofs.Common.{◌≡◌, ℕ, zero, suc, Bool, List, [], ◌∷◌, ◌++◌, Option, Some, None, sym, ap, subst, ◌∙◌}
 use Rattle.std.specs.List.{find, position_from, slice_get}
 use Rattle.ctf_class.specs.declared.class.Class.{Class}
 use Rattle.ctf_class.specs.declared.record_plan.RecordPlan.{RecordPlan}
@@ -8,10 +8,17 @@ use Rattle.ctf_class.specs.Records.{IsPlanOf, scopes_of}
 use Rattle.ctf_class.specs.Streams.{ArePlans}
 use Rattle.ctf_class.proofs.PlacesLemmas.{find-at_place}
 
--- the item at the place of the first one that passes
-pub finds : {T : Type 0} (test : T → Bool) (items : List T) (r : Option ℕ) → r ≡ position_from test 0 items → IfSome r (λ place. slice_get items place ≡ find test items)
-finds test items None is = tt
-finds test items (Some place) is = sym (find-at_place test items place (sym is))
+-- the item at the place of the first one that passes, or none past the items
+pub finds : {T : Type 0} (test : T → Bool) (items : List T) (place : ℕ) (found : Option T) → Some place ≡ position_from test 0 items → slice_get items place ≡ found → found ≡ find test items
+finds test items place found is at = sym at ∙ sym (find-at_place test items place (sym is))
+
+-- each event class has a plan at its place
+pub has_plan : (shared : Option Class) (es : List EventClass) (ps : List RecordPlan) (i : ℕ) (e : EventClass) → ArePlans shared es ps → slice_get es i ≡ Some e → slice_get ps i ≡ None → ⊥
+has_plan shared [] [] i e are has_event no_plan = absurd (cc)
+has_plan shared [] (q ∷ ps) i e are has_event no_plan = absurd are
+has_plan shared (d ∷ es) [] i e are has_event no_plan = absurd are
+has_plan shared (d ∷ es) (q ∷ ps) zero e are has_event no_plan = absurd (cc)
+has_plan shared (d ∷ es) (q ∷ ps) (suc i) e are has_event no_plan = has_plan shared es ps i e are.1 has_event no_plan
 
 -- the plan at the place of an event class is its own
 pub plan_at : (shared : Option Class) (es : List EventClass) (ps : List RecordPlan) (i : ℕ) (e : EventClass) (p : RecordPlan) → ArePlans shared es ps → slice_get es i ≡ Some e → slice_get ps i ≡ Some p → IsPlanOf (scopes_of shared e.context e.fields) p

@@ -129,7 +129,7 @@ pub record IsTagged (k : Class) (tag : HeaderTag) (plan : HeaderPlan) : Type 0 w
 
 -- what a plan says of headers of a class, by its tag
 abbrev pub IsChosenBy : Class → HeaderPlan → Option HeaderTag → Type 0
-IsChosenBy k plan None = AreIntegers k 0 1 plan.usual
+IsChosenBy k plan None = AreIntegers k 0 1 plan.usual × (plan.other ≡ None)
 IsChosenBy k plan (Some tag) = IsTagged k tag plan
 
 -- a tag is where its header begins, and before other integers

@@ -266,6 +266,7 @@ pub record IsStructure (k : Class) (s : Structures) : Type 0 where
   pub members : List Member
   pub is : k.kind ≡ kind.Structure members
   pub begins : s.align ≡ k.align
+  pub whole : s.align % 8 ≡ 0
   pub some : 0 < length members
   pub count : s.count ≡ 1 + length members
   pub numbers : TakesNumbers s.align (member_slots k.align members) s.numbers s.span []

@@ -10,8 +10,8 @@ use std::marker::Model;
 /// The exponent of the largest alignment.
 const LAST_EXPONENT: u32 = 31;
 
-/// An alignment in bits: a power of two from 1 to 2^31 (CTF 1.8.3, section 4.1.2). Contracts see the
-/// number.
+/// An alignment in bits: a power of two (CTF 1.8.3, section 4.1.2) from 1 to 2^31, a bound of this program's own.
+/// Contracts see the number.
 #[derive(Clone, Copy)]
 pub struct Align {
     bits: u32,

@@ -1,9 +1,6 @@
 //! The first places of names, sorted by the names.
 
 ghost use Rattle.std.specs.Prelude.{◌≡◌, IfOk};
-ghost use Rattle.std.specs.List.{position_from};
-ghost use Rattle.std.specs.BTreeMap.{get_by};
-ghost use Rattle.std.specs.Str.{bytes_eq};
 
 use crate::field_name::FieldName;
 use ctf_list::NoMemory;

@@ -1,6 +1,6 @@
 //! Event headers, as far as they are known before they are read.
 
-ghost use Rattle.std.specs.Prelude.{◌≡◌, ◌≤◌, ◌+◌, ◌%◌, ◌^◌, [], ◌∷◌, codes, pos, true, false, None, Some, if◌then◌else◌, IfSome, IsTrue, option_copied};
+ghost use Rattle.std.specs.Prelude.{◌≡◌, ◌≤◌, ◌+◌, ◌%◌, ◌^◌, [], ◌∷◌, codes, pos, true, false, None, IfSome, IsTrue, option_copied};
 ghost use Rattle.std.specs.Int.{next_multiple_of};
 ghost use Rattle.std.specs.Str.{bytes_eq};
 ghost use Rattle.ctf_class.specs.HeaderPlans.{IsHeaderPlan, IsHeaderPlanOf, AreIntegers, AreNear, Chooses, Follows, IsOption, IsRead, IsReading};
@@ -36,7 +36,7 @@ pub struct HeaderNumber {
 pub enum HeaderReading {
     Little(ShortInteger),
     Big(ShortInteger),
-    /// As one of more bits.
+    /// As an integer of any size.
     Long,
 }
 

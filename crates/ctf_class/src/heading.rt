@@ -72,10 +72,7 @@ impl Heading {
     pub fn host(&self) -> Option<&[u8]>
         ensures { option_copied result ≡ self.now.host }
     {
-        match &self.host {
-            Some(host) => Some(host.as_slice()),
-            None => None,
-        }
+        Some(self.host.as_ref()?.as_slice())
     }
 
     /// The name of the event class.

@@ -1,7 +1,7 @@
 //! Items that are found by their numbers.
 
-ghost use Rattle.std.specs.Prelude.{◌≡◌, ℕ, length, map, IsTrue, IfOk, IfSome, option_copied, slice_get};
-ghost use Rattle.std.specs.List.{range_with_len};
+ghost use Rattle.std.specs.Prelude.{◌≡◌, ◌==◌, ℕ, length, map, IsTrue, IfOk, option_copied, slice_get};
+ghost use Rattle.std.specs.List.{position_from, range_with_len};
 ghost use Rattle.ctf_class.specs.Items.{first_of_id, only_item};
 
 use crate::sorted::SortedPlaces;
@@ -66,11 +66,10 @@ impl<T: HasId> Indexed<T> {
         self.items.as_slice()
     }
 
-    /// Where the first item of a number is.
+    /// Where the first item of a number is, if there is one.
     #[inline(always)]
     pub fn place(&self, id: u64) -> Option<usize>
-        ensures { IfSome result (λ place. slice_get self.now place ≡
-            first_of_id T.id_of id self.now) }
+        ensures { result ≡ position_from (λ item. T.id_of item == id) 0 self.now }
     {
         self.places.at(id, self.items.len())
     }

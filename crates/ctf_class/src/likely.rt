@@ -1,7 +1,7 @@
 //! Where a number probably is among spans that are one after the other. These are guesses, of which contracts say only
 //! that they are ranks.
 
-ghost use Rattle.std.specs.Prelude.{◌<◌, ◌≤◌, IfSome};
+ghost use Rattle.std.specs.Prelude.{◌<◌, IfSome};
 
 /// The rank of the span that probably covers a number, of `count` spans one after the other. Mostly each is of one
 /// number and few are missing between them, so that the distance from the first number is the rank. `None` where that
@@ -11,9 +11,7 @@ pub fn rank_after(first: i128, number: i128, count: usize) -> Option<usize>
     requires { 0 < count }
     ensures { IfSome result (λ rank. rank < count) }
 {
-    let Ok(distance) = usize::try_from(number.wrapping_sub(first)) else {
-        return None;
-    };
+    let distance = usize::try_from(number.wrapping_sub(first)).ok()?;
     if distance / 2 >= count {
         return None;
     }

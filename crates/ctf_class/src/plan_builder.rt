@@ -1,6 +1,6 @@
 //! Plans of event records while they are built.
 
-ghost use Rattle.std.specs.Prelude.{◌≡◌, ◌+◌, ◌%◌, ◌∷◌, ◌++◌, [], ◌^◌, ◌<◌, ◌≤◌, ℕ, length, max, IsTrue, IsFalse, IfOk, IfSome, OnOk, option_copied};
+ghost use Rattle.std.specs.Prelude.{◌≡◌, ◌+◌, ◌%◌, ◌∷◌, ◌++◌, [], ◌^◌, ◌<◌, ◌≤◌, length, max, IsTrue, IsFalse, IfOk, IfSome, OnOk, option_copied};
 ghost use Rattle.std.specs.Int.{next_multiple_of};
 ghost use Rattle.ctf_class.specs.Alignment.{IsLarger};
 ghost use Rattle.ctf_class.specs.PlanBuilding.{AddsPiece, AddsPieces, IsMade, IsMadeOf, at_of, before_scope, slot_of, with_number, with_field};
@@ -13,13 +13,16 @@ use crate::class::{Class, Kind, Member};
 use crate::field_name::FieldName;
 use crate::integer::Integer;
 use crate::planned_number::{PlannedNumber, have_special, is_special};
-use crate::prepared_text::PreparedText;
+use crate::prepared_text::{PREPARED_HEAD, PreparedText};
 use crate::record_plan::{PlannedField, PlannedRun, RecordPlan};
 use crate::shown::shown_of;
 use ctf_bits::Window;
 use ctf_list::{List, NoMemory};
 use std::alloc::Global;
 use std::mem;
+
+/// How many bytes the number of an integer takes in a line at the most: `0b` and 64 digits.
+pub const LONGEST_NUMBER: usize = 66;
 
 /// How many bytes of a line a run may take where it gets one more number, so that buffers stay short.
 const MOST_ROOM: usize = 8192;
@@ -50,7 +53,9 @@ pub(crate) struct PlanBuilder {
     /// The alignment of the open run, and its numbers.
     pub(crate) align: Align,
     pub(crate) numbers: List<PlannedNumber>,
+    /// How many bits the numbers of the open run take.
     pub(crate) span: u64,
+    /// How many bytes of a line they take at the most, and `PREPARED_HEAD` more.
     pub(crate) room: usize,
     /// How many values the scopes so far have, and the structures that were gone into since.
     pub(crate) count: u32,
@@ -72,7 +77,7 @@ impl PlanBuilder {
             align: Align::one_bit(),
             numbers: List::new(alloc),
             span: 0,
-            room: 24,
+            room: PREPARED_HEAD,
             count: 0,
             ended: 0,
         }
@@ -404,7 +409,7 @@ impl PlanBuilder {
         ensures { OnOk result (self.new ≡ with_number self.old align number) }
     {
         let span = number.window.end();
-        let room = number.ready.len() + 66;
+        let room = number.ready.len() + LONGEST_NUMBER;
         self.numbers.push(number)?;
         self.align = align;
         self.span = span;
@@ -419,7 +424,7 @@ impl PlanBuilder {
         requires few { self.old.room ≤ 2 ^ 18 }
         ensures { OnOk result (self.new ≡ with_field self.old field) }
     {
-        let room = self.room + (field.ready.len() + 66);
+        let room = self.room + (field.ready.len() + LONGEST_NUMBER);
         let numbers = mem::replace(&mut self.numbers, List::new(alloc));
         self.runs.push(PlannedRun {
             align: self.align,
@@ -431,7 +436,7 @@ impl PlanBuilder {
         })?;
         self.align = Align::one_bit();
         self.span = 0;
-        self.room = 24;
+        self.room = PREPARED_HEAD;
         self.ended = 0;
         Ok(())
     }
@@ -442,7 +447,7 @@ fn after_ends(alloc: Global, ended: u32, text: &[u8]) -> Result<List<u8>, NoMemo
     ensures { IfOk result (λ lead. lead ≡ ends ended ++ text.now) }
 {
     let mut lead = List::new(alloc);
-    for i in 0..ended {
+    for _ in 0..ended {
         lead.extend_from_slice(b" }")?;
     }
     lead.extend_from_slice(text)?;
@@ -488,8 +493,5 @@ fn opened(alloc: Global, lead: &[u8], name: &FieldName) -> Result<List<u8>, NoMe
 fn with_members(count: u32, members: usize) -> Option<u32>
     ensures { IfSome result (λ sum. sum ≡ count + members) }
 {
-    let Ok(more) = u32::try_from(members) else {
-        return None;
-    };
-    count.checked_add(more)
+    count.checked_add(u32::try_from(members).ok()?)
 }

@@ -10,8 +10,8 @@ use ctf_list::NoMemory;
 use std::alloc::{AllocError, Global};
 use std::marker::Model;
 
-/// How many bytes of a text are written whatever its length is.
-const HEAD: usize = 24;
+/// How many bytes of a prepared text are written whatever its length is. A line needs so much room after the text.
+pub const PREPARED_HEAD: usize = 24;
 
 /// A text in words of eight bytes, so that it is written by whole words. The first three are in it, so that a
 /// short text is written at once: no jump depends on its length. Contracts see its bytes.
@@ -66,15 +66,15 @@ impl PreparedText {
         self.length
     }
 
-    /// Writes the text at an index of a line that has room for it and for 24 bytes more, and gives the
+    /// Writes the text at an index of a line that has room for it and for `PREPARED_HEAD` bytes more, and gives the
     /// index after it. What is after it in the line is unspecified.
     #[inline(always)]
     pub fn put(&self, line: &mut [u8], at: usize) -> usize
-        requires { at + length self.now + 24 ≤ length line.old }
+        requires { at + length self.now + PREPARED_HEAD ≤ length line.old }
         ensures end { result ≡ at + length self.now }
         ensures text { take result line.new ≡ take at line.old ++ self.now }
     {
-        if self.length > HEAD {
+        if self.length > PREPARED_HEAD {
             return self.put_long(line, at);
         }
         self.put_head(line, at);
@@ -84,22 +84,22 @@ impl PreparedText {
     /// Writes a text that is longer than the words that are in it.
     #[inline(never)]
     fn put_long(&self, line: &mut [u8], at: usize) -> usize
-        requires long { HEAD ≤ length self.now }
-        requires room { at + length self.now + 24 ≤ length line.old }
+        requires long { PREPARED_HEAD ≤ length self.now }
+        requires room { at + length self.now + PREPARED_HEAD ≤ length line.old }
         ensures end { result ≡ at + length self.now }
         ensures text { take result line.new ≡ take at line.old ++ self.now }
     {
         self.put_head(line, at);
-        put_each(self.rest.as_slice(), line, at + HEAD);
+        put_each(self.rest.as_slice(), line, at + PREPARED_HEAD);
         at + self.length
     }
 
     /// Writes the words that are in it. All are read before the first is written, so that two go at once.
     #[inline(always)]
     fn put_head(&self, line: &mut [u8], at: usize)
-        requires { at + HEAD ≤ length line.old }
+        requires { at + PREPARED_HEAD ≤ length line.old }
         ensures length { length line.new ≡ length line.old }
-        ensures text { (n : ℕ) → n ≤ HEAD → n ≤ length self.now →
+        ensures text { (n : ℕ) → n ≤ PREPARED_HEAD → n ≤ length self.now →
             take (at + n) line.new ≡ take at line.old ++ take n self.now }
     {
         let (first, second, third) = (self.first, self.second, self.third);
@@ -128,10 +128,7 @@ impl Clone for PreparedText {
 fn word_at(words: &[u64], i: usize) -> u64
     ensures { result ≡ get_or words.now i 0 }
 {
-    match words.get(i) {
-        Some(word) => *word,
-        None => 0,
-    }
+    words.get(i).copied().unwrap_or(0)
 }
 
 /// The words after the first three.

@@ -1,6 +1,6 @@
 //! What is known of event records before they are read.
 
-ghost use Rattle.std.specs.Prelude.{◌≡◌, ◌++◌, [], IsTrue, IfOk, option_copied};
+ghost use Rattle.std.specs.Prelude.{◌≡◌, [], IfOk, option_copied};
 ghost use Rattle.ctf_class.specs.Records.{IsPlanOf, scopes_of};
 
 use crate::align::Align;
@@ -33,16 +33,17 @@ pub struct PlannedRun {
     pub has_special: bool,
     /// How many bits the numbers take.
     pub span: u64,
-    /// How many bytes of a line its numbers take at the most, what is printed before its field, 66 after that, and 24
-    /// more.
+    /// How many bytes of a line its numbers take at the most, what is printed before its field, `LONGEST_NUMBER` after
+    /// that, and `PREPARED_HEAD` more.
     pub room: usize,
     pub field: Option<PlannedField>,
 }
 
 /// The fields of an event record's scopes after its header (CTF 1.8.3, section 6), one after the other, if all of them
 /// are integers, enumerations, strings, structures without members, texts and arrays of integers and of structures of
-/// integers whose length is fixed or the field before, or structures of such fields; else nothing, also where a text
-/// before a value has more than 1,024 bytes. The fields of a structure within are among those around it.
+/// integers whose length is fixed or the field before, or structures of such fields; else nothing, also where a scope
+/// has no members or a text before a value has more than 1,024 bytes. The fields of a structure within are among those
+/// around it.
 #[derive(Drop)]
 pub struct RecordPlan {
     pub runs: List<PlannedRun>,

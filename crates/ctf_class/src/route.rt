@@ -1,6 +1,6 @@
 //! Where lengths and tags are found.
 
-ghost use Rattle.std.specs.Prelude.{IsTrue};
+ghost use Rattle.std.specs.Prelude.{IsTrue, IsFalse};
 ghost use Rattle.ctf_class.specs.Records.{LeadsBefore};
 
 use ctf_list::List;
@@ -37,7 +37,8 @@ pub struct Route {
 impl Route {
     /// Whether the route leads to the member before that of an index in the innermost structure.
     pub fn leads_before(&self, index: usize) -> bool
-        ensures { IsTrue result → LeadsBefore self.now index }
+        ensures leads { IsTrue result → LeadsBefore self.now index }
+        ensures other { IsFalse result → LeadsBefore self.now index → ⊥ }
     {
         let Origin::Enclosing(out) = self.origin else {
             return false;

@@ -1,6 +1,6 @@
 //! Structures whose members are integers at fixed distances.
 
-ghost use Rattle.std.specs.Prelude.{◌≡◌, ◌+◌, ◌^◌, ◌++◌, ◌<◌, ◌≤◌, List, [], length, IsTrue, IfOk, IfSome};
+ghost use Rattle.std.specs.Prelude.{◌≡◌, ◌+◌, ◌%◌, ◌^◌, ◌++◌, ◌<◌, ◌≤◌, List, [], length, IsTrue, IfOk, IfSome};
 ghost use Rattle.ctf_class.specs.PlanBuilding.{IsMade};
 ghost use Rattle.ctf_class.specs.Records.{Slot, IsStructure, member_slots};
 ghost use Rattle.ctf_class.specs.declared.class.Kind as kinds;
@@ -24,7 +24,7 @@ pub struct Structures {
     pub has_special: bool,
     /// How many bits the numbers take.
     pub span: u64,
-    /// How many bytes of a line the numbers of one structure take at the most, and 24 more.
+    /// How many bytes of a line the numbers of one structure take at the most, and `PREPARED_HEAD` more.
     pub room: usize,
     /// How many values one structure has, itself among them.
     pub count: u64,
@@ -97,7 +97,8 @@ impl PlanBuilder {
         requires alone { self.runs ≡ [] }
         ensures is { (k : Class) (ms : List Member) → k.kind ≡ kinds.Structure ms →
             0 < length ms → count ≡ 1 + length ms → self.align ≡ k.align →
-            IsMade (member_slots k.align ms) self → IsStructure k result }
+            self.align % 8 ≡ 0 → IsMade (member_slots k.align ms) self →
+            IsStructure k result }
         ensures many { result.many ≡ many }
     {
         let PlanBuilder {

@@ -1,6 +1,6 @@
 //! Classes of events, streams and traces.
 
-ghost use Rattle.std.specs.Prelude.{◌≡◌, Some, IfOk, IfSome, option_copied};
+ghost use Rattle.std.specs.Prelude.{◌≡◌, ◌+◌, ◌<◌, ◌≤◌, length, Some, IfOk, IfSome, option_copied, option_map};
 ghost use Rattle.ctf_class.specs.HeaderPlans.{IsHeaderPlanOf};
 ghost use Rattle.ctf_class.specs.Items.{first_of_id, only_item};
 ghost use Rattle.ctf_class.specs.Records.{IsPlanOf, scopes_of};
@@ -155,7 +155,7 @@ impl StreamClass {
         parts: StreamParts,
         room: &mut PlanRoom,
     ) -> Result<StreamClass, NoMemory>
-        ensures { IfOk result (λ stream. stream ≡
+        ensures parts { IfOk result (λ stream. stream ≡
             record {
               id = parts.id;
               packet_context = parts.packet_context;
@@ -164,6 +164,7 @@ impl StreamClass {
               clock = parts.clock;
               events = parts.events;
             }) }
+        ensures less { room.new.left ≤ room.old.left }
     {
         let header_plan = header_plan(parts.event_header.as_ref());
         let event_context = parts.event_context.as_ref();
@@ -185,6 +186,8 @@ impl StreamClass {
     /// The first event class of an id, with the plan of its records.
     #[inline(always)]
     pub fn planned_event(&self, id: u64) -> Option<PlannedEvent<'_>>
+        ensures found { option_map (λ p. p.event.now) result ≡
+            first_of_id (λ event. event.id) id self.now.events }
         ensures event { IfSome result (λ p. first_of_id (λ event. event.id) id self.now.events ≡
             Some p.event.now) }
         ensures plan { IfSome result
@@ -214,6 +217,7 @@ impl StreamClass {
     /// The event class, where there is just one, with the plan of its records.
     #[inline(always)]
     pub fn planned_only(&self) -> Option<PlannedEvent<'_>>
+        ensures found { option_map (λ p. p.event.now) result ≡ only_item self.now.events }
         ensures event { IfSome result (λ p. only_item self.now.events ≡ Some p.event.now) }
         ensures plan { IfSome result
             (λ p. IsPlanOf (scopes_of self.now.event_context p.event.now.context p.event.now.fields)
@@ -235,10 +239,7 @@ impl StreamClass {
     pub fn packet_context(&self) -> Option<&Class>
         ensures { option_copied result ≡ self.now.packet_context }
     {
-        match &self.parts.packet_context {
-            None => None,
-            Some(front) => Some(front.class()),
-        }
+        Some(self.parts.packet_context.as_ref()?.class())
     }
 
     /// The class of the packet context, with what says something of the packet in it.
@@ -291,20 +292,14 @@ impl TraceClass {
     pub fn host(&self) -> Option<&[u8]>
         ensures { option_copied result ≡ self.now.host }
     {
-        match &self.host {
-            Some(host) => Some(host.as_slice()),
-            None => None,
-        }
+        Some(self.host.as_ref()?.as_slice())
     }
 
     /// The class of the packet header.
     pub fn packet_header(&self) -> Option<&Class>
         ensures { option_copied result ≡ self.now.packet_header }
     {
-        match &self.packet_header {
-            None => None,
-            Some(front) => Some(front.class()),
-        }
+        Some(self.packet_header.as_ref()?.class())
     }
 
     /// The class of the packet header, with what says something of the packet in it.
@@ -322,7 +317,8 @@ fn plans_of(
     events: &[EventClass],
     room: &mut PlanRoom,
 ) -> Result<List<RecordPlan>, NoMemory>
-    ensures { IfOk result (ArePlans (option_copied context.entry) events.now) }
+    ensures plans { IfOk result (ArePlans (option_copied context.entry) events.now) }
+    ensures less { room.new.left ≤ room.old.left }
 {
     let mut plans = List::new(alloc);
     for event in events {
@@ -339,8 +335,11 @@ fn plan_of(
     event: &EventClass,
     room: &mut PlanRoom,
 ) -> Result<RecordPlan, NoMemory>
-    ensures { IfOk result (IsPlanOf
+    ensures plan { IfOk result (IsPlanOf
         (scopes_of (option_copied context.entry) event.now.context event.now.fields)) }
+    ensures less { room.new.left ≤ room.old.left }
+    ensures paid { IfOk result (λ plan. 0 < length plan.runs →
+        room.new.left + event.now.fields.nodes ≤ room.old.left) }
 {
     let event_context = event.context();
     let fields = event.fields();
@@ -353,7 +352,8 @@ fn plan_of(
 
 /// How many classes a class has in it, if there is one.
 fn nodes_of(class: Option<&Class>) -> u32
-    ensures { (k : Class) → option_copied class.entry ≡ Some k → result ≡ k.nodes }
+    ensures some { (k : Class) → option_copied class.entry ≡ Some k → result ≡ k.nodes }
+    ensures none { option_copied class.entry ≡ None → result ≡ 0 }
 {
     match class {
         Some(class) => class.nodes,

@@ -2,7 +2,7 @@ use Rattle.std.proofs.Common.{◌++◌, ◌∷◌, [], ap, sym, ◌∙◌}
 use Rattle.ctf_class.proofs.RecordsLemmas.{ends_more}
 use Rattle.ctf_class.proofs.plan_builder.after_ends.Goals as goal
 
-pub loop-i-preserved : goal.loop-i-preserved
-loop-i-preserved c = record {
-  written = c.in_ok-extend_from_slice.ensures.ok ∙ ap (λ xs. xs ++ (32 ∷ 125 ∷ [])) c.loop-i.invariant.written ∙ sym (ends_more c.loop-i.i);
+pub loop-preserved : goal.loop-preserved
+loop-preserved c = record {
+  written = c.in_ok-extend_from_slice.ensures.ok ∙ ap (λ xs. xs ++ (32 ∷ 125 ∷ [])) c.loop.invariant.written ∙ sym (ends_more c.loop.counter);
 }

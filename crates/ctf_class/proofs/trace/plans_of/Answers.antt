@@ -1,4 +1,4 @@
-use Rattle.std.proofs.Common.{◌≡◌, ◌++◌, ◌∷◌, [], ◌+◌, option_copied, take, sym, ap, subst, ◌∙◌}
+use Rattle.std.proofs.Common.{◌≡◌, ◌++◌, ◌∷◌, [], ◌+◌, option_copied, take, sym, ap, subst, ◌∙◌, arith}
 use Rattle.std.proofs.lemmas.List.{take_more}
 use Rattle.ctf_class.specs.Records.{IsPlanOf, scopes_of}
 use Rattle.ctf_class.specs.Streams.{ArePlans}
@@ -13,5 +13,6 @@ loop-event-preserved c =
     let e = c.event-item.result in
     let p = c.in_ok-plan.plan in
     let longer : take (i + 1) es ≡ take i es ++ e ∷ [] = take_more es i e c.loop-event-test.true ∙ ap (λ x. take i es ++ x ∷ []) (sym c.event-item.is) in
-    let is : IsPlanOf (scopes_of shared e.context e.fields) p = c.in_ok-plan.ensures in
-    subst (ArePlans shared (take (i + 1) es)) (sym c.in_ok-push.ensures.ok) (subst (λ xs. ArePlans shared xs (c.loop-event.plans ++ p ∷ [])) (sym longer) (plans_more shared (take i es) c.loop-event.plans e p c.loop-event.invariant is))
+    let is : IsPlanOf (scopes_of shared e.context e.fields) p = c.in_ok-plan.ensures.plan in
+    let plans = subst (ArePlans shared (take (i + 1) es)) (sym c.in_ok-push.ensures.ok) (subst (λ xs. ArePlans shared xs (c.loop-event.plans ++ p ∷ [])) (sym longer) (plans_more shared (take i es) c.loop-event.plans e p c.loop-event.invariant.plans is)) in
+    record { plans = plans; less = omega (arith, c.in_ok-plan.ensures.less, c.loop-event.invariant.less) }

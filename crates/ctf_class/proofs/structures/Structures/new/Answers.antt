@@ -1,7 +1,9 @@
-use Rattle.std.proofs.Common.{◌≡◌, ◌<◌, ◌+◌, [], length, IsTrue, rules, arith}
+use Rattle.std.proofs.Common.{◌≡◌, ◌<◌, ◌≤◌, ◌+◌, ◌%◌, [], length, IsTrue, sym, subst, rules, arith}
+use Rattle.ctf_class.specs.Alignment.{IsAlignment}
 use Rattle.ctf_class.specs.PlanBuilding.{IsMade}
 use Rattle.ctf_class.specs.Records.{member_slots}
 use Rattle.ctf_class.specs.declared.class.Kind as kinds
+use Rattle.ctf_class.proofs.AlignmentLemmas.{whole_bytes}
 use Rattle.ctf_class.proofs.RecordsLemmas.{made_nothing}
 use Rattle.ctf_class.proofs.structures.Structures.new.Goals as goal
 
@@ -16,4 +18,7 @@ returns-clause-is c =
     let begins : built.align ≡ k.align = search rules in
     let count : length ms + 1 ≡ 1 + length ms = omega arith in
     let made : IsMade (member_slots k.align ms) built = c.in_ok-add_integers.ensures.made took [] (made_nothing c.new-builder.result c.new-builder.ensures.made) in
-    c.into_structures.ensures.is k ms is some count begins made
+    let large : 8 ≤ k.align = search rules in
+    let power : IsAlignment k.align = search rules in
+    let whole : built.align % 8 ≡ 0 = subst (λ n. n % 8 ≡ 0) (sym begins) (whole_bytes k.align power large) in
+    c.into_structures.ensures.is k ms is some count begins whole made
