@@ -1,5 +1,6 @@
 -- Texts written one after the other.
-use Rattle.std.proofs.Common.{◌≡◌, ℕ, List, ◌++◌, take, ap, ◌∙◌, append_assoc, Vec, Result, IfOk}
+use Rattle.std.proofs.Common.{◌≡◌, ℕ, List, ◌++◌, take, sym, ap, subst, ◌∙◌, append_assoc, Vec, Option, IfSome, Result, Ok, Err, IfOk}
+use Rattle.std.specs.Result.{result_ok}
 use Rattle.std.specs.declared.alloc.Global.{Global}
 use Rattle.std.proofs.lemmas.Result.{IfOk-weaker}
 use Rattle.ctf_format.specs.Put.{IsPut}
@@ -18,3 +19,11 @@ put_after before mid after at then piece all result joined =
       text = put.text ∙ joined;
       held = put.held;
     })
+
+-- what holds of a value holds of it as `ok` gives it
+pub of_ok : {T E : Type 0} (P : T → Type 0) (r : Result T E) {o : Option T} → o ≡ result_ok r → IfOk r P → IfSome o P
+of_ok {T = T} {E = E} P r same is = subst (λ o. IfSome o P) (sym same) (by_case r is)
+  where
+    by_case : (r : Result T E) → IfOk r P → IfSome (result_ok r) P
+    by_case (Ok x) holds = holds
+    by_case (Err e) holds = holds

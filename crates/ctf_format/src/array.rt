@@ -84,25 +84,21 @@ fn put_elements(
     ensures within { IfSome result (λ e. IsWithin packet.now e.place buffer.new e.text) }
 {
     if count == 0 {
-        let Ok(text) = put_nothing(b'[', b']', buffer, from.text) else {
-            return None;
-        };
+        let text = put_nothing(b'[', b']', buffer, from.text).ok()?;
         return Some(Position {
             place: from.place,
             text,
         });
     }
     let ends = put_row(class, count, packet, from, buffer)?;
-    let Ok(text) = put_end(b']', buffer, ends.text) else {
-        return None;
-    };
+    let text = put_end(b']', buffer, ends.text).ok()?;
     Some(Position {
         place: ends.place,
         text,
     })
 }
 
-/// Writes so many integers, the first after `[`. Mostly they are little endian and of whole bytes.
+/// Writes so many integers, the first after `[`. Mostly they are of whole bytes.
 #[inline(always)]
 fn put_row(
     class: &AlignedInteger<'_>,
@@ -122,9 +118,7 @@ fn put_row(
 {
     match ByteIntegers::new(class, count, packet, from.place) {
         Some(are) => {
-            let Ok(text) = are.put_row(buffer, from.text) else {
-                return None;
-            };
+            let text = are.put_row(buffer, from.text).ok()?;
             Some(Position {
                 place: are.end(),
                 text,
@@ -184,9 +178,7 @@ fn put_element(
         (take e.text buffer.new.items)) }
     ensures within { IfSome result (λ e. IsWithin packet.now e.place buffer.new e.text) }
 {
-    let Ok(text) = put_index(lead, buffer, from.text) else {
-        return None;
-    };
+    let text = put_index(lead, buffer, from.text).ok()?;
     let place = from.place;
     let begin = Position { place, text };
     let ends = put_integer(class, packet, begin, buffer.as_mut_slice())?;

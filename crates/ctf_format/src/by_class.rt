@@ -19,9 +19,8 @@ use crate::array::{begin_at, put_integers};
 use crate::element::{ElementLead, put_index};
 use crate::leaf::{put_enumeration, put_one, put_string_value, put_text_value};
 use crate::mark::{put_end, put_nothing, put_ready};
-use crate::number::LONGEST_NUMBER;
 use crate::standing::{AlignedInteger, Last, MembersEnd, Next, Position, Standing};
-use ctf_class::{Align, Class, Kind, Member};
+use ctf_class::{Align, Class, Kind, LONGEST_NUMBER, Member};
 use ctf_decode::MOST_VALUES;
 
 /// Writes the text of the scope of this class, a structure, that begins at a place of a packet (CTF 1.8.3, section 4)
@@ -99,9 +98,7 @@ fn put_enclosed(
     ensures few { IfSome result (λ e. e.more ≤ MOST_VALUES) }
 {
     if members.is_empty() {
-        let Ok(text) = put_nothing(b'{', b'}', buffer, from.text) else {
-            return None;
-        };
+        let text = put_nothing(b'{', b'}', buffer, from.text).ok()?;
         return Some(MembersEnd {
             place: from.place,
             text,
@@ -109,9 +106,7 @@ fn put_enclosed(
         });
     }
     let ends = put_members(members, outside, before, from, buffer)?;
-    let Ok(text) = put_end(b'}', buffer, ends.text) else {
-        return None;
-    };
+    let text = put_end(b'}', buffer, ends.text).ok()?;
     Some(MembersEnd {
         place: ends.place,
         text,
@@ -183,9 +178,7 @@ fn put_member(
     ensures few { IfSome result (λ n. n.more ≤ MOST_VALUES) }
 {
     let name = member.name.ready();
-    let Ok(text) = put_ready(lead, name, LONGEST_NUMBER, buffer, from.text) else {
-        return None;
-    };
+    let text = put_ready(lead, name, LONGEST_NUMBER, buffer, from.text).ok()?;
     let place = from.place;
     put_part(&member.class, seen, Position { place, text }, buffer)
 }
@@ -324,9 +317,7 @@ fn put_option(
     if next.more >= MOST_VALUES {
         return None;
     }
-    let Ok(text) = put_end(b'}', buffer, next.text) else {
-        return None;
-    };
+    let text = put_end(b'}', buffer, next.text).ok()?;
     Some(Next {
         place: next.place,
         text,
@@ -419,9 +410,7 @@ fn put_bracketed(
     ensures few { IfSome result (λ e. e.more ≤ MOST_VALUES) }
 {
     if count == 0 {
-        let Ok(text) = put_nothing(b'[', b']', buffer, from.text) else {
-            return None;
-        };
+        let text = put_nothing(b'[', b']', buffer, from.text).ok()?;
         return Some(MembersEnd {
             place: from.place,
             text,
@@ -429,9 +418,7 @@ fn put_bracketed(
         });
     }
     let ends = put_row(element, count, seen, from, buffer)?;
-    let Ok(text) = put_end(b']', buffer, ends.text) else {
-        return None;
-    };
+    let text = put_end(b']', buffer, ends.text).ok()?;
     Some(MembersEnd {
         place: ends.place,
         text,
@@ -496,9 +483,7 @@ fn put_item(
     ensures within { IfSome result (λ n. IsWithin seen.now.packet.now n.place buffer.new n.text) }
     ensures few { IfSome result (λ n. n.more ≤ MOST_VALUES) }
 {
-    let Ok(text) = put_index(lead, buffer, from.text) else {
-        return None;
-    };
+    let text = put_index(lead, buffer, from.text).ok()?;
     let place = from.place;
     put_part(element, seen, Position { place, text }, buffer)
 }

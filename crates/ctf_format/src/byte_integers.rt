@@ -11,10 +11,10 @@ ghost use Rattle.ctf_format.specs.Texts as texts;
 
 use crate::content::Content;
 use crate::element::{ElementLead, put_index};
-use crate::number::{LONGEST_NUMBER, put_unsigned_number};
+use crate::number::put_unsigned_number;
 use crate::standing::{AlignedInteger, put_negative};
 use ctf_bits::{Order, Window};
-use ctf_class::{Align, Integer};
+use ctf_class::{Align, Integer, LONGEST_NUMBER};
 use ctf_decode::MOST_VALUES;
 use ctf_list::NoMemory;
 

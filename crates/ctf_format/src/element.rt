@@ -6,8 +6,8 @@ ghost use Rattle.ctf_format.specs.Put.{IsPut};
 
 use crate::decimal::put_unsigned;
 use crate::mark::{put_bytes, put_lead};
-use crate::number::LONGEST_NUMBER;
 use crate::room::with_room;
+use ctf_class::LONGEST_NUMBER;
 use ctf_list::NoMemory;
 
 /// What is printed before an element of an array.
@@ -63,6 +63,7 @@ fn put_index_digits(index: usize, line: &mut [u8], at: usize) -> usize
     put_unsigned(index as u64, line, at)
 }
 
+/// Writes what is before the index of an element.
 fn put_open(mark: u8, line: &mut [u8], at: usize) -> usize
     requires { at + 3 ≤ length line.old }
     ensures text { take result line.new ≡ take at line.old ++ (mark ∷ 32 ∷ 91 ∷ []) }

@@ -9,9 +9,9 @@ ghost use Rattle.ctf_format.specs.Put.{IsPut};
 ghost use Rattle.ctf_format.specs.Rows.{row};
 
 use crate::mark::{put_after_space, put_bytes, put_end, put_lead, put_ready, put_short_bytes};
-use crate::number::{LONGEST_NUMBER, put_number, put_unsigned_number};
+use crate::number::{put_number, put_unsigned_number};
 use crate::room::with_room;
-use ctf_class::{Integer, Labels};
+use ctf_class::{Integer, LONGEST_NUMBER, Labels};
 use ctf_list::NoMemory;
 
 /// How many bytes follow the names of labels at the most: the number of the container, and what is around it.

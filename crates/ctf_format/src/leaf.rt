@@ -12,12 +12,11 @@ ghost use Rattle.ctf_format.specs.Texts as texts;
 
 use crate::content::Content;
 use crate::label::put_labelled;
-use crate::number::LONGEST_NUMBER;
 use crate::standing::{
     AlignedInteger, Last, Next, Position, bits_at, put_fixed_text, put_integer, put_string,
 };
 use ctf_bits::{sint_within, uint_within};
-use ctf_class::{Integer, Labels};
+use ctf_class::{Integer, LONGEST_NUMBER, Labels};
 
 /// Writes an integer where there is room for it.
 #[inline(always)]
@@ -123,9 +122,7 @@ pub(crate) fn put_enumeration(
     let integer = container.integer;
     let at = bits_at(integer, container.align, packet, from.place)?;
     let number = number_at(integer, packet, at.begin);
-    let Ok(text) = put_labelled(integer, labels, number, buffer, from.text) else {
-        return None;
-    };
+    let text = put_labelled(integer, labels, number, buffer, from.text).ok()?;
     Some(Next {
         place: at.end,
         text,

@@ -8,10 +8,7 @@ use crate::decimal::{put_signed, put_signed_short, put_unsigned};
 use crate::digits::put_digits;
 use crate::hexadecimal::put_hexadecimal;
 use crate::pattern::pattern;
-use ctf_class::{Base, Integer};
-
-/// How many bytes a number takes at the most.
-pub const LONGEST_NUMBER: usize = 66;
+use ctf_class::{Base, Integer, LONGEST_NUMBER};
 
 /// Writes an unsigned number of an integer class at an index of a line that has room for it, and gives the
 /// index after it. Mostly its base is ten.

@@ -240,7 +240,7 @@ fn pass_structures(are: &Structures, placed: PlacedRun<'_>, from: Reach) -> Opti
     ensures within { IfSome result (λ to. to.place ≤ placed.entry.packet.now.end) }
     ensures few { IfSome result (λ to. to.more ≤ MOST_VALUES) }
 {
-    // Each plan's begins at a byte, which no clause says; only there are its numbers at their distances.
+    // Only where it begins at a byte, as each plan's does, are its numbers at their distances.
     if are.align.bits() % 8 != 0 {
         return None;
     }

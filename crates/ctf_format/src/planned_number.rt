@@ -10,10 +10,10 @@ ghost use Rattle.ctf_format.specs.Numbers.{number_text};
 ghost use Rattle.ctf_format.specs.RunNumbers.{IsPlaced, number_at, place_in, run_text};
 
 use crate::decimal::{put_signed_short, put_unsigned};
-use crate::number::{LONGEST_NUMBER, put_unsigned_number};
+use crate::number::put_unsigned_number;
 use crate::standing::put_negative;
 use ctf_bits::{Order, Window};
-use ctf_class::PlannedNumber;
+use ctf_class::{LONGEST_NUMBER, PlannedNumber};
 
 /// Writes numbers of a run that begins after so many bytes at an index of a line, and gives the index after them. All
 /// are usual.
@@ -145,7 +145,8 @@ fn put_special_below_zero(
     requires held { first + number.now.window.place / 8 + 8 ≤ length bytes.now }
     requires placed { IsPlaced number.now }
     ensures text { let n = number.now in take result line.new ≡
-        take at line.old ++ number_text n.integer (number_at n.integer bytes.now (place_in first n)) }
+        take at line.old ++ number_text n.integer
+        (number_at n.integer bytes.now (place_in first n)) }
     ensures near { result ≤ at + LONGEST_NUMBER }
 {
     let value = number.window.signed(bytes, first, number.integer.order);

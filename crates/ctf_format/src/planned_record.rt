@@ -27,8 +27,8 @@ use crate::standing::{
 use crate::structures::put_structures;
 use ctf_bits::Order;
 use ctf_class::{
-    Align, Integers, LoneInteger, Many, PlannedField, PlannedNumber, PlannedRun, PreparedText,
-    RecordPlan, Shown, Structures,
+    Align, Integers, LONGEST_NUMBER, LoneInteger, Many, PlannedField, PlannedNumber, PlannedRun,
+    PreparedText, RecordPlan, Shown, Structures,
 };
 use ctf_decode::MOST_VALUES;
 
@@ -115,10 +115,7 @@ fn put_runs(
         so_far = to;
     }
     *reach = so_far;
-    let Ok(text) = put_end(b'}', buffer, text) else {
-        return None;
-    };
-    Some(text)
+    put_end(b'}', buffer, text).ok()
 }
 
 /// Writes a space and a brace for each of so many structures that end, mostly none.
@@ -142,10 +139,7 @@ fn put_some_ends(ended: u32, buffer: &mut Vec<u8>, at: usize) -> Option<usize>
 {
     let mut text = at;
     for i in 0..ended {
-        let Ok(end) = put_end(b'}', buffer, text) else {
-            return None;
-        };
-        text = end;
+        text = put_end(b'}', buffer, text).ok()?;
     }
     Some(text)
 }
@@ -382,7 +376,7 @@ fn put_other(
     requires inner { IsNearShown shown.now }
     requires start { from.place ≤ placed.packet.now.end }
     requires few { reach.old.more ≤ MOST_VALUES }
-    requires room { from.text + 66 ≤ vec_len buffer.old }
+    requires room { from.text + LONGEST_NUMBER ≤ vec_len buffer.old }
     ensures puts { let begin = record reach.old { place = from.place } in
         let before = take from.text buffer.old.items in
         PutsShown result shown.now placed.entry begin before reach.new buffer.new.items }
@@ -416,7 +410,7 @@ fn put_after_numbers(
     requires inner { IsNearShown shown.now }
     requires start { reach.old.place ≤ placed.packet.now.end }
     requires few { reach.old.more ≤ MOST_VALUES }
-    requires room { at + 66 ≤ vec_len buffer.old }
+    requires room { at + LONGEST_NUMBER ≤ vec_len buffer.old }
     ensures puts { let before = take at buffer.old.items in
         PutsShown result shown.now placed.entry reach.old before reach.new buffer.new.items }
     ensures within { IfSome result (IsWithin placed.entry.packet.now reach.new.place buffer.new) }
@@ -452,10 +446,7 @@ fn put_empty(
     ensures few { IfSome result (λ _. reach.new.more ≤ MOST_VALUES) }
 {
     reach.place = begin_at(align, packet, reach.place)?;
-    let Ok(text) = put_nothing(b'{', b'}', buffer, at) else {
-        return None;
-    };
-    Some(text)
+    put_nothing(b'{', b'}', buffer, at).ok()
 }
 
 /// Writes such integers, and gives the index after them.
@@ -469,7 +460,7 @@ fn put_many(
 ) -> Option<usize>
     requires start { reach.old.place ≤ placed.packet.now.end }
     requires few { reach.old.more ≤ MOST_VALUES }
-    requires room { at + 66 ≤ vec_len buffer.old }
+    requires room { at + LONGEST_NUMBER ≤ vec_len buffer.old }
     ensures puts { let before = take at buffer.old.items in
         PutsIntegers result are.now placed.entry reach.old before reach.new buffer.new.items }
     ensures within { IfSome result (IsWithin placed.entry.packet.now reach.new.place buffer.new) }
@@ -505,7 +496,7 @@ fn put_lone(
 ) -> Option<usize>
     requires start { reach.old.place ≤ packet.now.end }
     requires few { reach.old.more ≤ MOST_VALUES }
-    requires room { at + 66 ≤ vec_len buffer.old }
+    requires room { at + LONGEST_NUMBER ≤ vec_len buffer.old }
     ensures puts { let content = packet.now in (index : ℕ) (class : Class) →
         IsInteger class lone.now.integer lone.now.align →
         IfSome result (λ text.
@@ -540,7 +531,7 @@ fn put_many_structures(
     requires inner { IsNearStructure are.now }
     requires start { reach.old.place ≤ placed.packet.now.end }
     requires few { reach.old.more ≤ MOST_VALUES }
-    requires room { at + 66 ≤ vec_len buffer.old }
+    requires room { at + LONGEST_NUMBER ≤ vec_len buffer.old }
     ensures puts { let before = take at buffer.old.items in
         PutsStructures result are.now placed.entry reach.old before reach.new buffer.new.items }
     ensures within { IfSome result (IsWithin placed.entry.packet.now reach.new.place buffer.new) }

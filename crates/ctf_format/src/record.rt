@@ -10,7 +10,7 @@ ghost use Rattle.ctf_format.specs.Put.{IsPut};
 use crate::mark::{put_lead, put_short_bytes};
 use crate::room::with_room;
 use crate::value::put_value;
-use ctf_class::{Class, EventClass, Heading, PreparedText, StreamClass};
+use ctf_class::{Class, EventClass, Heading, PREPARED_HEAD, PreparedText, StreamClass};
 use ctf_decode::Value;
 use ctf_list::NoMemory;
 
@@ -105,7 +105,7 @@ fn put_ready(ready: &PreparedText, buffer: &mut Vec<u8>, at: usize) -> Result<us
     requires { at ≤ vec_len buffer.old }
     ensures { IfOk result (IsPut buffer.old at ready.now buffer.new) }
 {
-    with_room(ready.len() + 24, buffer, at)?;
+    with_room(ready.len() + PREPARED_HEAD, buffer, at)?;
     Ok(ready.put(buffer.as_mut_slice(), at))
 }
 

@@ -14,13 +14,13 @@ ghost use Rattle.ctf_format.specs.Standing.{PutsOne, StandsAsNumber};
 ghost use Rattle.ctf_format.specs.Texts as texts;
 
 use crate::content::Content;
-use crate::number::{LONGEST_NUMBER, put_signed_number, put_unsigned_number};
+use crate::number::{put_signed_number, put_unsigned_number};
 use crate::text::put_quoted;
 use crate::window::{
     count_long, count_longer, count_short, count_text, first_zero, put_long, put_longer, put_short,
 };
 use ctf_bits::{is_unsigned, sint_within, uint_within, up};
-use ctf_class::{Align, Integer};
+use ctf_class::{Align, Integer, LONGEST_NUMBER};
 use ctf_decode::{bytes_at, bytes_from};
 use ctf_list::NoMemory;
 
@@ -241,15 +241,11 @@ fn put_long_string(bytes: &[u8], begin: u64, buffer: &mut Vec<u8>, at: usize) ->
 {
     if let Some(count) = count_long(bytes) {
         let place = begin + 8 * (count as u64 + 1);
-        let Ok(text) = put_long(bytes, count, buffer, at) else {
-            return None;
-        };
+        let text = put_long(bytes, count, buffer, at).ok()?;
         return Some(Position { place, text });
     }
     let count = first_zero(bytes)?;
-    let Ok(text) = put_quoted(&bytes[..count], buffer, at) else {
-        return None;
-    };
+    let text = put_quoted(&bytes[..count], buffer, at).ok()?;
     Some(Position {
         place: begin + 8 * (count as u64 + 1),
         text,
@@ -285,9 +281,7 @@ pub(crate) fn put_fixed_text(
             text: put_short(bytes, short, buffer, at),
         });
     }
-    let Ok(text) = put_longer_text(bytes, buffer, at) else {
-        return None;
-    };
+    let text = put_longer_text(bytes, buffer, at).ok()?;
     Some(Position {
         place: begin + 8 * count,
         text,

@@ -80,18 +80,14 @@ fn put_elements(
     ensures within { IfSome result (λ e. IsWithin packet.now e.place buffer.new e.text) }
 {
     if count == 0 {
-        let Ok(text) = put_nothing(b'[', b']', buffer, from.text) else {
-            return None;
-        };
+        let text = put_nothing(b'[', b']', buffer, from.text).ok()?;
         return Some(Position {
             place: from.place,
             text,
         });
     }
     let ends = put_row(are, count, packet, from, buffer)?;
-    let Ok(text) = put_end(b']', buffer, ends.text) else {
-        return None;
-    };
+    let text = put_end(b']', buffer, ends.text).ok()?;
     Some(Position {
         place: ends.place,
         text,
@@ -145,9 +141,7 @@ fn put_element(
         (take e.text buffer.new.items)) }
     ensures within { IfSome result (λ e. IsWithin packet.now e.place buffer.new e.text) }
 {
-    let Ok(text) = put_index(lead, buffer, from.text) else {
-        return None;
-    };
+    let text = put_index(lead, buffer, from.text).ok()?;
     let place = from.place;
     put_structure(are, packet, Position { place, text }, buffer)
 }
@@ -179,9 +173,7 @@ fn put_structure(
         return None;
     }
     let text = put_numbers(are, packet.bytes, (begin / 8) as usize, buffer, from.text);
-    let Ok(text) = put_end(b'}', buffer, text) else {
-        return None;
-    };
+    let text = put_end(b'}', buffer, text).ok()?;
     Some(Position {
         place: begin + are.span,
         text,

@@ -12,10 +12,10 @@ ghost use Rattle.ctf_format.specs.Texts.{member_part, member_texts, element_text
 use crate::element::{ElementLead, put_index};
 use crate::label::put_labelled;
 use crate::mark::{put_end, put_nothing, put_ready};
-use crate::number::{LONGEST_NUMBER, put_signed_number, put_unsigned_number};
+use crate::number::{put_signed_number, put_unsigned_number};
 use crate::room::with_room;
 use crate::text::put_quoted;
-use ctf_class::{Class, Integer, Kind, Labels, Member};
+use ctf_class::{Class, Integer, Kind, LONGEST_NUMBER, Labels, Member};
 use ctf_decode::{Value, choice_in, elements_in, members_in};
 use ctf_list::NoMemory;
 
@@ -82,7 +82,7 @@ fn put_field(
     ensures { let piece = texts.value_text class.now (val value.now) in
         IfOk result (IsPut buffer.old at piece buffer.new) }
 {
-    if let Kind::Text { length } = &class.kind {
+    if let Kind::Text { .. } = &class.kind {
         return put_string(value, buffer, at);
     }
     if let Kind::Enumeration { container, labels } = &class.kind {
@@ -108,15 +108,9 @@ fn put_any(class: &Class, value: &Value, buffer: &mut Vec<u8>, at: usize) -> Res
         Kind::Structure { members } => {
             put_structure(members.as_slice(), members_in(value), buffer, at)
         }
-        Kind::Variant {
-            tag,
-            choices,
-            options,
-        } => put_choice(options.as_slice(), value, buffer, at),
-        Kind::Array { length, element } => {
-            put_array(element.get(), elements_in(value), buffer, at)
-        }
-        Kind::Text { length } => put_string(value, buffer, at),
+        Kind::Variant { options, .. } => put_choice(options.as_slice(), value, buffer, at),
+        Kind::Array { element, .. } => put_array(element.get(), elements_in(value), buffer, at),
+        Kind::Text { .. } => put_string(value, buffer, at),
     }
 }
 

@@ -9,6 +9,7 @@ use Rattle.ctf_decode.specs.Fields.{choice_in}
 use Rattle.ctf_format.specs.Around.{Agrees, MembersAre, sight}
 use Rattle.ctf_format.specs.Standing.{array_text, structure_text}
 use Rattle.ctf_format.specs.Texts.{value_text, part_text, member_part, element_text, integer_text, enumeration_text, string_text, chosen_text}
+use Rattle.ctf_format.proofs.Chains.{of_ok}
 use Rattle.ctf_format.proofs.AroundLemmas.{agrees_within, counted_array, writes_any, writes_counted}
 use Rattle.ctf_format.proofs.ByClassLemmas as items
 use Rattle.ctf_format.proofs.ByClassLemmas.{counted_text, writes_in_as, writes_after, member_after, element_after, writes_structure, writes_option, writes_items, form_enumeration, text_enumeration, form_variant, text_variant, form_any, text_any}
@@ -19,7 +20,7 @@ use Rattle.ctf_format.proofs.by_class.+standing.Goals as goal
 pub put_enclosed-returns-clause-puts : goal.put_enclosed-returns-clause-puts
 put_enclosed-returns-clause-puts t c =
     let some : 0 < length c.args.members.now = grind (arith, c.is_empty.ensures, c.if-is_empty.ensures, c.if-is_empty.false) in
-    members.closed (Agrees (sight c.args.outside.now.around.now)) (MembersAre c.put_members.new.before) c.args.members.now c.args.outside.now.packet.now.bytes.now c.args.outside.now.packet.now.end c.args.from.place c.in-Ok-put_end.text c.in_ok-ends.ends (take c.args.from.text c.args.buffer.now.items) (take c.in_ok-ends.ends.text c.put_members.new.buffer.items) (take c.in-Ok-put_end.text c.put_end.new.buffer.items) some c.in-Ok-put_end.ensures.text c.in_ok-ends.ensures.puts
+    members.closed (Agrees (sight c.args.outside.now.around.now)) (MembersAre c.put_members.new.before) c.args.members.now c.args.outside.now.packet.now.bytes.now c.args.outside.now.packet.now.end c.args.from.place c.in_ok-text-2.text c.in_ok-ends.ends (take c.args.from.text c.args.buffer.now.items) (take c.in_ok-ends.ends.text c.put_members.new.buffer.items) (take c.in_ok-text-2.text c.put_end.new.buffer.items) some (of_ok _ _ c.in_ok-text-2.ensures.value c.put_end.ensures).text c.in_ok-ends.ensures.puts
 
 pub put_members-loop-i-init : goal.put_members-loop-i-init
 put_members-loop-i-init t c =
@@ -62,8 +63,8 @@ put_member-returns-clause-puts t c =
     let m = c.args.member.now in
     let lead = c.args.lead in
     let name = c.ready-name.result.now in
-    writes_after c.put_part.result c.args.seen.now (form m.class) (value_text m.class) (λ v. lead ∷ 32 ∷ part_text (member_part m) v) c.args.from.place (take c.args.from.text c.args.buffer.now.items) (take c.in-Ok.text c.put_ready.new.buffer.items) c.put_part.new.buffer.items (lead ∷ 32 ∷ name)
-    c.in-Ok.ensures.put.text (λ v. member_after m lead name v c.ready-name.ensures) c.put_part.ensures.puts
+    writes_after c.put_part.result c.args.seen.now (form m.class) (value_text m.class) (λ v. lead ∷ 32 ∷ part_text (member_part m) v) c.args.from.place (take c.args.from.text c.args.buffer.now.items) (take c.in_ok-text.text c.put_ready.new.buffer.items) c.put_part.new.buffer.items (lead ∷ 32 ∷ name)
+    (of_ok _ _ c.in_ok-text.ensures.value c.put_ready.ensures.put).text (λ v. member_after m lead name v c.ready-name.ensures) c.put_part.ensures.puts
 
 pub put_part-returns-in-Integer-clause-puts : goal.put_part-returns-in-Integer-clause-puts
 put_part-returns-in-Integer-clause-puts t c =
@@ -130,7 +131,7 @@ put_structure-returns-clause-puts t c =
 pub put_option-returns-clause-puts : goal.put_option-returns-clause-puts
 put_option-returns-clause-puts t c = λ a tag choices chooses.
     let next = c.in_ok-next.next in
-    writes_option c.args.seen.now a tag choices c.args.options.now c.args.option c.index-options-option.result c.args.from.place (1 + next.more) c.in-Ok.text next (take c.args.from.text c.args.buffer.now.items) (take next.text c.put_member.new.buffer.items) c.put_end.new.buffer.items (search (rules, arith)) c.index-options-option.is chooses refl c.in_ok-next.ensures.puts c.in-Ok.ensures.text
+    writes_option c.args.seen.now a tag choices c.args.options.now c.args.option c.index-options-option.result c.args.from.place (1 + next.more) c.in_ok-text.text next (take c.args.from.text c.args.buffer.now.items) (take next.text c.put_member.new.buffer.items) c.put_end.new.buffer.items (search (rules, arith)) c.index-options-option.is chooses refl c.in_ok-next.ensures.puts (of_ok _ _ c.in_ok-text.ensures.value c.put_end.ensures).text
 
 pub put_array-returns-in-Integer-clause-puts : goal.put_array-returns-in-Integer-clause-puts
 put_array-returns-in-Integer-clause-puts t c = λ a many counts.
@@ -148,7 +149,7 @@ pub put_bracketed-returns-clause-puts : goal.put_bracketed-returns-clause-puts
 put_bracketed-returns-clause-puts t c =
     let k = c.args.element.now in
     let some : 0 < c.args.count = search (rules, arith) in
-    items.closed c.args.seen.now (form k) (value_text k) c.args.count c.args.from.place (take c.args.from.text c.args.buffer.now.items) c.in_ok-ends.ends c.in-Ok-put_end.text (take c.in_ok-ends.ends.text c.put_row.new.buffer.items) (take c.in-Ok-put_end.text c.put_end.new.buffer.items) some c.in-Ok-put_end.ensures.text c.in_ok-ends.ensures.puts
+    items.closed c.args.seen.now (form k) (value_text k) c.args.count c.args.from.place (take c.args.from.text c.args.buffer.now.items) c.in_ok-ends.ends c.in_ok-text-2.text (take c.in_ok-ends.ends.text c.put_row.new.buffer.items) (take c.in_ok-text-2.text c.put_end.new.buffer.items) some (of_ok _ _ c.in_ok-text-2.ensures.value c.put_end.ensures).text c.in_ok-ends.ensures.puts
 
 pub put_row-loop-i-preserved : goal.put_row-loop-i-preserved
 put_row-loop-i-preserved t c =
@@ -175,5 +176,5 @@ pub put_item-returns-clause-puts : goal.put_item-returns-clause-puts
 put_item-returns-clause-puts t c =
     let k = c.args.element.now in
     let lead = c.args.lead.mark in
-    writes_after c.put_part.result c.args.seen.now (form k) (value_text k) (λ v. lead ∷ 32 ∷ element_text (value_text k) c.args.lead.index v) c.args.from.place (take c.args.from.text c.args.buffer.now.items) (take c.in-Ok.text c.put_index.new.buffer.items) c.put_part.new.buffer.items (lead ∷ 32 ∷ 91 ∷ (decimal c.args.lead.index ++ codes "] = "))
-    c.in-Ok.ensures.put.text (λ v. element_after (value_text k) lead c.args.lead.index v) c.put_part.ensures.puts
+    writes_after c.put_part.result c.args.seen.now (form k) (value_text k) (λ v. lead ∷ 32 ∷ element_text (value_text k) c.args.lead.index v) c.args.from.place (take c.args.from.text c.args.buffer.now.items) (take c.in_ok-text.text c.put_index.new.buffer.items) c.put_part.new.buffer.items (lead ∷ 32 ∷ 91 ∷ (decimal c.args.lead.index ++ codes "] = "))
+    (of_ok _ _ c.in_ok-text.ensures.value c.put_index.ensures.put).text (λ v. element_after (value_text k) lead c.args.lead.index v) c.put_part.ensures.puts

@@ -1,7 +1,9 @@
 use Rattle.std.proofs.Common.{◌≡◌, ◌+◌, ◌++◌, [], take, drop, sym, ap, subst, ◌∙◌, append_assoc, append-nil, arith}
 use Rattle.std.proofs.Math.ListN.{drop_of_length-le}
+use Rattle.std.proofs.lemmas.Option.{IfSome_then}
 use Rattle.ctf_class.specs.Records.{AreRuns}
 use Rattle.ctf_format.specs.Records.{PutsFields, reached}
+use Rattle.ctf_format.proofs.Chains.{of_ok}
 use Rattle.ctf_format.proofs.NamesLemmas.{here}
 use Rattle.ctf_format.proofs.RecordsLemmas.{takes_first, fields_join}
 use Rattle.ctf_format.proofs.planned_record.put_runs.Goals as goal
@@ -36,4 +38,5 @@ returns-clause-puts c = λ slots are.
     let none : w.1 ≡ [] = subst (AreRuns w.1) all w.3 in
     let whole : w.0 ≡ slots = sym (w.2 ∙ ap (λ xs. w.0 ++ xs) none ∙ append-nil w.0) in
     let line = take l.text l.buffer.items in
-    (line, subst (λ ss. PutsFields ss c.args.packet.now.bytes.now c.args.packet.now.end (reached c.args.reach.now (take c.args.at c.args.buffer.now.items)) (reached l.so_far line)) whole w.4, c.in-Ok.ensures.text)
+    let puts = subst (λ ss. PutsFields ss c.args.packet.now.bytes.now c.args.packet.now.end (reached c.args.reach.now (take c.args.at c.args.buffer.now.items)) (reached l.so_far line)) whole w.4 in
+    IfSome_then c.ok.result (of_ok _ _ c.ok.ensures.value c.put_end.ensures) (λ text put. (line, puts, put.text))
