@@ -188,11 +188,11 @@ usual_by : (line : Option Line) (k : Class) (bytes : List ℕ) (content place he
     → Tells line (form k) bytes content clock place to
 usual_by line k bytes content place header begin clock plan to None tag is near told header_is whole begins multiple within few read =
     let are = plan.usual in
-    let same = same_structure is.members (no_integers k.align 0 1) are is.laid in
+    let same = same_structure is.0.members (no_integers k.align 0 1) are is.0.laid in
     let alone : begin ≡ next_multiple_of place are.align =
     begins ∙ ap (λ s. next_multiple_of (header + s) are.align) (sym same.1) ∙ ap (λ b. next_multiple_of b are.align) (add-zero header) ∙ up_multiple header are.align (ap (λ a. header % a) (sym same.0) ∙ whole) ∙ header_is ∙ ap (next_multiple_of place) same.0
     in
-    plain_told line k bytes content place begin clock are to is alone multiple within few (subst (λ t. ReadsIntegers line are bytes (record { tag = t; clock = clock; place = begin }) to) told read)
+    plain_told line k bytes content place begin clock are to is.0 alone multiple within few (subst (λ t. ReadsIntegers line are bytes (record { tag = t; clock = clock; place = begin }) to) told read)
 usual_by line k bytes content place header begin clock plan to (Some t) tag is near told header_is whole begins multiple within few read =
     let n = told.0 in
     tagged_told line k bytes content place header begin clock plan.usual to t plan n is (is.usual n told.3 told.4) near.begin header_is whole told.2 begins multiple within few (subst (λ o. ReadsIntegers line plan.usual bytes (record { tag = o; clock = clock; place = begin }) to) told.1 read)

@@ -14,6 +14,15 @@ use ctf_decode::MOST_VALUES;
 use ctf_format::Content;
 use ctf_packet::{Head, RecordPlace};
 
+/// Which headers of event records are asked for (CTF 1.8.3, section 6.1).
+#[derive(Clone, Copy)]
+pub enum Headers {
+    /// Those of the usual integers of their plan, with an `id`, in a packet with a clock.
+    Usual,
+    /// All others that have a plan, or no bits.
+    Unusual,
+}
+
 /// A header that was read, and how many values it has.
 #[derive(Clone, Copy)]
 pub(crate) struct ToldHead<'a> {
@@ -28,20 +37,18 @@ pub(crate) struct PlannedHead<'a> {
     pub(crate) plan: &'a RecordPlan,
 }
 
-/// The header of the event record at a place (CTF 1.8.3, section 6.1), by its plan. A usual one is of the plan's usual
-/// integers, has an `id`, and is in a packet with a clock. Where `unusual` is set, another one is asked for. `None`
-/// where the header is not such a one, where it has no plan, and where it has a fault.
+/// The header of the event record at a place (CTF 1.8.3, section 6.1), by its plan, if it has bits. `None` where it is
+/// not one of those that are asked for, where it has bits and no plan, and where it has a fault.
 #[inline(always)]
-pub(crate) fn told_head<'a>(at: &RecordPlace<'_, 'a>, unusual: bool) -> Option<PlannedHead<'a>>
+pub(crate) fn told_head<'a>(at: &RecordPlace<'_, 'a>, headers: Headers) -> Option<PlannedHead<'a>>
     ensures tells { IfSome result (λ p. TellsAt at.now p.told) }
     ensures plan { IfSome result (PlansRecords at.now.packet.now) }
     ensures within { IfSome result (λ p. p.told.head.end ≤ at.now.packet.now.content) }
     ensures few { IfSome result (λ p. p.told.spent ≤ MOST_VALUES) }
 {
-    if unusual {
-        told_unusual(at)
-    } else {
-        told_usual(at)
+    match headers {
+        Headers::Usual => told_usual(at),
+        Headers::Unusual => told_unusual(at),
     }
 }
 

@@ -6,5 +6,6 @@ mod part;
 mod planned_header;
 mod record;
 
+pub use header::Headers;
 pub use part::PacketPart;
-pub use record::{LineBuffer, LineRecord, next_line, passed_record, written_line};
+pub use record::{LONGEST_KEPT, LineBuffer, LineRecord, next_line, passed_record, written_line};

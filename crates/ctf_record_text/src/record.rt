@@ -1,6 +1,6 @@
 //! Event records whose text is made as they are read, or that are passed over.
 
-ghost use Rattle.std.specs.Prelude.{◌≡◌, ◌<◌, ◌≤◌, ℕ, List, false, take, vec_len, Some, option_copied, option_map, IfOk, IfSome, IsTrue, OnOk};
+ghost use Rattle.std.specs.Prelude.{◌≡◌, ◌<◌, ◌≤◌, ◌-◌, ◌/◌, ◌⊎◌, ℕ, List, [], false, take, vec_len, None, Some, option_copied, option_map, IfOk, IfSome, IsTrue, OnOk};
 ghost use Rattle.ctf_clock.specs.declared.moment.Shift.{Shift};
 ghost use Rattle.ctf_decode.specs.Known.{Known};
 ghost use Rattle.ctf_decode.specs.Views.{form};
@@ -11,7 +11,7 @@ ghost use Rattle.ctf_packet.specs.Views.{values_of, packet_values};
 ghost use Rattle.ctf_record_text.specs.Headers.{PlansRecords, TellsAt};
 ghost use Rattle.ctf_record_text.specs.Making.{IsBefore, IsThere, Made, Makes, MakesValues, PutsBody, PutsRecord, PutsScope};
 
-use crate::header::{PlannedHead, ToldHead, told_head};
+use crate::header::{Headers, PlannedHead, ToldHead, told_head};
 use crate::part::PacketPart;
 use ctf_class::{Class, StreamClass};
 use ctf_clock::Moment;
@@ -24,8 +24,9 @@ use ctf_packet::{EventRecord, Head, RecordPlace, Scratch, StreamFault, next_head
 use std::alloc::Global;
 
 /// The longest buffer, in bytes, that is kept for the next text, and the longest text that is held whatever its event
-/// record has. So no trace makes a reader hold a long one for each of many streams.
-const LONGEST_KEPT: usize = 65_536;
+/// record has. So no trace makes a reader hold a long one for each of many streams, but for what the lines of a packet
+/// share.
+pub const LONGEST_KEPT: usize = 65_536;
 
 /// How many bytes a longer text may have for each bit of its event record, or for each value, where it is held. So no
 /// long label, name or host is held by each of many streams.
@@ -46,7 +47,10 @@ pub struct LineBuffer {
 
 impl LineBuffer {
     /// A buffer without text. No memory is taken.
-    pub fn new(alloc: Global) -> LineBuffer {
+    pub fn new(alloc: Global) -> LineBuffer
+        ensures part { result.part ≡ [] }
+        ensures text { vec_len result.bytes ≡ 0 }
+    {
         LineBuffer {
             bytes: Vec::new(alloc),
             part: PacketPart::new(alloc),
@@ -66,19 +70,18 @@ pub struct LineRecord<'a> {
 }
 
 /// The event record at a place (CTF 1.8.3, section 6), if it can be shown without its values. The values of the
-/// packet's header and context are in `scopes`. The header is read by its plan: a usual one, or an `unusual` one. The
-/// text of the record is at the beginning of `line` then: the host, the name, the part that the lines of the packet
-/// share, and the scopes.
+/// packet's header and context are in `scopes`. The header is read by its plan, if it has bits. The text of the record
+/// is at the beginning of `line` then: the host, the name, the part that the lines of the packet share, and the scopes.
 ///
-/// `None` where the header is not such a one, where `put_standing` gives no text, where the record has a fault, where
-/// its text is longer than 64 KiB, than some 32 bytes for each of its bits and than as many for each of its values, and
-/// where an allocation fails. The line is unspecified then.
+/// `None` where the header is not one of those that are asked for, where `put_standing` gives no text, where the record
+/// has a fault, where its text is longer than 64 KiB, than some 32 bytes for each of its bits and than as many for each
+/// of its values, and where an allocation fails. The line is unspecified then.
 #[inline(always)]
 pub fn written_line<'a>(
     alloc: Global,
     at: &RecordPlace<'_, 'a>,
     scopes: &Scopes,
-    unusual: bool,
+    headers: Headers,
     line: &mut LineBuffer,
 ) -> Option<LineRecord<'a>>
     ensures makes { (shift : Shift) → IsTimed shift at.now.packet.now → IfSome result (λ r.
@@ -90,7 +93,7 @@ pub fn written_line<'a>(
     ensures text { IfSome result (λ r. IfSome r.text (λ end. end ≤ vec_len line.new.bytes)) }
 {
     keep_short(alloc, line);
-    let planned = told_head(at, unusual)?;
+    let planned = told_head(at, headers)?;
     let head = planned.told.head;
     let standing = put_planned_body(at, planned, scopes, line)?;
     Some(with_text(head, standing))
@@ -119,6 +122,7 @@ pub fn next_line<'a>(
     ensures packet { OnOk result
         (packet_values (values_of scopes.new) ≡ packet_values (values_of scopes.old)) }
     ensures text { IfOk result (λ r. IfSome r.text (λ end. end ≤ vec_len line.new.bytes)) }
+    ensures short { IfOk result (λ r. r.text ≡ None → vec_len line.new.bytes ≤ LONGEST_KEPT) }
 {
     // A text that failed late keeps no long buffer beside the values.
     keep_short(alloc, line);
@@ -179,9 +183,9 @@ fn told_either<'a>(at: &RecordPlace<'_, 'a>) -> Option<PlannedHead<'a>>
     ensures within { IfSome result (λ p. p.told.head.end ≤ at.now.packet.now.content) }
     ensures few { IfSome result (λ p. p.told.spent ≤ MOST_VALUES) }
 {
-    match told_head(at, false) {
+    match told_head(at, Headers::Usual) {
         Some(planned) => Some(planned),
-        None => told_head(at, true),
+        None => told_head(at, Headers::Unusual),
     }
 }
 
@@ -244,7 +248,8 @@ fn with_text<'a>(head: Head<'a>, standing: Standing) -> LineRecord<'a>
 /// Gives the memory of a long buffer back.
 #[inline(always)]
 fn keep_short(alloc: Global, line: &mut LineBuffer)
-    ensures { line.new.part ≡ line.old.part }
+    ensures part { line.new.part ≡ line.old.part }
+    ensures short { vec_len line.new.bytes ≤ LONGEST_KEPT }
 {
     if line.bytes.len() > LONGEST_KEPT {
         line.bytes = Vec::new(alloc);
@@ -336,9 +341,7 @@ fn put_by_plan<'a>(
     if planned.plan.runs.is_empty() {
         return None;
     }
-    let Ok(front) = put_front(&told.head.event.heading, part, line, 0) else {
-        return None;
-    };
+    let front = put_front(&told.head.event.heading, part, line, 0).ok()?;
     let from = Standing {
         place: told.head.end,
         spent: told.spent,
@@ -384,7 +387,9 @@ fn put_record(
 /// long, many bits or many values.
 #[inline(always)]
 fn is_held(at: &RecordPlace<'_, '_>, all: Standing) -> bool
-    ensures { IsTrue result → at.now.place < all.place }
+    ensures some { IsTrue result → at.now.place < all.place }
+    ensures short { IsTrue result → LONGEST_KEPT < all.end →
+        (all.end / MOST_EACH ≤ all.place - at.now.place) ⊎ (all.end / MOST_EACH ≤ all.spent) }
 {
     if all.place <= at.place {
         return false;
@@ -414,14 +419,13 @@ fn put_scopes(
     ensures held { IfSome result (λ s. s.end ≤ vec_len line.new.bytes) }
 {
     let event = told.head.event;
-    let Ok(end) = put_front(&event.heading, line.part.as_slice(), &mut line.bytes, 0) else {
-        return None;
-    };
+    let end = put_front(&event.heading, line.part.as_slice(), &mut line.bytes, 0).ok()?;
     let front = Standing {
         place: told.head.end,
         spent: told.spent,
         end,
     };
+    // Both stand in for the event context until it is written: nothing is found in one without members.
     line.event_context.clear();
     line.fields.clear();
     let shared_input = ScopeInput {
@@ -478,9 +482,7 @@ fn put_scope(
         return Some(from);
     };
     let to = put_standing(class, input, from, last, line)?;
-    let Ok(end) = put_comma(line, to.end) else {
-        return None;
-    };
+    let end = put_comma(line, to.end).ok()?;
     Some(Standing {
         place: to.place,
         spent: to.spent,

@@ -17,7 +17,7 @@ use ctf_clock::Moment;
 use ctf_decode::Scopes;
 use ctf_fetch::Buffer;
 use ctf_packet::{EventRecord, OpenPacket, RecordPlace, Scratch, StreamFault, next_record};
-use ctf_record_text::{LineBuffer, LineRecord, next_line, passed_record, written_line};
+use ctf_record_text::{Headers, LineBuffer, LineRecord, next_line, passed_record, written_line};
 use std::alloc::Global;
 
 /// A packet whose items are given one after the other.
@@ -80,7 +80,7 @@ pub(crate) struct ReadRecord<'a> {
 impl<'a> PacketReader<'a> {
     /// The next item, if texts are asked for, and it is an event record that can be shown without its values: then its
     /// text is at the start of `line`. `scopes` has the values of the packet. Mostly that is the next item, so it is
-    /// apart from `next`. Its header is a usual one, or an `unusual` one, as `written_line` tells them apart.
+    /// apart from `next`. Its header is one of those that are asked for.
     ///
     /// `None` elsewhere: the packet is as it was then, and the line's text is unspecified.
     #[inline(always)]
@@ -88,7 +88,7 @@ impl<'a> PacketReader<'a> {
         &mut self,
         input: PacketInput<'_>,
         scopes: &Scopes,
-        unusual: bool,
+        headers: Headers,
         line: &mut LineBuffer,
     ) -> Option<PacketItem<'a>>
         requires within { Within input.buffer.now self.old }
@@ -120,7 +120,7 @@ impl<'a> PacketReader<'a> {
             clock: before,
             place: begin,
         };
-        let made = written_line(input.alloc, &at, scopes, unusual, line)?;
+        let made = written_line(input.alloc, &at, scopes, headers, line)?;
         self.clock = made.record.clock;
         self.place = made.record.end;
         Some(front_of(made, before, begin))

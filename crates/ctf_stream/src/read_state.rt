@@ -22,7 +22,7 @@ use ctf_class::{HasId, Scope};
 use ctf_decode::Scopes;
 use ctf_fetch::{Buffer, PacketScratch, PacketStart};
 use ctf_packet::{OpenPacket, Reached, Scratch, StreamFault, clock_at_end};
-use ctf_record_text::LineBuffer;
+use ctf_record_text::{Headers, LineBuffer};
 use std::alloc::Global;
 
 /// How far a stream was read.
@@ -110,7 +110,7 @@ impl<'a> ReadState<'a> {
         if self.is_early() && !written {
             return None;
         }
-        self.next_text(alloc, false)
+        self.next_text(alloc, Headers::Usual)
     }
 
     /// Whether the event records so far are before those that are asked for as texts. The next one mostly is, too.
@@ -128,9 +128,9 @@ impl<'a> ReadState<'a> {
         }
     }
 
-    /// The next item, as `next_written` gives it, whatever its time, with a usual header or an `unusual` one.
+    /// The next item, as `next_written` gives it, whatever its time.
     #[inline(always)]
-    fn next_text(&mut self, alloc: Global, unusual: bool) -> Option<PacketItem<'a>>
+    fn next_text(&mut self, alloc: Global, headers: Headers) -> Option<PacketItem<'a>>
         requires stands { Stands self.old }
         requires shared { HasShared self.old }
         ensures { ReadsNext self.old self.new result }
@@ -144,7 +144,7 @@ impl<'a> ReadState<'a> {
             buffer: &self.buffer,
             writes: self.writes,
         };
-        packet.next_written(input, &self.scopes, unusual, &mut self.line)
+        packet.next_written(input, &self.scopes, headers, &mut self.line)
     }
 
     /// The next item, if it is an event record of the packet at hand that `next_written` left out: one that is passed
@@ -161,7 +161,7 @@ impl<'a> ReadState<'a> {
                 return Some(front);
             }
         }
-        self.next_text(alloc, true)
+        self.next_text(alloc, Headers::Unusual)
     }
 
     /// The next item, as `next_apart` gives it. Mostly there is none, so this is kept out of the way.
@@ -187,7 +187,7 @@ impl<'a> ReadState<'a> {
         if let Some(front) = self.next_passed(alloc) {
             return Some(front);
         }
-        self.next_text(alloc, false)
+        self.next_text(alloc, Headers::Usual)
     }
 
     /// The next item, if it is an event record of the packet at hand that is passed over. `None` elsewhere: then all is

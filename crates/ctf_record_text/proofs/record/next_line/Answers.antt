@@ -25,7 +25,7 @@ returns-in-Some-clause-makes c = λ shift timed.
     let standing = c.in-Some.standing in
     let items = c.put_record.new.line.bytes.items in
     let text = take standing.end items in
-    let puts = rw c.keep_short.ensures at c.in-Some.ensures.puts in
+    let puts = rw c.keep_short.ensures.part at c.in-Some.ensures.puts in
     let body = subst (λ n. PutsBody known o.stream.now head.event.now c.args.line.now.part at.bytes.now o.content head.end n standing.place text) c.spent.ensures.value puts in
     let made = c.with_text.result.record in
     subst (λ t. Made o.stream.now (record_there shift old at) c.args.line.now.part known items made t) (sym c.with_text.ensures.text)

@@ -1,5 +1,6 @@
 use Rattle.std.proofs.Common.{take}
 use Rattle.ctf_class.specs.Records.{scopes_of}
+use Rattle.ctf_format.proofs.Chains.{of_ok}
 use Rattle.ctf_record_text.proofs.Scopes.{planned_body, some_scopes}
 use Rattle.ctf_record_text.proofs.record.put_by_plan.Goals as goal
 
@@ -14,7 +15,7 @@ returns-clause-puts c = λ known.
     let stream = c.args.at.now.packet.now.stream.now in
     let event = c.args.planned.told.head.event.now in
     let all = c.in_ok-all.all in
-    let front = take c.in-Ok.front c.put_front.new.buffer.items in
+    let front = take c.in_ok-front.front c.put_front.new.buffer.items in
     let text = take all.end c.put_planned_record.new.buffer.items in
-    planned_body known stream event c.args.part.now c.args.at.now.bytes.now c.args.at.now.packet.now.content c.args.planned.told.head.end c.args.planned.told.spent all.place all.spent front text c.in-Ok.ensures.text
+    planned_body known stream event c.args.part.now c.args.at.now.bytes.now c.args.at.now.packet.now.content c.args.planned.told.head.end c.args.planned.told.spent all.place all.spent front text (of_ok _ _ c.in_ok-front.ensures.value c.put_front.ensures).text
     (c.in_ok-all.ensures.puts (scopes_of stream.event_context event.context event.fields) (some_scopes stream.event_context event.context event.fields) c.requires.plan)
