@@ -40,11 +40,6 @@ pub handed : {V : Type 0} (faults : List ResolveFault) (P : V → Type 0) (r : R
 handed faults P (Ok v) f h k = absurd h.1
 handed faults P (Err e) f h k = inr (k ∙ ap (λ x. Some x) (sym h.1))
 
--- the first fault of two lists, of which the first is empty
-pub tells-after : {V : Type 0} (xs ys : List ResolveFault) (P : V → Type 0) (r : Result V ResolveFault) → xs ≡ [] → TellsFirst ys P r → Tells (xs ++ ys) P r
-tells-after xs ys P (Ok v) clean h = (both xs ys clean h.0, h.1)
-tells-after xs ys P (Err f) clean h = inr (after xs ys f clean h)
-
 -- the first fault of two lists, of which the first is empty, or out of memory
 pub told-after : (xs ys : List ResolveFault) (f : ResolveFault) → xs ≡ [] → (f ≡ NoMemory) ⊎ (first ys ≡ Some f) → (f ≡ NoMemory) ⊎ (first (xs ++ ys) ≡ Some f)
 told-after xs ys f clean (inl refused) = inl refused
@@ -54,3 +49,13 @@ pub handed-told : {V : Type 0} (faults : List ResolveFault) (P : V → Type 0) (
 handed-told faults P (Ok v) f h k = absurd h.1
 handed-told faults P (Err e) f h (inl refused) = inl (h.1 ∙ refused)
 handed-told faults P (Err e) f h (inr told) = inr (told ∙ ap (λ x. Some x) (sym h.1))
+
+-- what is reported where a call's fault is handed on and no memory is taken
+pub handed-first : {V : Type 0} (faults : List ResolveFault) (P : V → Type 0) (r : Result V ResolveFault) (f : ResolveFault) → IsErr r × IsErrAnd r (λ e. e ≡ f) → first faults ≡ Some f → TellsFirst faults P r
+handed-first faults P (Ok v) f h k = absurd h.1
+handed-first faults P (Err e) f h k = k ∙ ap (λ x. Some x) (sym h.1)
+
+-- the first fault of two lists, of which the first is empty, where no memory is taken
+pub first-after : {V : Type 0} (xs ys : List ResolveFault) (P : V → Type 0) (r : Result V ResolveFault) → xs ≡ [] → TellsFirst ys P r → TellsFirst (xs ++ ys) P r
+first-after xs ys P (Ok v) clean h = (both xs ys clean h.0, h.1)
+first-after xs ys P (Err f) clean h = after xs ys f clean h

@@ -1,10 +1,10 @@
 //! Alignments of structures.
 
-ghost use Rattle.std.specs.Prelude.{◌≡◌, not, unwrap_or, IfErr};
+ghost use Rattle.std.specs.Prelude.{◌≡◌, not, unwrap_or};
 ghost use Rattle.ctf_meaning.specs.declared.fault.ResolveFault.TheVariants as faults;
 ghost use Rattle.ctf_meaning.specs.Settings.{when};
 ghost use Rattle.ctf_meaning.specs.Integers.{is_alignment};
-ghost use Rattle.ctf_attributes.specs.Tells.{Tells, TellsFirst, structure_faults};
+ghost use Rattle.ctf_attributes.specs.Tells.{TellsFirst, structure_faults};
 
 use ctf_class::Align;
 use ctf_meaning::ResolveFault;
@@ -12,8 +12,7 @@ use ctf_meaning::ResolveFault;
 /// The alignment of a structure with this `align(N)`, in bits: 1 where it has none (CTF 1.8.3, sections
 /// 4.1.2 and 4.2.1). It fails with `SizeOrAlignment` where N is no power of two from 1 to 2^31.
 pub fn alignment(align: Option<u64>) -> Result<Align, ResolveFault>
-    ensures told { Tells (structure_faults align) (λ bits. bits ≡ unwrap_or align 1) result }
-    ensures fault { IfErr result (λ fault. fault ≡ faults.SizeOrAlignment) }
+    ensures told { TellsFirst (structure_faults align) (λ bits. bits ≡ unwrap_or align 1) result }
 {
     alignment_of(align.unwrap_or(1))
 }

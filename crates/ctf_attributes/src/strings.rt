@@ -1,9 +1,7 @@
 //! Attributes of strings.
 
-ghost use Rattle.std.specs.Prelude.{◌≡◌, IfErr};
-ghost use Rattle.ctf_meaning.specs.declared.fault.ResolveFault.TheVariants as faults;
 ghost use Rattle.ctf_meaning.specs.Settings.{string_faults};
-ghost use Rattle.ctf_attributes.specs.Tells.{Tells, Nothing};
+ghost use Rattle.ctf_attributes.specs.Tells.{TellsFirst, Nothing};
 
 use crate::attributes::is_text;
 use crate::lookup::once;
@@ -12,8 +10,7 @@ use tsdl_tree::Setting;
 
 /// Fails with `Attribute` where the encoding of a string is there twice or is none (CTF 1.8.3, section 4.2.5).
 pub fn string(settings: &[Setting]) -> Result<(), ResolveFault>
-    ensures told { Tells (string_faults settings.now) Nothing result }
-    ensures fault { IfErr result (λ fault. fault ≡ faults.Attribute) }
+    ensures told { TellsFirst (string_faults settings.now) Nothing result }
 {
     once(settings, b"encoding")?;
     is_text(settings)?;

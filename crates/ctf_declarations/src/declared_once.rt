@@ -15,7 +15,7 @@ ghost use Rattle.ctf_meaning.specs.Settings.{when, minus_faults};
 ghost use Rattle.ctf_meaning.specs.Blocks as meant;
 ghost use Rattle.ctf_meaning.specs.Blocks.{is_trace, stream_id_of, clocks_of, block_faults, twice_faults};
 ghost use Rattle.ctf_meaning.specs.Clocks.{clock_by};
-ghost use Rattle.ctf_attributes.specs.Tells.{Tells, Nothing};
+ghost use Rattle.ctf_attributes.specs.Tells.{Tells, TellsFirst, Nothing};
 ghost use Rattle.ctf_declarations.specs.DeclaredSoFar.{Remembers};
 
 use ctf_attributes::{EventSettings, TraceSettings, clock, numbers, stream_id};
@@ -47,7 +47,7 @@ impl DeclaredOnce {
     /// Keeps that there is a trace. It fails with `Twice` where there was one.
     fn add_trace(&mut self) -> Result<(), ResolveFault>
         ensures told { (before : List Declaration) → Remembers self.old before →
-            Tells (when (list_any is_trace before) faults.Twice) Nothing result }
+            TellsFirst (when (list_any is_trace before) faults.Twice) Nothing result }
         ensures kept { (before : List Declaration) (entries : List written.BlockEntry) →
             Remembers self.old before →
             OnOk result (Remembers self.new (before ++ Block block.Trace entries ∷ [])) }

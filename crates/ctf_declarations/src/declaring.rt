@@ -50,7 +50,7 @@ pub fn own_name(specifier: &Specifier) -> Option<Name<'_>>
 }
 
 /// Gives a class with arrays around it a new name.
-pub fn declare_one(
+fn declare_one(
     alloc: Global,
     own: &mut BlockNames,
     given: Name<'_>,

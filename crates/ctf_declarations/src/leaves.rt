@@ -26,8 +26,7 @@ pub fn integer_class(alloc: Global, settings: &[Setting]) -> Result<Known, Resol
     ensures { Follows (shape_told nothing_seen (written.Integer settings.now)) known result }
 {
     let integer = integer_by(alloc, settings)?;
-    let class = Known::integer(alloc, integer)?;
-    Ok(class)
+    Ok(Known::integer(alloc, integer)?)
 }
 
 /// The class of a floating-point number, of whose settings none counts.
@@ -35,8 +34,7 @@ pub fn float_class(alloc: Global, settings: &[Setting]) -> Result<Known, Resolve
     ensures { Follows (shape_told nothing_seen (written.Float settings.now)) known result }
 {
     numbers(settings)?;
-    let class = Known::float(alloc)?;
-    Ok(class)
+    Ok(Known::float(alloc)?)
 }
 
 /// The class of a string.
@@ -45,6 +43,5 @@ pub fn string_class(alloc: Global, settings: &[Setting]) -> Result<Known, Resolv
 {
     numbers(settings)?;
     string(settings)?;
-    let class = Known::string(alloc)?;
-    Ok(class)
+    Ok(Known::string(alloc)?)
 }

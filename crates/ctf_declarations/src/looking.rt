@@ -31,10 +31,7 @@ fn class_of_name<'a>(
     ensures { Follows (named_told (visible seen.now) (name given.entry)) (λ k. known k.now) result }
 {
     let key = key(alloc, given)?;
-    match seen.find(key.as_slice()) {
-        Some(class) => Ok(class),
-        None => Err(ResolveFault::UnknownType),
-    }
+    seen.find(key.as_slice()).ok_or(ResolveFault::UnknownType)
 }
 
 /// The class that a name means, as a second owner of it.
@@ -42,8 +39,7 @@ fn owned_class(alloc: Global, seen: &Visible<'_>, given: Name<'_>) -> Result<Kno
     ensures { Follows (named_told (visible seen.now) (name given.entry)) known result }
 {
     let class = class_of_name(alloc, seen, given)?;
-    let shared = class.share()?;
-    Ok(shared)
+    Ok(class.share()?)
 }
 
 /// A variant with the tag where it is used.
@@ -57,8 +53,7 @@ fn used_variant(
         (written.Named (meant.Variant word.now) tag.now)) known result }
 {
     let class = class_of_name(alloc, seen, Name::Variant(word.as_slice()))?;
-    let tagged = class.with_tag(alloc, tag)?;
-    Ok(tagged)
+    Ok(class.with_tag(alloc, tag)?)
 }
 
 /// The class of a reference.
@@ -91,13 +86,8 @@ fn integer_named(
         (Some (container.Named (record { words = words.now })))) (λ i. i) result }
 {
     let class = class_of_name(alloc, seen, Name::Plain(words))?;
-    match class.integer_in() {
-        Some(integer) => {
-            let copy = copy_integer(integer)?;
-            Ok(copy)
-        }
-        None => Err(ResolveFault::Attribute),
-    }
+    let integer = class.integer_in().ok_or(ResolveFault::Attribute)?;
+    Ok(copy_integer(integer)?)
 }
 
 /// The integer of an enumeration without a container: the one named `int`.
@@ -134,6 +124,5 @@ pub fn enumeration(
 {
     let integer = container_of(alloc, seen, container)?;
     let labels = labels(alloc, written)?;
-    let class = Known::enumeration(alloc, integer, labels)?;
-    Ok(class)
+    Ok(Known::enumeration(alloc, integer, labels)?)
 }

@@ -7,7 +7,7 @@ ghost use Rattle.ctf_meaning.specs.Scopes.{scope_faults, missing_scope};
 ghost use Rattle.ctf_meaning.specs.Shapes.{struct, no_member};
 ghost use Rattle.ctf_meaning_steps.specs.Told.{Follows};
 ghost use Rattle.ctf_meaning_steps.specs.Blocks.{class_named, placed_in, placed};
-ghost use Rattle.ctf_attributes.specs.Tells.{Tells, Nothing};
+ghost use Rattle.ctf_attributes.specs.Tells.{TellsFirst, Nothing};
 ghost use Rattle.ctf_declared_class.specs.Knowns.{known};
 ghost use Rattle.ctf_declarations.specs.Views.{option_known};
 ghost use Rattle.ctf_declarations.specs.DeclaredSoFar.{named_class, placed_seen};
@@ -127,7 +127,7 @@ pub fn placed_classes(
 /// Fails with `Attribute` where the class of a scope is no structure, and with `FloatingPoint` where a
 /// floating-point class is in it.
 fn check(class: &Known) -> Result<(), ResolveFault>
-    ensures { Tells (scope_faults (known class.now)) Nothing result }
+    ensures { TellsFirst (scope_faults (known class.now)) Nothing result }
 {
     if !class.is_structure() {
         return Err(ResolveFault::Attribute);
@@ -140,7 +140,8 @@ fn check(class: &Known) -> Result<(), ResolveFault>
 
 /// Checks the classes of several scopes, one after the other.
 pub fn check_all(row: &[ScopeShape]) -> Result<(), ResolveFault>
-    ensures { Tells (flat_map (λ p. scope_faults p.1) (map placed_seen row.now)) Nothing result }
+    ensures { TellsFirst (flat_map (λ p. scope_faults p.1) (map placed_seen row.now)) Nothing
+        result }
 {
     for class in row {
         check(&class.shape)?;

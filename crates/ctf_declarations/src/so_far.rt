@@ -83,7 +83,7 @@ impl DeclaredSoFar {
 /// How many classes there are with those of more scopes. It fails with `TooDeep` where they are too many.
 fn count_all(nodes: u32, row: &[ScopeShape]) -> Result<u32, ResolveFault>
     ensures { let all = nodes + sum (map (λ p. nodes_of p.1) (map placed_seen row.now)) in
-        Follows (unless (when (nat_lt most_nodes all) faults.TooDeep) (Ok all)) (λ n. n) result }
+        result ≡ unless (when (nat_lt most_nodes all) faults.TooDeep) (Ok all) }
 {
     let mut total = nodes;
     for class in row {

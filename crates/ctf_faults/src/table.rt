@@ -12,8 +12,10 @@ use itoa::Buffer;
 use tsdl_parse::SyntaxFault;
 use tsdl_text::{LineNumber, MetaFault};
 
+/// The text of what nests too deep, in the syntax or in the meaning.
 const TOO_DEEP: &[u8] = b"R9: nested too deep or too many classes";
 
+/// The text of a failed allocation, which each kind of fault has.
 const NO_MEMORY: &[u8] = b"O2: no memory";
 
 /// Appends the code and the text of a fault of metadata.
@@ -28,6 +30,7 @@ pub(crate) fn append_load(text: &mut Vec<u8>, fault: &LoadFault) -> Result<(), N
     }
 }
 
+/// Appends some bytes.
 fn append(text: &mut Vec<u8>, more: &[u8]) -> Result<(), NoMemory>
     ensures { OnOk result (text.new.items ≡ text.old.items ++ more.now) }
 {
@@ -35,6 +38,7 @@ fn append(text: &mut Vec<u8>, more: &[u8]) -> Result<(), NoMemory>
     Ok(())
 }
 
+/// Appends the code and the text of a fault of metadata packets or tokens.
 fn append_meta(text: &mut Vec<u8>, fault: &MetaFault) -> Result<(), NoMemory>
     ensures { OnOk result (text.new.items ≡ text.old.items ++ table.meta_text fault.now) }
 {
@@ -45,22 +49,17 @@ fn append_meta(text: &mut Vec<u8>, fault: &MetaFault) -> Result<(), NoMemory>
         MetaFault::WrongVersion => append(text, b"M4: metadata version is not 1.8"),
         MetaFault::UuidDiffers => append(text, b"M5: metadata uuid differs"),
         MetaFault::TooLong => append(text, b"M6: metadata too long"),
-        MetaFault::NoToken(_line) => match fault.line() {
-            Some(line) => append_at_line(text, b"S1: no token", line),
-            None => Ok(()),
-        },
+        MetaFault::NoToken(line) => append_at_line(text, b"S1: no token", *line),
         MetaFault::NoMemory => append(text, NO_MEMORY),
     }
 }
 
+/// Appends the code and the text of a fault of the syntax.
 fn append_syntax(text: &mut Vec<u8>, fault: &SyntaxFault) -> Result<(), NoMemory>
     ensures { OnOk result (text.new.items ≡ text.old.items ++ table.syntax_text fault.now) }
 {
     match fault {
-        SyntaxFault::Syntax { line: _ } => match fault.line() {
-            Some(line) => append_at_line(text, b"S2: syntax error", line),
-            None => Ok(()),
-        },
+        SyntaxFault::Syntax { line } => append_at_line(text, b"S2: syntax error", *line),
         SyntaxFault::TooDeep => append(text, TOO_DEEP),
         SyntaxFault::NoMemory => append(text, NO_MEMORY),
     }
@@ -77,6 +76,7 @@ fn append_at_line(text: &mut Vec<u8>, what: &[u8], line: LineNumber) -> Result<(
     Ok(())
 }
 
+/// The code and the text of a fault of the meaning.
 fn resolve_text(fault: ResolveFault) -> &'static [u8]
     ensures { result.now ≡ table.resolve_text fault }
 {

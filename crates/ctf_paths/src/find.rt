@@ -33,7 +33,8 @@ pub struct Start<'a> {
     pub frame: PathStructure<'a>,
 }
 
-/// A number of a route. One from 2^32 on is refused, since no memory holds so many.
+/// A number of a route. `NoMemory` from 2^32 on, which the first pass rules out: it refuses more than 1,048,576 classes
+/// (R9).
 fn step(place: usize) -> Result<u32, NoMemory>
     ensures { IfOk result (λ step. step ≡ place) }
 {
@@ -43,7 +44,8 @@ fn step(place: usize) -> Result<u32, NoMemory>
     }
 }
 
-/// The next structure further out.
+/// The next structure further out. `NoMemory` from 2^32 on, which the first pass rules out: it refuses classes deeper
+/// than 64 (R9).
 fn outward(out: u32) -> Result<u32, NoMemory>
     ensures { IfOk result (λ next. next ≡ out + 1) }
 {

@@ -35,8 +35,8 @@ pub fn integer_class(
     spot: &Spot<'_>,
     declared: &DeclaredInteger,
 ) -> Result<Class, ResolveFault>
-    ensures { Follows (class_told order clocks.now.clocks.now (spot_by spot.now)
-        (integer declared.now)) (λ c. c) result }
+    ensures { result ≡ class_told order clocks.now.clocks.now (spot_by spot.now)
+        (integer declared.now) }
 {
     if clocks.is_unknown(declared) {
         return Err(ResolveFault::Clock);

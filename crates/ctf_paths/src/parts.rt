@@ -20,8 +20,8 @@ struct Sums {
     nodes: u32,
 }
 
-/// How deep the classes of some members are, and how many. More than 2^32 - 1 are refused, since no memory
-/// holds so many.
+/// How deep the classes of some members are, and how many. `NoMemory` from 2^32 on, which the first pass rules
+/// out: it refuses more than 1,048,576 (R9).
 fn sums_of(members: &[Member]) -> Result<Sums, NoMemory>
     ensures depth { IfOk result (λ sums. sums.depth ≡ depth_in members.now) }
     ensures nodes { IfOk result (λ sums. sums.nodes ≡ nodes_in members.now) }
@@ -44,7 +44,8 @@ pub fn room_for(alloc: Global, count: usize) -> Result<List<Member>, NoMemory>
 }
 
 impl Sums {
-    /// The sums with a class around. More than 2^32 - 1 are refused, since no memory holds so many.
+    /// The sums with a class around. `NoMemory` from 2^32 on, which the first pass rules out: it refuses classes
+    /// deeper than 64 and more than 1,048,576 of them (R9).
     fn outward(self) -> Result<Sums, NoMemory>
         ensures depth { IfOk result (λ sums. sums.depth ≡ 1 + self.depth) }
         ensures nodes { IfOk result (λ sums. sums.nodes ≡ 1 + self.nodes) }

@@ -1,6 +1,6 @@
 //! Lengths and tags.
 
-ghost use Rattle.std.specs.Prelude.{◌≡◌, option_copied};
+ghost use Rattle.std.specs.Prelude.{◌≡◌, option_copied, option_map};
 ghost use Rattle.ctf_meaning.specs.Paths as paths;
 ghost use Rattle.ctf_meaning.specs.declared.fault.ResolveFault.TheVariants.{LengthOrTag};
 ghost use Rattle.ctf_meaning_steps.specs.Told.{Follows, there_or};
@@ -61,23 +61,16 @@ pub fn length_at(alloc: Global, spot: &Spot<'_>, path: &[Word]) -> Result<Route,
     ensures { Follows (there_or LengthOrTag (paths.length_at (spot_by spot.now) path.now))
         (λ route. route) result }
 {
-    match found_at(alloc, spot, path)? {
-        None => Err(ResolveFault::LengthOrTag),
-        Some(found) => length_of(found),
-    }
+    let found = found_at(alloc, spot, path)?.ok_or(ResolveFault::LengthOrTag)?;
+    length_of(found).ok_or(ResolveFault::LengthOrTag)
 }
 
-/// The route to a field that is a length.
-fn length_of(found: Found<'_>) -> Result<Route, ResolveFault>
-    ensures { Follows (there_or LengthOrTag (length_of (found_by found.entry)))
-        (λ route. route) result }
+/// The route to a field, if that is a length.
+fn length_of(found: Found<'_>) -> Option<Route>
+    ensures { result ≡ length_of (found_by found.entry) }
 {
     let Found { route, shape } = found;
-    if is_length(shape) {
-        Ok(route)
-    } else {
-        Err(ResolveFault::LengthOrTag)
-    }
+    if is_length(shape) { Some(route) } else { None }
 }
 
 /// The tag of a variant, as it is written (CTF 1.8.3, section 4.2.2).
@@ -89,22 +82,18 @@ pub fn tag_at<'a>(
     ensures { Follows (there_or LengthOrTag (paths.tag_at (spot_by spot.now) tag.now)) tag_by
         result }
 {
-    match tag {
-        None => Err(ResolveFault::LengthOrTag),
-        Some(path) => match found_at(alloc, spot, path.as_slice())? {
-            None => Err(ResolveFault::LengthOrTag),
-            Some(found) => tag_of(found),
-        },
-    }
+    let Some(path) = tag else {
+        return Err(ResolveFault::LengthOrTag);
+    };
+    let found = found_at(alloc, spot, path.as_slice())?.ok_or(ResolveFault::LengthOrTag)?;
+    tag_of(found).ok_or(ResolveFault::LengthOrTag)
 }
 
-/// The tag to which a route leads.
-fn tag_of<'a>(found: Found<'a>) -> Result<Tag<'a>, ResolveFault>
-    ensures { Follows (there_or LengthOrTag (tag_of (found_by found.entry))) tag_by result }
+/// The tag to which a route leads, if that is an enumeration.
+fn tag_of<'a>(found: Found<'a>) -> Option<Tag<'a>>
+    ensures { option_map tag_by result ≡ tag_of (found_by found.entry) }
 {
     let Found { route, shape } = found;
-    match labels_in(shape) {
-        None => Err(ResolveFault::LengthOrTag),
-        Some(labels) => Ok(Tag { route, labels }),
-    }
+    let labels = labels_in(shape)?;
+    Some(Tag { route, labels })
 }

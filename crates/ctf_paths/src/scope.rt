@@ -20,7 +20,8 @@ use ctf_meaning::ResolveFault;
 /// The class that a shape is as the structure of a scope, after the structures of the scopes before, the
 /// nearest first: its paths lead to fields, and its clocks are known. Else the first of its lengths and
 /// tags that is not found or does not fit, or of its mappings to an unknown clock (CTF 1.8.3, sections 4,
-/// 7.3.2 and 8). A class of more than 2^32 - 1 parts is refused as too large for the memory.
+/// 7.3.2 and 8). `NoMemory` also where 32 bits do not hold its depth or its parts, which the first pass rules
+/// out: it refuses classes deeper than 64 and more than 1,048,576 of them (R9).
 pub fn scope_class(
     linker: &Linker<'_>,
     scope: Scope,

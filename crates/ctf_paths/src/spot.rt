@@ -66,7 +66,7 @@ impl<'a> EarlierStructure<'a> {
 
 impl<'a> OuterStructures<'a> {
     /// Whether there is no structure around a class.
-    pub fn is_outside(&self) -> bool
+    fn is_outside(&self) -> bool
         ensures { result ≡ is_outermost (frames_around self.now) }
     {
         match self {

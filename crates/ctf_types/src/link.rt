@@ -24,11 +24,11 @@ use std::alloc::{AllocError, Global};
 
 /// The clock of a stream class.
 #[derive(Drop)]
-pub struct MovedClock {
+struct MovedClock {
     /// The first that its integers set.
-    pub clock: Option<Clock>,
+    clock: Option<Clock>,
     /// Whether they set one of another name too.
-    pub has_several: bool,
+    has_several: bool,
 }
 
 impl<'a> KnownText<'a> {

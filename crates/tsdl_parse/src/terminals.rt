@@ -32,10 +32,7 @@ pub(crate) fn expect<'t, 'a>(
     ensures reads { Gives (λ rest. rest.now) result (expect symbol tokens.now) }
     ensures shorter { IfOk result (λ rest. length rest.now < length tokens.now) }
 {
-    match after(symbol, tokens) {
-        Some(rest) => Ok(rest),
-        None => Err(Failure::Syntax(tokens.len())),
-    }
+    after(symbol, tokens).ok_or(Failure::Syntax(tokens.len()))
 }
 
 /// What was read before the symbol, which must come first, and what follows it.

@@ -205,6 +205,7 @@ fn string_len(text: &[u8]) -> Option<usize>
     None
 }
 
+/// Whether a byte is the suffix of an unsigned constant.
 #[tactic(auto, unfolding(crate::specs::Constants::is_u))]
 fn is_u(byte: u8) -> bool
     ensures { result ≡ is_u byte }
@@ -212,6 +213,7 @@ fn is_u(byte: u8) -> bool
     byte == b'u' || byte == b'U'
 }
 
+/// Whether a byte is the suffix of a long constant, or the half of it.
 #[tactic(auto, unfolding(crate::specs::Constants::is_l))]
 fn is_l(byte: u8) -> bool
     ensures { result ≡ is_l byte }
@@ -283,7 +285,7 @@ fn token(text: &[u8]) -> Option<(TokenKind, usize)>
     }
 }
 
-/// The piece that a text begins with: blanks, a comment or a token.
+/// The piece that a text begins with: a blank, a comment or a token.
 #[tactic(auto, unfolding(crate::specs::Scanning::piece_at))]
 fn piece(text: &[u8]) -> Option<Extent>
     ensures value { result ≡ piece_at text.now }

@@ -14,6 +14,33 @@ pub const MOST_BYTES: usize = 67_108_864;
 /// How many bytes the header of a metadata packet has (CTF 1.8.3, section 7.1).
 pub const HEADER_LEN: usize = 37;
 
+/// Where the uuid of a header begins, in bytes, after the magic (CTF 1.8.3, section 7.1).
+const UUID_AT: usize = 4;
+
+/// Where its checksum begins, after the uuid.
+const CHECKSUM_AT: usize = 20;
+
+/// Where the size of the content begins.
+const CONTENT_SIZE_AT: usize = 24;
+
+/// Where the size of the packet begins.
+const PACKET_SIZE_AT: usize = 28;
+
+/// Where the scheme of the compression is.
+const COMPRESSION_AT: usize = 32;
+
+/// Where the scheme of the encryption is.
+const ENCRYPTION_AT: usize = 33;
+
+/// Where the scheme of the checksum is.
+const CHECKSUM_SCHEME_AT: usize = 34;
+
+/// Where the major version is.
+const MAJOR_AT: usize = 35;
+
+/// Where the minor version is.
+const MINOR_AT: usize = 36;
+
 /// The byte order of the headers.
 #[derive(Clone, Copy)]
 pub(crate) enum HeaderOrder {
@@ -49,7 +76,7 @@ impl HeaderOrder {
     fn of(bytes: &[u8]) -> Option<HeaderOrder>
         ensures { result ≡ order_of bytes.now }
     {
-        let front = &bytes[..bytes.len().min(4)];
+        let front = &bytes[..bytes.len().min(UUID_AT)];
         if front == HeaderOrder::Big.magic() {
             Some(HeaderOrder::Big)
         } else if front == HeaderOrder::Little.magic() {
@@ -65,8 +92,8 @@ fn ends(order: HeaderOrder, rest: &[u8]) -> Option<(usize, usize)>
     requires { HEADER_LEN ≤ length rest.now }
     ensures { MatchOption result (sizes_fit order rest.now ≡ false) (HasEnds order rest.now) }
 {
-    let content_size = order.word(&rest[24..28]) as usize;
-    let packet_size = order.word(&rest[28..32]) as usize;
+    let content_size = order.word(&rest[CONTENT_SIZE_AT..PACKET_SIZE_AT]) as usize;
+    let packet_size = order.word(&rest[PACKET_SIZE_AT..COMPRESSION_AT]) as usize;
     if content_size % 8 != 0 || packet_size % 8 != 0 {
         return None;
     }
@@ -86,16 +113,16 @@ fn header_fault(order: HeaderOrder, id: &[u8], rest: &[u8]) -> Option<MetaFault>
     if rest.len() < HEADER_LEN {
         return Some(MetaFault::CutShort);
     }
-    if &rest[..4] != order.magic() {
+    if &rest[..UUID_AT] != order.magic() {
         return Some(MetaFault::WrongMagic);
     }
-    if rest[32] != 0 || rest[33] != 0 || rest[34] != 0 {
+    if rest[COMPRESSION_AT] != 0 || rest[ENCRYPTION_AT] != 0 || rest[CHECKSUM_SCHEME_AT] != 0 {
         return Some(MetaFault::SchemeUnsupported);
     }
-    if rest[35] != 1 || rest[36] != 8 {
+    if rest[MAJOR_AT] != 1 || rest[MINOR_AT] != 8 {
         return Some(MetaFault::WrongVersion);
     }
-    if &rest[4..20] != id {
+    if &rest[UUID_AT..CHECKSUM_AT] != id {
         return Some(MetaFault::UuidDiffers);
     }
     None
@@ -125,7 +152,7 @@ fn contents(alloc: Global, order: HeaderOrder, bytes: &[u8]) -> Result<Vec<u8>, 
     if bytes.len() < HEADER_LEN {
         return Err(MetaFault::CutShort);
     }
-    let id = &bytes[4..20];
+    let id = &bytes[UUID_AT..CHECKSUM_AT];
     let mut text = Vec::new(alloc);
     let mut start = 0;
     while start < bytes.len() {

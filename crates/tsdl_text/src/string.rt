@@ -10,7 +10,7 @@ use ctf_list::NoMemory;
 use std::alloc::Global;
 
 /// The value of a digit, letters counting from 10 on, and 36 for any other byte.
-pub(crate) fn digit_value(byte: u8) -> u8
+fn digit_value(byte: u8) -> u8
     ensures { result ≡ digit_value byte }
 {
     match byte {

@@ -1,4 +1,4 @@
-use Rattle.std.proofs.Common.{◌+◌, ◌-◌, ◌^◌, ◌∙◌, ap, sym, map, take, inr, arith, List, add_assoc}
+use Rattle.std.proofs.Common.{◌+◌, ◌-◌, ◌^◌, ◌∙◌, ap, sym, map, take, arith, List, add_assoc}
 use Rattle.std.specs.Prelude.{min, sum}
 use Rattle.std.proofs.lemmas.List.{take_all}
 use Rattle.ctf_meaning.specs.Shapes.{nodes_of}
@@ -18,7 +18,7 @@ loop-class-preserved c =
     ∙ ap (λ n. c.args.nodes + n) (sym (one_more (λ p. nodes_of p.1) placed_seen c.args.row.now c.loop-class.class-index c.class-item.result c.class-item.is c.loop-class-test.true)))
 
 pub returns : goal.returns
-returns c = few_enough c.loop-class.total _ (c.loop-class.invariant ∙ ap (λ (l : List ScopeShape). min (c.args.nodes + sum (map (λ p. nodes_of p.1) (map placed_seen l))) (2 ^ 32 - 1)) (take_all c.loop-class.class-index c.args.row.now c.loop-class-test.false)) (omega arith)
+returns c = sym (few_enough c.loop-class.total _ (c.loop-class.invariant ∙ ap (λ (l : List ScopeShape). min (c.args.nodes + sum (map (λ p. nodes_of p.1) (map placed_seen l))) (2 ^ 32 - 1)) (take_all c.loop-class.class-index c.args.row.now c.loop-class-test.false)) (omega arith))
 
 pub returns-then-total-gt-MOST_NODES : goal.returns-then-total-gt-MOST_NODES
-returns-then-total-gt-MOST_NODES c = inr (too_many c.loop-class.total _ (c.loop-class.invariant ∙ ap (λ (l : List ScopeShape). min (c.args.nodes + sum (map (λ p. nodes_of p.1) (map placed_seen l))) (2 ^ 32 - 1)) (take_all c.loop-class.class-index c.args.row.now c.loop-class-test.false)) (omega arith))
+returns-then-total-gt-MOST_NODES c = sym (too_many c.loop-class.total _ (c.loop-class.invariant ∙ ap (λ (l : List ScopeShape). min (c.args.nodes + sum (map (λ p. nodes_of p.1) (map placed_seen l))) (2 ^ 32 - 1)) (take_all c.loop-class.class-index c.args.row.now c.loop-class-test.false)) (omega arith))

@@ -1,4 +1,4 @@
-use Rattle.std.proofs.Common.{map, sym, ap, ◌∙◌}
+use Rattle.std.proofs.Common.{inr, map, sym, ap, ◌∙◌}
 use Rattle.std.proofs.lemmas.Result.{err_from_is_err_and}
 use Rattle.tsdl_tree.specs.declared.tree.BlockKind.TheVariants as kind
 use Rattle.ctf_meaning.specs.Blocks.{block_faults}
@@ -34,4 +34,4 @@ returns-in_err-id-in-Stream-clause-row g c =
     let es = map entry_of c.args.block.now.entries.now in
     let p = err_from_is_err_and c.from_residual-in_err-id-in-Stream.result c.from_residual-in_err-id-in-Stream.ensures.1 in rw (p.1, p.2)
     (no_fault (block_faults (Block kind.Stream es)) c.in_err-id-in-Stream.field-0.0
-    (ap (λ k. block_faults (Block k es)) (sym c.in-Stream.is) ∙ c.requires.0.settled c.args.block.now.number (Block c.args.block.now.kind es) c.requires.1.0) c.in_err-id-in-Stream.ensures.told)
+    (ap (λ k. block_faults (Block k es)) (sym c.in-Stream.is) ∙ c.requires.0.settled c.args.block.now.number (Block c.args.block.now.kind es) c.requires.1.0) (inr c.in_err-id-in-Stream.ensures.told))
