@@ -1,6 +1,7 @@
 pub mod Pieces
 pub mod Runs
 pub mod Reaching
+pub mod Ended
 pub mod Fronts
 pub mod Stepping
 pub mod Stopping

@@ -332,48 +332,6 @@ pub fn print_all<'a, S: Source + Drop, W: Log, E: Sink>(
     ensures out_tells { IsTrue (W.tells out.old) → IsTrue (W.tells out.new) }
     ensures err_tells { IsTrue (E.tells err.old) → IsTrue (E.tells err.new) }
 {
-    match session.ended {
-        Some(ending) => ending.outcome(),
-        None => print_rest(session, out, err),
-    }
-}
-
-/// Steps until a session that has not ended does.
-fn print_rest<'a, S: Source + Drop, W: Log, E: Sink>(
-    session: &mut Session<'a, S>,
-    out: &mut W,
-    err: &mut E,
-) -> Outcome
-    requires { session.old.ended ≡ None }
-    ensures runs { let wrote = written_by W.accepted W.settled E.accepted in
-        Tells session.old → IsTrue (W.tells out.old) → IsTrue (E.tells err.old)
-        → Answered (answer_of session.old) result (wrote out.old err.old out.new err.new) }
-    ensures counts { let counts = counts_by W.failures W.refusals E.failures E.refusals in
-        CountsAfter result (counts out.old err.old) (counts out.new err.new) }
-    ensures named { IsNamed result }
-
-    // Of any sources and sinks: nothing of the log is held back after the line of a fault, nor where the messages
-    // failed or ran out of memory.
-    ensures after { SettledBy result (W.settled out.new) }
-    ensures settled { let counts = counts_by W.failures W.refusals E.failures E.refusals in
-        SameForMessages (counts out.old err.old) (counts out.new err.new)
-        ⊎ IsTrue (W.settled out.new) }
-    ensures ends { session.new.ended ≡ Some result }
-    ensures setting { session.new.setting ≡ session.old.setting }
-
-    // No stream is read on from an item after the end; the bytes taken are those that the sources gave, and no more
-    // than the current items need.
-    ensures passes { Tells session.old → IsTrue (W.tells out.old) → IsTrue (E.tells err.old)
-        → PassesWithin session.old.setting session.old.readers session.new.readers }
-    ensures tells { Tells session.old → Tells session.new }
-    ensures counted { Tells session.old
-        → given_of session.new.readers ≡ given_of session.old.readers }
-    ensures on_line { EachOnLine session.old.readers → EachOnLine session.new.readers }
-    ensures all_taken { Tells session.old → EachAllTaken session.old.readers
-        → EachAllTaken session.new.readers }
-    ensures out_tells { IsTrue (W.tells out.old) → IsTrue (W.tells out.new) }
-    ensures err_tells { IsTrue (E.tells err.old) → IsTrue (E.tells err.new) }
-{
     loop {
         match session.step(out, err) {
             Step::Went => {}

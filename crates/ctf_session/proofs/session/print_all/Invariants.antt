@@ -1,14 +1,17 @@
-use Rattle.std.proofs.Common.{◌≡◌, None, IsTrue}
+use Rattle.std.proofs.Common.{◌≡◌, Some, None, IsTrue}
+use Rattle.ctf_faults.specs.declared.outcome.Outcome.{Outcome}
 use Rattle.ctf_merge.specs.Merges.{EachOnLine, EachAllTaken, given_of}
 use Rattle.ctf_session.specs.Passing.{PassesWithin}
 use Rattle.ctf_session.specs.Steps.{Tells}
 use Rattle.ctf_session.specs.Writing.{written_by}
 use Rattle.ctf_session.proofs.Reaching.{Reaches}
-use Rattle.ctf_session.proofs.session.print_rest.Given as goal
+use Rattle.ctf_session.proofs.session.print_all.Given as goal
 
 abbrev pub invariant-loop-outcome : goal.invariant-loop-outcome
 invariant-loop-outcome g l = record {
-  open_still : l.session.ended ≡ None;
+  open_still : l.initial.session.ended ≡ None → l.session.ended ≡ None;
+  unmoved : (o : Outcome) → l.initial.session.ended ≡ Some o
+      → (l.session ≡ l.initial.session) × ((l.out ≡ l.initial.out) × (l.err ≡ l.initial.err));
   setting : l.session.setting ≡ l.initial.session.setting;
   passes : Tells l.initial.session → IsTrue (g.W.Sink.tells l.initial.out) → IsTrue (g.E.Sink.tells l.initial.err)
       → PassesWithin l.initial.session.setting l.initial.session.readers l.session.readers;
