@@ -1,11 +1,12 @@
 -- Plans of event classes, found at their places.
-use Rattle.std.proofs.Common.{◌≡◌, ℕ, zero, suc, Bool, List, [], ◌∷◌, ◌++◌, Option, Some, None, sym, ap, subst, ◌∙◌}
+use Rattle.std.proofs.Common.{◌≡◌, ℕ, zero, suc, ◌+◌, ◌<◌, ◌≤◌, Bool, List, [], ◌∷◌, ◌++◌, length, Option, Some, None, sym, ap, subst, ◌∙◌, arith}
 use Rattle.std.specs.List.{find, position_from, slice_get}
 use Rattle.ctf_class.specs.declared.class.Class.{Class}
+use Rattle.ctf_class.specs.declared.record_plan.PlannedRun.{PlannedRun}
 use Rattle.ctf_class.specs.declared.record_plan.RecordPlan.{RecordPlan}
 use Rattle.ctf_class.specs.declared.trace.EventClass.{EventClass}
-use Rattle.ctf_class.specs.Records.{IsPlanOf, scopes_of}
-use Rattle.ctf_class.specs.Streams.{ArePlans}
+use Rattle.ctf_class.specs.Records.{IsPlanOf, classes_in, scopes_of}
+use Rattle.ctf_class.specs.Streams.{ArePlans, classes_if, planned_classes}
 use Rattle.ctf_class.proofs.PlacesLemmas.{find-at_place}
 
 -- the item at the place of the first one that passes, or none past the items
@@ -41,3 +42,19 @@ plans_more shared [] [] e p are is = (is, tt)
 plans_more shared [] (q ∷ ps) e p are is = absurd are
 plans_more shared (d ∷ es) [] e p are is = absurd are
 plans_more shared (d ∷ es) (q ∷ ps) e p are is = (are.0, plans_more shared es ps e p are.1 is)
+
+-- a plan is paid for, or has no runs
+pub paid_for : (rs : List PlannedRun) (ks : List Class) {new old : ℕ} → new ≤ old → (0 < length rs → new + classes_in ks ≡ old) → new + classes_if rs ks ≤ old
+paid_for [] ks less paid = omega (arith, less)
+paid_for (r ∷ rs) ks less paid =
+    let whole = paid (omega (arith)) in
+    omega (arith, whole)
+
+-- what one event class more adds
+pub planned_more : (shared : Option Class) (es : List EventClass) (ps : List RecordPlan) (e : EventClass) (p : RecordPlan) → ArePlans shared es ps → planned_classes shared (es ++ e ∷ []) (ps ++ p ∷ []) ≡ planned_classes shared es ps + classes_if p.runs (scopes_of shared e.context e.fields)
+planned_more shared [] [] e p are = omega (arith)
+planned_more shared [] (q ∷ ps) e p are = absurd are
+planned_more shared (d ∷ es) [] e p are = absurd are
+planned_more shared (d ∷ es) (q ∷ ps) e p are =
+    let rest = planned_more shared es ps e p are.1 in
+    omega (arith, rest)

@@ -2,7 +2,7 @@
 -- comma, 123 and 125 are `{` and `}`.
 use Rattle.std.specs.Prelude.{◌≡◌, ℕ, zero, suc, ◌+◌, ◌%◌, ◌<◌, ◌≤◌, ◌^◌, List, [], ◌∷◌, ◌++◌, length, max, Bool, false, Option, Some, None, ⊤}
 use Rattle.std.specs.Int.{next_multiple_of}
-use Rattle.std.specs.List.{list_any}
+use Rattle.std.specs.List.{list_any, sum_by}
 use Rattle.ctf_class.specs.Alignment.{IsLarger}
 use Rattle.ctf_class.specs.Integers.{IsUsual}
 use Rattle.ctf_class.specs.Names.{field_text}
@@ -189,6 +189,10 @@ and_scope (Some k) ks = k ∷ ks
 
 abbrev pub scopes_of : Option Class → Option Class → Class → List Class
 scopes_of shared own fields = and_scope shared (and_scope own (fields ∷ []))
+
+-- how many classes are in some, themselves among them
+abbrev pub classes_in : List Class → ℕ
+classes_in ks = sum_by (λ k. k.nodes) ks
 
 -- A field is this number of a run. The run begins at a multiple of `base`, and the fields before this one end `from`
 -- bits after that. As its alignments divide `base`, its distance from the run's begin does not depend on where that is.

@@ -5,12 +5,12 @@ ghost use Rattle.std.specs.Prelude.{◌≡◌, ◌+◌, ◌<◌, IsTrue, IsFalse
 /// For how many classes of fields a trace has plans at the most. Tracers write far fewer. Metadata may have more that
 /// are made to take memory: a plan takes some 200 bytes for a string, and the plan of each event of a stream has the
 /// stream's event context in it.
-const MOST_PLANNED: u32 = 1 << 15;
+const MOST_PLANNED: u64 = 1 << 15;
 
 /// For how many classes more a trace may have plans.
 #[derive(Drop)]
 pub struct PlanRoom {
-    pub left: u32,
+    pub left: u64,
 }
 
 impl PlanRoom {
@@ -22,7 +22,7 @@ impl PlanRoom {
     }
 
     /// Takes the room for so many classes, where there is so much.
-    pub fn take(&mut self, classes: u32) -> bool
+    pub fn take(&mut self, classes: u64) -> bool
         ensures taken { IsTrue result → self.new.left + classes ≡ self.old.left }
         ensures full { IsFalse result → self.old.left < classes }
         ensures kept { IsFalse result → self.new ≡ self.old }

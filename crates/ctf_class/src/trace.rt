@@ -3,8 +3,8 @@
 ghost use Rattle.std.specs.Prelude.{◌≡◌, ◌+◌, ◌<◌, ◌≤◌, length, Some, IfOk, IfSome, option_copied, option_map};
 ghost use Rattle.ctf_class.specs.HeaderPlans.{IsHeaderPlanOf};
 ghost use Rattle.ctf_class.specs.Items.{first_of_id, only_item};
-ghost use Rattle.ctf_class.specs.Records.{IsPlanOf, scopes_of};
-ghost use Rattle.ctf_class.specs.Streams.{ArePlans};
+ghost use Rattle.ctf_class.specs.Records.{IsPlanOf, classes_in, scopes_of};
+ghost use Rattle.ctf_class.specs.Streams.{ArePlans, planned_classes};
 
 use crate::class::Class;
 use crate::frequency::Frequency;
@@ -319,6 +319,9 @@ fn plans_of(
 ) -> Result<List<RecordPlan>, NoMemory>
     ensures plans { IfOk result (ArePlans (option_copied context.entry) events.now) }
     ensures less { room.new.left ≤ room.old.left }
+    ensures paid { IfOk result (λ plans.
+        room.new.left + planned_classes (option_copied context.entry) events.now plans
+        ≤ room.old.left) }
 {
     let mut plans = List::new(alloc);
     for event in events {
@@ -339,12 +342,13 @@ fn plan_of(
         (scopes_of (option_copied context.entry) event.now.context event.now.fields)) }
     ensures less { room.new.left ≤ room.old.left }
     ensures paid { IfOk result (λ plan. 0 < length plan.runs →
-        room.new.left + event.now.fields.nodes ≤ room.old.left) }
+        let scopes = scopes_of (option_copied context.entry) event.now.context event.now.fields in
+        room.new.left + classes_in scopes ≡ room.old.left) }
 {
     let event_context = event.context();
     let fields = event.fields();
-    let contexts = nodes_of(context).saturating_add(nodes_of(event_context));
-    if !room.take(contexts.saturating_add(fields.nodes)) {
+    let contexts = u64::from(nodes_of(context)) + u64::from(nodes_of(event_context));
+    if !room.take(contexts + u64::from(fields.nodes)) {
         return Ok(RecordPlan::none(alloc));
     }
     RecordPlan::new(alloc, context, event_context, fields)
