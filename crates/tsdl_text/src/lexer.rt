@@ -1,8 +1,6 @@
 //! The tokens of a text.
 
-ghost use Rattle.std.specs.Prelude.{◌≡◌, ◌<◌, ◌≤◌, ◌+◌, ◌∷◌, false, length, count_by, ◌==◌, map, IfSome, MatchResult};
-ghost use Rattle.std.specs.List.{prefix_len};
-ghost use Rattle.tsdl_text.specs.Symbols.{spelling};
+ghost use Rattle.std.specs.Prelude.{◌≡◌, ◌<◌, ◌≤◌, length, map, IfSome, MatchResult};
 ghost use Rattle.tsdl_text.specs.Bytes.{is_blank, is_word_start, is_word_byte};
 ghost use Rattle.tsdl_text.specs.Constants.{is_u, is_l, is_suffix};
 ghost use Rattle.tsdl_text.specs.Scanning.{unmarked_value, constant_value, block_len, line_len, comment_len, word_len, keywords_with, keyword_of, single, punctuator_at, string_len, word_kind, token_at, piece_at};

@@ -1,6 +1,6 @@
 //! The characters of strings.
 
-ghost use Rattle.std.specs.Prelude.{◌≡◌, ◌+◌, ◌*◌, ◌<◌, ◌≤◌, ◌^◌, length, MatchOption, IfOk, IfSome};
+ghost use Rattle.std.specs.Prelude.{◌≡◌, ◌+◌, ◌<◌, ◌≤◌, ◌^◌, length, MatchOption, IfOk, IfSome};
 ghost use Rattle.std.specs.Char.{digit_value};
 ghost use Rattle.tsdl_text.specs.Bytes.{number};
 ghost use Rattle.tsdl_text.specs.Characters.{simple_escape};
