@@ -1,6 +1,6 @@
 //! Numbers that are joined from bytes, the first and the last of them masked.
 
-ghost use Rattle.std.specs.Prelude.{◌≡◌, ◌+◌, ◌-◌, ◌*◌, ◌/◌, ◌%◌, ◌^◌, ◌<◌, ◌≤◌, length};
+ghost use Rattle.std.specs.Prelude.{◌≡◌, ◌+◌, ◌*◌, ◌%◌, ◌^◌, ◌<◌, ◌≤◌, length};
 ghost use Rattle.ctf_bits.specs.declared.number.Order.TheVariants.{Le, Be};
 ghost use Rattle.ctf_bits.specs.Number.{number};
 
