@@ -30,13 +30,17 @@ offset_of value = option_and_then in_64_bits (number_of value)
 abbrev pub clock_words : List Word
 clock_words = codes "name" ∷ codes "freq" ∷ codes "offset_s" ∷ codes "offset" ∷ []
 
+-- cycles a second of a clock that says nothing of it
+abbrev pub default_frequency : ℕ
+default_frequency = 1000000000
+
 -- A clock has a name; without other settings it runs at 1 GHz from the epoch on.
 abbrev pub clock_by : List Setting → Option Clock
 clock_by settings = do
   name ← attribute settings (one (codes "name")) >>= text_of
   Some (record {
     name = name;
-    frequency = known_as frequency_of 1000000000 (attribute settings (one (codes "freq")));
+    frequency = known_as frequency_of default_frequency (attribute settings (one (codes "freq")));
     offset_seconds = known_as offset_of (pos 0) (attribute settings (one (codes "offset_s")));
     offset = known_as offset_of (pos 0) (attribute settings (one (codes "offset")));
   })
@@ -55,7 +59,12 @@ clock_named clocks name = find (λ c. same_word c.name name) clocks
 
 -- 1 GHz from the epoch on, where the trace declares no clock (own)
 abbrev pub plain_clock : Clock
-plain_clock = record { name = []; frequency = 1000000000; offset_seconds = pos 0; offset = pos 0 }
+plain_clock = record {
+  name = [];
+  frequency = default_frequency;
+  offset_seconds = pos 0;
+  offset = pos 0;
+}
 
 -- the trace's clock where it declares exactly one, the plain one where it declares none (own)
 abbrev pub only_clock : List Clock → Option Clock

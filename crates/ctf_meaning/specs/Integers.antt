@@ -51,12 +51,16 @@ after [] text = Some text
 after (b ∷ bs) [] = None
 after (b ∷ bs) (c ∷ cs) = if nat_eq b c then after bs cs else None
 
--- map: `clock.NAME.value`, where the name may hold dots (own); section 8
-abbrev pub clock_of : Value → Option Word
-clock_of value =
+-- `clock.NAME.value`, where the name may hold dots (own); section 8
+abbrev pub clock_in : Word → Option Word
+clock_in text =
     option_map reverse
     (option_and_then (after (reverse (codes ".value")))
-    (option_map reverse (option_and_then (after (codes "clock.")) (text_of value))))
+    (option_map reverse (after (codes "clock.") text)))
+
+-- map: the clock that its text names
+abbrev pub clock_of : Value → Option Word
+clock_of value = option_and_then clock_in (text_of value)
 
 abbrev pub size_of : List Setting → ℕ
 size_of settings = known_as count_of 0 (attribute settings (one (codes "size")))

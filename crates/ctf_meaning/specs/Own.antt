@@ -49,9 +49,11 @@ label_faults (Enum name c ls) = labels.label_faults ls
 label_faults _ = []
 
 -- The `align(N)` of a structure is a power of two from 1 to 2^31, else R5.
+abbrev pub structure_faults : Option ℕ → List ResolveFault
+structure_faults align = option_map_or (λ n. when (not (is_alignment n)) SizeOrAlignment) align []
+
 abbrev pub align_faults : Form → List ResolveFault
-align_faults (Struct name is align) =
-    option_map_or (λ n. when (not (is_alignment n)) SizeOrAlignment) align []
+align_faults (Struct name is align) = structure_faults align
 align_faults _ = []
 
 -- Two members or options of one name: R2.

@@ -34,7 +34,8 @@ pub record Given : Type 0 where
   pub name : Name
   pub lengths : List Length
 
-abbrev plainly : Name → Given
+-- a name for the class as it is
+abbrev pub plainly : Name → Given
 plainly name = record { name = name; lengths = [] }
 
 -- A compound with a name and a body declares its name in the scope in which it is.

@@ -22,6 +22,10 @@ or_plain (s ∷ more) = s ∷ more
 abbrev pub stream_by : ℕ × Declaration → Option Stream
 stream_by (k, d) = option_map (λ id. record { block = Some k; id = id }) (stream_id_of d)
 
+-- the stream of this id, or the only one where none is said (own)
+abbrev pub stream_said : List Stream → Option ℕ → Option Stream
+stream_said ss said = option_map_or (λ id. find (λ s. nat_eq s.id id) ss) said (only ss)
+
 module _ (text : List Declaration) where
   -- the declarations with their numbers
   abbrev pub numbered : List (ℕ × Declaration)
@@ -35,11 +39,10 @@ module _ (text : List Declaration) where
   abbrev pub streams : List Stream
   streams = or_plain (filter_map stream_by numbered)
 
-  -- The stream of an event is that of its `stream_id`, or the only one where it has none (own).
+  -- the stream that an event says by its `stream_id`
   abbrev pub stream_of : List BlockEntry → Option Stream
   stream_of entries =
-      option_map_or (λ id. find (λ s. nat_eq s.id id) streams)
-      (option_and_then count_of (value_at entries (codes "stream_id"))) (only streams)
+      stream_said streams (option_and_then count_of (value_at entries (codes "stream_id")))
 
   abbrev pub is_in_stream : ℕ → List BlockEntry → Bool
   is_in_stream id entries = option_map_or (λ s. nat_eq s.id id) (stream_of entries) false

@@ -3,9 +3,11 @@
 //! the functions state its laws.
 #![tactic(auto)]
 
+mod clock;
 mod fault;
 mod integer;
 pub mod laws;
 
+pub use clock::DEFAULT_FREQUENCY;
 pub use fault::ResolveFault;
 pub use integer::DeclaredInteger;
