@@ -2,7 +2,6 @@ pub mod Tells
 pub mod Settled
 pub mod Hosts
 pub mod Dots
-pub mod Mapped
 pub mod Attributes
 pub mod EntryNames
 pub mod Spans

@@ -1,11 +1,8 @@
 -- What a function says of settings: their value, or the first of what is wrong with them.
-use Rattle.std.specs.Prelude.{◌≡◌, ◌⊎◌, ℕ, not, List, [], Option, Some, Result, Ok, Err}
-use Rattle.std.specs.Option.{option_map_or}
+use Rattle.std.specs.Prelude.{◌≡◌, ◌⊎◌, List, [], Some, Result, Ok, Err}
 use Rattle.ctf_meaning.specs.declared.fault.ResolveFault.{ResolveFault}
-use Rattle.ctf_meaning.specs.declared.fault.ResolveFault.TheVariants.{NoMemory, SizeOrAlignment}
+use Rattle.ctf_meaning.specs.declared.fault.ResolveFault.TheVariants.{NoMemory}
 use Rattle.ctf_meaning.specs.There.{first}
-use Rattle.ctf_meaning.specs.Settings.{when}
-use Rattle.ctf_meaning.specs.Integers.{is_alignment}
 
 -- Where nothing is wrong, the value; else the first fault, or that an allocation failed.
 abbrev pub Tells : {V : Type 0} → List ResolveFault → (V → Type 0) → Result V ResolveFault → Type 0
@@ -21,7 +18,3 @@ TellsFirst faults IsValue (Err fault) = first faults ≡ Some fault
 -- that there is no value to speak of
 abbrev pub Nothing : {V : Type 0} → V → Type 0
 Nothing v = Unit {0}
-
--- what is wrong with the `align(N)` of a structure
-abbrev pub structure_faults : Option ℕ → List ResolveFault
-structure_faults align = option_map_or (λ n. when (not (is_alignment n)) SizeOrAlignment) align []

@@ -4,7 +4,8 @@ ghost use Rattle.std.specs.Prelude.{◌≡◌, not, unwrap_or};
 ghost use Rattle.ctf_meaning.specs.declared.fault.ResolveFault.TheVariants as faults;
 ghost use Rattle.ctf_meaning.specs.Settings.{when};
 ghost use Rattle.ctf_meaning.specs.Integers.{is_alignment};
-ghost use Rattle.ctf_attributes.specs.Tells.{TellsFirst, structure_faults};
+ghost use Rattle.ctf_meaning.specs.Own.{structure_faults};
+ghost use Rattle.ctf_attributes.specs.Tells.{TellsFirst};
 
 use ctf_class::Align;
 use ctf_meaning::ResolveFault;

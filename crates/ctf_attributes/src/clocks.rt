@@ -1,7 +1,7 @@
 //! Clocks.
 
 ghost use Rattle.std.specs.Prelude.{◌≡◌, pos, codes};
-ghost use Rattle.ctf_meaning.specs.Clocks.{clock_faults, clock_by, frequency_of, offset_of};
+ghost use Rattle.ctf_meaning.specs.Clocks.{clock_faults, clock_by, default_frequency, frequency_of, offset_of};
 ghost use Rattle.ctf_meaning.specs.Settings.{wrong, known_as};
 ghost use Rattle.ctf_attributes.specs.Attributes.{value_of};
 ghost use Rattle.ctf_attributes.specs.Tells.{Tells, TellsFirst};
@@ -11,12 +11,9 @@ use crate::reading;
 use crate::value::required_text;
 use ctf_class::{Clock, Frequency};
 use ctf_list::Shared;
-use ctf_meaning::ResolveFault;
+use ctf_meaning::{DEFAULT_FREQUENCY, ResolveFault};
 use std::alloc::Global;
 use tsdl_tree::Setting;
-
-/// Cycles a second of a clock that says nothing of it.
-const DEFAULT_FREQUENCY: u64 = 1_000_000_000;
 
 /// The clock of a `clock` block (CTF 1.8.3, section 8). It fails with `Attribute`, or where an allocation fails.
 pub fn clock(alloc: Global, settings: &[Setting]) -> Result<Clock, ResolveFault>
@@ -41,7 +38,7 @@ pub fn clock(alloc: Global, settings: &[Setting]) -> Result<Clock, ResolveFault>
 fn frequency(settings: &[Setting]) -> Result<Frequency, ResolveFault>
     ensures told { TellsFirst (wrong frequency_of (value_of settings.now (codes "freq")))
         (λ frequency. frequency ≡
-        known_as frequency_of 1000000000 (value_of settings.now (codes "freq"))) result }
+        known_as frequency_of default_frequency (value_of settings.now (codes "freq"))) result }
 {
     match attribute(settings, b"freq") {
         Some(value) => reading::frequency(value).ok_or(ResolveFault::Attribute),

@@ -1,6 +1,6 @@
 //! Names with a meaning in the blocks of a trace, a stream and an event.
 
-ghost use Rattle.std.specs.Prelude.{◌≡◌, ◌||◌};
+ghost use Rattle.std.specs.Prelude.{◌≡◌};
 ghost use Rattle.ctf_meaning.specs.Name.{same_words};
 ghost use Rattle.ctf_meaning.specs.Reading.{entry_of};
 ghost use Rattle.ctf_meaning.specs.Blocks.{is_value_of, is_class_of};

@@ -1,9 +1,7 @@
 //! The environment.
 
-ghost use Rattle.std.specs.Prelude.{◌≡◌, map, find, reverse, option_map, option_copied};
-ghost use Rattle.ctf_meaning.specs.Name.{same_words};
+ghost use Rattle.std.specs.Prelude.{◌≡◌, map, option_map, option_copied};
 ghost use Rattle.ctf_meaning.specs.Reading.{declaration_of};
-ghost use Rattle.ctf_meaning.specs.Settings.{one};
 ghost use Rattle.ctf_meaning.specs.Denotes.{host_of, string_of, environment_by};
 ghost use Rattle.ctf_attributes.specs.Hosts.{last_host};
 

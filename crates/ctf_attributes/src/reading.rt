@@ -2,9 +2,8 @@
 
 ghost use Rattle.std.specs.Prelude.{◌≡◌, option_copied};
 ghost use Rattle.ctf_meaning.specs.Settings.{trace_order_of, is_text_of};
-ghost use Rattle.ctf_meaning.specs.Integers.{sign_of, base_of, order_of};
+ghost use Rattle.ctf_meaning.specs.Integers.{clock_in, sign_of, base_of, order_of};
 ghost use Rattle.ctf_meaning.specs.Clocks.{frequency_of, offset_of};
-ghost use Rattle.ctf_attributes.specs.Mapped.{clock_in};
 
 use crate::ends::{after, before};
 use crate::value::{count, is_count, number, says};
