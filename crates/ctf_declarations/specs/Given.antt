@@ -6,7 +6,7 @@ use Rattle.tsdl_tree.specs.declared.tree.Compound.TheFolds.{fold-Compound, fold-
 use Rattle.tsdl_tree.specs.declared.tree.Item.{Item as TreeItem}
 use Rattle.ctf_meaning.specs.Name.{Name, Plain}
 use Rattle.ctf_meaning.specs.Written.{Form, Item}
-use Rattle.ctf_meaning.specs.Parts.{Given}
+use Rattle.ctf_meaning.specs.Parts.{Given, plainly}
 use Rattle.ctf_meaning.specs.Reading.{Body, compound_by, item_by, form_by, type_by}
 
 -- a compound, given the name that is beside it
@@ -16,10 +16,6 @@ body_form = fold-Compound Body Item Form Item compound_by item_by form_by type_b
 -- an item of a body
 abbrev pub item_form : TreeItem → Item
 item_form = fold-Item Body Item Form Item compound_by item_by form_by type_by
-
--- a name for the class as it is
-abbrev pub plainly : Name → Given
-plainly name = record { name = name; lengths = [] }
 
 -- a name that is given, or none
 abbrev pub given_by : Option Name → List Given

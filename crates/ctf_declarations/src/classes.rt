@@ -1,7 +1,8 @@
 //! Classes as they are written: each sees the names before it and those around its body.
 
-ghost use Rattle.std.specs.Prelude.{[], ◌∷◌, map, Option};
+ghost use Rattle.std.specs.Prelude.{[], map, Option};
 ghost use Rattle.ctf_meaning.specs.Name.{Word};
+ghost use Rattle.ctf_meaning.specs.Own.{structure_faults};
 ghost use Rattle.ctf_meaning.specs.Reading.{form_of, item_of};
 ghost use Rattle.ctf_meaning.specs.Shapes as plain;
 ghost use Rattle.ctf_meaning.specs.Written.{items_from};
@@ -9,7 +10,6 @@ ghost use Rattle.ctf_meaning_steps.specs.Told.{Follows, unless};
 ghost use Rattle.ctf_meaning_steps.specs.Seen.{nothing_seen, within};
 ghost use Rattle.ctf_meaning_steps.specs.Classes.{compound_told};
 ghost use Rattle.ctf_meaning_steps.specs.Items.{shape_told, body_told};
-ghost use Rattle.ctf_attributes.specs.Tells.{structure_faults};
 ghost use Rattle.ctf_declared_class.specs.Knowns.{known, field};
 ghost use Rattle.ctf_declarations.specs.Views.{names_in, visible};
 ghost use Rattle.ctf_declarations.specs.Given.{body_form, item_form};
@@ -22,7 +22,7 @@ use crate::leaves::{float_class, integer_class, string_class};
 use crate::looking::{class_of_reference, enumeration};
 use crate::visible::{BlockNames, Visible};
 use ctf_attributes::alignment;
-use ctf_declared_class::{Known, KnownMember};
+use ctf_declared_class::{Known, KnownMember, copied_path};
 use ctf_meaning::ResolveFault;
 use std::alloc::Global;
 use tsdl_tree::{Compound, Item, Path, Specifier, TypeDeclaration};
@@ -93,9 +93,11 @@ fn variant(
     ensures { let all = map field fields.items in
         Follows (compound_told all (plain.variant tag.now (plain.members_from all))) known result }
 {
-    let untagged = Known::variant(alloc, None, fields)?;
-    let class = untagged.with_tag(alloc, tag)?;
-    Ok(class)
+    let tag = match tag {
+        Some(tag) => Some(copied_path(alloc, tag)?),
+        None => None,
+    };
+    Known::variant(alloc, tag, fields)
 }
 
 /// The members of a body. Its names end with it.

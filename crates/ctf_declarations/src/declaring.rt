@@ -1,7 +1,6 @@
 //! Names that are given to classes.
 
-ghost use Rattle.std.specs.Prelude.{◌≡◌, nat_lt, ◌++◌, [], ◌∷◌, Some, map, option_map, IfOk, OnOk, ℕ};
-ghost use Rattle.tsdl_tree.specs.declared.tree.Declarator.{Declarator};
+ghost use Rattle.std.specs.Prelude.{◌≡◌, nat_lt, ◌++◌, [], ◌∷◌, Some, map, option_map, IfOk, OnOk};
 ghost use Rattle.ctf_meaning.specs.Name as meant;
 ghost use Rattle.ctf_meaning.specs.Parts as parts;
 ghost use Rattle.ctf_meaning.specs.Reading.{form_of};
@@ -13,7 +12,7 @@ ghost use Rattle.ctf_meaning_steps.specs.Told.{Follows};
 ghost use Rattle.ctf_meaning_steps.specs.Seen.{declare, declare_each};
 ghost use Rattle.ctf_declared_class.specs.Knowns.{known, field};
 ghost use Rattle.ctf_declarations.specs.Views.{name, names_in};
-ghost use Rattle.ctf_declarations.specs.Given.{body_form, given_by, plainly, by_declarator};
+ghost use Rattle.ctf_declarations.specs.Given.{body_form, given_by, by_declarator};
 
 use crate::keys::key;
 use crate::names::Name;
@@ -101,7 +100,7 @@ pub fn declare_alias(
     class: &Known,
 ) -> Result<(), ResolveFault>
     ensures { Follows (declare (names_in own.old) (known class.now)
-        (parts.own_name (form_of specifier.now) ++ plainly (meant.Plain words.now) ∷ []))
+        (parts.own_name (form_of specifier.now) ++ parts.plainly (meant.Plain words.now) ∷ []))
         (λ _. names_in own.new) result }
 {
     declare_name(alloc, own, own_name(specifier), class)?;

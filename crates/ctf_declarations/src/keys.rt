@@ -1,6 +1,6 @@
 //! Names as keys: no two names have one key.
 
-ghost use Rattle.std.specs.Prelude.{◌≡◌, ◌++◌, ◌∷◌, [], IfOk, OnOk, flat_map};
+ghost use Rattle.std.specs.Prelude.{◌≡◌, ◌++◌, ◌∷◌, IfOk, OnOk, flat_map};
 ghost use Rattle.ctf_declarations.specs.Keys.{word_key, key_of};
 ghost use Rattle.ctf_declarations.specs.Views.{name};
 

@@ -1,10 +1,9 @@
 //! Classes of scopes.
 
-ghost use Rattle.std.specs.Prelude.{◌≡◌, ◌++◌, [], ◌∷◌, Ok, map, flat_map, filter_map, option_copied, option_map};
+ghost use Rattle.std.specs.Prelude.{◌≡◌, ◌++◌, [], ◌∷◌, Ok, map, flat_map, filter_map, option_map};
 ghost use Rattle.std.specs.Option.{option_or};
 ghost use Rattle.ctf_meaning.specs.Blocks as blocks;
 ghost use Rattle.ctf_meaning.specs.Scopes.{scope_faults, missing_scope};
-ghost use Rattle.ctf_meaning.specs.Shapes.{struct, no_member};
 ghost use Rattle.ctf_meaning_steps.specs.Told.{Follows};
 ghost use Rattle.ctf_meaning_steps.specs.Blocks.{class_named, placed_in, placed};
 ghost use Rattle.ctf_attributes.specs.Tells.{TellsFirst, Nothing};

@@ -1,6 +1,6 @@
 //! Declarations, one after another.
 
-ghost use Rattle.std.specs.Prelude.{◌≡◌, ◌≤◌, ◌++◌, ◌+◌, [], ◌∷◌, Ok, List, OnOk, map, sum, nat_lt};
+ghost use Rattle.std.specs.Prelude.{◌≡◌, ◌++◌, ◌+◌, [], ◌∷◌, Ok, List, OnOk, map, sum, nat_lt};
 ghost use Rattle.ctf_meaning.specs.declared.fault.ResolveFault.TheVariants as faults;
 ghost use Rattle.ctf_meaning.specs.Reading.{declaration_of, entry_of, item_of};
 ghost use Rattle.ctf_meaning.specs.Written as written;

@@ -1,7 +1,8 @@
 use Rattle.std.proofs.Common.{[], ◌∷◌, option_map}
 use Rattle.ctf_meaning.specs.Name.{Plain}
+use Rattle.ctf_meaning.specs.Parts.{plainly}
 use Rattle.ctf_declared_class.specs.Knowns.{known}
-use Rattle.ctf_declarations.specs.Given.{given_by, plainly}
+use Rattle.ctf_declarations.specs.Given.{given_by}
 use Rattle.ctf_declarations.specs.Views.{name, names_in}
 use Rattle.ctf_declarations.proofs.Declares.{declare_then}
 use Rattle.ctf_declarations.proofs.declaring.declare_alias.Goals as goal
