@@ -8,7 +8,7 @@ ghost use Rattle.ctf_meaning.specs.Clocks as meaning;
 use crate::spot::Spot;
 use ctf_class::{Clock, Frequency, Names, Scope};
 use ctf_list::{List, NoMemory, Shared};
-use ctf_meaning::DeclaredInteger;
+use ctf_meaning::{DEFAULT_FREQUENCY, DeclaredInteger};
 use std::alloc::{AllocError, Global};
 
 /// The clocks of a trace in the order of the text, each found by its name without a walk (CTF 1.8.3,
@@ -119,7 +119,7 @@ fn plain_clock(alloc: Global) -> Result<Clock, AllocError>
 {
     Ok(Clock {
         name: Shared::new(alloc, List::new(alloc))?,
-        frequency: Frequency::new(1_000_000_000).unwrap(),
+        frequency: Frequency::new(DEFAULT_FREQUENCY).unwrap(),
         offset_seconds: 0,
         offset: 0,
     })
