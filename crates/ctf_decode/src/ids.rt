@@ -1,6 +1,6 @@
 //! The class number of an event record.
 
-ghost use Rattle.std.specs.Prelude.{◌≡◌, ◌↔◌, None, [], map, codes, IsTrue};
+ghost use Rattle.std.specs.Prelude.{◌≡◌, ◌↔◌, None, map, codes, IsTrue};
 ghost use Rattle.std.specs.List.{last_or};
 ghost use Rattle.ctf_decode.specs.Values.{vals_of};
 ghost use Rattle.ctf_decode.specs.Forms.{parts_of};
