@@ -1,6 +1,5 @@
 -- Up to four decimal digits.
-use Rattle.std.specs.Prelude.{ℕ, ◌+◌, ◌*◌, ◌/◌, ◌%◌, ◌^◌, nat_lt}
-use mir.Val.{bool_byte}
+use Rattle.std.specs.Prelude.{ℕ, ◌+◌, ◌*◌, ◌/◌, ◌%◌, ◌^◌, nat_lt, if◌then◌else◌}
 
 -- the digits of a number below 10000 as they are printed, with leading zeros, the first in the lowest byte (own)
 abbrev pub four : ℕ → ℕ
@@ -10,7 +9,8 @@ four n =
 
 -- how many of four digits it does not have (own)
 abbrev pub missing : ℕ → ℕ
-missing n = bool_byte (nat_lt n 10) + bool_byte (nat_lt n 100) + bool_byte (nat_lt n 1000)
+missing n =
+    if nat_lt n 10 then 3 else (if nat_lt n 100 then 2 else (if nat_lt n 1000 then 1 else 0))
 
 -- the digits that it has (own)
 abbrev pub few : ℕ → ℕ

@@ -1,9 +1,8 @@
 -- Numbers in decimal, four digits at a time.
-use Rattle.std.proofs.Common.{◌≡◌, ℕ, zero, suc, ◌+◌, ◌-◌, ◌*◌, ◌/◌, ◌%◌, ◌^◌, ◌<◌, ◌≤◌, Bool, true, false, nat_lt, w32, List, [], ◌∷◌, ◌++◌, length, take, refl, sym, ap, ◌∙◌, arith, length-append, append_assoc}
+use Rattle.std.proofs.Common.{◌≡◌, ℕ, zero, suc, ◌+◌, ◌-◌, ◌*◌, ◌/◌, ◌%◌, ◌^◌, ◌<◌, ◌≤◌, Bool, true, false, nat_lt, if◌then◌else◌, w32, List, [], ◌∷◌, ◌++◌, length, take, refl, sym, ap, ◌∙◌, arith, length-append, append_assoc}
 use Rattle.std.proofs.Math.Seq.{take-append-add}
 use Rattle.std.proofs.lemmas.List.{take-take, length-take-le}
 use Rattle.std.specs.Fmt.{decimal}
-use mir.Val.{bool_byte}
 use Rattle.std.specs.Int.{to_le_bytes}
 use Rattle.std.specs.Int.Count.{count_leading_zeros, leading_unique}
 use Rattle.std.proofs.lemmas.Bool.{ltb-true, ltb-false}
@@ -105,12 +104,9 @@ all_digits n high low =
 pub few_shown : (n : ℕ) → n < 10000 → Shown n (missing n)
 few_shown n low = by_tests (nat_lt n 10) (nat_lt n 100) (nat_lt n 1000) refl refl refl
   where
-    by_tests : (a b c : Bool) → nat_lt n 10 ≡ a → nat_lt n 100 ≡ b → nat_lt n 1000 ≡ c → Shown n (bool_byte a + bool_byte b + bool_byte c)
-    by_tests true true true p q r = one_digit n (ltb-true n 10 p)
-    by_tests true true false p q r = absurd (let l = ltb-true n 10 p in let m = ltb-false n 1000 r in omega (arith, l, m))
-    by_tests true false c p q r = absurd (let l = ltb-true n 10 p in let m = ltb-false n 100 q in omega (arith, l, m))
-    by_tests false true true p q r = two_digits n (ltb-false n 10 p) (ltb-true n 100 q)
-    by_tests false true false p q r = absurd (let l = ltb-true n 100 q in let m = ltb-false n 1000 r in omega (arith, l, m))
+    by_tests : (a b c : Bool) → nat_lt n 10 ≡ a → nat_lt n 100 ≡ b → nat_lt n 1000 ≡ c → Shown n (if a then 3 else (if b then 2 else (if c then 1 else 0)))
+    by_tests true b c p q r = one_digit n (ltb-true n 10 p)
+    by_tests false true c p q r = two_digits n (ltb-false n 10 p) (ltb-true n 100 q)
     by_tests false false true p q r = three_digits n (ltb-false n 100 q) (ltb-true n 1000 r)
     by_tests false false false p q r = all_digits n (ltb-false n 1000 r) low
 
