@@ -1,9 +1,8 @@
 -- Digits, the last one apart.
-use Rattle.std.proofs.Common.{◌≡◌, ℕ, zero, suc, ◌+◌, ◌-◌, ◌*◌, ◌/◌, ◌%◌, ◌^◌, ◌<◌, ◌≤◌, Bool, true, false, cond, eqb, List, [], ◌∷◌, ◌++◌, length, refl, sym, ap, ◌∙◌, ⊎_elim, ◌≢◌, take, set, bit_and, arith, length-append, append_assoc, eq-zero-or-pos}
-use Rattle.std.proofs.lemmas.Nat.{pow_pos, pow_below, and_mask}
+use Rattle.std.proofs.Common.{◌≡◌, ℕ, zero, suc, ◌+◌, ◌-◌, ◌*◌, ◌/◌, ◌%◌, ◌^◌, ◌<◌, ◌≤◌, Bool, true, false, cond, eqb, List, [], ◌∷◌, ◌++◌, length, refl, sym, ap, ◌∙◌, ⊎_elim, ◌≢◌, take, set, arith, length-append, append_assoc, eq-zero-or-pos}
+use Rattle.std.proofs.lemmas.Bool.{lt-ltb}
 use Rattle.std.proofs.lemmas.Grind.{take-set_at}
-use Rattle.std.proofs.Math.Pow.{pow_mono}
-use Rattle.std.proofs.Math.Nat.{div-eq_of_lt, div-lt_iff_lt-mul, mod-lt, mul-le-mul_left, pow-suc, pow-zero, zero-div}
+use Rattle.std.proofs.Math.Nat.{div-eq_of_lt, div-lt_iff_lt-mul, mul-le-mul_left, pow-suc, pow-zero}
 use Rattle.std.specs.Fmt.{digits, digits_onto, digit_glyph}
 use borrow.Author.Tests.{eq-eqb, ne_eqb}
 
@@ -60,11 +59,8 @@ digits_more base n two small some =
     ∙ onto_append 63 base (n / base) [] (glyph ∷ [])
     ∙ ap (λ xs. xs ++ glyph ∷ []) (onto_enough 62 base (n / base) [] two front ∙ digits_onto-nil base (n / base))
 
-more_at : (k n : ℕ) → 1 ≤ k → n < 2 ^ 64 → n / 2 ^ k ≢ 0 → digits (2 ^ k) true n ≡ digits (2 ^ k) true (n / 2 ^ k) ++ digit_glyph true (n % 2 ^ k) ∷ []
-more_at k n some small more =
-    let two = pow_mono {i = 1} {j = k} some in
-    let front : 0 < n / 2 ^ k = omega (arith, more) in
-    digits_more (2 ^ k) n two small front
+more_at : (base n : ℕ) → 2 ≤ base → n < 2 ^ 64 → n / base ≢ 0 → digits base true n ≡ digits base true (n / base) ++ digit_glyph true (n % base) ∷ []
+more_at base n two small more = digits_more base n two small (omega (arith, more))
 
 pub length_digits : (j base n : ℕ) → 2 ≤ base → n < 2 ^ 64 → n < base ^ suc j → length (digits base true n) ≤ suc j
 length_digits zero base n two small fits =
@@ -79,46 +75,33 @@ length_digits (suc i) base n two small fits =
     (eq-zero-or-pos (n / base))
 
 -- the digits in front of the last one have room where all have
-pub room_for_front : (k n at size : ℕ) → 1 ≤ k → n < 2 ^ 64 → n / 2 ^ k ≢ 0 → at + length (digits (2 ^ k) true n) ≤ size → at + length (digits (2 ^ k) true (n / 2 ^ k)) < size
-room_for_front k n at size some small more room =
-    omega (arith, ap length (more_at k n some small more), length-append (digits (2 ^ k) true (n / 2 ^ k)) (digit_glyph true (n % 2 ^ k) ∷ []))
+pub room_for_front : (base n at size : ℕ) → 2 ≤ base → n < 2 ^ 64 → n / base ≢ 0 → at + length (digits base true n) ≤ size → at + length (digits base true (n / base)) < size
+room_for_front base n at size two small more room =
+    omega (arith, ap length (more_at base n two small more), length-append (digits base true (n / base)) (digit_glyph true (n % base) ∷ []))
 
-pub room_for_last : (k n at size : ℕ) → n / 2 ^ k ≡ 0 → at + length (digits (2 ^ k) true n) ≤ size → at < size
-room_for_last k n at size none room = omega (arith, ap length (digits_last (2 ^ k) n none))
+pub room_for_last : (base n at size : ℕ) → n / base ≡ 0 → at + length (digits base true n) ≤ size → at < size
+room_for_last base n at size none room = omega (arith, ap length (digits_last base n none))
 
-pub last_written : (line : List ℕ) (k n at digit : ℕ) → n / 2 ^ k ≡ 0 → at < length line → digit ≡ digit_glyph true (n % 2 ^ k) → take (at + 1) (set line at digit) ≡ take at line ++ digits (2 ^ k) true n
-last_written line k n at digit none within is =
-    take-set_at line at (at + 1) digit refl within ∙ ap (λ d. take at line ++ d ∷ []) is ∙ ap (λ xs. take at line ++ xs) (sym (digits_last (2 ^ k) n none))
+pub last_written : (line : List ℕ) (base n at digit : ℕ) → n / base ≡ 0 → at < length line → digit ≡ digit_glyph true (n % base) → take (at + 1) (set line at digit) ≡ take at line ++ digits base true n
+last_written line base n at digit none within is =
+    take-set_at line at (at + 1) digit refl within ∙ ap (λ d. take at line ++ d ∷ []) is ∙ ap (λ xs. take at line ++ xs) (sym (digits_last base n none))
 
-pub more_written : (line before : List ℕ) (k n at to digit : ℕ) → 1 ≤ k → n < 2 ^ 64 → n / 2 ^ k ≢ 0 → to < length line → digit ≡ digit_glyph true (n % 2 ^ k) → take to line ≡ take at before ++ digits (2 ^ k) true (n / 2 ^ k) → take (to + 1) (set line to digit) ≡ take at before ++ digits (2 ^ k) true n
-more_written line before k n at to digit some small more within is front =
-    let glyph = digit_glyph true (n % 2 ^ k) in
-    take-set_at line to (to + 1) digit refl within ∙ (λ i. front i ++ is i ∷ []) ∙ append_assoc (take at before) (digits (2 ^ k) true (n / 2 ^ k)) (glyph ∷ [])
-    ∙ ap (λ xs. take at before ++ xs) (sym (more_at k n some small more))
+pub more_written : (line before : List ℕ) (base n at to digit : ℕ) → 2 ≤ base → n < 2 ^ 64 → n / base ≢ 0 → to < length line → digit ≡ digit_glyph true (n % base) → take to line ≡ take at before ++ digits base true (n / base) → take (to + 1) (set line to digit) ≡ take at before ++ digits base true n
+more_written line before base n at to digit two small more within is front =
+    let glyph = digit_glyph true (n % base) in
+    take-set_at line to (to + 1) digit refl within ∙ (λ i. front i ++ is i ∷ []) ∙ append_assoc (take at before) (digits base true (n / base)) (glyph ∷ [])
+    ∙ ap (λ xs. take at before ++ xs) (sym (more_at base n two small more))
 
-pub low_masked : (n k : ℕ) → k ≤ 4 → (bit_and n (1 * 2 ^ k % 18446744073709551616 - 1) ≡ n % 2 ^ k) × (n % 2 ^ k < 16) × (1 ≤ 1 * 2 ^ k % 18446744073709551616)
-low_masked n k few =
-    let small = pow_below k 64 (omega arith) in
-    let most = pow_mono {i = k} {j = 4} few in
-    let some = pow_pos k in
-    let is : 1 * 2 ^ k % 18446744073709551616 ≡ 2 ^ k = omega arith in
-    (ap (λ m. bit_and n (m - 1)) is ∙ and_mask n k, omega (arith, mod-lt n some), omega arith)
+pub length_last : (base n : ℕ) → n / base ≡ 0 → length (digits base true n) ≡ 1
+length_last base n none = ap length (digits_last base n none)
 
-pub length_last : (k n : ℕ) → n / 2 ^ k ≡ 0 → length (digits (2 ^ k) true n) ≡ 1
-length_last k n none = ap length (digits_last (2 ^ k) n none)
+pub length_more : (base n : ℕ) → 2 ≤ base → n < 2 ^ 64 → n / base ≢ 0 → length (digits base true n) ≡ length (digits base true (n / base)) + 1
+length_more base n two small more =
+    ap length (more_at base n two small more) ∙ length-append (digits base true (n / base)) (digit_glyph true (n % base) ∷ [])
 
-pub length_more : (k n : ℕ) → 1 ≤ k → n < 2 ^ 64 → n / 2 ^ k ≢ 0 → length (digits (2 ^ k) true n) ≡ length (digits (2 ^ k) true (n / 2 ^ k)) + 1
-length_more k n some small more =
-    ap length (more_at k n some small more) ∙ length-append (digits (2 ^ k) true (n / 2 ^ k)) (digit_glyph true (n % 2 ^ k) ∷ [])
-
-pub front_less : (k n : ℕ) → 1 ≤ k → n / 2 ^ k ≢ 0 → n / 2 ^ k < n
-front_less k n some more =
-    let two = pow_mono {i = 1} {j = k} some in
-    half (2 ^ k) n n two (omega (arith, div-zero-more n k more))
-  where
-    div-zero-more : (m j : ℕ) → m / 2 ^ j ≢ 0 → 0 < m
-    div-zero-more zero j other = absurd (other (zero-div (2 ^ j)))
-    div-zero-more (suc m) j other = omega arith
+-- the last digit in octal
+pub low_glyph : (n : ℕ) → 48 + n % 8 ≡ digit_glyph true (n % 8)
+low_glyph n = ap (λ b. cond b (48 + n % 8) (55 + n % 8)) (sym (lt-ltb (n % 8) 10 (omega arith)))
 
 -- numbers of 64 bits in hexadecimal and in octal
 pub length_hexadecimal : (n : ℕ) → n < 2 ^ 64 → length (digits 16 true n) ≤ 16

@@ -5,8 +5,8 @@ ghost use Rattle.ctf_format.specs.Numbers.{number_text};
 
 use crate::binary::put_bits;
 use crate::decimal::{put_signed, put_signed_short, put_unsigned};
-use crate::digits::put_digits;
 use crate::hexadecimal::put_hexadecimal;
+use crate::octal::put_octal;
 use crate::pattern::pattern;
 use ctf_class::{Base, Integer, LONGEST_NUMBER};
 
@@ -54,7 +54,7 @@ pub fn put_number(integer: &Integer, number: i128, line: &mut [u8], at: usize) -
         }
         Base::Octal => {
             line[at] = b'0';
-            put_digits(pattern(integer.size, number), 3, line, at + 1)
+            put_octal(pattern(integer.size, number), line, at + 1)
         }
         Base::Binary => {
             line[at] = b'0';

@@ -1,4 +1,0 @@
-use Rattle.ctf_format.proofs.digits.+put_digits.Given as goal
-
-abbrev pub decreases-put_digits : goal.decreases-put_digits
-decreases-put_digits l = l.number
