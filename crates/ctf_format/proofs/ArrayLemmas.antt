@@ -30,11 +30,11 @@ use Rattle.ctf_decode.proofs.Steps.{row_ok}
 use Rattle.ctf_decode.proofs.Views.{shape-Array}
 use Rattle.ctf_format.specs.Rows.{row, enclosed}
 use Rattle.ctf_class.specs.Records.{LeadsBefore}
-use Rattle.ctf_format.specs.Standing.{Before, among, LastIs, mark_at, PutsOne, PutsSome, PutsNext, PutsElements, Counts, array_text, elements_text, IfKnown}
-use Rattle.ctf_format.specs.Texts.{Shown, Part, value_text, kind_text, part_text, member_part, element_text, element_texts}
+use Rattle.ctf_format.specs.Standing.{Before, among, LastIs, PutsOne, PutsSome, PutsNext, PutsElements, Counts, array_text, elements_text, IfKnown}
+use Rattle.ctf_format.specs.Texts.{Shown, Part, value_text, part_text, member_part, element_text, element_texts}
 use Rattle.ctf_format.specs.declared.standing.Last.TheVariants as lasts
 use Rattle.ctf_format.specs.declared.standing.Next.{Next}
-use Rattle.ctf_format.proofs.StandingLemmas.{begins, form-is, value-is, member-is, form_integer, text_integer, last_of, row_more}
+use Rattle.ctf_format.proofs.StandingLemmas.{begins, form-is, value-is, member-is, form_integer, text_integer, last_of, row_more, mark_at, kind_text}
 
 -- what a route finds that leads to the member before
 found_last : (route : Route) (index : ℕ) (vs ws : List Val) (v : Val) (earlier : Scope → Option Val) (env : Env) → LeadsBefore route index → length vs ≡ index → vs ≡ ws ++ v ∷ [] → found route earlier (vs ∷ env) ≡ Some v

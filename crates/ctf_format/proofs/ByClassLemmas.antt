@@ -35,9 +35,9 @@ use Rattle.ctf_decode.proofs.Views.{shape-Array, shape-Enumeration, shape-Varian
 use Rattle.ctf_format.specs.Labels.{labelled_text}
 use Rattle.ctf_format.specs.Rows.{row, enclosed}
 use Rattle.ctf_format.specs.Around.{ChoosesIn, CountsIn, PutsIn, PutsItems, PutsMembers, Sees, WritesIn, packet_of}
-use Rattle.ctf_format.specs.Standing.{Before, among, ValueIs, known_of, mark_at, PutsOne, PutsNext, StandsAsNumber, Counts, Writes, structure_text, array_text}
+use Rattle.ctf_format.specs.Standing.{Before, among, ValueIs, known_of, PutsOne, PutsNext, StandsAsNumber, Counts, Writes, structure_text, array_text}
 use Rattle.ctf_format.specs.declared.around.Seen.{Seen}
-use Rattle.ctf_format.specs.Texts.{Shown, Part, value_text, kind_text, part_text, member_part, element_text, element_texts, integer_text, enumeration_text, string_text, chosen_text}
+use Rattle.ctf_format.specs.Texts.{Shown, Part, value_text, part_text, member_part, element_text, element_texts, integer_text, enumeration_text, string_text, chosen_text}
 use Rattle.ctf_format.specs.declared.content.Content.{Content}
 use Rattle.ctf_format.specs.declared.standing.Position.{Position}
 use Rattle.ctf_format.specs.declared.standing.Last.{Last}
@@ -46,7 +46,7 @@ use Rattle.ctf_format.specs.declared.standing.MembersEnd.{MembersEnd}
 use Rattle.ctf_format.specs.declared.standing.Next.{Next}
 use Rattle.ctf_format.proofs.ArrayLemmas.{elements_snoc, elements_length}
 use Rattle.ctf_format.proofs.PartsLemmas.{closed_option}
-use Rattle.ctf_format.proofs.StandingLemmas.{begins, leaf_stands, form-is, value-is, member-is, row_more, puts_next, known_next}
+use Rattle.ctf_format.proofs.StandingLemmas.{begins, leaf_stands, form-is, value-is, member-is, row_more, puts_next, known_next, mark_at, kind_text}
 
 -- What classes of the other kinds are decoded as, and what they show.
 text-Enumeration : (i : Integer) (ls : List Label) → kind_text (kind.Enumeration i ls) ≡ enumeration_text i ls

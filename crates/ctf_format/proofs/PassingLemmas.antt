@@ -30,7 +30,7 @@ use Rattle.ctf_format.specs.Passing.{IsElement, Passes, PassesFields, PassesOthe
 use Rattle.ctf_format.specs.Records.{BeginsAt, IsLastNumber, IsLastOf, PutsField, PutsFields, TakesRun, after_members, after_number, reached}
 use Rattle.ctf_format.specs.RunNumbers.{run_text}
 use Rattle.ctf_format.specs.Rows.{enclosed}
-use Rattle.ctf_format.specs.Standing.{Before, Counts, PutsElements, PutsNext, PutsOne, PutsSome, among, array_text, mark_at}
+use Rattle.ctf_format.specs.Standing.{Before, Counts, PutsElements, PutsNext, PutsOne, PutsSome, among, array_text}
 use Rattle.ctf_format.specs.Texts.{Shown, value_text, string_text}
 use Rattle.ctf_format.specs.declared.content.Content.{Content}
 use Rattle.ctf_format.specs.declared.passed_record.Element.{Element}
@@ -41,7 +41,7 @@ use Rattle.ctf_format.specs.declared.standing.Next.{Next}
 use Rattle.ctf_format.proofs.ArrayLemmas.{Going, closed, going_begins, going_ends, going_on, puts_array, puts_element, puts_none, puts_some}
 use Rattle.ctf_format.proofs.ByClassLemmas.{counted_text, form_any, text_any}
 use Rattle.ctf_format.proofs.RecordsLemmas.{after_none, after_some, field_alone, field_next, fields_join, no_number, numbers_to, run_numbers}
-use Rattle.ctf_format.proofs.StandingLemmas.{as_one, form_integer, form_text, leaf_stands, puts_next, text_text}
+use Rattle.ctf_format.proofs.StandingLemmas.{as_one, form_integer, form_text, leaf_stands, puts_next, text_text, mark_at}
 use Rattle.ctf_format.proofs.StructuresLemmas.{structure_puts}
 
 -- an integer, and an enumeration, that is within the content

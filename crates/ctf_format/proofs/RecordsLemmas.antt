@@ -42,15 +42,15 @@ use Rattle.ctf_format.specs.Structures.{IsNearStructure}
 use Rattle.ctf_format.specs.Numbers.{number_text}
 use Rattle.ctf_format.specs.RunNumbers.{IsPlaced, number_at, place_in, run_text}
 use Rattle.ctf_format.specs.Records.{Reached, CountsAfter, IsLastNumber, IsLastOf, PutsField, PutsFields, PutsScopes, TakesRun, IsNear, IsNearShown, after_members}
-use Rattle.ctf_format.specs.Standing.{Before, mark_at, Counts, IfKnown, LastIs, Puts, PutsOne, PutsNext, StandsAsNumber, among, known}
-use Rattle.ctf_format.specs.Texts.{Shown, Part, kind_text, integer_text, value_text, part_text, member_part, member_texts}
+use Rattle.ctf_format.specs.Standing.{Before, Counts, IfKnown, LastIs, Puts, PutsOne, PutsNext, StandsAsNumber, among, known}
+use Rattle.ctf_format.specs.Texts.{Shown, Part, integer_text, value_text, part_text, member_part, member_texts}
 use Rattle.ctf_format.specs.Rows.{row}
 use Rattle.ctf_format.specs.declared.placed_run.PlacedRun.{PlacedRun}
 use Rattle.ctf_format.specs.declared.standing.Last.{Last}
 use Rattle.ctf_format.specs.declared.standing.Last.TheVariants as lasts
 use Rattle.ctf_format.specs.declared.standing.MembersEnd.{MembersEnd}
 use Rattle.ctf_format.specs.declared.standing.Next.{Next}
-use Rattle.ctf_format.proofs.StandingLemmas.{Going, anywhere, last_is, going_begins, going_on, puts_next, known_next, going_ends, closed, begins, form_structure, puts_structure, text-Structure, value-is, as_one, form_integer, text_integer, member-is, stands_number}
+use Rattle.ctf_format.proofs.StandingLemmas.{Going, anywhere, last_is, going_begins, going_on, puts_next, known_next, going_ends, closed, begins, form_structure, puts_structure, text-Structure, value-is, as_one, form_integer, text_integer, member-is, stands_number, mark_at, kind_text}
 use Rattle.ctf_format.proofs.RunNumbersLemmas.{run_integer}
 use Rattle.ctf_format.proofs.StartsLemmas.{Leads, at_one, base_divides, below, larger_begins, leads_itself, run_leads}
 use Rattle.ctf_format.proofs.ArrayLemmas.{counts_last}

@@ -10,7 +10,7 @@ use Rattle.ctf_bits.specs.Number.{number, signed_number}
 use Rattle.ctf_class.specs.declared.class.Class as class
 use Rattle.ctf_class.specs.declared.class.Class.{Class}
 use Rattle.ctf_class.specs.declared.class.Kind as kind
-use Rattle.ctf_class.specs.declared.class.Kind.{Kind}
+use Rattle.ctf_class.specs.declared.class.Kind.{Kind, fold-Kind}
 use Rattle.ctf_class.specs.declared.class.Member.{Member}
 use Rattle.ctf_class.specs.declared.integer.Integer.{Integer}
 use Rattle.ctf_class.specs.declared.route.Length.{Length}
@@ -31,14 +31,23 @@ use Rattle.ctf_decode.specs.declared.scopes.TheConstants.{MOST_VALUES}
 use Rattle.ctf_format.specs.Around.{PutsMembers}
 use Rattle.ctf_format.specs.Numbers.{number_text}
 use Rattle.ctf_format.specs.Rows.{row, enclosed}
-use Rattle.ctf_format.specs.Standing.{Before, among, PutsOne, ValueIs, LastIs, known, mark_at, PutsNext, StandsAsNumber}
-use Rattle.ctf_format.specs.Texts.{Shown, Part, value_text, kind_text, part_text, member_part, member_texts, integer_text, string_text}
+use Rattle.ctf_format.specs.Standing.{Before, among, PutsOne, ValueIs, LastIs, known, PutsNext, StandsAsNumber}
+use Rattle.ctf_format.specs.Texts.{Shown, Part, value_text, part_text, member_part, member_texts, integer_text, string_text, kind_step, class_step, member_step}
 use Rattle.ctf_format.specs.declared.standing.Position.{Position}
 use Rattle.ctf_format.specs.declared.standing.Last.{Last}
 use Rattle.ctf_format.specs.declared.standing.Last.TheVariants as lasts
 use Rattle.ctf_format.specs.declared.standing.MembersEnd.{MembersEnd}
 use Rattle.ctf_format.specs.declared.standing.Next.{Next}
 use Rattle.ctf_format.proofs.NamesLemmas.{here, drop-all}
+
+-- the mark before the text of an index, where this one is before the first; 44 is a comma
+abbrev pub mark_at : ℕ → ℕ → ℕ
+mark_at first zero = first
+mark_at first (suc i) = 44
+
+-- what a kind of class shows
+abbrev pub kind_text : Kind → Shown
+kind_text = fold-Kind Shown Shown Part kind_step class_step member_step
 
 pub begins : (c : Input) (s : ℕ) (r : Step Val) → s < c.limit → begin c s r ≡ r
 begins c s r few = ap (λ b. cond b r (Err too_many)) (lt-ltb s c.limit few)

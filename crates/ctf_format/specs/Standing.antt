@@ -1,5 +1,5 @@
 -- Values that are shown straight from the bits.
-use Rattle.std.specs.Prelude.{◌≡◌, ℕ, zero, suc, ◌+◌, ◌*◌, ◌<◌, ◌≤◌, List, [], ◌∷◌, ◌++◌, map, length, take, Option, Some, None, IfSome, Ok, ⊤, if◌then◌else◌}
+use Rattle.std.specs.Prelude.{◌≡◌, ℕ, ◌+◌, ◌*◌, ◌<◌, ◌≤◌, List, [], ◌∷◌, ◌++◌, map, length, take, Option, Some, None, IfSome, Ok, ⊤, if◌then◌else◌}
 use Rattle.ctf_class.specs.declared.class.Member.{Member}
 use Rattle.ctf_class.specs.declared.integer.Integer.{Integer}
 use Rattle.ctf_class.specs.declared.route.Length.{Length}
@@ -61,11 +61,6 @@ known (Some n) = lasts.Unsigned n
 -- what is known of the value of an integer with these bits
 abbrev pub known_of : Integer → ℕ → Last
 known_of i bits = if i.is_signed then lasts.Unknown else lasts.Unsigned bits
-
--- the mark before the text of an index, where this one is before the first; 44 is a comma
-abbrev pub mark_at : ℕ → ℕ → ℕ
-mark_at first zero = first
-mark_at first (suc i) = 44
 
 -- so many members before a value in its structure, and the number of the last of them, if that is known; else nothing
 -- is known of them, also not how many they are

@@ -3,7 +3,6 @@ use Rattle.std.specs.Prelude.{ℕ, suc, pos, List, [], ◌∷◌, ◌++◌, Opti
 use Rattle.std.specs.Fmt.{decimal}
 use Rattle.ctf_class.specs.declared.class.Class.{Class, fold-Class}
 use Rattle.ctf_class.specs.declared.class.Member.{Member, fold-Member}
-use Rattle.ctf_class.specs.declared.class.Kind.{Kind, fold-Kind}
 use Rattle.ctf_class.specs.declared.class.Kind.TheOpen.{Class-F, Kind-F, Member-F}
 use Rattle.ctf_class.specs.declared.integer.Integer.{Integer}
 use Rattle.ctf_class.specs.declared.span.Label.{Label}
@@ -86,9 +85,6 @@ member_step member = (member.name, member.class)
 -- the text of a value of a class
 abbrev pub value_text : Class → Shown
 value_text = fold-Class Shown Shown Part kind_step class_step member_step
-
-abbrev pub kind_text : Kind → Shown
-kind_text = fold-Kind Shown Shown Part kind_step class_step member_step
 
 abbrev pub member_part : Member → Part
 member_part = fold-Member Shown Shown Part kind_step class_step member_step

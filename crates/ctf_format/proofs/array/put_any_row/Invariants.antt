@@ -2,8 +2,8 @@ use Rattle.std.proofs.Common.{◌≡◌, take}
 use Rattle.ctf_decode.specs.Forms as forms
 use Rattle.ctf_format.proofs.ArrayLemmas.{Going}
 use Rattle.ctf_format.specs.Put.{IsWithin}
-use Rattle.ctf_format.specs.Standing.{mark_at}
 use Rattle.ctf_format.specs.Texts.{integer_text}
+use Rattle.ctf_format.proofs.StandingLemmas.{mark_at}
 use Rattle.ctf_format.proofs.array.put_any_row.Given as goal
 
 abbrev pub invariant-loop-i : goal.invariant-loop-i

@@ -3,10 +3,10 @@ use Rattle.ctf_decode.specs.Views.{form}
 use Rattle.ctf_decode.specs.declared.scopes.TheConstants.{MOST_VALUES}
 use Rattle.ctf_format.specs.Around.{Agrees, MembersAre, sight}
 use Rattle.ctf_format.specs.Put.{IsWithin}
-use Rattle.ctf_format.specs.Standing.{mark_at}
 use Rattle.ctf_format.specs.Texts.{value_text}
 use Rattle.ctf_format.proofs.ByClassLemmas as items
 use Rattle.ctf_format.proofs.StandingLemmas as members
+use Rattle.ctf_format.proofs.StandingLemmas.{mark_at}
 use Rattle.ctf_format.proofs.by_class.+standing.Given as goal
 
 abbrev pub invariant-put_members-loop-i : goal.invariant-put_members-loop-i

@@ -4,8 +4,8 @@ use Rattle.ctf_class.specs.declared.class.Class.{Class}
 use Rattle.ctf_decode.specs.Views.{form}
 use Rattle.ctf_format.proofs.ArrayLemmas.{Going}
 use Rattle.ctf_format.specs.Put.{IsWithin}
-use Rattle.ctf_format.specs.Standing.{mark_at}
 use Rattle.ctf_format.specs.Texts.{value_text}
+use Rattle.ctf_format.proofs.StandingLemmas.{mark_at}
 use Rattle.ctf_format.proofs.structures.put_row.Given as goal
 
 abbrev pub invariant-loop-i : goal.invariant-loop-i
