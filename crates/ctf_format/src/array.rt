@@ -128,7 +128,7 @@ fn put_row(
     }
 }
 
-/// Writes so many integers of any order and size, wherever they begin, the first after `[`.
+/// Writes so many integers of any size, wherever they begin, the first after `[`.
 #[inline(never)]
 fn put_any_row(
     class: &AlignedInteger<'_>,

@@ -1,6 +1,6 @@
 //! The bits of numbers.
 
-ghost use Rattle.std.specs.Prelude.{◌≡◌, ◌^◌, ◌<◌};
+ghost use Rattle.std.specs.Prelude.{◌≡◌, ◌<◌};
 ghost use Rattle.ctf_format.specs.Numbers.{pattern};
 
 use ctf_class::Width;

@@ -1,6 +1,6 @@
 //! Texts of event records by their plans.
 
-ghost use Rattle.std.specs.Prelude.{List, ℕ, [], ◌∷◌, ◌≡◌, ◌+◌, ◌/◌, ◌-◌, ◌++◌, ◌<◌, ◌≤◌, length, pos, false, take, vec_len, Option, None, IfSome};
+ghost use Rattle.std.specs.Prelude.{List, ℕ, [], ◌∷◌, ◌≡◌, ◌+◌, ◌/◌, ◌-◌, ◌++◌, ◌<◌, ◌≤◌, length, pos, take, vec_len, Option, None, IfSome};
 ghost use Rattle.std.specs.List.{All, flat_map};
 ghost use Rattle.ctf_class.specs.Records.{After, Slot, AreRuns, IsField, IsInteger, IsLength, IsPlanOf, ends, numbers_room, room_of};
 ghost use Rattle.ctf_class.specs.declared.class.Class.{Class};
