@@ -1,6 +1,6 @@
 //! Packets whose header and context were decoded.
 
-ghost use Rattle.std.specs.Prelude.{◌≡◌, ◌≤◌, ◌^◌, option_map, option_and_then, option_copied, IfOk};
+ghost use Rattle.std.specs.Prelude.{◌≡◌, ◌≤◌, option_map, option_and_then, option_copied, IfOk};
 ghost use Rattle.ctf_decode.specs.Views.{val};
 ghost use Rattle.ctf_packet.specs.Classes.{stream_form};
 ghost use Rattle.ctf_packet.specs.Scopes.{Values};

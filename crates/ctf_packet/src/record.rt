@@ -1,9 +1,9 @@
 //! Event records.
 
-ghost use Rattle.std.specs.Prelude.{◌≡◌, ◌<◌, ◌≤◌, ◌*◌, ◌^◌, map, length, option_map, option_copied, IfOk, OnOk};
+ghost use Rattle.std.specs.Prelude.{◌≡◌, ◌<◌, ◌≤◌, map, option_map, option_copied, IfOk, OnOk};
 ghost use Rattle.ctf_clock.specs.declared.moment.Shift.{Shift};
 ghost use Rattle.ctf_decode.specs.Known.{without_record};
-ghost use Rattle.ctf_decode.specs.Views.{form, val};
+ghost use Rattle.ctf_decode.specs.Views.{form};
 ghost use Rattle.ctf_packet.specs.Classes.{event_form};
 ghost use Rattle.ctf_packet.specs.Records as records;
 ghost use Rattle.ctf_packet.specs.Places.{IsTimed, headed_at, record_there};

@@ -1,10 +1,9 @@
 //! The values of scopes.
 
-ghost use Rattle.std.specs.Prelude.{◌≡◌, ◌+◌, ◌*◌, ◌^◌, ◌≤◌, min, [], None, length, option_map, option_copied, IfOk, IfErr, OnErr};
-ghost use Rattle.ctf_decode.specs.Views.{form, input_in, val};
+ghost use Rattle.std.specs.Prelude.{◌≡◌, ◌*◌, ◌^◌, ◌≤◌, min, [], None, length, option_map, option_copied, IfOk, OnErr};
+ghost use Rattle.ctf_decode.specs.Views.{form};
 ghost use Rattle.ctf_decode.specs.Walk.{walk};
 ghost use Rattle.ctf_packet.specs.Scopes as values;
-ghost use Rattle.ctf_packet.specs.Packets as packets;
 ghost use Rattle.ctf_packet.specs.Views.{values_of, PutsValue, PutsScope, IsTold};
 
 use crate::fault::StreamFault;

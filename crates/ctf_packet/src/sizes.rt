@@ -1,6 +1,6 @@
 //! Sizes of packets.
 
-ghost use Rattle.std.specs.Prelude.{◌≡◌, ◌*◌, ℕ, None, length, true, false, IfOk};
+ghost use Rattle.std.specs.Prelude.{◌≡◌, ◌*◌, ℕ, None, length, IfOk};
 ghost use Rattle.ctf_packet.specs.Packets as packets;
 ghost use Rattle.ctf_packet.specs.Gives.{SizesTold, Fitting};
 
