@@ -13,10 +13,10 @@ use ctf_class::{Class, Integer, Kind, Member, Width};
 use ctf_list::NoMemory;
 use std::alloc::Global;
 
-/// The width in bits and the unsigned number of each integer of a value that sets the clock, in the order
+/// The width and the unsigned number of each integer of a value that sets the clock, in the order
 /// of decoding. A part of the value that is no value of its class gives nothing, nor does a number that its
 /// width does not hold.
-pub fn moving(alloc: Global, class: &Class, value: &Value) -> Result<Vec<(u32, u64)>, NoMemory>
+pub fn moving(alloc: Global, class: &Class, value: &Value) -> Result<Vec<(Width, u64)>, NoMemory>
     ensures value { IfOk result
         (λ found. found.items ≡ fields.moved (form class.now) (val value.now)) }
     ensures stamps { IfOk result (λ found. All IsStamp found.items) }
@@ -31,7 +31,7 @@ pub fn moving(alloc: Global, class: &Class, value: &Value) -> Result<Vec<(u32, u
 pub fn moving_into(
     class: &Class,
     value: &Value,
-    found: &mut Vec<(u32, u64)>,
+    found: &mut Vec<(Width, u64)>,
 ) -> Result<(), NoMemory>
     ensures value { IfOk result
         (λ _. found.new.items ≡ fields.moved (form class.now) (val value.now)) }
@@ -43,7 +43,7 @@ pub fn moving_into(
 
 /// Puts the integers of a value that set the clock after those that were found.
 #[cycle(moved)]
-fn put_moved(class: &Class, value: &Value, found: &mut Vec<(u32, u64)>) -> Result<(), NoMemory>
+fn put_moved(class: &Class, value: &Value, found: &mut Vec<(Width, u64)>) -> Result<(), NoMemory>
     requires stamps { All IsStamp found.old.items }
     ensures value { IfOk result
         (λ _. found.new.items ≡ found.old.items ++ fields.moved (form class.now) (val value.now)) }
@@ -69,7 +69,7 @@ fn put_moved(class: &Class, value: &Value, found: &mut Vec<(u32, u64)>) -> Resul
 fn put_members(
     members: &[Member],
     values: &[Value],
-    found: &mut Vec<(u32, u64)>,
+    found: &mut Vec<(Width, u64)>,
 ) -> Result<(), NoMemory>
     requires stamps { All IsStamp found.old.items }
     ensures value { IfOk result
@@ -92,7 +92,7 @@ fn put_members(
 fn put_elements(
     element: &Class,
     values: &[Value],
-    found: &mut Vec<(u32, u64)>,
+    found: &mut Vec<(Width, u64)>,
 ) -> Result<(), NoMemory>
     requires stamps { All IsStamp found.old.items }
     ensures value { IfOk result
@@ -111,7 +111,7 @@ fn put_elements(
 fn put_option(
     options: &[Member],
     value: &Value,
-    found: &mut Vec<(u32, u64)>,
+    found: &mut Vec<(Width, u64)>,
 ) -> Result<(), NoMemory>
     requires stamps { All IsStamp found.old.items }
     ensures value { IfOk result
@@ -132,7 +132,7 @@ fn put_chosen(
     options: &[Member],
     i: usize,
     inner: &Value,
-    found: &mut Vec<(u32, u64)>,
+    found: &mut Vec<(Width, u64)>,
 ) -> Result<(), NoMemory>
     requires stamps { All IsStamp found.old.items }
     ensures value { IfOk result
@@ -151,7 +151,7 @@ fn put_chosen(
 fn put_integer(
     integer: &Integer,
     value: &Value,
-    found: &mut Vec<(u32, u64)>,
+    found: &mut Vec<(Width, u64)>,
 ) -> Result<(), NoMemory>
     requires stamps { All IsStamp found.old.items }
     ensures value { IfOk result
@@ -169,7 +169,7 @@ fn put_integer(
 }
 
 /// Puts an unsigned number, if the value is one and so many bits hold it.
-fn put_unsigned(size: Width, value: &Value, found: &mut Vec<(u32, u64)>) -> Result<(), NoMemory>
+fn put_unsigned(size: Width, value: &Value, found: &mut Vec<(Width, u64)>) -> Result<(), NoMemory>
     requires stamps { All IsStamp found.old.items }
     ensures value { IfOk result
         (λ _. found.new.items ≡ found.old.items ++ fields.unsigned_pair size (val value.now)) }
@@ -187,21 +187,20 @@ fn put_unsigned(size: Width, value: &Value, found: &mut Vec<(u32, u64)>) -> Resu
 }
 
 /// Puts a number, if so many bits hold it.
-fn put_number(size: Width, number: u64, found: &mut Vec<(u32, u64)>) -> Result<(), NoMemory>
+fn put_number(size: Width, number: u64, found: &mut Vec<(Width, u64)>) -> Result<(), NoMemory>
     requires stamps { All IsStamp found.old.items }
     ensures value { IfOk result
         (λ _. found.new.items ≡ found.old.items ++ fields.unsigned_pair size (unsigned number)) }
     ensures stamps { IfOk result (λ _. All IsStamp found.new.items) }
 {
-    let bits = size.bits();
-    if u128::from(number) < 1u128 << bits {
-        found.push((bits, number))?;
+    if u128::from(number) < 1u128 << size.bits() {
+        found.push((size, number))?;
     }
     Ok(())
 }
 
 /// Puts the bits of a signed number, if the value is one and so many hold it.
-fn put_signed(size: Width, value: &Value, found: &mut Vec<(u32, u64)>) -> Result<(), NoMemory>
+fn put_signed(size: Width, value: &Value, found: &mut Vec<(Width, u64)>) -> Result<(), NoMemory>
     requires stamps { All IsStamp found.old.items }
     ensures value { IfOk result
         (λ _. found.new.items ≡ found.old.items ++ fields.signed_pair size (val value.now)) }
@@ -219,7 +218,7 @@ fn put_signed(size: Width, value: &Value, found: &mut Vec<(u32, u64)>) -> Result
 }
 
 /// Puts the bits of a number in two's complement, if so many hold it.
-fn put_bits(size: Width, number: i64, found: &mut Vec<(u32, u64)>) -> Result<(), NoMemory>
+fn put_bits(size: Width, number: i64, found: &mut Vec<(Width, u64)>) -> Result<(), NoMemory>
     requires stamps { All IsStamp found.old.items }
     ensures value { IfOk result
         (λ _. found.new.items ≡ found.old.items ++ fields.bits_pair size number) }
@@ -231,10 +230,10 @@ fn put_bits(size: Width, number: i64, found: &mut Vec<(u32, u64)>) -> Result<(),
     if number < 0 {
         if far <= half {
             let unsigned = (1u128 << bits) - u128::from(far);
-            found.push((bits, unsigned as u64))?;
+            found.push((size, unsigned as u64))?;
         }
     } else if far < half {
-        found.push((bits, far))?;
+        found.push((size, far))?;
     }
     Ok(())
 }

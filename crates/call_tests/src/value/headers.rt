@@ -3,7 +3,7 @@
 use crate::row::{Row, bytes_of_digits};
 use crate::value::decoding::put_fault;
 use crate::value::place::Place;
-use ctf_class::Class;
+use ctf_class::{Class, Width};
 use ctf_decode::{Packet, Scopes, Value, decode_into, last_id, moving, moving_into};
 use ctf_list::NoMemory;
 use std::alloc::Global;
@@ -73,9 +73,15 @@ fn put_read(row: &mut Row<'_>, class: &Class, value: &Value) {
 }
 
 /// The stamps of a header, in place of another one.
-fn header_stamps(alloc: Global, class: &Class, value: &Value) -> Result<Vec<(u32, u64)>, NoMemory> {
+fn header_stamps(
+    alloc: Global,
+    class: &Class,
+    value: &Value,
+) -> Result<Vec<(Width, u64)>, NoMemory> {
     let mut stamps = Vec::new(alloc);
-    stamps.push((1, 1))?;
+    if let Some(width) = Width::new(1) {
+        stamps.push((width, 1))?;
+    }
     moving_into(class, value, &mut stamps)?;
     Ok(stamps)
 }
@@ -89,14 +95,14 @@ pub fn put_moving(row: &mut Row<'_>, class: &Class, value: &Value) {
 }
 
 /// Puts a class number, and the sizes and numbers of stamps.
-fn put_said(row: &mut Row<'_>, id: Option<i128>, stamps: &[(u32, u64)]) {
+fn put_said(row: &mut Row<'_>, id: Option<i128>, stamps: &[(Width, u64)]) {
     match id {
         Some(id) => row.put_number(b"id ", id),
         None => row.put(b"no id"),
     }
     for (size, number) in stamps {
         row.put_number(b", ", *number as i128);
-        row.put_number(b" in ", *size as i128);
+        row.put_number(b" in ", size.bits() as i128);
         row.put(b" bits");
     }
 }
