@@ -1,6 +1,6 @@
 -- Steps upward among the numbers of so many bits.
 use Rattle.std.proofs.Common.{◌≡◌, ℕ, ◌+◌, ◌-◌, ◌*◌, ◌/◌, ◌%◌, ◌^◌, ◌<◌, ◌≤◌, sym, ap, ◌∙◌, subst, arith, bit_and}
-use Rattle.std.proofs.Math.Nat.{add-mul, add-mul-mod_self_right, mod-add-div, mod-lt, mod-le, add-mod-mod, mod-add-mod, mod-eq_of_lt, mul_comm, lt_of_mul-lt-mul_right}
+use Rattle.std.proofs.Math.Nat.{add-mul, add-mul-mod_self_right, mod-add-div, mod-lt, mod-le, add-mod-mod, mod-add-mod, mul_comm, lt_of_mul-lt-mul_right}
 use Rattle.std.proofs.Math.Pow.{pow_mono, mod-mod-pow}
 use Rattle.std.proofs.lemmas.Nat.{pow-add, div-mul-add, and_mask}
 use Rattle.ctf_clock.specs.Counting.{steps_up, least_from, IsLeastFrom}
@@ -46,24 +46,6 @@ masked n b from to e h fits =
     let mask : (2 ^ 64 - 1) / 2 ^ (64 - b) ≡ 2 ^ n - 1 = ap (λ y. (2 ^ 64 - 1) / 2 ^ (64 - y)) e ∙ (ap (λ y. (2 ^ y - 1) / 2 ^ j) w ∙ ones j n) in
     let low = in_low_bits j n from to (subst (λ y. from < 2 ^ y) w fits) in
     ap (λ y. bit_and x y) mask ∙ (and_mask x n ∙ (ap (λ y. (to + (2 ^ y - from)) % 2 ^ y % 2 ^ n) w ∙ low))
-
--- numbers of more bits than a word: up to a larger one, and to a smaller one
-pub wide_up : (n old x : ℕ) → 64 < n → old ≤ x → x < 2 ^ 64 → least_from n old x ≡ x
-wide_up n old x h le fits =
-    let p : 2 ^ 64 ≤ 2 ^ n = pow_mono {i = 64} {j = n} (omega arith) in
-    let e : old % 2 ^ n ≡ old = mod-eq_of_lt (omega arith) in
-    let f : x + (2 ^ n - old) ≡ (x - old) + 1 * 2 ^ n = omega arith in
-    let g : (x - old) % 2 ^ n ≡ x - old = mod-eq_of_lt (omega arith) in
-    let s : steps_up n old x ≡ x - old = ap (λ y. (x + (2 ^ n - y)) % 2 ^ n) e ∙ (ap (λ y. y % 2 ^ n) f ∙ (add-mul-mod_self_right (x - old) 1 (2 ^ n) ∙ g)) in
-    omega arith
-
-pub wide_back : (n old x : ℕ) → 64 < n → x < old → old < 2 ^ 64 → 2 ^ 64 ≤ least_from n old x
-wide_back n old x h lt fits =
-    let p : 2 ^ 64 ≤ 2 ^ n = pow_mono {i = 64} {j = n} (omega arith) in
-    let e : old % 2 ^ n ≡ old = mod-eq_of_lt (omega arith) in
-    let g : (x + (2 ^ n - old)) % 2 ^ n ≡ x + (2 ^ n - old) = mod-eq_of_lt (omega arith) in
-    let s : steps_up n old x ≡ x + (2 ^ n - old) = ap (λ y. (x + (2 ^ n - y)) % 2 ^ n) e ∙ g in
-    omega arith
 
 pub steps_up-lt : (n from to : ℕ) → steps_up n from to < 2 ^ n
 steps_up-lt n from to = mod-lt (to + (2 ^ n - from % 2 ^ n)) (positive n)

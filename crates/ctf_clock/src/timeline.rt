@@ -1,9 +1,8 @@
 //! Times of a clock's values.
 
-ghost use Rattle.std.specs.Prelude.{◌≡◌, ◌<◌, ◌≤◌, ◌^◌, ◌+ℤ◌, ◌*ℤ◌, ◌≤ℤ◌, pos, neg_ℤ, SomeIff};
+ghost use Rattle.std.specs.Prelude.{◌≡◌, ◌^◌, ◌+ℤ◌, ◌*ℤ◌, ◌≤ℤ◌, pos, neg_ℤ};
 ghost use Rattle.std.specs.Int.{int_div_euclid};
 ghost use Rattle.ctf_clock.specs.Clock as clocks;
-ghost use Rattle.ctf_clock.specs.Counting.{least_from};
 
 use crate::counting::steps_up;
 use crate::moment::{Moment, Shift};
@@ -80,16 +79,11 @@ impl Timeline {
     /// that is not below the old one and has the integer's bits (CTF 1.8.3, section 8). `None` exactly
     /// where that value or its time has more than 64 bits.
     #[inline(always)]
-    pub fn advance(&self, from: Moment, width: u32, number: u64) -> Option<Moment>
+    pub fn advance(&self, from: Moment, width: Width, number: u64) -> Option<Moment>
         ensures { result ≡ clocks.advanced self.now from width number }
     {
-        let cycles = match Width::new(width) {
-            Some(width) => from
-                .cycles
-                .checked_add(steps_up(width, from.cycles, number))?,
-            None => outside_words(from.cycles, width, number)?,
-        };
-        self.moment(cycles)
+        let steps = steps_up(width, from.cycles, number);
+        self.moment(from.cycles.checked_add(steps)?)
     }
 }
 
@@ -107,19 +101,4 @@ fn nanos_of(offset: i64, cycles: u64, frequency: Frequency) -> i128
         return cycles;
     }
     (cycles * NANOS_A_SECOND).div_euclid(frequency)
-}
-
-/// The least value not below an old one that has the bits of a number of no bits, or of more bits than a
-/// word; `None` where it has more bits than a word.
-fn outside_words(old: u64, width: u32, number: u64) -> Option<u64>
-    requires { 1 ≤ width → 64 < width }
-    ensures { SomeIff result (least_from width old number < 2 ^ 64) (least_from width old number) }
-{
-    if width == 0 {
-        return Some(old);
-    }
-    if number < old {
-        return None;
-    }
-    Some(number)
 }

@@ -94,7 +94,7 @@ pub fn clock_until(
     let Some(field) = end else {
         return Some(clock);
     };
-    let until = timeline.advance(clock, field.width.bits(), field.number);
+    let until = timeline.advance(clock, field.width, field.number);
     Some(until.unwrap_or(clock))
 }
 

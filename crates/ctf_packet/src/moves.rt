@@ -7,7 +7,7 @@ ghost use Rattle.ctf_decode.specs.Views.{form, val};
 ghost use Rattle.ctf_packet.specs.Moved as moved;
 ghost use Rattle.ctf_packet.specs.Telling.{Moves, KeepsLast, integer_moves, value_moves, member_moves, element_moves, option_moves, choice_moves, value_ids, member_ids, element_ids, option_ids, choice_ids};
 
-use ctf_class::{Class, FrontClass, Integer, Kind, Member};
+use ctf_class::{Class, FrontClass, Integer, Kind, Member, Width};
 use ctf_clock::{Moment, Timeline};
 use ctf_decode::{Value, choice_in, elements_in, members_in, named_id};
 
@@ -290,18 +290,17 @@ fn moved_by_integer(
     if !integer.is_moving {
         return Some(clock);
     }
-    let width = integer.size.bits();
     if integer.is_signed {
-        moved_by_signed(timeline, width, value, clock)
+        moved_by_signed(timeline, integer.size, value, clock)
     } else {
-        moved_by_unsigned(timeline, width, value, clock)
+        moved_by_unsigned(timeline, integer.size, value, clock)
     }
 }
 
 #[inline(always)]
 fn moved_by_unsigned(
     timeline: &Timeline,
-    width: u32,
+    width: Width,
     value: &Value,
     clock: Moment,
 ) -> Option<Moment>
@@ -313,7 +312,12 @@ fn moved_by_unsigned(
     Some(clock)
 }
 
-fn moved_by_signed(timeline: &Timeline, width: u32, value: &Value, clock: Moment) -> Option<Moment>
+fn moved_by_signed(
+    timeline: &Timeline,
+    width: Width,
+    value: &Value,
+    clock: Moment,
+) -> Option<Moment>
     ensures { result ≡ advanced_by timeline.now clock (moved.signed_pair width (val value.now)) }
 {
     if let Value::Signed(number) = value {

@@ -179,7 +179,7 @@ fn clock_after(
         return Some(from.clock);
     };
     let number = number_at(stamp, packet.bytes, from.place);
-    timeline.advance(from.clock, stamp.integer.size.bits(), number)
+    timeline.advance(from.clock, stamp.integer.size, number)
 }
 
 /// The number of an integer of a structure that begins at a place, in bits from the packet's first one. Mostly it is
