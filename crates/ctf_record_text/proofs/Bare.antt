@@ -1,13 +1,14 @@
 -- Event records without a header.
 use Rattle.std.proofs.Common.{◌≡◌, ℕ, List, [], Option, Some, None, Result, Ok, refl, ap, ◌∙◌}
 use Rattle.std.specs.List.{last_or}
+use Rattle.std.specs.Option.{option_and}
 use Rattle.ctf_class.specs.Streams.{StreamClass}
 use Rattle.ctf_clock.specs.Clock.{Line}
 use Rattle.ctf_clock.specs.declared.moment.Moment.{Moment}
 use Rattle.ctf_clock.specs.declared.moment.Shift.{Shift}
 use Rattle.ctf_decode.specs.Forms.{Form}
 use Rattle.ctf_decode.specs.Views.{form}
-use Rattle.ctf_record_text.specs.Headers.{TellsHead, clock_kept}
+use Rattle.ctf_record_text.specs.Headers.{TellsHead}
 use Rattle.ctf_record_text.specs.declared.header.ToldHead.{ToldHead}
 use Rattle.ctf_packet.specs.Classes.{Classes, StreamForm, EventForm, stream_form, event_form}
 use Rattle.ctf_packet.specs.Packets.{or_fault, moves, clock_after}
@@ -18,7 +19,7 @@ use Rattle.ctf_packet.specs.declared.fault.StreamFault.TheVariants as faults
 use Rattle.std.specs.Prelude.{option_map}
 
 -- without integers that set it the clock stays
-stays : (line : Option Line) (clock : Option Moment) → clock_after line clock [] ≡ Ok (clock_kept line clock)
+stays : (line : Option Line) (clock : Option Moment) → clock_after line clock [] ≡ Ok (option_and line clock)
 stays (Some line) (Some clock) = refl
 stays (Some line) None = refl
 stays None clock = refl
@@ -32,18 +33,18 @@ module _ (stream : StreamForm Classes) (bytes : List ℕ) (content : ℕ) (value
   opens = refl
 
   headed_bare : (event : EventForm Classes) → stream.event_header ≡ None → event_named stream.events None ≡ Some event
-      → headed stream bytes content values clock place ≡ Ok (record { event = event; clock = clock_kept stream.line clock; header = record { value = None; end = place; spent = 0 } })
+      → headed stream bytes content values clock place ≡ Ok (record { event = event; clock = option_and stream.line clock; header = record { value = None; end = place; spent = 0 } })
   headed_bare event no_class is =
       let s : Stood = record { value = None; end = place; spent = 0 } in
       opens ∙ (λ i. scope_at fault_in_record (no_class i) (input_of bytes content values) place 0 >>= (λ header. clock_after stream.line clock (moves (no_class i) header.value) >>= named (no_class i) header))
       ∙ ap (λ r. r >>= named None s) (stays stream.line clock)
-      ∙ ap (λ o. or_fault faults.UnknownEvent o >>= (λ event. Ok (record { event = event; clock = clock_kept stream.line clock; header = s }))) is
+      ∙ ap (λ o. or_fault faults.UnknownEvent o >>= (λ event. Ok (record { event = event; clock = option_and stream.line clock; header = s }))) is
 
 pub tells_bare : (class : StreamClass) (shift : Shift) (bytes : List ℕ) (content place : ℕ) (clock : Option Moment) (told : ToldHead)
-    → class.event_header ≡ None → event_named (stream_form shift class).events None ≡ Some (event_form class told.head.event.now) → told.head.clock ≡ clock_kept (stream_form shift class).line clock → told.head.end ≡ place → told.spent ≡ 0
+    → class.event_header ≡ None → event_named (stream_form shift class).events None ≡ Some (event_form class told.head.event.now) → told.head.clock ≡ option_and (stream_form shift class).line clock → told.head.end ≡ place → told.spent ≡ 0
     → TellsHead class (stream_form shift class) bytes content clock place told
 tells_bare class shift bytes content place clock told no_class named clock_is end_is spent_is values = (
-  record { event = event_form class told.head.event.now; clock = clock_kept (stream_form shift class).line clock; header = record { value = None; end = place; spent = 0 } },
+  record { event = event_form class told.head.event.now; clock = option_and (stream_form shift class).line clock; header = record { value = None; end = place; spent = 0 } },
   headed_bare (stream_form shift class) bytes content values place clock (event_form class told.head.event.now) (ap (option_map form) no_class) named,
   refl,
   clock_is,

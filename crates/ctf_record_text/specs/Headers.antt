@@ -48,11 +48,6 @@ abbrev pub TellsPlanned : Option Line → HeaderPlan → List ℕ → ℕ → Mo
 TellsPlanned line plan packet content clock place to =
     (k : Class) → IsHeaderPlan plan k → Tells line (form k) packet content clock place to
 
--- the clock of a stream that has one, where nothing sets it
-abbrev pub clock_kept : Option Line → Option Moment → Option Moment
-clock_kept (Some line) clock = clock
-clock_kept None clock = None
-
 -- the header at a place, whatever the values of the scopes before it
 abbrev pub TellsHead : StreamClass → StreamForm Classes → List ℕ → ℕ → Option Moment → ℕ → ToldHead
     → Type 0

@@ -1,6 +1,6 @@
 //! Headers of event records that are read without values in scopes.
 
-ghost use Rattle.std.specs.Prelude.{◌≡◌, ◌≤◌, None, Some, map, option_map, option_copied, pos, IfSome};
+ghost use Rattle.std.specs.Prelude.{◌≡◌, ◌≤◌, None, Some, map, option_map, pos, IfSome};
 ghost use Rattle.ctf_class.specs.HeaderPlans.{IsHeaderPlanOf, IsNear};
 ghost use Rattle.ctf_class.specs.Records.{IsPlanOf, scopes_of};
 ghost use Rattle.ctf_packet.specs.Classes.{event_form};
@@ -226,13 +226,9 @@ fn told_bare<'a>(at: &RecordPlace<'_, 'a>) -> Option<PlannedHead<'a>>
     ensures few { IfSome result (λ p. p.told.spent ≤ MOST_VALUES) }
 {
     let planned = planned_by(at.packet.stream, None)?;
-    let clock = match &at.packet.timeline {
-        Some(_timeline) => at.clock,
-        None => None,
-    };
     let head = Head {
         event: planned.event,
-        clock,
+        clock: at.packet.timeline.and(at.clock),
         end: at.place,
     };
     Some(PlannedHead {
