@@ -36,7 +36,7 @@ pub struct HeaderNumber {
 pub enum HeaderReading {
     Little(ShortInteger),
     Big(ShortInteger),
-    /// As an integer of any size.
+    /// One of more than 57 bits, in either byte order.
     Long,
 }
 
