@@ -27,10 +27,10 @@ use Rattle.ctf_meaning.specs.Scopes.{Home, frame_by, scope_of, frames_before, sp
 use Rattle.ctf_meaning.specs.Streams.{Stream, numbered, trace_of, streams, stream_of, is_in_stream, home_of_event, home_of_stream}
 use Rattle.ctf_meaning.specs.Faults.{own_faults, link_faults, whole_faults, faults}
 use Rattle.ctf_meaning.specs.Denotes.{trace_entries, scope_class, event_class, event_in, stream_class, trace_class, Denotes}
+use Rattle.ctf_meaning.specs.Laws.{HasNoOwnFault}
 use Rattle.ctf_meaning.proofs.Lists.{Each, each_front, each_map, each_mapped, each_unmapped, filtered_each}
 use Rattle.ctf_meaning.proofs.Clean.{IsNone, first_none}
 use Rattle.ctf_packet.specs.Classes.{EventForm, StreamForm, TraceForm, event_form, stream_form, trace_form}
-use Rattle.ctf_types.specs.Whole.{HasNoOwn}
 use Rattle.ctf_types.proofs.Distinct.{Distinct, streams_distinct, alone}
 use Rattle.class_laws.proofs.Leading.{After, Leads, bound}
 use Rattle.class_laws.proofs.Resolving.{find_each, GoodScope, class_seen, class_leads, seen_fields}
@@ -83,7 +83,7 @@ flat_none : {X Y : Type 0} (f : X → List Y) (xs : List X) → Each (λ x. f x 
 flat_none f [] h = refl
 flat_none f (x ∷ xs) h = (λ j. h.0 j ++ flat_map f xs) ∙ flat_none f xs h.1
 
-no_own : (text : List Declaration) → faults text ≡ [] → HasNoOwn text
+no_own : (text : List Declaration) → faults text ≡ [] → HasNoOwnFault text
 no_own text h =
     let groups : Each IsNone (map (own_faults text) (numbered text) ++ map (link_faults text) (numbered text) ++ whole_faults text ∷ []) = first_none _ h in
     let declarations : Each IsNone (map (own_faults text) (numbered text) ++ map (link_faults text) (numbered text)) = each_front IsNone _ (whole_faults text ∷ []) groups in
@@ -161,7 +161,7 @@ module _ (text : List Declaration) (order : Order) where
   abbrev block_in : Option Stream → Option ℕ
   block_in o = option_and_then (λ (s : Stream). s.block) o
 
-  module _ (clean : HasNoOwn text) (stream : Stream) (known : IsIn (streams text) stream) where
+  module _ (clean : HasNoOwnFault text) (stream : Stream) (known : IsIn (streams text) stream) where
     -- an event of a stream's id has the scopes of that stream's block
     block_of_event : (entries : List BlockEntry) → is_in_stream text stream.id entries ≡ true → block_in (stream_of text entries) ≡ stream.block
     block_of_event entries e = by_case (stream_of text entries) refl e

@@ -14,10 +14,11 @@ use Rattle.ctf_meaning.specs.Blocks.{stream_id_of, block_faults, twice_faults}
 use Rattle.ctf_meaning.specs.Scopes.{scope_faults, classes_at, node_faults}
 use Rattle.ctf_meaning.specs.Streams.{Stream, numbered, stream_by, streams, or_plain}
 use Rattle.ctf_meaning.specs.Faults.{own_faults, most_nodes}
+use Rattle.ctf_meaning.specs.Laws.{HasNoOwnFault}
 use Rattle.ctf_meaning.proofs.Lists.{Each, each_map, some_same, append_left, append_right, or_left, or_right}
 use Rattle.ctf_meaning.proofs.Shaped.{when_not}
 use Rattle.ctf_meaning.proofs.Clean.{block_none}
-use Rattle.ctf_types.specs.Whole.{HasNoOwn, AreSettled}
+use Rattle.ctf_types.specs.Whole.{AreSettled}
 
 none_at : {X : Type 0} (f : ℕ × X → List ResolveFault) (n : ℕ) (xs : List X) (i : ℕ) (x : X) → flat_map f (enumerate_from n xs) ≡ [] → slice_get xs i ≡ Some x → f (n + i, x) ≡ []
 none_at f n [] i x h e = absurd (grind (arith, e))
@@ -31,7 +32,7 @@ none_at f n (y ∷ ys) (suc i) x h e =
     subst (λ m. f (m, x) ≡ []) (let z : n + 1 + i ≡ n + suc i = omega arith in z)
     (none_at f (n + 1) ys i x (append_right (f (n, y)) (flat_map f (enumerate_from (n + 1) ys)) h) e)
 
-module _ (text : List Declaration) (own : HasNoOwn text) where
+module _ (text : List Declaration) (own : HasNoOwnFault text) where
   pub own_at : (k : ℕ) (d : Declaration) → slice_get text k ≡ Some d → own_faults text (k, d) ≡ []
   own_at k d e = subst (λ m. own_faults text (m, d) ≡ []) (let z : 0 + k ≡ k = omega arith in z) (none_at (own_faults text) 0 text k d own e)
 
@@ -94,7 +95,7 @@ before bs d t h =
 turned : (a b : ℕ) → nat_eq a b ≡ false → nat_eq b a ≡ false
 turned a b h = grind (arith, h)
 
-module _ (text : List Declaration) (own : HasNoOwn text) where
+module _ (text : List Declaration) (own : HasNoOwnFault text) where
   apart_by : (ds : List Declaration) (bs : List Declaration) (n : ℕ) → text ≡ bs ++ ds →
       Each (Apart (ids bs)) (filter_map stream_by (enumerate_from n ds)) × Distinct (filter_map stream_by (enumerate_from n ds))
   apart_by [] bs n e = (tt, tt)

@@ -17,7 +17,7 @@ use Rattle.ctf_meaning.specs.There.{first}
 use Rattle.ctf_meaning.specs.Settings.{when, text_of}
 use Rattle.ctf_meaning.specs.Blocks.{value_at, id_of}
 use Rattle.ctf_meaning.specs.Scopes.{Home}
-use Rattle.ctf_meaning.specs.Streams.{Stream, streams, stream_of, is_event, trace_of, home_of_event}
+use Rattle.ctf_meaning.specs.Streams.{Stream, streams, stream_said, stream_of, is_event, trace_of, home_of_event}
 use Rattle.ctf_meaning.specs.Faults.{scope_links, event_links, link_faults}
 use Rattle.ctf_meaning.specs.Denotes.{scope_class}
 use Rattle.ctf_attributes.specs.declared.event.EventSettings.{EventSettings}
@@ -27,7 +27,6 @@ use Rattle.ctf_types.specs.declared.linked.Linked.TheVariants as linked
 use Rattle.ctf_types.specs.declared.streams.StreamAt.{StreamAt}
 use Rattle.ctf_types.specs.Events.{IsEventOf, IsRow}
 use Rattle.ctf_types.specs.Ids.{has, AreIds}
-use Rattle.ctf_types.specs.Links.{stream_said}
 use Rattle.ctf_types.specs.Whole.{ArePlaced, stream_at}
 use Rattle.ctf_types.proofs.Found.{place_is}
 use Rattle.ctf_types.proofs.Heads.{none_of}

@@ -20,9 +20,9 @@ use Rattle.ctf_types.specs.declared.linked.StreamHead.{StreamHead}
 use Rattle.ctf_types.specs.declared.trace.TraceAt.{TraceAt}
 use Rattle.ctf_types.specs.Gathered.{joined_all, heads_in}
 use Rattle.ctf_types.specs.Resolved.{IsFinished, or_plain_head}
-use Rattle.ctf_types.specs.Whole.{HasNoLink, IsTraceOf}
+use Rattle.ctf_types.specs.Whole.{IsTraceOf}
 use Rattle.ctf_types.proofs.Distinct.{streams_distinct, alone}
-use Rattle.ctf_types.proofs.Firsts.{whole_told, none_told}
+use Rattle.ctf_types.proofs.Firsts.{HasNoLinkFault, whole_told, none_told}
 use Rattle.ctf_types.proofs.Gathering.{AreHeads, heads_are, events_are}
 use Rattle.ctf_types.proofs.Going.{linked_clean}
 use Rattle.ctf_types.proofs.Wholes.{AreEvents, or_plain_heads, class_is}
@@ -63,7 +63,7 @@ module _ (text : List Declaration) (order : Order) where
 
 -- the parts of a text whose declarations have no faults
 module _ (text : List Declaration) (trace : Option TraceAt) (host : Option Word) (parts : TraceParts) (f : IsFinished text trace host parts) where
-  pub links : HasNoLink text
+  pub links : HasNoLinkFault text
   links = linked_clean text f.order (numbered text) f.given.rows f.given.linked
 
   pub heads : AreHeads text f.order (streams text) (or_plain_head parts.heads)

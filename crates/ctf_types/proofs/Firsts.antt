@@ -5,7 +5,11 @@ use Rattle.ctf_meaning.specs.declared.fault.ResolveFault.{ResolveFault}
 use Rattle.ctf_meaning.specs.Written.{Declaration}
 use Rattle.ctf_meaning.specs.Streams.{numbered}
 use Rattle.ctf_meaning.specs.Faults.{own_faults, link_faults, whole_faults, faults, first_faults}
-use Rattle.ctf_types.specs.Whole.{HasNoOwn, HasNoLink}
+use Rattle.ctf_meaning.specs.Laws.{HasNoOwnFault}
+
+-- no declaration has a link fault
+abbrev pub HasNoLinkFault : List Declaration → Type 0
+HasNoLinkFault text = flat_map (link_faults text) (numbered text) ≡ []
 
 append_left : {X : Type 0} (xs ys : List X) → xs ++ ys ≡ [] → xs ≡ []
 append_left [] ys h = refl
@@ -51,20 +55,20 @@ module _ (text : List Declaration) where
       of_front (map (own_faults text) (numbered text) ++ map (link_faults text) (numbered text)) (whole_faults text ∷ []) fault
       (of_front (map (own_faults text) (numbered text)) (map (link_faults text) (numbered text)) fault h)
 
-  after_own : HasNoOwn text → first_faults (map (link_faults text) (numbered text) ++ whole_faults text ∷ []) ≡ faults text
+  after_own : HasNoOwnFault text → first_faults (map (link_faults text) (numbered text) ++ whole_faults text ∷ []) ≡ faults text
   after_own own =
       sym (passed (own_faults text) (numbered text) (map (link_faults text) (numbered text) ++ whole_faults text ∷ []) own)
       ∙ ap first_faults (sym (append_assoc (map (own_faults text) (numbered text)) (map (link_faults text) (numbered text)) (whole_faults text ∷ [])))
 
-  pub link_told : HasNoOwn text → (fault : ResolveFault) → Contains (first_faults (map (link_faults text) (numbered text))) fault → Contains (faults text) fault
+  pub link_told : HasNoOwnFault text → (fault : ResolveFault) → Contains (first_faults (map (link_faults text) (numbered text))) fault → Contains (faults text) fault
   link_told own fault h =
       subst (λ fs. Contains fs fault) (after_own own) (of_front (map (link_faults text) (numbered text)) (whole_faults text ∷ []) fault h)
 
-  after_links : HasNoOwn text → HasNoLink text → first_faults (whole_faults text ∷ []) ≡ faults text
+  after_links : HasNoOwnFault text → HasNoLinkFault text → first_faults (whole_faults text ∷ []) ≡ faults text
   after_links own links = sym (passed (link_faults text) (numbered text) (whole_faults text ∷ []) links) ∙ after_own own
 
-  pub whole_told : HasNoOwn text → HasNoLink text → (fault : ResolveFault) → Contains (whole_faults text) fault → Contains (faults text) fault
+  pub whole_told : HasNoOwnFault text → HasNoLinkFault text → (fault : ResolveFault) → Contains (whole_faults text) fault → Contains (faults text) fault
   whole_told own links fault h = subst (λ fs. Contains fs fault) (after_links own links) (of_first (whole_faults text) [] fault h)
 
-  pub none_told : HasNoOwn text → HasNoLink text → whole_faults text ≡ [] → faults text ≡ []
+  pub none_told : HasNoOwnFault text → HasNoLinkFault text → whole_faults text ≡ [] → faults text ≡ []
   none_told own links whole = sym (after_links own links) ∙ ap (λ fs. first_faults (fs ∷ [])) whole

@@ -12,6 +12,7 @@ use Rattle.ctf_meaning.specs.Paths.{rank}
 use Rattle.ctf_meaning.specs.Blocks.{block_of}
 use Rattle.ctf_meaning.specs.Scopes.{Home, in_home, is_structure, scope_faults, scope_at, scope_of}
 use Rattle.ctf_meaning.specs.Streams.{trace_of}
+use Rattle.ctf_meaning.specs.Laws.{HasNoOwnFault}
 use Rattle.ctf_meaning.proofs.Lists.{Each, append_right, some_same}
 use Rattle.ctf_meaning.proofs.Shaped.{when_not}
 use Rattle.ctf_meaning_steps.specs.Blocks.{Placed}
@@ -19,7 +20,7 @@ use Rattle.ctf_meaning_steps.specs.Laws.{class_among, class_in_row}
 use Rattle.ctf_meaning_steps.proofs.Text.{walk_finds_scopes}
 use Rattle.ctf_types.specs.declared.trace.TraceAt.{TraceAt}
 use Rattle.ctf_types.specs.Resolved.{IsWalked}
-use Rattle.ctf_types.specs.Whole.{HasNoOwn, IsTraceOf}
+use Rattle.ctf_types.specs.Whole.{IsTraceOf}
 use Rattle.ctf_types.proofs.Fields.{fields_there}
 use Rattle.ctf_types.proofs.Sound.{IsSound, AreSound, text_sound}
 
@@ -41,7 +42,7 @@ solid_in (row ∷ rows) zero scope s h e = solid_among row scope s h.0 e
 solid_in (row ∷ rows) (suc k) scope s h e = solid_in rows k scope s h.1 e
 
 module _ (text : List Declaration) (rows : List (List Placed)) (w : IsWalked text rows) where
-  pub own : HasNoOwn text
+  pub own : HasNoOwnFault text
   own = (walk_finds_scopes text w.walked w.told).0
 
   pub scopes : (k : ℕ) (scope : Scope) → scope_at text k scope ≡ class_in_row rows k scope

@@ -1,22 +1,17 @@
 -- What declarations give where none of their links fails.
-use Rattle.std.specs.Prelude.{◌≡◌, ℕ, nat_eq, List, [], find, Option, Some, None}
-use Rattle.std.specs.Option.{option_map_or}
+use Rattle.std.specs.Prelude.{◌≡◌, ℕ, List, [], Option, Some, None}
 use Rattle.tsdl_tree.specs.declared.tree.BlockKind.TheVariants.{Trace, Stream as StreamKind}
 use Rattle.ctf_bits.specs.declared.number.Order.{Order}
 use Rattle.ctf_class.specs.declared.class.Class.{Class}
 use Rattle.ctf_class.specs.declared.route.Scope.TheVariants.{PacketHeader}
 use Rattle.ctf_meaning.specs.Written.{Declaration}
-use Rattle.ctf_meaning.specs.There.{first, only}
-use Rattle.ctf_meaning.specs.Streams.{Stream, home_of_stream}
+use Rattle.ctf_meaning.specs.There.{first}
+use Rattle.ctf_meaning.specs.Streams.{home_of_stream}
 use Rattle.ctf_meaning.specs.Faults.{scope_links, clocks_moved, has_other}
 use Rattle.ctf_meaning.specs.Denotes.{scope_class}
 use Rattle.ctf_types.specs.declared.linked.StreamHead.{StreamHead}
 use Rattle.ctf_types.specs.declared.link.MovedClock.{MovedClock}
 use Rattle.ctf_types.specs.Gathered.{IsHead}
-
--- the stream of this id, or the only one where none is said
-abbrev pub stream_said : List Stream → Option ℕ → Option Stream
-stream_said ss said = option_map_or (λ id. find (λ s. nat_eq s.id id) ss) said (only ss)
 
 module _ (text : List Declaration) (order : Order) where
   -- the class of the packet header by the trace block of this number

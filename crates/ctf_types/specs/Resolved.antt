@@ -8,12 +8,13 @@ use Rattle.ctf_meaning.specs.Name.{Word}
 use Rattle.ctf_meaning.specs.Written.{Declaration}
 use Rattle.ctf_meaning.specs.Faults.{faults}
 use Rattle.ctf_meaning.specs.Denotes.{class_of_text, host_of}
+use Rattle.ctf_meaning.specs.Laws.{HasNoOwnFault}
 use Rattle.ctf_meaning_steps.specs.Blocks.{Placed, Walked, text_told}
 use Rattle.ctf_types.specs.declared.gather.TraceParts.{TraceParts}
 use Rattle.ctf_types.specs.declared.linked.StreamHead.{StreamHead}
 use Rattle.ctf_types.specs.declared.trace.TraceAt.{TraceAt}
 use Rattle.ctf_types.specs.Gone.{AllGiven}
-use Rattle.ctf_types.specs.Whole.{HasNoOwn, IsTraceOf}
+use Rattle.ctf_types.specs.Whole.{IsTraceOf}
 
 -- the head of a stream without a block
 abbrev pub plain_head : StreamHead
@@ -44,7 +45,7 @@ Resolves text (Err fault) = (fault ≡ NoMemory) ⊎ Contains (faults text) faul
 -- all parts of a text without faults of declarations are there
 pub record IsFinished (text : List Declaration) (trace : Option TraceAt) (host : Option Word)
     (parts : TraceParts) : Type 0 where
-  pub own : HasNoOwn text
+  pub own : HasNoOwnFault text
   pub traced : IsTraceOf text trace
   pub hosted : host ≡ host_of text
   pub order : Order

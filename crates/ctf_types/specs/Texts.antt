@@ -16,9 +16,10 @@ use Rattle.ctf_meaning.specs.Scopes as meaning
 use Rattle.ctf_meaning.specs.Scopes.{scope_at, scope_of, spot_of}
 use Rattle.ctf_meaning.specs.Shapes.{Shape, has_float}
 use Rattle.ctf_meaning.specs.Streams.{streams, trace_of}
+use Rattle.ctf_meaning.specs.Laws.{HasNoOwnFault}
 use Rattle.ctf_meaning_steps.specs.Laws.{class_in_row}
 use Rattle.ctf_declarations.specs.DeclaredSoFar.{placed_seen}
-use Rattle.ctf_types.specs.Whole.{HasNoOwn, AreSettled, ArePlaced, stream_at}
+use Rattle.ctf_types.specs.Whole.{AreSettled, ArePlaced, stream_at}
 use Rattle.ctf_types.specs.declared.home.Home.{Home}
 use Rattle.ctf_types.specs.declared.text.KnownText.{KnownText}
 
@@ -27,7 +28,7 @@ home_by home = record { trace = home.trace; stream = home.stream; event = home.e
 
 -- the text is the one whose declarations were gone through
 pub record IsText (text : List Declaration) (known : KnownText) : Type 0 where
-  pub own : HasNoOwn text
+  pub own : HasNoOwnFault text
   pub scopes : (k : ℕ) (scope : Scope)
       → scope_at text k scope ≡ class_in_row (map (map placed_seen) known.rows.now) k scope
   pub clocks : known.clocks.now.clocks.now ≡ clocks_of text

@@ -1,23 +1,14 @@
 -- What is known of a text of which no declaration has an own fault, before its classes are linked.
-use Rattle.std.specs.Prelude.{◌≡◌, ℕ, ◌+◌, List, [], ◌∷◌, Option, Some, None, slice_get, flat_map, filter_map}
+use Rattle.std.specs.Prelude.{◌≡◌, ℕ, ◌+◌, List, [], ◌∷◌, Option, Some, None, slice_get, filter_map}
 use Rattle.ctf_meaning.specs.Written.{BlockEntry, Declaration}
 use Rattle.ctf_meaning.specs.There.{first}
 use Rattle.ctf_meaning.specs.Blocks.{block_faults}
-use Rattle.ctf_meaning.specs.Streams.{Stream, numbered, trace_of}
-use Rattle.ctf_meaning.specs.Faults.{own_faults, link_faults}
+use Rattle.ctf_meaning.specs.Streams.{Stream, trace_of}
 use Rattle.ctf_meaning.specs.Denotes.{trace_entries}
 use Rattle.ctf_attributes.specs.declared.trace.TraceSettings.{TraceSettings}
 use Rattle.ctf_attributes.specs.Settled.{IsTrace}
 use Rattle.ctf_types.specs.declared.streams.StreamAt.{StreamAt}
 use Rattle.ctf_types.specs.declared.trace.TraceAt.{TraceAt}
-
--- no declaration has an own fault
-abbrev pub HasNoOwn : List Declaration → Type 0
-HasNoOwn text = flat_map (own_faults text) (numbered text) ≡ []
-
--- no declaration has a link fault
-abbrev pub HasNoLink : List Declaration → Type 0
-HasNoLink text = flat_map (link_faults text) (numbered text) ≡ []
 
 -- nothing is wrong with the settings of a declaration
 abbrev pub IsSettled : Declaration → Type 0

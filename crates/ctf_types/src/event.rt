@@ -1,13 +1,10 @@
 //! Events.
 
-ghost use Rattle.std.specs.Prelude.{◌≡◌, ◌⊎◌, ◌+◌, ℕ, List, Some, None, option_copied, slice_get, length, map, Contains, MatchResult, IfOk, OnOk};
+ghost use Rattle.std.specs.Prelude.{◌≡◌, ◌⊎◌, ◌+◌, List, Some, option_copied, slice_get, map, Contains, MatchResult, IfOk, OnOk};
 ghost use Rattle.tsdl_tree.specs.declared.tree.BlockKind.TheVariants as kind;
-ghost use Rattle.ctf_class.specs.declared.route.Scope.TheVariants as scopes;
 ghost use Rattle.ctf_meaning.specs.declared.fault.ResolveFault.TheVariants as fault;
-ghost use Rattle.ctf_meaning.specs.Blocks.{block_faults};
 ghost use Rattle.ctf_meaning.specs.Faults.{scope_links, link_faults};
 ghost use Rattle.ctf_meaning.specs.Reading.{entry_of};
-ghost use Rattle.ctf_meaning.specs.Scopes as meaning;
 ghost use Rattle.ctf_meaning.specs.Written.{Declaration as WrittenDeclaration, Block};
 ghost use Rattle.ctf_types.specs.Events.{IsEventOf, HasFields, IsRow};
 ghost use Rattle.ctf_types.specs.Ids.{AreIds};

@@ -3,14 +3,14 @@
 ghost use Rattle.std.specs.Prelude.{◌≡◌, ◌⊎◌, ◌++◌, List, Some, None, option_map, option_copied, map, Contains, MatchResult, IfOk, IfSome, slice_get, ℕ};
 ghost use Rattle.tsdl_tree.specs.declared.tree.BlockKind.TheVariants as kind;
 ghost use Rattle.ctf_meaning.specs.declared.fault.ResolveFault.TheVariants as fault;
-ghost use Rattle.ctf_meaning.specs.Streams.{home_of_stream};
+ghost use Rattle.ctf_meaning.specs.Streams.{home_of_stream, stream_said};
 ghost use Rattle.ctf_meaning.specs.Written.{Declaration as WrittenDeclaration};
 ghost use Rattle.ctf_meaning.specs.Faults.{scope_links};
 ghost use Rattle.ctf_class.specs.declared.trace.Clock.{Clock};
 ghost use Rattle.ctf_paths.specs.MovedClocks.{Tells};
 ghost use Rattle.ctf_types.specs.Texts.{IsText, home_by, scope_moves};
 ghost use Rattle.ctf_types.specs.Whole.{stream_at};
-ghost use Rattle.ctf_types.specs.Links.{IsHeader, HasHead, IsMoved, stream_said};
+ghost use Rattle.ctf_types.specs.Links.{IsHeader, HasHead, IsMoved};
 
 use crate::home::Home;
 use crate::linked::StreamHead;
