@@ -5,7 +5,7 @@
 //! so many bytes and then a failure, `read` a reader of the text, `silent` a reader that gives nothing, `broken` one
 //! that fails, and `interrupted` one whose first call a signal interrupts.
 
-ghost use Rattle.std.specs.Prelude.{◌≡◌, ◌<◌, ◌≤◌, length};
+ghost use Rattle.std.specs.Prelude.{◌<◌, ◌≤◌, length};
 
 use crate::device::Device;
 use crate::row::Row;

@@ -1,6 +1,6 @@
 //! Where traces come from.
 
-ghost use Rattle.std.specs.Prelude.{◌≡◌, ℕ, Bool, List, IsTrue, Some, None, MatchResult, map, option_map, string_bytes, take};
+ghost use Rattle.std.specs.Prelude.{◌≡◌, ℕ, Bool, List, IsTrue, Some, None, MatchResult, map, string_bytes, take};
 ghost use Rattle.ctf_cli.specs.Files as files;
 
 use ctf_bits::Source;

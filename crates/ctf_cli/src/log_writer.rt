@@ -1,6 +1,6 @@
 //! A log that is held back in a buffer before it goes to a writer.
 
-ghost use Rattle.std.specs.Prelude.{◌≡◌, ◌<◌, ◌≤◌, IfOk, IfErr, OnOk, [], true, is_some, unwrap_or, IsTrue, length};
+ghost use Rattle.std.specs.Prelude.{◌≡◌, ◌<◌, ◌≤◌, IfOk, IfErr, OnOk, [], is_some, unwrap_or, IsTrue, length};
 ghost use Rattle.std.specs.Io.KnownBytes.{Keeps, WriteAppends};
 ghost use Rattle.ctf_bits.specs.Count.{one_more};
 ghost use Rattle.ctf_bits.specs.Putting.{failures_after};

@@ -1,7 +1,6 @@
 //! What the words of a command line ask for.
 
 ghost use Rattle.std.specs.Prelude.{◌≡◌, ◌⊎◌, IsTrue, map, string_bytes};
-ghost use Rattle.ctf_options.specs.Texts.{usage_text};
 ghost use Rattle.ctf_faults.specs.Outcomes.{outcome_text, status_of};
 ghost use Rattle.ctf_cli.specs.Ends as ends;
 

@@ -1,7 +1,6 @@
 //! The codes and texts of faults.
 
 ghost use Rattle.std.specs.Prelude.{◌≡◌, ◌++◌, OnOk};
-ghost use Rattle.std.specs.Fmt.{decimal};
 ghost use Rattle.ctf_faults.specs.Table as table;
 
 use crate::load::LoadFault;

@@ -2,7 +2,7 @@
 //! where it is known how many they are, others once they are needed, and decoding goes on where it stopped for them, so
 //! that the time is linear in the bytes.
 
-ghost use Rattle.std.specs.Prelude.{◌≡◌, ◌+◌, ◌*◌, ◌≤◌, min, max, length, take, IfOk};
+ghost use Rattle.std.specs.Prelude.{◌+◌, ◌*◌, ◌≤◌, min, max, length, IfOk};
 ghost use Rattle.ctf_packet.specs.Scopes.{longest};
 ghost use Rattle.ctf_fetch.specs.Demand.{found_at, members_at, elements_at, options_at, IsFound, Failed};
 ghost use Rattle.ctf_fetch.specs.Failing.{IfFault};

@@ -1,6 +1,6 @@
 //! Values that have no parts, and openings of those that have, once their bytes came.
 
-ghost use Rattle.std.specs.Prelude.{◌≡◌, ◌+◌, ◌*◌, ◌/◌, ◌≤◌, ◌<◌, min, max, length, take, get_or, Err, IfOk, OnOk, ℕ};
+ghost use Rattle.std.specs.Prelude.{◌≡◌, ◌+◌, ◌*◌, ◌≤◌, ◌<◌, min, max, length, get_or, Err, IfOk, OnOk, ℕ};
 ghost use Rattle.std.specs.Int.{next_multiple_of};
 ghost use Rattle.ctf_decode.specs.Breaks.{past};
 ghost use Rattle.ctf_decode.specs.Decoding.{Decodes};

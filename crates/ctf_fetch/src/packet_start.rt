@@ -1,6 +1,6 @@
 //! Packets out of a source.
 
-ghost use Rattle.std.specs.Prelude.{◌≡◌, ℕ, List, ◌+◌, ◌*◌, ◌/◌, ◌^◌, ◌≤◌, ◌<◌, [], ◌++◌, min, max, length, take, Some, None, true, IsTrue, ◌⊎◌, Err, IfOk, IfErr, IfSome, OnOk};
+ghost use Rattle.std.specs.Prelude.{◌≡◌, ◌+◌, ◌*◌, ◌^◌, ◌≤◌, ◌<◌, [], ◌++◌, max, length, Some, None, true, IsTrue, ◌⊎◌, Err, IfOk, IfErr, IfSome, OnOk};
 ghost use Rattle.ctf_class.specs.declared.route.Scope.TheVariants.{EventContext, EventFields};
 ghost use Rattle.ctf_decode.specs.Known.{nothing_known, without_value};
 ghost use Rattle.ctf_packet.specs.Classes.{trace_form};
@@ -12,7 +12,6 @@ ghost use Rattle.ctf_packet_demand.specs.Wants as wants;
 ghost use Rattle.ctf_fetch.specs.Failing.{FailsAs, IfFault};
 ghost use Rattle.ctf_fetch.specs.Fetching.{longest_bytes, Fetches, FetchedAt, FetchesAt};
 ghost use Rattle.ctf_packet.specs.declared.fault.StreamFault.TheVariants.{NoMemory};
-ghost use Rattle.ctf_packet.specs.Scopes.{longest};
 ghost use Rattle.ctf_fetch.specs.Demand.{FrontTakes};
 ghost use Rattle.ctf_fetch.specs.Headers.{FindsHeader, KnowsHeaderIn};
 ghost use Rattle.ctf_fetch.specs.Openings.{want_of, FitsOpening, TakesWhole, TakesRest, TakesSized, Opens};

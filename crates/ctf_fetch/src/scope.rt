@@ -1,6 +1,6 @@
 //! The header and the context of a packet, decoded while their bytes come.
 
-ghost use Rattle.std.specs.Prelude.{◌≡◌, ◌+◌, ◌*◌, ◌≤◌, ◌++◌, min, max, length, take, option_map, option_copied, IfOk, IfSome, IfNone, Some, ℕ, List};
+ghost use Rattle.std.specs.Prelude.{◌≡◌, ◌+◌, ◌*◌, ◌≤◌, ◌++◌, min, max, length, IfOk, IfSome, IfNone, Some, ℕ, List};
 ghost use Rattle.ctf_packet.specs.Scopes.{longest};
 ghost use Rattle.ctf_packet.specs.Views.{values_of};
 ghost use Rattle.ctf_packet_demand.specs.Gives.{PutsAsked};

@@ -1,7 +1,7 @@
 //! From the bytes of metadata to a trace class.
 
 ghost use Rattle.std.specs.Prelude.{MatchResult};
-ghost use Rattle.ctf_load.specs.Loading.{Describes, IsBroken, Spelled, HasTree, HasTokens};
+ghost use Rattle.ctf_load.specs.Loading.{Describes, IsBroken, Spelled};
 
 use ctf_class::TraceClass;
 use ctf_faults::LoadFault;

@@ -1,6 +1,6 @@
 //! Several readers as one.
 
-ghost use Rattle.std.specs.Prelude.{◌≡◌, ◌+◌, ◌^◌, ◌<◌, [], length, map, set, IfOk, OnOk, OnErr, IfSome, IfNone, IsTrue, MatchOption, slice_get, None, true, false};
+ghost use Rattle.std.specs.Prelude.{◌≡◌, ◌+◌, ◌^◌, ◌<◌, [], length, map, set, IfOk, OnErr, IfSome, IfNone, IsTrue, MatchOption, slice_get, None, true, false};
 ghost use Rattle.ctf_stream.specs.Owned as owned;
 ghost use Rattle.ctf_stream.specs.Reader.{coming, rest_of, HasItem, OrRefused, IsFetched, IsOnLine, IsAllTaken};
 ghost use Rattle.ctf_stream.specs.Shown.{IsMadeTold};

@@ -1,6 +1,6 @@
 //! What the values of options ask for.
 
-ghost use Rattle.std.specs.Prelude.{◌≡◌, ◌⊎◌, MatchOption, MatchResult, None, Some, Ok, Err, option_map, ok_or};
+ghost use Rattle.std.specs.Prelude.{◌≡◌, MatchOption, MatchResult, None, Some, option_map, ok_or};
 ghost use Rattle.ctf_options.specs.Asked as asked;
 
 use crate::number::{halves, integer};

@@ -1,6 +1,6 @@
 //! The command line of the program, as clap reads it.
 
-ghost use Rattle.std.specs.Prelude.{◌≡◌, ◌⊎◌, ◌∷◌, [], MatchResult, map, true, false, string_bytes, IfOk};
+ghost use Rattle.std.specs.Prelude.{◌≡◌, [], MatchResult, map, true, string_bytes, IfOk};
 ghost use Rattle.std.specs.List.{list_any};
 ghost use Rattle.clap.specs.Words.{app_of, with_rule, found_of, rows_of};
 ghost use Rattle.ctf_options.specs.Command as commands;

@@ -1,6 +1,6 @@
 //! Points in time that words of a command line name.
 
-ghost use Rattle.std.specs.Prelude.{◌≡◌, ◌<◌, ◌*◌, ◌^◌, MatchOption, MatchResult, None, Some, IfSome};
+ghost use Rattle.std.specs.Prelude.{◌≡◌, ◌<◌, ◌^◌, MatchOption, MatchResult, None, Some, IfSome};
 ghost use Rattle.ctf_options.specs.Times as times;
 
 use crate::civil::civil;

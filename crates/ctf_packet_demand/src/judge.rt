@@ -1,6 +1,6 @@
 //! What a packet asks for, judged by its context.
 
-ghost use Rattle.std.specs.Prelude.{◌≡◌, option_map, option_copied, IfOk, codes};
+ghost use Rattle.std.specs.Prelude.{option_map, option_copied, IfOk, codes};
 ghost use Rattle.ctf_clock.specs.declared.moment.Shift.{Shift};
 ghost use Rattle.ctf_decode.specs.Views.{form, val};
 ghost use Rattle.ctf_packet.specs.Scopes.{Values};

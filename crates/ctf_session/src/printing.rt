@@ -1,6 +1,6 @@
 //! The texts of a step, on their way to two sinks.
 
-ghost use Rattle.std.specs.Prelude.{◌≡◌, ◌⊎◌, ℕ, ℤ, [], List, IsTrue, Option, None, option_map};
+ghost use Rattle.std.specs.Prelude.{◌≡◌, ◌⊎◌, ℕ, [], List, IsTrue, None, option_map};
 ghost use Rattle.ctf_class.specs.declared.trace.TraceClass.{TraceClass};
 ghost use Rattle.ctf_record_text.specs.Texts.{event_text};
 ghost use Rattle.ctf_log.specs.Lines.{event_line, line_of};

@@ -1,6 +1,6 @@
 //! A run, a step at a time, over two sinks.
 
-ghost use Rattle.std.specs.Prelude.{◌≡◌, ◌⊎◌, [], ℕ, IsTrue, IfOk, Some, None, map, length, MatchOption, slice_get, get_or};
+ghost use Rattle.std.specs.Prelude.{◌≡◌, ◌⊎◌, [], IsTrue, IfOk, Some, None, map, length, MatchOption, slice_get, get_or};
 ghost use Rattle.ctf_merge.specs.Merged.{merged, ends};
 ghost use Rattle.ctf_merge.specs.Merges.{MergedOrRefused, EachFetched, EachTells, EachOnLine, EachAllTaken, given_of};
 ghost use Rattle.ctf_session.specs.Inputs.{given_by, inputs_from, run_in, setting_of, AllTell};

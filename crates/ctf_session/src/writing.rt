@@ -1,6 +1,6 @@
 //! Whole texts to a sink.
 
-ghost use Rattle.std.specs.Prelude.{◌≡◌, ◌++◌, ◌≤◌, IsTrue, OnOk, OnErr, Err, Ok};
+ghost use Rattle.std.specs.Prelude.{◌≡◌, ◌++◌, IsTrue, OnOk, OnErr};
 ghost use Rattle.ctf_session.specs.Writing.{WritesPart};
 ghost use Rattle.ctf_session.specs.Putting.{failures_put, refusals_put};
 
