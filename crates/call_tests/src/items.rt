@@ -3,7 +3,6 @@
 //! `items NUMBERS NUMBER` is the place of the first item of a number, how many items there are, and the number of the
 //! only one.
 
-
 use crate::row::Row;
 use ctf_class::{HasId, Indexed};
 use ctf_list::{List, NoMemory};

@@ -10,7 +10,7 @@ mod printing;
 mod read_ahead;
 mod runtime;
 
-pub use ctf_bits::{FromRead, Sink, SliceSource, Source, ToWrite, VecSink};
+pub use ctf_bits::{FromRead, Sink, SinkFault, SliceSource, Source, SourceFault, ToWrite, VecSink};
 pub use ctf_class::{Class, EventClass, Kind, Member, Scope, StreamClass, TraceClass, escaped};
 pub use ctf_clock::{Moment, Shift};
 pub use ctf_decode::Value;

@@ -9,7 +9,7 @@ pub enum MergeFault {
     /// A stream goes no further. It is the one of this number, from 0.
     #[error("{fault}")]
     Stream { number: usize, fault: StreamFault },
-    /// An allocation failed.
+    /// An allocation failed. No merge gives this: where a stream has no memory, it is the stream's.
     #[error("no memory")]
     NoMemory,
 }

@@ -1,4 +1,4 @@
-//! Event records on their way to a line: as values, or as text where they can be shown without these.
+//! Event records on their way to a line: as values, as text where they can be shown without these, or passed over.
 #![tactic(auto)]
 
 mod header;

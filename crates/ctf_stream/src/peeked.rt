@@ -12,7 +12,7 @@ use ctf_packet::StreamFault;
 /// What a reader gives next.
 #[derive(Clone, Copy)]
 pub enum Peeked {
-    /// Nothing was fetched yet.
+    /// Nothing was fetched yet, or the item was given away.
     Start,
     /// An item, and its time, in nanoseconds since the epoch, where its stream has a clock.
     Item(Option<i64>),
