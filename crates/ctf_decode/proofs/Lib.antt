@@ -10,4 +10,5 @@ pub mod Needs
 pub mod Beyond
 pub mod Numbered
 pub mod Moved
+pub mod Held
 pub mod ByteRows

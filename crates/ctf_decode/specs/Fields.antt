@@ -66,12 +66,6 @@ abbrev mutual
   option_ids (part name k ps) zero v = ids k v
   option_ids (part name k ps) (suc i) v = option_ids ps i v
 
--- the width of an integer, and an unsigned number that so many bits hold
-pub record IsStamp (pair : ℕ × ℕ) : Type 0 where
-  pub some_bits : 1 ≤ pair.0
-  pub in_a_word : pair.0 ≤ 64
-  pub held : pair.1 < 2 ^ pair.0
-
 -- the width and the number of an unsigned integer; nothing where so many bits do not hold it
 abbrev pub unsigned_pair : ℕ → Val → List (ℕ × ℕ)
 unsigned_pair n (unsigned x) = if nat_lt x (2 ^ n) then (n, x) ∷ [] else []

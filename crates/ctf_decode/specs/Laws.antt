@@ -1,8 +1,9 @@
 -- Laws of what is at a place.
-use Rattle.std.specs.Prelude.{◌≡◌, ℕ, ◌+◌, ◌*◌, ◌≤◌, List, ◌++◌, length, Option, Ok, Err}
+use Rattle.std.specs.Prelude.{◌≡◌, ℕ, ◌+◌, ◌*◌, ◌^◌, ◌<◌, ◌≤◌, List, ◌++◌, length, All, Option, Ok, Err}
 use Rattle.ctf_class.specs.declared.route.Scope.{Scope}
 use Rattle.ctf_decode.specs.Values.{Val, count}
 use Rattle.ctf_decode.specs.Forms.{Form}
+use Rattle.ctf_decode.specs.Fields.{moved}
 use Rattle.ctf_decode.specs.Input.{Input, Env}
 use Rattle.ctf_decode.specs.Stands.{Stands}
 use Rattle.ctf_decode.specs.Breaks.{past, Breaks}
@@ -45,3 +46,7 @@ NeedsSoMuch =
     → content ≤ whole → content ≤ 8 * length packet
     → Breaks k (input_of packet content earlier limit) env p s (past n)
     → Stands k (input_of (packet ++ more) whole earlier limit) env p v q → n ≤ whole
+
+-- each number by which a value sets the clock is one of so many bits
+abbrev pub MovedAreHeld : Type 0
+MovedAreHeld = (k : Form) (v : Val) → All (λ pair. pair.1 < 2 ^ pair.0) (moved k v)

@@ -1,7 +1,7 @@
-//! Laws of which value is at a place.
+//! Laws of which value is at a place, and of the numbers in it.
 
 ghost use Rattle.std.specs.Prelude.{◌≡◌};
-ghost use Rattle.ctf_decode.specs.Laws.{OneStands, StandsInWhole, NeedsSoMuch};
+ghost use Rattle.ctf_decode.specs.Laws.{OneStands, StandsInWhole, NeedsSoMuch, MovedAreHeld};
 ghost use Rattle.ctf_decode.specs.declared.scopes.TheConstants.{MOST_VALUES};
 
 /// Either a value is at a place or a fault is, never both, and nothing else is there.
@@ -18,6 +18,11 @@ pub fn stands_in_whole()
 /// which a value is there.
 pub fn needs_so_much()
     ensures { NeedsSoMuch }
+{}
+
+/// Each number by which a value sets the clock is one of so many bits as its integer has.
+pub fn moved_are_held()
+    ensures { MovedAreHeld }
 {}
 
 /// The limit of values as a number, 2^24: what contracts and definitions mean by its name.

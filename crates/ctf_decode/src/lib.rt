@@ -25,7 +25,7 @@ pub use fault::DecodeFault;
 pub use find::{length_at, option_at};
 pub use front::{Front, decode_front};
 pub use ids::{last_id, named_id};
-pub use laws::{most_values, needs_so_much, one_stands, stands_in_whole};
+pub use laws::{most_values, moved_are_held, needs_so_much, one_stands, stands_in_whole};
 pub use moves::{moving, moving_into};
 pub use parts::{choice_in, elements_in, members_in};
 pub use place::{DecodeProgress, Frame, Packet};

@@ -1,11 +1,10 @@
 //! The integers of a decoded value that set the clock.
 
-ghost use Rattle.std.specs.Prelude.{◌≡◌, ◌++◌, map, All, IfOk};
+ghost use Rattle.std.specs.Prelude.{◌≡◌, ◌++◌, map, IfOk};
 ghost use Rattle.ctf_decode.specs.Values.{unsigned, vals_of};
 ghost use Rattle.ctf_decode.specs.Forms.{parts_of};
 ghost use Rattle.ctf_decode.specs.Views.{form, member_part, val};
 ghost use Rattle.ctf_decode.specs.Fields as fields;
-ghost use Rattle.ctf_decode.specs.Fields.{IsStamp};
 
 use crate::parts::{choice_in, elements_in, members_in};
 use crate::value::Value;
@@ -17,9 +16,8 @@ use std::alloc::Global;
 /// of decoding. A part of the value that is no value of its class gives nothing, nor does a number that its
 /// width does not hold.
 pub fn moving(alloc: Global, class: &Class, value: &Value) -> Result<Vec<(Width, u64)>, NoMemory>
-    ensures value { IfOk result
+    ensures { IfOk result
         (λ found. found.items ≡ fields.moved (form class.now) (val value.now)) }
-    ensures stamps { IfOk result (λ found. All IsStamp found.items) }
 {
     let mut found = Vec::new(alloc);
     moving_into(class, value, &mut found)?;
@@ -33,9 +31,8 @@ pub fn moving_into(
     value: &Value,
     found: &mut Vec<(Width, u64)>,
 ) -> Result<(), NoMemory>
-    ensures value { IfOk result
+    ensures { IfOk result
         (λ _. found.new.items ≡ fields.moved (form class.now) (val value.now)) }
-    ensures stamps { IfOk result (λ _. All IsStamp found.new.items) }
 {
     found.clear();
     put_moved(class, value, found)
@@ -44,10 +41,8 @@ pub fn moving_into(
 /// Puts the integers of a value that set the clock after those that were found.
 #[cycle(moved)]
 fn put_moved(class: &Class, value: &Value, found: &mut Vec<(Width, u64)>) -> Result<(), NoMemory>
-    requires stamps { All IsStamp found.old.items }
-    ensures value { IfOk result
+    ensures { IfOk result
         (λ _. found.new.items ≡ found.old.items ++ fields.moved (form class.now) (val value.now)) }
-    ensures stamps { IfOk result (λ _. All IsStamp found.new.items) }
 {
     match &class.kind {
         Kind::Integer(integer) => put_integer(integer, value, found),
@@ -71,12 +66,10 @@ fn put_members(
     values: &[Value],
     found: &mut Vec<(Width, u64)>,
 ) -> Result<(), NoMemory>
-    requires stamps { All IsStamp found.old.items }
-    ensures value { IfOk result
+    ensures { IfOk result
         (λ _. found.new.items ≡
         found.old.items ++ fields.member_moved (parts_of (map member_part members.now))
         (vals_of (map val values.now))) }
-    ensures stamps { IfOk result (λ _. All IsStamp found.new.items) }
 {
     for (i, member) in members.iter().enumerate() {
         if i >= values.len() {
@@ -94,11 +87,9 @@ fn put_elements(
     values: &[Value],
     found: &mut Vec<(Width, u64)>,
 ) -> Result<(), NoMemory>
-    requires stamps { All IsStamp found.old.items }
-    ensures value { IfOk result
+    ensures { IfOk result
         (λ _. found.new.items ≡ found.old.items ++ fields.of_each (fields.moved (form element.now))
         (vals_of (map val values.now))) }
-    ensures stamps { IfOk result (λ _. All IsStamp found.new.items) }
 {
     for value in values {
         put_moved(element, value, found)?;
@@ -113,12 +104,10 @@ fn put_option(
     value: &Value,
     found: &mut Vec<(Width, u64)>,
 ) -> Result<(), NoMemory>
-    requires stamps { All IsStamp found.old.items }
-    ensures value { IfOk result
+    ensures { IfOk result
         (λ _. found.new.items ≡
         found.old.items ++ fields.of_choice (fields.choice_in (val value.now))
         (λ i v. fields.option_moved (parts_of (map member_part options.now)) i v)) }
-    ensures stamps { IfOk result (λ _. All IsStamp found.new.items) }
 {
     match choice_in(value) {
         None => Ok(()),
@@ -134,12 +123,10 @@ fn put_chosen(
     inner: &Value,
     found: &mut Vec<(Width, u64)>,
 ) -> Result<(), NoMemory>
-    requires stamps { All IsStamp found.old.items }
-    ensures value { IfOk result
+    ensures { IfOk result
         (λ _. found.new.items ≡
         found.old.items ++ fields.option_moved (parts_of (map member_part options.now)) i
         (val inner.now)) }
-    ensures stamps { IfOk result (λ _. All IsStamp found.new.items) }
 {
     if i >= options.len() {
         return Ok(());
@@ -153,10 +140,8 @@ fn put_integer(
     value: &Value,
     found: &mut Vec<(Width, u64)>,
 ) -> Result<(), NoMemory>
-    requires stamps { All IsStamp found.old.items }
-    ensures value { IfOk result
+    ensures { IfOk result
         (λ _. found.new.items ≡ found.old.items ++ fields.moved_in integer.now (val value.now)) }
-    ensures stamps { IfOk result (λ _. All IsStamp found.new.items) }
 {
     if !integer.is_moving {
         return Ok(());
@@ -170,10 +155,8 @@ fn put_integer(
 
 /// Puts an unsigned number, if the value is one and so many bits hold it.
 fn put_unsigned(size: Width, value: &Value, found: &mut Vec<(Width, u64)>) -> Result<(), NoMemory>
-    requires stamps { All IsStamp found.old.items }
-    ensures value { IfOk result
+    ensures { IfOk result
         (λ _. found.new.items ≡ found.old.items ++ fields.unsigned_pair size (val value.now)) }
-    ensures stamps { IfOk result (λ _. All IsStamp found.new.items) }
 {
     match value {
         Value::Unsigned(number) => put_number(size, *number, found),
@@ -188,10 +171,8 @@ fn put_unsigned(size: Width, value: &Value, found: &mut Vec<(Width, u64)>) -> Re
 
 /// Puts a number, if so many bits hold it.
 fn put_number(size: Width, number: u64, found: &mut Vec<(Width, u64)>) -> Result<(), NoMemory>
-    requires stamps { All IsStamp found.old.items }
-    ensures value { IfOk result
+    ensures { IfOk result
         (λ _. found.new.items ≡ found.old.items ++ fields.unsigned_pair size (unsigned number)) }
-    ensures stamps { IfOk result (λ _. All IsStamp found.new.items) }
 {
     if u128::from(number) < 1u128 << size.bits() {
         found.push((size, number))?;
@@ -201,10 +182,8 @@ fn put_number(size: Width, number: u64, found: &mut Vec<(Width, u64)>) -> Result
 
 /// Puts the bits of a signed number, if the value is one and so many hold it.
 fn put_signed(size: Width, value: &Value, found: &mut Vec<(Width, u64)>) -> Result<(), NoMemory>
-    requires stamps { All IsStamp found.old.items }
-    ensures value { IfOk result
+    ensures { IfOk result
         (λ _. found.new.items ≡ found.old.items ++ fields.signed_pair size (val value.now)) }
-    ensures stamps { IfOk result (λ _. All IsStamp found.new.items) }
 {
     match value {
         Value::Signed(number) => put_bits(size, *number, found),
@@ -219,10 +198,8 @@ fn put_signed(size: Width, value: &Value, found: &mut Vec<(Width, u64)>) -> Resu
 
 /// Puts the bits of a number in two's complement, if so many hold it.
 fn put_bits(size: Width, number: i64, found: &mut Vec<(Width, u64)>) -> Result<(), NoMemory>
-    requires stamps { All IsStamp found.old.items }
-    ensures value { IfOk result
+    ensures { IfOk result
         (λ _. found.new.items ≡ found.old.items ++ fields.bits_pair size number) }
-    ensures stamps { IfOk result (λ _. All IsStamp found.new.items) }
 {
     let bits = size.bits();
     let half = 1u64 << (bits - 1);

@@ -1,4 +1,4 @@
-//! Decimal digits, two, three or four at a time.
+//! Decimal digits, two, three, or up to four at a time.
 #![tactic(auto)]
 
 mod fours;

@@ -1,6 +1,9 @@
 //! Laws of what streams mean.
 
+ghost use Rattle.std.specs.Prelude.{◌≡◌};
 ghost use Rattle.ctf_packet.specs.Laws.{WalkFindsWhatStands, ClockGoesByMoving, RecordsGoOn, PacketsGoOn};
+ghost use Rattle.ctf_packet.specs.Scopes.{longest};
+ghost use Rattle.ctf_packet.specs.declared.sizes.TheConstants.{LONGEST_PACKET};
 
 /// The value or fault that packets and event records are made of is the one that is at the place in the bits.
 pub fn walk_finds_what_stands()
@@ -23,4 +26,9 @@ pub fn records_go_on()
 /// fault; where no byte is left it is the end.
 pub fn packets_go_on()
     ensures { PacketsGoOn }
+{}
+
+/// The longest packet, in bits, as contracts mean it by its name: that of the definition.
+pub fn longest_packet()
+    ensures { LONGEST_PACKET ≡ longest }
 {}

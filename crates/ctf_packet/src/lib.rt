@@ -22,7 +22,9 @@ pub use clock::{clock_after, clock_before, clock_until, discarded_since, lost_si
 pub use fault::StreamFault;
 pub use field::UnsignedField;
 pub use header::stream_checked;
-pub use laws::{clock_goes_by_moving, packets_go_on, records_go_on, walk_finds_what_stands};
+pub use laws::{
+    clock_goes_by_moving, longest_packet, packets_go_on, records_go_on, walk_finds_what_stands,
+};
 pub use moves::moment_after;
 pub use packet::{OpenPacket, clock_at_end, packet_of_sizes};
 pub use packet_place::PacketPlace;

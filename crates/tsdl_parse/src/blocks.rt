@@ -1,6 +1,6 @@
 //! Blocks, and all that is directly in the metadata.
 
-ghost use Rattle.std.specs.Prelude.{◌≡◌, ◌<◌, ◌-◌, length, refl, IfOk};
+ghost use Rattle.std.specs.Prelude.{◌≡◌, ◌<◌, length, refl, IfOk};
 ghost use Rattle.tsdl_grammar.specs.Steps.{before_close, before_end, begins_declaration};
 ghost use Rattle.tsdl_grammar.specs.Reading.{class_after, entry_at, body_at, block_kind, table_kind, block_at, table_at, declaration_at};
 ghost use Rattle.tsdl_parse.specs.Gives.{Gives};

@@ -1,6 +1,6 @@
 //! Declarators and their lengths.
 
-ghost use Rattle.std.specs.Prelude.{◌≡◌, ◌<◌, length, refl, IfOk};
+ghost use Rattle.std.specs.Prelude.{◌<◌, length, refl, IfOk};
 ghost use Rattle.tsdl_text.specs.declared.token.Symbol.TheVariants as s;
 ghost use Rattle.tsdl_grammar.specs.Steps.{begins};
 ghost use Rattle.tsdl_grammar.specs.Reading.{bound_at, length_at, declarator_at, next_declarator_at, declarators_at, declared_at};

@@ -1,6 +1,6 @@
 //! Names, numbers, values and settings.
 
-ghost use Rattle.std.specs.Prelude.{◌≡◌, ◌<◌, length, refl, IfOk};
+ghost use Rattle.std.specs.Prelude.{◌<◌, length, refl, IfOk};
 ghost use Rattle.tsdl_text.specs.declared.token.Symbol.TheVariants as s;
 ghost use Rattle.tsdl_grammar.specs.Steps.{begins, before_close};
 ghost use Rattle.tsdl_grammar.specs.Reading.{dotted_at, path_at, magnitude_at, number_at, value_at, setting_after, setting_at, attributes_at};
