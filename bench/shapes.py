@@ -313,6 +313,7 @@ HEADERS = [
     Shape("a clock of 24 MHz", THREE, COMPACT, frequency=24_000_000),
     Shape("the context of a stream", THREE, COMPACT, stream_context=PROCESS),
     Shape("the context of an event", THREE, COMPACT, event_context=numbers("x64 ip; u32 cookie;", "<QI", 2**47, 2**32)),
+    Shape("the context of a stream, no fields", NOTHING, COMPACT, stream_context=PROCESS),
     Shape("packets of 1 event", THREE, COMPACT, in_packet=1, fewer=4),
     Shape("packets of 8 events", THREE, COMPACT, in_packet=8),
     Shape("packets of 64 events", THREE, COMPACT, in_packet=64),

@@ -12,8 +12,9 @@ use Rattle.ctf_class.specs.declared.plan_builder.Lead.{Lead}
 use Rattle.ctf_class.specs.declared.record_plan.PlannedRun.{PlannedRun}
 use Rattle.ctf_class.specs.declared.many.Many.{Many}
 use Rattle.ctf_class.specs.declared.planned_number.PlannedNumber.{PlannedNumber}
-use Rattle.ctf_class.specs.PlanBuilding.{AddsPiece, AddsPieces, IsOpen, IsMade, IsMadeOf, at_of, before_scope, slot_of, with_number, with_field}
-use Rattle.ctf_class.specs.Records.{Slot, At, Piece, Pieces, alone, inner, no_pieces, more_pieces, Scoped, IsPiece, ArePieces, member_of, members_of, inside, insides, ended_by, ended_after, ends, ended_last, first_at, later_at, known_index, opened_lead, piece_slots, pieces_slots, all_alone, member_slots, slots, between, before_next, all_slots, values_in, AreScoped, and_scope, scopes_of, IsNumber, AreInRun, TakesNumbers, IsStructure, IsField, AreRuns, IsPlanOf, have_special, numbers_room, room_of}
+use Rattle.ctf_class.specs.declared.shown.Shown.TheVariants as shown
+use Rattle.ctf_class.specs.PlanBuilding.{AddsPiece, AddsPieces, IsOpen, IsMade, IsMadeOf, at_of, before_scope, empty_scope, slot_of, with_field, with_number, with_scope, with_structure}
+use Rattle.ctf_class.specs.Records.{Slot, At, Piece, Pieces, alone, inner, no_pieces, more_pieces, Scoped, IsPiece, ArePieces, member_of, members_of, inside, insides, ended_by, ended_after, ends, ended_last, first_at, later_at, known_index, opened_lead, piece_slots, pieces_slots, all_alone, member_slots, scope_slots, slots, ended_in, before_next, all_slots, values_in, AreScoped, and_scope, scopes_of, IsNumber, AreInRun, TakesNumbers, IsStructure, IsField, AreRuns, IsPlanOf, have_special, numbers_room, room_of}
 
 -- one number more after the others
 numbers_more : (base from span : ℕ) (ss : List Slot) (ns : List PlannedNumber) (s : Slot) (rest : List Slot) (n : PlannedNumber) → AreInRun base from ss ns span (s ∷ rest) → IsNumber base span s n → AreInRun base from ss (ns ++ n ∷ []) (n.window.place + n.window.size) rest
@@ -131,17 +132,20 @@ abbrev lead_of : List ℕ → List Scoped → List ℕ
 lead_of before [] = before
 lead_of before (s ∷ ss) = lead_of (before_next s.pieces) ss
 
-before_some : (n ended : ℕ) → 0 < n → before_scope n ended ≡ ends ended ++ between
+abbrev comma : List ℕ
+comma = 44 ∷ 32 ∷ []
+
+before_some : (n ended : ℕ) → 0 < n → before_scope n ended ≡ ends ended ++ comma
 before_some zero ended some = absurd (omega (arith, some))
 before_some (suc n) ended some = refl
 
-lead_ends : (n : ℕ) (ss : List Scoped) → lead_of (ends n ++ between) ss ≡ ends (ended_last n ss) ++ between
+lead_ends : (n : ℕ) (ss : List Scoped) → lead_of (ends n ++ comma) ss ≡ ends (ended_last n ss) ++ comma
 lead_ends n [] = refl
-lead_ends n (s ∷ ss) = lead_ends (ended_after 0 s.pieces) ss
+lead_ends n (s ∷ ss) = lead_ends (ended_in s.pieces) ss
 
 lead_before : (ss : List Scoped) → lead_of [] ss ≡ before_scope (values_in ss) (ended_last 0 ss)
 lead_before [] = refl
-lead_before (s ∷ ss) = lead_ends (ended_after 0 s.pieces) ss ∙ sym (before_some (values_in (s ∷ ss)) (ended_last 0 (s ∷ ss)) (omega arith))
+lead_before (s ∷ ss) = lead_ends (ended_in s.pieces) ss ∙ sym (before_some (values_in (s ∷ ss)) (ended_last 0 (s ∷ ss)) (omega arith))
 
 slots_more : (before : List ℕ) (ss : List Scoped) (s : Scoped) → all_slots before (ss ++ s ∷ []) ≡ all_slots before ss ++ slots (lead_of before ss) s
 slots_more before [] s = append-nil (slots before s)
@@ -153,15 +157,15 @@ values_more : (ss : List Scoped) (s : Scoped) → values_in (ss ++ s ∷ []) ≡
 values_more [] s = omega arith
 values_more (x ∷ ss) s = let more = values_more ss s in omega (arith, more)
 
-ending_more : (n : ℕ) (ss : List Scoped) (s : Scoped) → ended_last n (ss ++ s ∷ []) ≡ ended_after 0 s.pieces
+ending_more : (n : ℕ) (ss : List Scoped) (s : Scoped) → ended_last n (ss ++ s ∷ []) ≡ ended_in s.pieces
 ending_more n [] s = refl
-ending_more n (x ∷ ss) s = ending_more (ended_after 0 x.pieces) ss s
+ending_more n (x ∷ ss) s = ending_more (ended_in x.pieces) ss s
 
 scoped_more : (ks : List Class) (ss : List Scoped) (k : Class) (s : Scoped) → AreScoped ks ss → AreScoped (k ∷ []) (s ∷ []) → AreScoped (ks ++ k ∷ []) (ss ++ s ∷ [])
 scoped_more [] [] k s are one = one
 scoped_more [] (x ∷ ss) k s are one = absurd are
 scoped_more (j ∷ ks) [] k s are one = absurd are
-scoped_more (j ∷ ks) (x ∷ ss) k s are one = (are.0, are.1, are.2, are.3, scoped_more ks ss k s are.4 one)
+scoped_more (j ∷ ks) (x ∷ ss) k s are one = (are.0, are.1, are.2, scoped_more ks ss k s are.3 one)
 
 -- counts have no part in the runs
 pub made_counted : (done : List Slot) (m n : PlanBuilder) → n ≡ record { runs = m.runs; align = m.align; numbers = m.numbers; span = m.span; room = m.room; count = n.count; ended = n.ended } → IsMade done m → IsMade done n
@@ -257,46 +261,77 @@ piece_alone lead m done old new count ended made = (alone m, refl, tt, (let same
 -- a member that is gone into
 pub piece_inner : (at : At) (m : Member) (begin : ℕ) (ms : List Member) (done : List Slot) (old mid new : PlanBuilder) → m.class.kind ≡ kind.Structure ms → 0 < length ms → IsLarger begin at.align m.class.align
     → AddsPieces (first_at (opened_lead at.lead m.name) begin) ms done old mid
-    → new ≡ record { runs = mid.runs; align = mid.align; numbers = mid.numbers; span = mid.span; room = mid.room; count = new.count; ended = new.ended } → new.count ≡ mid.count + length ms → new.ended ≡ mid.ended + 1
+    → new ≡ with_structure mid (length ms)
     → AddsPiece at m done old new
-piece_inner at m begin ms done old mid new is some larger adds same count ended =
+piece_inner at m begin ms done old mid new is some larger adds same =
     let ps = adds.0 in
     let lengths : length (members_of ps) ≡ length ms = ap length adds.1 in
+    let count : new.count ≡ mid.count + length ms = ap (λ (b : PlanBuilder). b.count) same in
+    let ended : new.ended ≡ mid.ended + 1 = ap (λ (b : PlanBuilder). b.ended) same in
     let counted : new.count ≡ old.count + (length (members_of ps) + insides ps) = (let a = adds.3 in omega (arith, a, count, lengths)) in
     let no_other : ended_after old.ended ps ≡ ended_after 0 ps = some_close ps (omega (arith, lengths, some)) in
     let closed : new.ended ≡ suc (ended_after 0 ps) = (let a = adds.4 in omega (arith, a, ended, no_other)) in
-    (inner m begin ps, refl, (is ∙ ap kind.Structure (sym adds.1), omega (arith, lengths, some), larger, adds.2), counted, closed, made_counted (done ++ piece_slots at (inner m begin ps)) mid new same adds.5)
+    let slots_so = done ++ piece_slots at (inner m begin ps) in
+    (inner m begin ps, refl, (is ∙ ap kind.Structure (sym adds.1), omega (arith, lengths, some), larger, adds.2), counted, closed, subst (IsMade slots_so) (sym same) (made_counted slots_so mid (with_structure mid (length ms)) refl adds.5))
   where
     some_close : (ps : Pieces) → 0 < length (members_of ps) → ended_after old.ended ps ≡ ended_after 0 ps
     some_close no_pieces some = absurd (omega (arith, some))
     some_close (more_pieces p ps) some = refl
 
+-- a scope with members
+scope_some : (before : List ℕ) (k : Class) (ps : Pieces) → 0 < length (members_of ps) → scope_slots before k ps ≡ pieces_slots 0 (first_at (before ++ (123 ∷ 32 ∷ [])) k.align) ps
+scope_some before k no_pieces some = absurd (omega (arith, some))
+scope_some before k (more_pieces p ps) some = refl
+
+ended_some : (n : ℕ) (ps : Pieces) → 0 < length (members_of ps) → suc (ended_after n ps) ≡ ended_in ps
+ended_some n no_pieces some = absurd (omega (arith, some))
+ended_some n (more_pieces p ps) some = refl
+
+-- one scope more
+one_scope : (ks : List Class) (old new : PlanBuilder) (s : Scoped) → (of : IsMadeOf ks old) → s.class.kind ≡ kind.Structure (members_of s.pieces) → ArePieces s.class.align s.pieces → new.count ≡ old.count + (1 + length (members_of s.pieces) + insides s.pieces) → new.ended ≡ ended_in s.pieces
+    → IsMade (all_slots [] of.scopes ++ slots (before_scope old.count old.ended) s) new → IsMadeOf (ks ++ s.class ∷ []) new
+one_scope ks old new s of is are count ended made =
+    let before : before_scope old.count old.ended ≡ lead_of [] of.scopes = (λ j. before_scope (of.count j) (of.ended j)) ∙ sym (lead_before of.scopes) in
+    let slots_are : all_slots [] of.scopes ++ slots (before_scope old.count old.ended) s ≡ all_slots [] (of.scopes ++ s ∷ []) = ap (λ t. all_slots [] of.scopes ++ slots t s) before ∙ sym (slots_more [] of.scopes s) in
+    let values = values_more of.scopes s in
+    record {
+      scopes = of.scopes ++ s ∷ [];
+      are = scoped_more ks of.scopes s.class s of.are (refl, is, are, tt);
+      count = (let b = of.count in omega (arith, count, b, values));
+      ended = ended ∙ sym (ending_more 0 of.scopes s);
+      made = subst (λ d. IsMade d new) slots_are made;
+    }
+
 -- the members of a scope
 pub made_scope : (ks : List Class) (k : Class) (ms : List Member) (lead : List ℕ) (old mid new : PlanBuilder) → k.kind ≡ kind.Structure ms → 0 < length ms → lead ≡ before_scope old.count old.ended ++ (123 ∷ 32 ∷ [])
     → ((done : List Slot) → IsMade done old → AddsPieces (first_at lead k.align) ms done old mid)
-    → new ≡ record { runs = mid.runs; align = mid.align; numbers = mid.numbers; span = mid.span; room = mid.room; count = new.count; ended = mid.ended } → new.count ≡ mid.count + (length ms + 1) → IsMadeOf ks old → IsMadeOf (ks ++ k ∷ []) new
-made_scope ks k ms lead old mid new is some leads adds same count of =
-    let all = adds (all_slots [] of.scopes) of.made in
+    → new ≡ with_structure mid (length ms + 1) → IsMadeOf ks old → IsMadeOf (ks ++ k ∷ []) new
+made_scope ks k ms lead old mid new is some leads adds same of =
+    let done = all_slots [] of.scopes in
+    let all = adds done of.made in
     let ps = all.0 in
-    let s : Scoped = record { align = k.align; pieces = ps } in
-    let before : before_scope old.count old.ended ≡ lead_of [] of.scopes = (λ j. before_scope (of.count j) (of.ended j)) ∙ sym (lead_before of.scopes) in
-    let first_is : first_at lead k.align ≡ first_at (lead_of [] of.scopes ++ (123 ∷ 32 ∷ [])) k.align = ap (λ l. first_at l k.align) (leads ∙ ap (λ l. l ++ (123 ∷ 32 ∷ [])) before) in
-    let slots_are : all_slots [] of.scopes ++ pieces_slots 0 (first_at lead k.align) ps ≡ all_slots [] (of.scopes ++ s ∷ []) = ap (λ a. all_slots [] of.scopes ++ pieces_slots 0 a ps) first_is ∙ sym (slots_more [] of.scopes s) in
-    let values = values_more of.scopes s in
+    let s : Scoped = record { class = k; pieces = ps } in
     let lengths : length (members_of ps) ≡ length ms = ap length all.1 in
-    let mid_same : new ≡ record { runs = mid.runs; align = mid.align; numbers = mid.numbers; span = mid.span; room = mid.room; count = new.count; ended = new.ended } = same ∙ ap (λ e. record { runs = mid.runs; align = mid.align; numbers = mid.numbers; span = mid.span; room = mid.room; count = new.count; ended = e }) (sym (ap (λ (m : PlanBuilder). m.ended) same)) in
-    let ended : new.ended ≡ ended_after 0 ps = ap (λ (m : PlanBuilder). m.ended) same ∙ all.4 ∙ some_close ps (omega (arith, lengths, some)) in
-    record {
-      scopes = of.scopes ++ s ∷ [];
-      are = scoped_more ks of.scopes k s of.are (is ∙ ap kind.Structure (sym all.1), refl, omega (arith, lengths, some), all.2, tt);
-      count = (let a = all.3 in let b = of.count in omega (arith, count, a, b, values, lengths));
-      ended = ended ∙ sym (ending_more 0 of.scopes s);
-      made = subst (λ d. IsMade d new) slots_are (made_counted _ mid new mid_same all.5);
-    }
-  where
-    some_close : (ps : Pieces) → 0 < length (members_of ps) → ended_after old.ended ps ≡ ended_after 0 ps
-    some_close no_pieces some = absurd (omega (arith, some))
-    some_close (more_pieces p ps) some = refl
+    let members : 0 < length (members_of ps) = omega (arith, lengths, some) in
+    let first : pieces_slots 0 (first_at lead k.align) ps ≡ slots (before_scope old.count old.ended) s = ap (λ l. pieces_slots 0 (first_at l k.align) ps) leads ∙ sym (scope_some (before_scope old.count old.ended) k ps members) in
+    let counted : new.count ≡ mid.count + (length ms + 1) = ap (λ (m : PlanBuilder). m.count) same in
+    let count : new.count ≡ old.count + (1 + length (members_of ps) + insides ps) = (let a = all.3 in omega (arith, counted, a, lengths)) in
+    let one : mid.ended + 1 ≡ suc mid.ended = omega arith in
+    let ended : new.ended ≡ ended_in ps = ap (λ (m : PlanBuilder). m.ended) same ∙ one ∙ ap suc all.4 ∙ ended_some old.ended ps members in
+    one_scope ks old new s of (is ∙ ap kind.Structure (sym all.1)) all.2 count ended
+    (subst (λ d. IsMade d new) (ap (λ xs. done ++ xs) first) (subst (IsMade (done ++ pieces_slots 0 (first_at lead k.align) ps)) (sym same) (made_counted _ mid (with_structure mid (length ms + 1)) refl all.5)))
+
+-- a scope without members
+pub made_empty : (ks : List Class) (k : Class) (text : List ℕ) (align : ℕ) (old new : PlanBuilder) → k.kind ≡ kind.Structure [] → align ≡ k.align → text ≡ before_scope old.count old.ended → new ≡ with_scope old (empty_scope text align) → IsMadeOf ks old → IsMadeOf (ks ++ k ∷ []) new
+made_empty ks k text align old new is aligned leads same of =
+    let s : Scoped = record { class = k; pieces = no_pieces } in
+    let f = empty_scope text align in
+    let done = all_slots [] of.scopes in
+    let before = before_scope old.count old.ended in
+    let slot : Slot = record { lead = before; align = 1; index = 0; class = k } in
+    let field : IsField slot f = record { align = refl; ready = leads; shown = (is, aligned) } in
+    let made : IsMade (done ++ slot ∷ []) (with_scope old f) = made_counted _ (with_field old f) (with_scope old f) refl (made_field done slot old f field of.made) in
+    one_scope ks old new s of is tt (ap (λ (m : PlanBuilder). m.count) same) (ap (λ (m : PlanBuilder). m.ended) same) (subst (IsMade (done ++ slot ∷ [])) (sym same) made)
 
 -- members of which none is gone into, one more
 alones_and : (xs : List Member) (m : Member) → all_alone (xs ++ m ∷ []) ≡ and_piece (all_alone xs) (alone m)

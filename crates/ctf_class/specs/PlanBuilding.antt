@@ -8,7 +8,8 @@ use Rattle.ctf_class.specs.declared.plan_builder.PlanBuilder.{PlanBuilder}
 use Rattle.ctf_class.specs.declared.plan_builder.Lead.{Lead}
 use Rattle.ctf_class.specs.declared.record_plan.PlannedRun.{PlannedRun}
 use Rattle.ctf_class.specs.declared.planned_number.PlannedNumber.{PlannedNumber}
-use Rattle.ctf_class.specs.Records.{Slot, At, Piece, Pieces, Scoped, IsPiece, ArePieces, member_of, members_of, inside, insides, ended_by, ended_after, ends, ended_last, piece_slots, pieces_slots, between, all_slots, values_in, AreScoped, TakesNumbers, AreRuns, have_special, room_of}
+use Rattle.ctf_class.specs.declared.shown.Shown.TheVariants as shown
+use Rattle.ctf_class.specs.Records.{Slot, At, Piece, Pieces, Scoped, IsPiece, ArePieces, member_of, members_of, inside, insides, ended_by, ended_after, ends, ended_last, piece_slots, pieces_slots, all_slots, values_in, AreScoped, TakesNumbers, AreRuns, have_special, room_of}
 
 -- where a member with so much before it comes, and the field that it is alone
 abbrev pub at_of : Lead → At
@@ -64,10 +65,14 @@ AddsPieces at ms done old new =
     × (new.count ≡ old.count + insides ps) × (new.ended ≡ ended_after old.ended ps)
     × IsMade (done ++ pieces_slots 0 at ps) new
 
--- what is before the brace of a scope after so many values, where so many structures in the scope before end with it
+-- what is before a scope after so many values, where so many structures end
 abbrev pub before_scope : ℕ → ℕ → List ℕ
 before_scope zero ended = []
-before_scope (suc n) ended = ends ended ++ between
+before_scope (suc n) ended = ends ended ++ (44 ∷ 32 ∷ [])
+
+-- with a structure of so many values ended
+abbrev pub with_structure : PlanBuilder → ℕ → PlanBuilder
+with_structure m values = record m { count = m.count + values; ended = m.ended + 1 }
 
 -- with one number more in the open run, which is of this alignment then
 abbrev pub with_number : PlanBuilder → ℕ → PlannedNumber → PlanBuilder
@@ -99,3 +104,11 @@ with_field m f = record {
   count = m.count;
   ended = 0;
 }
+
+-- a scope without members of this alignment, as a field after a text
+abbrev pub empty_scope : List ℕ → ℕ → PlannedField
+empty_scope text align = record { ready = text; align = 1; shown = shown.Empty align }
+
+-- with a scope after the open run, which is whole then, as a field
+abbrev pub with_scope : PlanBuilder → PlannedField → PlanBuilder
+with_scope m f = record (with_field m f) { count = m.count + 1 }

@@ -141,46 +141,53 @@ all_alone (m ∷ ms) = more_pieces (alone m) (all_alone ms)
 abbrev pub member_slots : ℕ → List Member → List Slot
 member_slots align ms = pieces_slots 0 (first_at (123 ∷ 32 ∷ []) align) (all_alone ms)
 
--- a structure's alignment, and its members as a plan takes them
+-- a structure's class, and its members as a plan takes them
 pub record Scoped : Type 0 where
-  pub align : ℕ
+  pub class : Class
   pub pieces : Pieces
 
--- the fields of a structure, of which the first is after a text and a brace
-abbrev pub slots : List ℕ → Scoped → List Slot
-slots before s = pieces_slots 0 (first_at (before ++ (123 ∷ 32 ∷ [])) s.align) s.pieces
+-- the fields of a structure of such a class and of these pieces, of which the first is after a text and a brace; one
+-- without members is a field itself
+abbrev pub scope_slots : List ℕ → Class → Pieces → List Slot
+scope_slots before k no_pieces = record { lead = before; align = 1; index = 0; class = k } ∷ []
+scope_slots before k (more_pieces p ps) =
+    pieces_slots 0 (first_at (before ++ (123 ∷ 32 ∷ [])) k.align) (more_pieces p ps)
 
--- what is between two structures
-abbrev pub between : List ℕ
-between = 32 ∷ 125 ∷ 44 ∷ 32 ∷ []
+abbrev pub slots : List ℕ → Scoped → List Slot
+slots before s = scope_slots before s.class s.pieces
+
+-- how many structures end where one of these pieces does, itself among them; none where it is a field itself
+abbrev pub ended_in : Pieces → ℕ
+ended_in no_pieces = 0
+ended_in (more_pieces p ps) = suc (ended_after 0 (more_pieces p ps))
 
 -- what is between a structure of these pieces and the next
 abbrev pub before_next : Pieces → List ℕ
-before_next ps = ends (ended_after 0 ps) ++ between
+before_next ps = ends (ended_in ps) ++ (44 ∷ 32 ∷ [])
 
 -- the fields of structures one after the other
 abbrev pub all_slots : List ℕ → List Scoped → List Slot
 all_slots before [] = []
 all_slots before (s ∷ ss) = slots before s ++ all_slots (before_next s.pieces) ss
 
--- how many structures end within the last of some scopes where that ends, or so many if there are none
+-- how many structures end where the last of some scopes does, or so many if there are none
 abbrev pub ended_last : ℕ → List Scoped → ℕ
 ended_last n [] = n
-ended_last n (s ∷ ss) = ended_last (ended_after 0 s.pieces) ss
+ended_last n (s ∷ ss) = ended_last (ended_in s.pieces) ss
 
 -- how many values structures are, with all in them but what is in arrays
 abbrev pub values_in : List Scoped → ℕ
 values_in [] = 0
 values_in (s ∷ ss) = 1 + length (members_of s.pieces) + insides s.pieces + values_in ss
 
--- classes are these structures, which have members
+-- classes are these structures
 abbrev pub AreScoped : List Class → List Scoped → Type 0
 AreScoped [] [] = ⊤
 AreScoped [] (s ∷ ss) = ⊥
 AreScoped (k ∷ ks) [] = ⊥
 AreScoped (k ∷ ks) (s ∷ ss) =
-    (k.kind ≡ kind.Structure (members_of s.pieces)) × (k.align ≡ s.align)
-    × (0 < length (members_of s.pieces)) × ArePieces s.align s.pieces × AreScoped ks ss
+    (k ≡ s.class) × (k.kind ≡ kind.Structure (members_of s.pieces))
+    × ArePieces k.align s.pieces × AreScoped ks ss
 
 -- the scopes of an event record after its header that have a class
 abbrev pub and_scope : Option Class → List Class → List Class

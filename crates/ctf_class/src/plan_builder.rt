@@ -3,7 +3,7 @@
 ghost use Rattle.std.specs.Prelude.{◌≡◌, ◌+◌, ◌%◌, ◌∷◌, ◌++◌, [], ◌^◌, ◌<◌, ◌≤◌, length, max, IsTrue, IsFalse, IfOk, IfSome, OnOk, option_copied};
 ghost use Rattle.std.specs.Int.{next_multiple_of};
 ghost use Rattle.ctf_class.specs.Alignment.{IsLarger};
-ghost use Rattle.ctf_class.specs.PlanBuilding.{AddsPiece, AddsPieces, IsMade, IsMadeOf, at_of, before_scope, slot_of, with_number, with_field};
+ghost use Rattle.ctf_class.specs.PlanBuilding.{AddsPiece, AddsPieces, IsMade, IsMadeOf, at_of, before_scope, empty_scope, slot_of, with_field, with_number, with_scope, with_structure};
 ghost use Rattle.ctf_class.specs.Records.{Slot, IsPlanOf, and_scope, ends, first_at, opened_lead};
 ghost use Rattle.ctf_class.specs.Names.{field_text};
 ghost use Rattle.ctf_class.specs.declared.class.Kind as kinds;
@@ -15,7 +15,7 @@ use crate::integer::Integer;
 use crate::planned_number::{PlannedNumber, have_special, is_special};
 use crate::prepared_text::{PREPARED_HEAD, PreparedText};
 use crate::record_plan::{PlannedField, PlannedRun, RecordPlan};
-use crate::shown::shown_of;
+use crate::shown::{Shown, shown_of};
 use ctf_bits::Window;
 use ctf_list::{List, NoMemory};
 use std::alloc::Global;
@@ -59,7 +59,7 @@ pub(crate) struct PlanBuilder {
     pub(crate) room: usize,
     /// How many values the scopes so far have, and the structures that were gone into since.
     pub(crate) count: u32,
-    /// How many structures end, one in the other, where the last field does.
+    /// How many structures end, one in the other, where the last field does, the scope among them once it is whole.
     pub(crate) ended: u32,
 }
 
@@ -142,29 +142,66 @@ impl PlanBuilder {
             return Ok(false);
         };
         let members = members.as_slice();
+        let mut text = self.before_scope(alloc)?;
         if members.is_empty() {
-            return Ok(false);
+            return self.add_empty(alloc, text.as_slice(), class.align);
         }
-        let text = self.opening(alloc)?;
+        text.extend_from_slice(b"{ ")?;
         if !self.add_members(alloc, text, class.align, members)? {
             return Ok(false);
         }
-        let Some(count) = with_members(self.count, members.len() + 1) else {
+        Ok(self.end_structure(members.len() + 1))
+    }
+
+    /// What is printed before the next scope.
+    fn before_scope(&self, alloc: Global) -> Result<List<u8>, NoMemory>
+        ensures { IfOk result (λ text. text ≡ before_scope self.now.count self.now.ended) }
+    {
+        if self.count == 0 {
+            return Ok(List::new(alloc));
+        }
+        after_ends(alloc, self.ended, b", ")
+    }
+
+    /// Adds a scope without members after a text: as a field. Whether that could be done.
+    fn add_empty(&mut self, alloc: Global, text: &[u8], align: Align) -> Result<bool, NoMemory>
+        requires few { self.old.room ≤ 2 ^ 18 }
+        ensures { IfOk result
+            (λ took. IsTrue took → self.new ≡ with_scope self.old (empty_scope text.now align)) }
+    {
+        // A record that begins with such a scope is written as soon by its classes.
+        if self.count == 0 || text.len() > LONGEST_TEXT {
+            return Ok(false);
+        }
+        let Some(count) = with_members(self.count, 1) else {
             return Ok(false);
         };
+        let ready = PreparedText::new(alloc, text)?;
+        self.add_field(
+            alloc,
+            PlannedField {
+                ready,
+                align: Align::one_bit(),
+                shown: Shown::Empty(align),
+            },
+        )?;
         self.count = count;
         Ok(true)
     }
 
-    /// What is printed before the name of the first field of the next scope.
-    fn opening(&self, alloc: Global) -> Result<List<u8>, NoMemory>
-        ensures { IfOk result
-            (λ lead. lead ≡ before_scope self.now.count self.now.ended ++ (123 ∷ 32 ∷ [])) }
+    /// Ends a structure of so many values. Whether these can be counted.
+    fn end_structure(&mut self, values: usize) -> bool
+        ensures { IsTrue result → self.new ≡ with_structure self.old values }
     {
-        if self.count == 0 {
-            return after_ends(alloc, 0, b"{ ");
-        }
-        after_ends(alloc, self.ended, b" }, { ")
+        let Some(count) = with_members(self.count, values) else {
+            return false;
+        };
+        let Some(ended) = self.ended.checked_add(1) else {
+            return false;
+        };
+        self.count = count;
+        self.ended = ended;
+        true
     }
 
     /// Adds the members of a structure, the first after a text and at an alignment. Whether that could be done.
@@ -256,15 +293,7 @@ impl PlanBuilder {
         if !self.add_members(alloc, text, begin, members)? {
             return Ok(false);
         }
-        let Some(count) = with_members(self.count, members.len()) else {
-            return Ok(false);
-        };
-        let Some(ended) = self.ended.checked_add(1) else {
-            return Ok(false);
-        };
-        self.count = count;
-        self.ended = ended;
-        Ok(true)
+        Ok(self.end_structure(members.len()))
     }
 
     /// Adds a member as a field after the open run, if it can be shown so. Whether it can.

@@ -41,15 +41,16 @@ pub struct PlannedRun {
 
 /// The fields of an event record's scopes after its header (CTF 1.8.3, section 6), one after the other, if all of them
 /// are integers, enumerations, strings, structures without members, texts and arrays of integers and of structures of
-/// integers whose length is fixed or the field before, or structures of such fields; else nothing, also where a scope
-/// has no members or a text before a value has more than 1,024 bytes. The fields of a structure within are among those
-/// around it.
+/// integers whose length is fixed or the field before, or structures of such fields; else nothing, also where the first
+/// scope has no members or a text before a value has more than 1,024 bytes. The fields of a structure within are among
+/// those around it, and a scope without members is a field itself.
 #[derive(Drop)]
 pub struct RecordPlan {
     pub runs: List<PlannedRun>,
     /// How many values these scopes have, without those in arrays.
     pub count: u32,
-    /// How many structures end, one in the other, where the last scope does, without the scope itself.
+    /// How many structures end, one in the other, where the last scope does, itself among them; none where it has no
+    /// members.
     pub ended: u32,
 }
 

@@ -13,7 +13,7 @@ use Rattle.ctf_class.proofs.RecordsLemmas.{ends_on}
 use Rattle.ctf_class.specs.Alignment.{IsLarger}
 use Rattle.ctf_class.specs.Integers.{bits_of}
 use Rattle.ctf_class.specs.Names.{field_text}
-use Rattle.ctf_class.specs.Records.{Slot, At, Piece, Pieces, alone, inner, no_pieces, more_pieces, Scoped, IsPiece, ArePieces, member_of, members_of, inside, insides, ended_by, ended_after, ends, ended_last, first_at, later_at, known_index, member_slots, opened_lead, piece_slots, pieces_slots, slots, before_next, all_slots, values_in, AreScoped, IsNumber, AreInRun, TakesNumbers, IsLength, IsShown, IsStructure, IsField, After, LeadsBefore, numbers_room, room_of, AreRuns}
+use Rattle.ctf_class.specs.Records.{Slot, At, Piece, Pieces, alone, inner, no_pieces, more_pieces, Scoped, IsPiece, ArePieces, member_of, members_of, inside, insides, ended_by, ended_after, ends, ended_last, first_at, later_at, known_index, member_slots, opened_lead, piece_slots, pieces_slots, scope_slots, slots, ended_in, before_next, all_slots, values_in, AreScoped, IsNumber, AreInRun, TakesNumbers, IsLength, IsShown, IsStructure, IsField, After, LeadsBefore, numbers_room, room_of, AreRuns}
 use Rattle.ctf_class.specs.declared.class.Class.{Class}
 use Rattle.ctf_class.specs.declared.class.Kind as kind
 use Rattle.ctf_class.specs.declared.class.Member.{Member}
@@ -494,32 +494,69 @@ empty_puts k packet content place end before after is ends_at within wrote spent
     let text : value_text k v ≡ 123 ∷ 32 ∷ 125 ∷ [] = ap (λ f. f v) (value-is k ∙ ap kind_text is ∙ text-Structure []) in
     (v, ap (λ f. walk f c env place spent) (sym (form_structure k [] is)) ∙ walked ∙ ap (λ n. Ok (v, n, spent + 1)) (sym ends_at), wrote ∙ ap (λ xs. before ++ xs) (sym text))
 
+-- the field that is a structure without members is its value, whatever is around it
+bare_puts : (k : Class) (opens packet : List ℕ) (content : ℕ) (from to : Reached) → k.kind ≡ kind.Structure [] → PutsField (record { lead = opens; align = 1; index = 0; class = k }) packet content from to
+    → (more : ℕ) × (to.more ≡ from.more + more)
+    × ((spent : ℕ) → spent + 1 + 0 + 0 + more ≤ MOST_VALUES → Puts (form k) (value_text k) packet content from.place spent to.place (spent + 1 + 0 + 0 + more) (from.line ++ opens) (to.line ++ []))
+bare_puts k opens packet content from to is field = (
+  field.1,
+  field.2,
+  λ spent few earlier env.
+      let c = among packet content earlier in
+      let p = field.3 spent (omega (arith, few)) earlier env [] tt tt in
+      let bare = structure k.align (parts_of []) in
+      let same : bare ≡ form k = form_structure k [] is in
+      let alone : walk (form k) c env from.place spent ≡ walk (form k) c ([] ∷ env) from.place spent = subst (λ f. walk f c env from.place spent ≡ walk f c ([] ∷ env) from.place spent) same refl in
+      let here : walk (form k) c ([] ∷ env) from.place spent ≡ walk (form k) c ([] ∷ env) (next_multiple_of from.place 1) spent = ap (λ q. walk (form k) c ([] ∷ env) q spent) (sym (at_one from.place)) in
+      let total : spent + 1 + field.1 ≡ spent + 1 + 0 + 0 + field.1 = omega arith in
+      let text = value_text k p.0 in
+      (p.0, alone ∙ here ∙ p.1 ∙ ap (λ n. Ok (p.0, to.place, n)) total, append-nil to.line ∙ p.2 ∙ sym (append_assoc from.line opens text)),
+)
+
+-- the fields of a scope, and the braces after them, are its value
+scope_puts : (k : Class) (ps : Pieces) (opens packet : List ℕ) (content : ℕ) (from to : Reached) → k.kind ≡ kind.Structure (members_of ps) → ArePieces k.align ps → PutsFields (scope_slots opens k ps) packet content from to
+    → (more : ℕ) × (to.more ≡ from.more + more)
+    × ((spent : ℕ) → spent + 1 + length (members_of ps) + insides ps + more ≤ MOST_VALUES → Puts (form k) (value_text k) packet content from.place spent to.place (spent + 1 + length (members_of ps) + insides ps + more) (from.line ++ opens) (to.line ++ ends (ended_in ps)))
+scope_puts k no_pieces opens packet content from to is are puts = bare_puts k opens packet content from to is (subst (λ r. PutsField (record { lead = opens; align = 1; index = 0; class = k }) packet content from r) (sym puts.2) puts.1)
+scope_puts k (more_pieces p ps) opens packet content from to is are puts =
+    let all = more_pieces p ps in
+    let one = pieces_scope packet content all k k.align opens from to is (omega arith) are puts in
+    let total = λ (spent : ℕ). spent + 1 + length (members_of all) + insides all + one.0 in
+    let text : to.line ++ (ends (ended_after 0 all) ++ (32 ∷ 125 ∷ [])) ≡ to.line ++ ends (ended_in all) = ap (λ xs. to.line ++ xs) (ends_on (ended_after 0 all)) in
+    (one.0, one.1, λ spent few. subst (λ xs. Puts (form k) (value_text k) packet content from.place spent to.place (total spent) (from.line ++ opens) xs) text (one.2 from.place refl spent few))
+
+-- one brace and so many more
+pub brace_more : (n : ℕ) (line : List ℕ) → 0 < n → (line ++ (32 ∷ 125 ∷ [])) ++ ends (n - 1) ≡ line ++ ends n
+brace_more zero line some = absurd (omega (arith, some))
+brace_more (suc n) line some = (let fewer : suc n - 1 ≡ n = omega arith in ap (λ k. (line ++ (32 ∷ 125 ∷ [])) ++ ends k) fewer ∙ append_assoc line (32 ∷ 125 ∷ []) (ends n))
+
 -- the fields of structures, and the braces after them, are their values
 pub scopes_puts : (ks : List Class) (ss : List Scoped) (opens packet : List ℕ) (content spent : ℕ) (from to : Reached) → 0 < length ks → AreScoped ks ss → PutsFields (all_slots opens ss) packet content from to
-    → (more : ℕ) × (to.more ≡ from.more + more) × (spent + values_in ss + more ≤ MOST_VALUES → PutsScopes ks packet content from.place spent to.place (spent + values_in ss + more) (from.line ++ opens) (to.line ++ (ends (ended_last 0 ss) ++ (32 ∷ 125 ∷ []))))
+    → (more : ℕ) × (to.more ≡ from.more + more) × (spent + values_in ss + more ≤ MOST_VALUES → PutsScopes ks packet content from.place spent to.place (spent + values_in ss + more) (from.line ++ opens) (to.line ++ ends (ended_last 0 ss)))
 scopes_puts [] ss opens packet content spent from to some are puts = absurd (omega (arith, some))
 scopes_puts (k ∷ ks) [] opens packet content spent from to some are puts = absurd are
 scopes_puts (k ∷ []) (s ∷ []) opens packet content spent from to some are puts =
-    let one = pieces_scope packet content s.pieces k s.align opens from to are.0 are.2 are.3 (subst (λ xs. PutsFields xs packet content from to) (append-nil (slots opens s)) puts) in
-    let after = to.line ++ (ends (ended_after 0 s.pieces) ++ (32 ∷ 125 ∷ [])) in
+    let fields : PutsFields (scope_slots opens k s.pieces) packet content from to = subst (λ c. PutsFields (scope_slots opens c s.pieces) packet content from to) (sym are.0) (subst (λ xs. PutsFields xs packet content from to) (append-nil (slots opens s)) puts) in
+    let one = scope_puts k s.pieces opens packet content from to are.1 are.2 fields in
+    let after = to.line ++ ends (ended_in s.pieces) in
     let total : spent + 1 + length (members_of s.pieces) + insides s.pieces + one.0 ≡ spent + values_in (s ∷ []) + one.0 = omega arith in
-    (one.0, one.1, λ few. subst (λ n. Puts (form k) (value_text k) packet content from.place spent to.place n (from.line ++ opens) after) total (one.2 from.place (ap (next_multiple_of from.place) are.1) spent (omega (arith, few))))
-scopes_puts (k ∷ []) (s ∷ (t ∷ ss)) opens packet content spent from to some are puts = absurd are.4
-scopes_puts (k ∷ (l ∷ ks)) (s ∷ []) opens packet content spent from to some are puts = absurd are.4
+    (one.0, one.1, λ few. subst (λ n. Puts (form k) (value_text k) packet content from.place spent to.place n (from.line ++ opens) after) total (one.2 spent (omega (arith, few))))
+scopes_puts (k ∷ []) (s ∷ (t ∷ ss)) opens packet content spent from to some are puts = absurd are.3
+scopes_puts (k ∷ (l ∷ ks)) (s ∷ []) opens packet content spent from to some are puts = absurd are.3
 scopes_puts (k ∷ (l ∷ ks)) (s ∷ (t ∷ ss)) opens packet content spent from to some are puts =
     let rest = t ∷ ss in
     let next = before_next s.pieces in
-    let closes_now = ends (ended_after 0 s.pieces) in
+    let closes_now = ends (ended_in s.pieces) in
     let apart = fields_split packet content (slots opens s) (all_slots next rest) from to puts in
     let mid = apart.0 in
-    let first = pieces_scope packet content s.pieces k s.align opens from mid are.0 are.2 are.3 apart.1 in
+    let first = scope_puts k s.pieces opens packet content from mid are.1 are.2 (subst (λ c. PutsFields (scope_slots opens c s.pieces) packet content from mid) (sym are.0) apart.1) in
     let many = spent + 1 + length (members_of s.pieces) + insides s.pieces + first.0 in
-    let others = scopes_puts (l ∷ ks) rest next packet content many mid to (omega arith) are.4 apart.2 in
+    let others = scopes_puts (l ∷ ks) rest next packet content many mid to (omega arith) are.3 apart.2 in
     let more = first.0 + others.0 in
     let total : many + values_in rest + others.0 ≡ spent + values_in (s ∷ rest) + more = omega arith in
-    let mid_line = mid.line ++ (closes_now ++ (32 ∷ 125 ∷ [])) in
-    let after = to.line ++ (ends (ended_last 0 rest) ++ (32 ∷ 125 ∷ [])) in
-    let text : mid.line ++ next ≡ mid_line ++ codes ", " = ap (λ xs. mid.line ++ xs) (sym (append_assoc closes_now (32 ∷ 125 ∷ []) (44 ∷ 32 ∷ []))) ∙ sym (append_assoc mid.line (closes_now ++ (32 ∷ 125 ∷ [])) (44 ∷ 32 ∷ [])) in
+    let mid_line = mid.line ++ closes_now in
+    let after = to.line ++ ends (ended_last 0 rest) in
+    let text : mid.line ++ next ≡ mid_line ++ codes ", " = sym (append_assoc mid.line closes_now (44 ∷ 32 ∷ [])) in
     let sum : to.more ≡ from.more + more = (let a = first.1 in let b = others.1 in omega (arith, a, b)) in (
       more,
       sum,
@@ -527,7 +564,7 @@ scopes_puts (k ∷ (l ∷ ks)) (s ∷ (t ∷ ss)) opens packet content spent fro
         mid.place,
         many,
         mid_line,
-        first.2 from.place (ap (next_multiple_of from.place) are.1) spent (omega (arith, few)),
+        first.2 spent (omega (arith, few)),
         subst (λ n. PutsScopes (l ∷ ks) packet content mid.place many to.place n (mid_line ++ codes ", ") after) total
             (subst (λ xs. PutsScopes (l ∷ ks) packet content mid.place many to.place (many + values_in rest + others.0) xs after) text (others.2 (omega (arith, few)))),
       ),

@@ -118,22 +118,38 @@ fn put_runs(
     put_end(b'}', buffer, text).ok()
 }
 
-/// Writes a space and a brace for each of so many structures that end, mostly none.
+/// Writes the braces of so many structures that end after that of one, and gives the index after them. Mostly one ends;
+/// where none does, its brace is taken back.
 #[inline(always)]
 fn put_ends(ended: u32, buffer: &mut Vec<u8>, at: usize) -> Option<usize>
     requires { at ≤ vec_len buffer.old }
-    ensures { IfSome result (IsPut buffer.old at (ends ended) buffer.new) }
+    ensures puts { (line : List ℕ) → take at buffer.old.items ≡ line ++ (32 ∷ 125 ∷ []) →
+        IfSome result (λ text. take text buffer.new.items ≡ line ++ ends ended) }
+    ensures held { IfSome result (λ text. text ≤ vec_len buffer.new) }
 {
-    if ended == 0 {
+    if ended == 1 {
         return Some(at);
     }
-    put_some_ends(ended, buffer, at)
+    put_other_ends(ended, buffer, at)
 }
 
-/// Writes them out of the way of records in which none ends there.
+/// Writes them out of the way of records in which one ends there.
 #[cold]
 #[inline(never)]
-fn put_some_ends(ended: u32, buffer: &mut Vec<u8>, at: usize) -> Option<usize>
+fn put_other_ends(ended: u32, buffer: &mut Vec<u8>, at: usize) -> Option<usize>
+    requires { at ≤ vec_len buffer.old }
+    ensures puts { (line : List ℕ) → take at buffer.old.items ≡ line ++ (32 ∷ 125 ∷ []) →
+        IfSome result (λ text. take text buffer.new.items ≡ line ++ ends ended) }
+    ensures held { IfSome result (λ text. text ≤ vec_len buffer.new) }
+{
+    if ended == 0 {
+        return at.checked_sub(2);
+    }
+    put_more_ends(ended - 1, buffer, at)
+}
+
+/// Writes a space and a brace for each of so many structures more.
+fn put_more_ends(ended: u32, buffer: &mut Vec<u8>, at: usize) -> Option<usize>
     requires { at ≤ vec_len buffer.old }
     ensures { IfSome result (IsPut buffer.old at (ends ended) buffer.new) }
 {

@@ -31,7 +31,7 @@ returns-clause-passes c = λ classes several planned before.
     let sum : count ≡ plan.count + to.more = search rules in
     let total : spent + values_in is.0 + whole.0 ≡ spent + count = omega (arith, is.2, whole.1, sum) in
     let few : spent + count ≤ MOST_VALUES = search (rules, arith) in
-    let after = line ++ (ends (ended_last 0 is.0) ++ (32 ∷ 125 ∷ [])) in (
+    let after = line ++ ends (ended_last 0 is.0) in (
       after,
       subst (λ n. PutsScopes classes bytes content place spent to.place n before after) total
           (subst (λ xs. PutsScopes classes bytes content place spent to.place (spent + values_in is.0 + whole.0) xs after) (append-nil before) (whole.2 (omega (arith, few, total)))),

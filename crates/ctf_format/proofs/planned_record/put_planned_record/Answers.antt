@@ -2,7 +2,6 @@ use Rattle.std.proofs.Common.{◌≡◌, ◌+◌, ◌<◌, ◌≤◌, ◌++◌, 
 use Rattle.std.specs.List.{All}
 use Rattle.ctf_class.specs.Records.{AreRuns, all_slots, ended_last, ends, values_in}
 use Rattle.ctf_decode.specs.declared.scopes.TheConstants.{MOST_VALUES}
-use Rattle.ctf_class.proofs.RecordsLemmas.{ends_on}
 use Rattle.ctf_format.specs.Records.{IsNear, PutsScopes, reached}
 use Rattle.ctf_format.proofs.RecordsLemmas.{numbers_to, runs_near, scopes_puts}
 use Rattle.ctf_format.proofs.planned_record.put_planned_record.Goals as goal
@@ -35,8 +34,8 @@ returns-clause-puts c = λ classes several planned.
     let sum : count ≡ plan.count + to.more = search rules in
     let total : spent + values_in is.0 + whole.0 ≡ spent + count = omega (arith, is.2, whole.1, sum) in
     let few : spent + count ≤ MOST_VALUES = search (rules, arith) in
-    let closed = line ++ (ends (ended_last 0 is.0) ++ (32 ∷ 125 ∷ [])) in
-    let text : closed ≡ after = ap (λ xs. line ++ xs) (ends_on (ended_last 0 is.0)) ∙ sym (append_assoc line (32 ∷ 125 ∷ []) (ends (ended_last 0 is.0))) ∙ (λ j. sym puts.2 j ++ ends (sym is.3 j)) ∙ sym c.in_ok-end.ensures.text in
+    let closed = line ++ ends (ended_last 0 is.0) in
+    let text : closed ≡ after = ap (λ n. line ++ ends n) (sym is.3) ∙ sym (c.in_ok-end.ensures.puts line puts.2) in
     subst (λ n. PutsScopes classes bytes content place spent to.place n before after) total
     (subst (λ xs. PutsScopes classes bytes content place spent to.place (spent + values_in is.0 + whole.0) before xs) text
     (subst (λ xs. PutsScopes classes bytes content place spent to.place (spent + values_in is.0 + whole.0) xs closed) (append-nil before) (whole.2 (omega (arith, few, total)))))

@@ -1,6 +1,6 @@
 use Rattle.std.proofs.Common.{◌≡◌, ◌<◌, ◌+◌, ◌∙◌, ◌∷◌, ◌++◌, [], length, take, IfOk, IsTrue, List, refl, sym, ap, subst, rules, arith}
 use Rattle.std.proofs.Math.Seq.{take-length}
-use Rattle.ctf_class.specs.PlanBuilding.{AddsPiece, AddsPieces, IsMade, at_of}
+use Rattle.ctf_class.specs.PlanBuilding.{AddsPiece, AddsPieces, IsMade, at_of, with_structure}
 use Rattle.ctf_class.specs.Records.{At, Slot, ends, first_at, later_at, known_index}
 use Rattle.ctf_class.specs.declared.plan_builder.PlanBuilder.{PlanBuilder}
 use Rattle.ctf_class.proofs.RecordsLemmas.{AddedTo, added_none, added_more, added_all, index_zero, index_some, piece_alone, piece_inner}
@@ -8,18 +8,16 @@ use Rattle.ctf_class.proofs.plan_builder.PlanBuilder.+plan.Goals as goal
 use Rattle.ctf_class.proofs.plan_builder.PlanBuilder.+plan.Goals.{add_members-then-self-eq0, add_members-else-self-eq0}
 
 pub add_inner-returns-clause-made : goal.add_inner-returns-clause-made
-add_inner-returns-clause-made t c = λ _ done made.
+add_inner-returns-clause-made t c = λ took done made.
     let lead = c.args.lead.now in
     let m = c.args.member.now in
     let ms = c.args.members.now in
     let mid = c.add_members.new.self in
-    let new : PlanBuilder = record { runs = mid.runs; align = mid.align; numbers = mid.numbers; span = mid.span; room = mid.room; count = c.in-Some.count; ended = c.in-Some-checked_add.ended } in
-    let took : IsTrue c.in_ok-add_members.field-0 = search rules in
-    let count : new.count ≡ mid.count + length ms = search rules in
-    let ended : new.ended ≡ mid.ended + 1 = search rules in
-    let text = c.in_ok-text.ensures in
-    let adds = c.in_ok-add_members.ensures.made took done made in
-    piece_inner (at_of lead) m c.larger-begin.result ms done c.args.self.now mid new c.requires.is c.requires.some c.larger-begin.ensures (subst (λ t. AddsPieces (first_at t c.larger-begin.result) ms done c.args.self.now mid) text adds) refl count ended
+    let new = c.end_structure.new.self in
+    let members : IsTrue c.in_ok-add_members.field-0 = search rules in
+    let ended : new ≡ with_structure mid (length ms) = search rules in
+    let adds = c.in_ok-add_members.ensures.made members done made in
+    piece_inner (at_of lead) m c.larger-begin.result ms done c.args.self.now mid new c.requires.is c.requires.some c.larger-begin.ensures (subst (λ t. AddsPieces (first_at t c.larger-begin.result) ms done c.args.self.now mid) c.in_ok-text.ensures adds) ended
 
 pub add_member-returns-then-branch-clause-made : goal.add_member-returns-then-branch-clause-made
 add_member-returns-then-branch-clause-made t c = λ _ done made.

@@ -2,7 +2,7 @@ use Rattle.std.proofs.Common.{◌++◌, ◌∷◌, [], take, ap, sym, ◌∙◌,
 use Rattle.ctf_class.specs.Records.{ends}
 use Rattle.ctf_class.proofs.RecordsLemmas.{ends_more}
 use Rattle.ctf_format.proofs.Chains.{of_ok}
-use Rattle.ctf_format.proofs.planned_record.put_some_ends.Goals as goal
+use Rattle.ctf_format.proofs.planned_record.put_more_ends.Goals as goal
 
 pub loop-i-preserved : goal.loop-i-preserved
 loop-i-preserved c = record {

@@ -1,6 +1,6 @@
 use Rattle.ctf_class.specs.Records.{ends}
 use Rattle.ctf_format.specs.Put.{IsPut}
-use Rattle.ctf_format.proofs.planned_record.put_some_ends.Given as goal
+use Rattle.ctf_format.proofs.planned_record.put_more_ends.Given as goal
 
 abbrev pub invariant-loop-i : goal.invariant-loop-i
 invariant-loop-i l = record {
