@@ -20,6 +20,7 @@ prove:
 
 # The whole gate: every proof, the must-fail edits, the tests and the programs.
 test:
+	@tools/further-edits --form
 	@files=$$(tools/built --sum) && RT_JOBS=$${RT_JOBS:-$$(tools/lanes)} rt ci && tools/built --record "$$files"
 
 # The edits that the gate leaves out, all or those of CRATES='a b'.
