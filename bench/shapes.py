@@ -28,6 +28,8 @@ typealias integer { size = 32; base = 8; } := o32;
 typealias integer { size = 32; base = 16; } := x32;
 typealias integer { size = 64; base = 16; } := x64;
 typealias integer { size = 32; byte_order = be; } := be32;
+typealias integer { size = 16; byte_order = be; } := be16;
+typealias integer { size = 4; align = 4; byte_order = be; } := be4;
 typealias integer { size = 32; align = 32; } := wide32;
 typealias integer { size = 8; encoding = UTF8; } := letter;
 """
@@ -171,6 +173,17 @@ def optional(rng: random.Random) -> bytes:
     return bytes([tag]) + options[tag]
 
 
+def network_packet(rng: random.Random) -> bytes:
+    """What the fields NETWORK of a packet by TCP or UDP over IPv4 are."""
+    size, name = rng.randrange(60, 1500), rng.choice([b"lo", b"enp0s3"]) + b"\0"
+    udp = rng.randrange(2)
+    network = struct.pack(">BBHHHBBH", 0x45, 0, size, rng.randrange(65536), 0, 64, [6, 17][udp], rng.randrange(65536))
+    ports = struct.pack(">HH", rng.randrange(1024, 65536), 443)
+    transport = struct.pack(">HH", size, 0) if udp else rng.randbytes(8) + struct.pack(">HHHH", 0x5018, 501, 0, 0)
+    begin = struct.pack("<QI", 2**64 - rng.randrange(2**40), size) + name + b"\1"
+    return begin + network + rng.randbytes(8) + bytes([1 + udp]) + ports + transport
+
+
 def word(rng: random.Random) -> bytes:
     return struct.pack("<I", rng.randrange(100_000))
 
@@ -204,6 +217,17 @@ NOTHING = Members("", lambda rng: b"")
 PROCESS = Members(
     "i32 vpid; i32 vtid; letter procname[17];",
     lambda rng: struct.pack("<ii", 4711, 4711 + rng.randrange(8)) + name_of(17)(rng),
+)
+NETWORK = Members(
+    "x64 skbaddr; u32 len; string name; enum : u8 { unknown, ipv4, ipv6 } network_type;"
+    " variant <network_type> { struct { } unknown; struct {"
+    " be4 version; be4 ihl; u8 tos; be16 tot_len; be16 id; be16 frag_off; u8 ttl;"
+    " enum : u8 { other = 0 ... 5, tcp = 6, more = 7 ... 16, udp = 17 } protocol; be16 checksum; u8 saddr[4]; u8 daddr[4];"
+    " enum : u8 { none, tcp, udp } transport_type; variant <transport_type> { struct { } none; struct { be16 source_port;"
+    " be16 dest_port; be32 seq; be32 ack_seq; be4 data_offset; be4 reserved; u8 flags; be16 window_size; be16 checksum;"
+    " be16 urg_ptr; } tcp; struct { be16 source_port; be16 dest_port; be16 len; be16 check; } udp; } transport;"
+    " } ipv4; struct { u8 header[40]; } ipv6; } network;",
+    network_packet,
 )
 LENGTH_IN_CONTEXT = Members("u8 n;", lambda rng: b"\4")
 
@@ -278,6 +302,7 @@ COMPOUNDS = [
         ),
         COMPACT,
     ),
+    Shape("variants within one another, as the kernel's packets", NETWORK, COMPACT, event_context=PROCESS),
     Shape(
         "nested structures",
         words(4)._replace(text="struct { u32 a; struct { u32 b; struct { u32 c; } x; } y; } z; u32 d;"),
