@@ -1,20 +1,27 @@
 -- Plans of event records that are made one field after the other.
 use Rattle.std.proofs.Common.{◌≡◌, ℕ, zero, suc, ◌+◌, ◌%◌, ◌^◌, ◌<◌, ◌≤◌, max, List, [], ◌∷◌, ◌++◌, length, take, get_or, Option, Some, None, refl, sym, ap, subst, ◌∙◌, arith, append_assoc, append-nil}
+use Rattle.std.proofs.Common.{Ok, Err, IfOk, inl, inr}
+use Rattle.std.specs.declared.result.Result.{Result}
+use Rattle.ctf_list.specs.declared.no_memory.NoMemory.{NoMemory}
 use Rattle.std.proofs.lemmas.List.{take_more, length-take-le}
 use Rattle.ctf_class.specs.Alignment.{IsLarger}
 use Rattle.ctf_class.specs.Names.{field_text}
 use Rattle.ctf_class.specs.declared.class.Class.{Class}
 use Rattle.ctf_class.specs.declared.class.Kind as kind
 use Rattle.ctf_class.specs.declared.class.Member.{Member}
+use Rattle.ctf_class.specs.declared.record_plan.Branch.{Branch}
+use Rattle.ctf_class.specs.declared.record_plan.Branches.{Branches, Branches-F, out-Branches}
+use Rattle.ctf_class.specs.declared.record_plan.OptionPlans.{OptionPlans, OptionPlans-F, out-OptionPlans}
+use Rattle.ctf_class.specs.declared.record_plan.Branches.TheVariants as branches
 use Rattle.ctf_class.specs.declared.record_plan.PlannedField.{PlannedField}
+use Rattle.ctf_class.specs.declared.record_plan.RecordPlan.{RecordPlan}
 use Rattle.ctf_class.specs.declared.plan_builder.PlanBuilder.{PlanBuilder}
 use Rattle.ctf_class.specs.declared.plan_builder.Lead.{Lead}
 use Rattle.ctf_class.specs.declared.record_plan.PlannedRun.{PlannedRun}
 use Rattle.ctf_class.specs.declared.many.Many.{Many}
 use Rattle.ctf_class.specs.declared.planned_number.PlannedNumber.{PlannedNumber}
-use Rattle.ctf_class.specs.declared.shown.Shown.TheVariants as shown
-use Rattle.ctf_class.specs.PlanBuilding.{AddsPiece, AddsPieces, IsOpen, IsMade, IsMadeOf, at_of, before_scope, empty_scope, slot_of, with_field, with_number, with_scope, with_structure}
-use Rattle.ctf_class.specs.Records.{Slot, At, Piece, Pieces, alone, inner, no_pieces, more_pieces, Scoped, IsPiece, ArePieces, member_of, members_of, inside, insides, ended_by, ended_after, ends, ended_last, first_at, later_at, known_index, opened_lead, piece_slots, pieces_slots, all_alone, member_slots, scope_slots, slots, ended_in, before_next, all_slots, values_in, AreScoped, and_scope, scopes_of, IsNumber, AreInRun, TakesNumbers, IsStructure, IsField, AreRuns, IsPlanOf, have_special, numbers_room, room_of}
+use Rattle.ctf_class.specs.PlanBuilding.{AddsPiece, AddsPieces, BranchesTo, IsBranch, TakesSome, IsOpen, IsMade, IsMadeOf, at_of, before_scope, empty_scope, runs_by, slot_of, variant_slot, with_branch, with_field, with_number, with_scope, with_structure}
+use Rattle.ctf_class.specs.Records.{Slot, At, Piece, Pieces, alone, inner, no_pieces, more_pieces, Scoped, IsPiece, ArePieces, member_of, members_of, inside, insides, ended_by, ended_after, ends, ended_last, first_at, later_at, known_index, opened_lead, piece_slots, pieces_slots, all_alone, member_slots, scope_slots, slots, ended_in, before_next, all_slots, values_in, AreScoped, and_scope, scopes_of, IsNumber, AreInRun, TakesNumbers, IsStructure, IsField, AreRuns, AreBranches, AreThose, AreEach, AreListed, IsTag, IsVariant, IsOption, IsPlanned, IsPlanOf, have_special, numbers_room, room_of}
 
 -- one number more after the others
 numbers_more : (base from span : ℕ) (ss : List Slot) (ns : List PlannedNumber) (s : Slot) (rest : List Slot) (n : PlannedNumber) → AreInRun base from ss ns span (s ∷ rest) → IsNumber base span s n → AreInRun base from ss (ns ++ n ∷ []) (n.window.place + n.window.size) rest
@@ -54,11 +61,18 @@ open_number : (align run : ℕ) (now : List Slot) (ns : List PlannedNumber) (spa
 open_number align run now ns span s n on last is rest =
     subst (λ xs. TakesNumbers run xs (ns ++ n ∷ []) (n.window.place + n.window.size) rest) (sym (append_assoc now (s ∷ []) rest)) (takes_more align run (now ++ s ∷ rest) ns span s rest n on (last (s ∷ rest)) is)
 
+-- fields of which one more is the last
+one_more : (done before full now : List Slot) (s : Slot) → done ≡ before ++ (full ++ now) → done ++ s ∷ [] ≡ before ++ (full ++ (now ++ s ∷ []))
+one_more done before full now s are = ap (λ d. d ++ s ∷ []) are ∙ append_assoc before (full ++ now) (s ∷ []) ∙ ap (λ xs. before ++ xs) (append_assoc full now (s ∷ []))
+
 pub made_number : (done : List Slot) (s : Slot) (m : PlanBuilder) (run : ℕ) (n : PlannedNumber) → GoesOn m.align run s m.numbers → IsNumber (max 8 run) m.span s n → n.window.place + n.window.size ≤ 2 ^ 33 → IsMade done m → IsMade (done ++ s ∷ []) (with_number m run n)
 made_number done s m run n on is near made = record {
+  depth = made.depth;
+  before = made.before;
   full = made.full;
   now = made.now ++ s ∷ [];
-  are = ap (λ d. d ++ s ∷ []) made.are ∙ append_assoc made.full made.now (s ∷ []);
+  are = one_more done made.before made.full made.now s made.are;
+  branched = made.branched;
   whole = made.whole;
   last = open_number m.align run made.now m.numbers m.span s n on made.last is;
   room = ap (λ r. r + (length n.ready + 66)) made.room ∙ sym (room_number m.numbers n);
@@ -68,31 +82,88 @@ made_number done s m run n on is near made = record {
 -- the open run with a field after it
 pub made_field : (done : List Slot) (s : Slot) (m : PlanBuilder) (f : PlannedField) → IsField s f → IsMade done m → IsMade (done ++ s ∷ []) (with_field m f)
 made_field done s m f is made = record {
-  full = done ++ s ∷ [];
+  depth = made.depth;
+  before = made.before;
+  full = made.full ++ (made.now ++ s ∷ []);
   now = [];
-  are = sym (append-nil (done ++ s ∷ []));
+  are = one_more done made.before made.full made.now s made.are ∙ ap (λ xs. made.before ++ xs) (sym (append-nil (made.full ++ (made.now ++ s ∷ []))));
+  branched = made.branched;
   whole = λ rest rs others.
       let run : PlannedRun = record { align = m.align; numbers = m.numbers; has_special = have_special m.numbers; span = m.span; room = m.room + (length f.ready + 66); field = Some f } in
       let room : run.room ≡ room_of m.numbers (Some f) = ap (λ r. r + (length f.ready + 66)) made.room ∙ sym (room_field m.numbers f) in
       let whole : AreRuns (made.full ++ (made.now ++ s ∷ rest)) (m.runs ++ run ∷ rs) = made.whole (made.now ++ s ∷ rest) (run ∷ rs) (s ∷ rest, made.last (s ∷ rest), room, made.bounded, refl, (is, others)) in
-      let slots_are : made.full ++ (made.now ++ s ∷ rest) ≡ (done ++ s ∷ []) ++ rest = sym (append_assoc made.full made.now (s ∷ rest)) ∙ ap (λ d. d ++ s ∷ rest) (sym made.are) ∙ sym (append_assoc done (s ∷ []) rest) in
+      let slots_are : made.full ++ (made.now ++ s ∷ rest) ≡ (made.full ++ (made.now ++ s ∷ [])) ++ rest = ap (λ xs. made.full ++ xs) (sym (append_assoc made.now (s ∷ []) rest)) ∙ sym (append_assoc made.full (made.now ++ s ∷ []) rest) in
       subst (λ xs. AreRuns xs ((m.runs ++ run ∷ []) ++ rs)) slots_are (subst (AreRuns (made.full ++ (made.now ++ s ∷ rest))) (sym (append_assoc m.runs (run ∷ []) rs)) whole);
   last = λ rest. (refl, (refl, refl));
   room = refl;
   bounded = omega arith;
 }
 
+-- options of less depth are of more
+each_more : (P Q : Member → RecordPlan → Type 0) → ((m : Member) (p : RecordPlan) → P m p → Q m p) → (ms : List Member) (ps : List RecordPlan) → AreEach P ms ps → AreEach Q ms ps
+each_more P Q more [] [] are = tt
+each_more P Q more [] (p ∷ ps) are = absurd are
+each_more P Q more (m ∷ ms) [] are = absurd are
+each_more P Q more (m ∷ ms) (p ∷ ps) are = (more m p are.0, each_more P Q more ms ps are.1)
+
+variant_more : (P Q : Member → RecordPlan → Type 0) → ((m : Member) (p : RecordPlan) → P m p → Q m p) → (s : Slot) (b : Branch) → IsVariant P s b → IsVariant Q s b
+variant_more P Q more s b is = record { tag = is.tag; options = is.options; is = is.is; leads = is.leads; align = is.align; before = is.before; are = listed (out-OptionPlans b.options) is.are }
+  where
+    listed : (x : OptionPlans-F Branches OptionPlans Branch RecordPlan) → AreListed P is.options x → AreListed Q is.options x
+    listed (OptionPlans-F.Each ps) are = each_more P Q more is.options ps are
+
+branches_more : (P Q : Member → RecordPlan → Type 0) → ((m : Member) (p : RecordPlan) → P m p → Q m p) → (ss : List Slot) (bs : List Branch) (rs : List PlannedRun) → AreBranches P ss bs rs → AreBranches Q ss bs rs
+branches_more P Q more ss [] rs are = are
+branches_more P Q more ss (b ∷ bs) rs are = (are.0, are.1, are.2, are.3, are.4, are.5, are.6, variant_more P Q more are.2 b are.7, branches_more P Q more are.3 bs rs are.8)
+
+those_more : (P Q : Member → RecordPlan → Type 0) → ((m : Member) (p : RecordPlan) → P m p → Q m p) → (ss : List Slot) (x : Branches-F Branches OptionPlans Branch RecordPlan) (rs : List PlannedRun) → AreThose P ss x rs → AreThose Q ss x rs
+those_more P Q more ss (Branches-F.Listed bs) rs are = branches_more P Q more ss bs rs are
+
+option_deeper : (d : ℕ) (m : Member) (p : RecordPlan) → IsOption d m p → IsOption (suc d) m p
+option_deeper zero m p is = absurd is
+option_deeper (suc d) m p is = (is.0, is.1, is.2, is.3, is.4, those_more (IsOption d) (IsOption (suc d)) (option_deeper d) (piece_slots (first_at (123 ∷ 32 ∷ []) 1) is.0) (out-Branches p.branches) p.runs is.5)
+
+pub option_deep : (k d : ℕ) (m : Member) (p : RecordPlan) → IsOption d m p → IsOption (k + d) m p
+option_deep zero d m p is = (let same : d ≡ 0 + d = omega arith in subst (λ n. IsOption n m p) same is)
+option_deep (suc k) d m p is = (let more : suc (k + d) ≡ suc k + d = omega arith in subst (λ n. IsOption n m p) more (option_deeper (k + d) m p (option_deep k d m p is)))
+
+pub each_deep : (k d : ℕ) (ms : List Member) (ps : List RecordPlan) → AreEach (IsOption d) ms ps → AreEach (IsOption (k + d)) ms ps
+each_deep k d ms ps are = each_more (IsOption d) (IsOption (k + d)) (option_deep k d) ms ps are
+
+-- an option more
+pub each_and : (P : Member → RecordPlan → Type 0) (ms : List Member) (ps : List RecordPlan) (m : Member) (p : RecordPlan) → AreEach P ms ps → P m p → AreEach P (ms ++ m ∷ []) (ps ++ p ∷ [])
+each_and P [] [] m p are is = (is, tt)
+each_and P [] (q ∷ ps) m p are is = absurd are
+each_and P (n ∷ ms) [] m p are is = absurd are
+each_and P (n ∷ ms) (q ∷ ps) m p are is = (are.0, each_and P ms ps m p are.1 is)
+
+pub option_more : (ms : List Member) (ps : List RecordPlan) (m : Member) (p : RecordPlan) → (depth : ℕ) × AreEach (IsOption depth) ms ps → (depth : ℕ) × IsOption depth m p → (depth : ℕ) × AreEach (IsOption depth) (ms ++ m ∷ []) (ps ++ p ∷ [])
+option_more ms ps m p are is =
+    let same : are.0 + is.0 ≡ is.0 + are.0 = omega arith in
+    (is.0 + are.0, each_and (IsOption (is.0 + are.0)) ms ps m p (each_deep is.0 are.0 ms ps are.1) (subst (λ n. IsOption n m p) same (option_deep are.0 is.0 m p is.1)))
+
+-- the plan of an option
+pub option_made : (at : At) (m : Member) (old new : PlanBuilder) (p : RecordPlan) → at ≡ first_at (123 ∷ 32 ∷ []) 1 → old.count ≡ 0 → AddsPiece at m [] old new → ((done : List Slot) → IsMade done new → (depth : ℕ) × IsPlanned depth done p) → p.count ≡ new.count → p.ended ≡ new.ended → (depth : ℕ) × IsOption depth m p
+option_made at m old new p here none adds planned count ended =
+    let is = planned (piece_slots at adds.0) adds.5 in
+    let slots_are = ap (λ a. piece_slots a adds.0) here in
+    let values : p.count ≡ inside adds.0 = (let a = adds.3 in omega (arith, a, none, count)) in
+    (suc is.0, (adds.0, adds.1, subst (λ (a : At). IsPiece a.align adds.0) here adds.2, values, ended ∙ adds.4, subst (λ ss. IsPlanned is.0 ss p) slots_are is.1))
+
 -- nothing yet
-pub made_none : (m : PlanBuilder) → m.runs ≡ [] → m.align ≡ 1 → m.numbers ≡ [] → m.span ≡ 0 → m.room ≡ 24 → m.count ≡ 0 → m.ended ≡ 0 → IsMadeOf [] m
-made_none m runs align numbers span room count ended = record {
+pub made_none : (m : PlanBuilder) → m.branches ≡ [] → m.runs ≡ [] → m.align ≡ 1 → m.numbers ≡ [] → m.span ≡ 0 → m.room ≡ 24 → m.count ≡ 0 → m.ended ≡ 0 → IsMadeOf [] m
+made_none m branches runs align numbers span room count ended = record {
   scopes = [];
   are = tt;
   count = count;
   ended = ended;
   made = record {
+    depth = 0;
+    before = [];
     full = [];
     now = [];
     are = refl;
+    branched = λ more rest bs rs others. subst (λ xs. AreBranches (IsOption (more + 0)) rest (xs ++ bs) rs) (sym branches) others;
     whole = λ rest rs others. subst (λ ns. AreRuns rest (ns ++ rs)) (sym runs) others;
     last = λ rest. subst (λ ns. TakesNumbers m.align rest ns m.span rest) (sym numbers) (align, (span, refl));
     room = room ∙ ap (λ ns. room_of ns None) (sym numbers);
@@ -108,24 +179,78 @@ made_nothing m of = nothing of.scopes of.are of.made
     nothing [] are made = made
     nothing (s ∷ ss) are made = absurd are
 
--- the plan of what was made
-pub plan_of : (ks : List Class) (m : PlanBuilder) (runs : List PlannedRun) → runs ≡ m.runs ++ record { align = m.align; numbers = m.numbers; has_special = have_special m.numbers; span = m.span; room = m.room; field = None } ∷ [] → IsMadeOf ks m → IsPlanOf ks (record { runs = runs; count = m.count; ended = m.ended })
-plan_of ks m runs are of some =
-    let made = of.made in
+-- the plan of what was made, with the runs that are left after the last branch
+planned_by : (done rest : List Slot) (m : PlanBuilder) (p : RecordPlan) (made : IsMade done m) → p.branches ≡ branches.Listed m.branches → rest ≡ made.full ++ made.now → AreRuns rest p.runs → (depth : ℕ) × IsPlanned depth done p
+planned_by done rest m p made listed left are =
+    let O = IsOption (0 + made.depth) in
+    let all : AreBranches O (made.before ++ rest) (m.branches ++ []) p.runs = made.branched 0 rest [] p.runs are in
+    let whole : AreBranches O done m.branches p.runs = subst (λ xs. AreBranches O xs m.branches p.runs) (sym (made.are ∙ ap (λ xs. made.before ++ xs) (sym left))) (subst (λ bs. AreBranches O (made.before ++ rest) bs p.runs) (append-nil m.branches) all) in
+    (0 + made.depth, subst (λ bs. AreThose O done bs p.runs) (sym (ap out-Branches listed ∙ branches.outs-Listed m.branches)) whole)
+
+pub planned : (done : List Slot) (m : PlanBuilder) (p : RecordPlan) → p.branches ≡ branches.Listed m.branches → p.runs ≡ m.runs ++ record { align = m.align; numbers = m.numbers; has_special = have_special m.numbers; span = m.span; room = m.room; field = None } ∷ [] → IsMade done m → (depth : ℕ) × IsPlanned depth done p
+planned done m p listed are made =
     let run : PlannedRun = record { align = m.align; numbers = m.numbers; has_special = have_special m.numbers; span = m.span; room = m.room; field = None } in
     let numbers : TakesNumbers m.align made.now m.numbers m.span [] = subst (λ xs. TakesNumbers m.align xs m.numbers m.span []) (append-nil made.now) (made.last []) in
     let whole : AreRuns (made.full ++ made.now) (m.runs ++ run ∷ []) = made.whole made.now (run ∷ []) ([], numbers, made.room, made.bounded, refl, refl) in
-    (of.scopes, of.are, of.count, of.ended, subst (AreRuns (all_slots [] of.scopes)) (sym are) (subst (λ xs. AreRuns xs (m.runs ++ run ∷ [])) (sym made.are) whole))
+    planned_by done (made.full ++ made.now) m p made listed refl (subst (AreRuns (made.full ++ made.now)) (sym are) whole)
 
 -- the plan of what was made where the open run has no number
-pub plan_of_whole : (ks : List Class) (m : PlanBuilder) → m.numbers ≡ [] → IsMadeOf ks m → IsPlanOf ks (record { runs = m.runs; count = m.count; ended = m.ended })
-plan_of_whole ks m none of some =
-    let made = of.made in
+pub planned_whole : (done : List Slot) (m : PlanBuilder) (p : RecordPlan) → p.branches ≡ branches.Listed m.branches → p.runs ≡ m.runs → m.numbers ≡ [] → IsMade done m → (depth : ℕ) × IsPlanned depth done p
+planned_whole done m p listed are none made =
     let left : TakesNumbers m.align (made.now ++ []) [] m.span [] = subst (λ ns. TakesNumbers m.align (made.now ++ []) ns m.span []) none (made.last []) in
     let nothing : made.now ≡ [] = sym (append-nil made.now) ∙ sym left.1.1 in
-    let all : made.full ++ made.now ≡ all_slots [] of.scopes = sym made.are in
     let whole : AreRuns (made.full ++ made.now) (m.runs ++ []) = made.whole made.now [] nothing in
-    (of.scopes, of.are, of.count, of.ended, subst (AreRuns (all_slots [] of.scopes)) (append-nil m.runs) (subst (λ xs. AreRuns xs (m.runs ++ [])) all whole))
+    planned_by done (made.full ++ made.now) m p made listed refl (subst (AreRuns (made.full ++ made.now)) (append-nil m.runs ∙ sym are) whole)
+
+-- the runs that are whole once the open one is
+closed_runs : (done : List Slot) (m : PlanBuilder) (made : IsMade done m) (ns : List PlannedNumber) → ns ≡ m.numbers → AreRuns (made.full ++ made.now) (runs_by m ns)
+closed_runs done m made [] none =
+    let left : TakesNumbers m.align (made.now ++ []) [] m.span [] = subst (λ ns. TakesNumbers m.align (made.now ++ []) ns m.span []) (sym none) (made.last []) in
+    let nothing : made.now ≡ [] = sym (append-nil made.now) ∙ sym left.1.1 in
+    subst (AreRuns (made.full ++ made.now)) (append-nil m.runs) (made.whole made.now [] nothing)
+closed_runs done m made (n ∷ ns) some =
+    let run : PlannedRun = record { align = m.align; numbers = m.numbers; has_special = have_special m.numbers; span = m.span; room = m.room; field = None } in
+    let numbers : TakesNumbers m.align made.now m.numbers m.span [] = subst (λ xs. TakesNumbers m.align xs m.numbers m.span []) (append-nil made.now) (made.last []) in
+    made.whole made.now (run ∷ []) ([], numbers, made.room, made.bounded, refl, refl)
+
+-- the fields of a branch after these
+pub made_branch : (done : List Slot) (lead : Lead) (index : ℕ) (m v : Member) (b : Branch) (old : PlanBuilder) → IsBranch lead index m v b → IsMade done old → IsMade (done ++ (slot_of lead m ∷ (variant_slot index v ∷ []))) (with_branch old b)
+made_branch done lead index m v b old is made =
+    let t = slot_of lead m in
+    let w = variant_slot index v in
+    let two = t ∷ (w ∷ []) in
+    let closed : Branch = record b { runs = runs_by old old.numbers } in
+    let depth = is.depth + made.depth in
+    record {
+      depth = depth;
+      before = done ++ two;
+      full = [];
+      now = [];
+      are = sym (append-nil (done ++ two));
+      branched = λ more rest bs rs are.
+          let own : more + is.depth + made.depth ≡ more + depth = omega arith in
+          let theirs : more + made.depth + is.depth ≡ more + depth = omega arith in
+          let O = IsOption (more + depth) in
+          let deeper : (x : Member) (p : RecordPlan) → IsOption is.depth x p → O x p = λ x p o. subst (λ n. IsOption n x p) theirs (option_deep (more + made.depth) is.depth x p o) in
+          let variant : IsVariant O w closed = variant_more (IsOption is.depth) O deeper w closed (record { tag = is.is_variant.tag; options = is.is_variant.options; is = is.is_variant.is; leads = is.is_variant.leads; align = is.is_variant.align; before = is.is_variant.before; are = is.is_variant.are }) in
+          let tag : IsTag t closed = record { align = is.is_tag.align; ready = is.is_tag.ready; is = is.is_tag.is; own = is.is_tag.own } in
+          let inner : AreBranches O ((made.full ++ made.now) ++ (t ∷ (w ∷ rest))) (closed ∷ bs) rs = (made.full ++ made.now, t, w, rest, refl, closed_runs done old made old.numbers refl, tag, variant, are) in
+          let all : AreBranches O (made.before ++ ((made.full ++ made.now) ++ (t ∷ (w ∷ rest)))) (old.branches ++ closed ∷ bs) rs = subst (λ n. AreBranches (IsOption n) (made.before ++ ((made.full ++ made.now) ++ (t ∷ (w ∷ rest)))) (old.branches ++ closed ∷ bs) rs) own (made.branched (more + is.depth) ((made.full ++ made.now) ++ (t ∷ (w ∷ rest))) (closed ∷ bs) rs (subst (λ n. AreBranches (IsOption n) ((made.full ++ made.now) ++ (t ∷ (w ∷ rest))) (closed ∷ bs) rs) (sym own) inner)) in
+          let slots_are : made.before ++ ((made.full ++ made.now) ++ (t ∷ (w ∷ rest))) ≡ (done ++ two) ++ rest = sym (append_assoc made.before (made.full ++ made.now) (t ∷ (w ∷ rest))) ∙ ap (λ d. d ++ (t ∷ (w ∷ rest))) (sym made.are) ∙ sym (append_assoc done two rest) in
+          subst (λ xs. AreBranches O xs ((old.branches ++ closed ∷ []) ++ bs) rs) slots_are (subst (λ ys. AreBranches O (made.before ++ ((made.full ++ made.now) ++ (t ∷ (w ∷ rest)))) ys rs) (sym (append_assoc old.branches (closed ∷ []) bs)) all);
+      whole = λ rest rs others. others;
+      last = λ rest. (refl, (refl, refl));
+      room = refl;
+      bounded = omega arith;
+    }
+
+-- the plan of scopes that were made
+pub plan_of : (ks : List Class) (m : PlanBuilder) (p : RecordPlan) → p.count ≡ m.count → p.ended ≡ m.ended → ((done : List Slot) → IsMade done m → (depth : ℕ) × IsPlanned depth done p) → IsMadeOf ks m → IsPlanOf ks p
+plan_of ks m p count ended planned of some = (let is = planned (all_slots [] of.scopes) of.made in (of.scopes, of.are, count ∙ of.count, ended ∙ of.ended, is.0, is.1))
+
+pub finished : (ks : List Class) (m : PlanBuilder) (r : Result RecordPlan NoMemory) → IsMadeOf ks m → IfOk r (λ p. (done : List Slot) → IsMade done m → (depth : ℕ) × IsPlanned depth done p) → IfOk r (λ p. p.count ≡ m.count) → IfOk r (λ p. p.ended ≡ m.ended) → IfOk r (IsPlanOf ks)
+finished ks m (Ok p) of planned count ended = plan_of ks m p count ended planned of
+finished ks m (Err e) of planned count ended = tt
 
 -- a scope more
 abbrev lead_of : List ℕ → List Scoped → List ℕ
@@ -168,8 +293,8 @@ scoped_more (j ∷ ks) [] k s are one = absurd are
 scoped_more (j ∷ ks) (x ∷ ss) k s are one = (are.0, are.1, are.2, scoped_more ks ss k s are.3 one)
 
 -- counts have no part in the runs
-pub made_counted : (done : List Slot) (m n : PlanBuilder) → n ≡ record { runs = m.runs; align = m.align; numbers = m.numbers; span = m.span; room = m.room; count = n.count; ended = n.ended } → IsMade done m → IsMade done n
-made_counted done m n is made = subst (IsMade done) (sym is) (record { full = made.full; now = made.now; are = made.are; whole = made.whole; last = made.last; room = made.room; bounded = made.bounded })
+pub made_counted : (done : List Slot) (m n : PlanBuilder) → n ≡ record { begins_whole = m.begins_whole; branches = m.branches; runs = m.runs; align = m.align; numbers = m.numbers; span = m.span; room = m.room; count = n.count; ended = n.ended } → IsMade done m → IsMade done n
+made_counted done m n is made = subst (IsMade done) (sym is) (record { depth = made.depth; before = made.before; full = made.full; now = made.now; are = made.are; branched = made.branched; whole = made.whole; last = made.last; room = made.room; bounded = made.bounded })
 
 -- the text where so many structures end
 pub ends_on : (n : ℕ) → ends n ++ (32 ∷ 125 ∷ []) ≡ 32 ∷ 125 ∷ ends n
@@ -250,6 +375,71 @@ added_more first ms i m at done old mid new within is added adds =
     ap (λ a. (done ++ pieces_slots 0 first ps) ++ piece_slots a p) (sym added.3) ∙ append_assoc done (pieces_slots 0 first ps) (piece_slots (after_pieces 0 first ps) p) ∙ ap (λ xs. done ++ xs) (sym (slots_and 0 first ps p))
     in
     (and_piece ps p, members, are_and 0 first ps p added.2 (subst (λ (a : At). IsPiece a.align p) (sym added.3) one.2), after_and 0 first ps p ∙ (λ j. later_at (sym one.4 j) (place j)), count, one.4 ∙ sym (closing_and old.ended ps p), subst (λ d. IsMade d new) slots_are one.5)
+
+-- so were the next two, each a field alone
+pub added_two : (first : At) (ms : List Member) (i : ℕ) (m n : Member) (lead : Lead) (done : List Slot) (old mid new : PlanBuilder) → i + 1 < length ms → m ≡ get_or ms i m → n ≡ get_or ms (i + 1) n → AddedTo first ms i (at_of lead) done old mid
+    → new.count ≡ mid.count → new.ended ≡ 0 → ((before : List Slot) → IsMade before mid → IsMade (before ++ slot_of lead m ∷ (variant_slot (i + 1) n ∷ [])) new)
+    → AddedTo first ms (i + 2) (later_at new.ended (i + 2)) done old new
+added_two first ms i m n lead done old mid new within is next added counted ended makes =
+    let ps = added.0 in
+    let one = and_piece ps (alone m) in
+    let two = and_piece one (alone n) in
+    let so_far : length (members_of ps) ≡ i = ap length added.1 ∙ length-take-le i ms (omega (arith, within)) in
+    let first_members : members_of one ≡ take (i + 1) ms = members_and ps (alone m) ∙ (λ k. added.1 k ++ is k ∷ []) ∙ sym (take_more ms i m (omega (arith, within))) in
+    let again : i + 1 + 1 ≡ i + 2 = omega arith in
+    let members : members_of two ≡ take (i + 2) ms = members_and one (alone n) ∙ (λ k. first_members k ++ next k ∷ []) ∙ sym (take_more ms (i + 1) n within) ∙ ap (λ k. take k ms) again in
+    let place : suc (0 + length (members_of ps)) ≡ i + 1 = omega (arith, so_far) in
+    let at_next : after_pieces 0 first one ≡ later_at 0 (i + 1) = after_and 0 first ps (alone m) ∙ ap (later_at 0) place in
+    let lengths : length (members_of one) ≡ i + 1 = ap length first_members ∙ length-take-le (i + 1) ms (omega (arith, within)) in
+    let last : suc (0 + length (members_of one)) ≡ i + 2 = omega (arith, lengths) in
+    let at_last : after_pieces 0 first two ≡ later_at new.ended (i + 2) = after_and 0 first one (alone n) ∙ (λ j. later_at (sym ended j) (last j)) in
+    let a = insides_and ps (alone m) in
+    let b = insides_and one (alone n) in
+    let c = added.4 in
+    let count : new.count ≡ old.count + insides two = omega (arith, a, b, c, counted) in
+    let index_next : known_index 0 (i + 1) ≡ i + 1 = known_more i in
+    let so : At → Member → Slot = λ at x. record { lead = at.lead ++ field_text x.name; align = at.align; index = at.index; class = x.class } in
+    let before = done ++ pieces_slots 0 first ps in
+    let first_slots : pieces_slots 0 first one ≡ pieces_slots 0 first ps ++ slot_of lead m ∷ [] = slots_and 0 first ps (alone m) ∙ ap (λ t. pieces_slots 0 first ps ++ so t m ∷ []) added.3 in
+    let second_slot : so (after_pieces 0 first one) n ≡ variant_slot (i + 1) n = ap (λ t. so t n) at_next ∙ ap (λ k. record { lead = 44 ∷ (32 ∷ field_text n.name); align = 1; index = k; class = n.class }) index_next in
+    let slots_two : pieces_slots 0 first two ≡ pieces_slots 0 first ps ++ slot_of lead m ∷ (variant_slot (i + 1) n ∷ []) = slots_and 0 first one (alone n) ∙ (λ j. first_slots j ++ second_slot j ∷ []) ∙ append_assoc (pieces_slots 0 first ps) (slot_of lead m ∷ []) (variant_slot (i + 1) n ∷ []) in
+    let slots_are : before ++ slot_of lead m ∷ (variant_slot (i + 1) n ∷ []) ≡ done ++ pieces_slots 0 first two = append_assoc done (pieces_slots 0 first ps) (slot_of lead m ∷ (variant_slot (i + 1) n ∷ [])) ∙ ap (λ xs. done ++ xs) (sym slots_two) in
+    (two, members, are_and 0 first one (alone n) (are_and 0 first ps (alone m) added.2 tt) tt, at_last, count, ended ∙ sym (closing_and old.ended one (alone n)), subst (λ d. IsMade d new) slots_are (makes before added.6))
+  where
+    known_more : (k : ℕ) → known_index 0 (k + 1) ≡ k + 1
+    known_more k = refl
+
+-- an element, whatever else is given
+same_element : {X : Type 0} → (xs : List X) (i : ℕ) (x y : X) → i < length xs → x ≡ get_or xs i x → y ≡ get_or xs i y → x ≡ y
+same_element [] i x y within one other = absurd (omega (arith, within))
+same_element (z ∷ xs) zero x y within one other = one ∙ sym other
+same_element (z ∷ xs) (suc i) x y within one other = same_element xs i x y (omega (arith, within)) one other
+
+-- so was what a step adds
+pub added_some : (first : At) (ms : List Member) (i count : ℕ) (m : Member) (lead : Lead) (done : List Slot) (old mid new : PlanBuilder) (found : Option Branch) → i < length ms → m ≡ get_or ms i m → AddedTo first ms i (at_of lead) done old mid → TakesSome lead m found count mid new
+    → ((b : Branch) → found ≡ Some b → (t v : Member) × (t ≡ get_or ms i t) × (i + 1 < length ms) × (v ≡ get_or ms (i + 1) v) × IsBranch lead (i + 1) t v b)
+    → AddedTo first ms (i + count) (later_at new.ended (i + count)) done old new
+added_some first ms i count m lead done old mid new found within is added takes branches = elim takes [
+  | inl w ↦ subst (λ n. AddedTo first ms (i + n) (later_at new.ended (i + n)) done old new) (sym w.0) (added_more first ms i m (at_of lead) done old mid new within is added w.2)
+  | inr w ↦ (
+      let b = branches w.1 w.2 in
+      let same : b.0 ≡ m = same_element ms i b.0 m within b.2 is in
+      subst (λ n. AddedTo first ms (i + n) (later_at new.ended (i + n)) done old new) (sym w.0)
+      (added_two first ms i m b.1 lead done old mid new b.3 is b.4 added w.3 w.4 (λ before made. w.5 (i + 1) b.1 (subst (λ x. IsBranch lead (i + 1) x b.1 w.1) same b.5) before made)))
+]
+
+-- no branch was found
+pub no_branch : (found : Option Branch) (b : Branch) → found ≡ None → found ≡ Some b → ⊥
+no_branch found b none some = cc
+
+-- a step stays within the members
+pub added_within : (ms : List Member) (i count : ℕ) (m : Member) (lead : Lead) (mid new : PlanBuilder) (found : Option Branch) → i < length ms → TakesSome lead m found count mid new
+    → ((b : Branch) → found ≡ Some b → (t v : Member) × (t ≡ get_or ms i t) × (i + 1 < length ms) × (v ≡ get_or ms (i + 1) v) × IsBranch lead (i + 1) t v b)
+    → i + count ≤ length ms
+added_within ms i count m lead mid new found within takes branches = elim takes [
+  | inl w ↦ (let one = w.0 in omega (arith, within, one))
+  | inr w ↦ (let two = w.0 in let b = branches w.1 w.2 in let there = b.3 in omega (arith, two, there))
+]
 
 pub added_all : (first : At) (ms : List Member) (i : ℕ) (at : At) (done : List Slot) (old new : PlanBuilder) → take i ms ≡ ms → AddedTo first ms i at done old new → AddsPieces first ms done old new
 added_all first ms i at done old new all added = (added.0, added.1 ∙ all, added.2, added.4, added.5, added.6)
@@ -367,11 +557,16 @@ room_plain : (ns : List PlannedNumber) → room_of ns None ≡ numbers_room ns
 room_plain [] = refl
 room_plain (n ∷ ns) = ap (λ r. length n.ready + 66 + r) (room_plain ns)
 
+-- no branch has no fields
+nothing_before : (depth : ℕ) (before : List Slot) (bs : List Branch) → bs ≡ [] → BranchesTo depth before bs → before ≡ []
+nothing_before depth before bs none branched = sym (append-nil before) ∙ subst (λ xs. AreBranches (IsOption (0 + depth)) (before ++ []) (xs ++ []) []) none (branched 0 [] [] [] refl)
+
 -- the numbers of one structure alone
-pub structure_made : (k : Class) (ms : List Member) (m : PlanBuilder) (values : ℕ) (several : Many) → k.kind ≡ kind.Structure ms → 0 < length ms → values ≡ 1 + length ms → m.runs ≡ [] → m.align ≡ k.align → m.align % 8 ≡ 0 → IsMade (member_slots k.align ms) m
+pub structure_made : (k : Class) (ms : List Member) (m : PlanBuilder) (values : ℕ) (several : Many) → k.kind ≡ kind.Structure ms → 0 < length ms → values ≡ 1 + length ms → m.branches ≡ [] → m.runs ≡ [] → m.align ≡ k.align → m.align % 8 ≡ 0 → IsMade (member_slots k.align ms) m
     → IsStructure k (record { align = m.align; numbers = m.numbers; has_special = have_special m.numbers; span = m.span; room = m.room; count = values; many = several })
-structure_made k ms m values several is some count none begins whole made =
+structure_made k ms m values several is some count bare none begins whole made =
     let full : made.full ≡ [] = sym (append-nil made.full) ∙ subst (λ rs. AreRuns (made.full ++ []) (rs ++ [])) none (made.whole [] [] refl) in
-    let now : made.now ≡ member_slots k.align ms = sym (made.are ∙ ap (λ f. f ++ made.now) full) in
+    let before : made.before ≡ [] = nothing_before made.depth made.before m.branches bare made.branched in
+    let now : made.now ≡ member_slots k.align ms = sym (made.are ∙ ap (λ b. b ++ (made.full ++ made.now)) before ∙ ap (λ f. f ++ made.now) full) in
     let takes : TakesNumbers m.align made.now m.numbers m.span [] = subst (λ xs. TakesNumbers m.align xs m.numbers m.span []) (append-nil made.now) (made.last []) in
     record { members = ms; is = is; begins = begins; whole = whole; some = some; count = count; numbers = subst (λ xs. TakesNumbers m.align xs m.numbers m.span []) now takes; room = made.room ∙ room_plain m.numbers; bounded = made.bounded; special = refl }

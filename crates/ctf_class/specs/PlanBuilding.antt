@@ -1,15 +1,16 @@
 -- Plans of event records while they are built (all own).
-use Rattle.std.specs.Prelude.{◌≡◌, ℕ, zero, suc, ◌+◌, ◌^◌, ◌≤◌, List, [], ◌∷◌, ◌++◌, length, Some, None}
+use Rattle.std.specs.Prelude.{◌≡◌, ◌⊎◌, ℕ, zero, suc, ◌+◌, ◌^◌, ◌≤◌, List, [], ◌∷◌, ◌++◌, length, Option, Some, None}
 use Rattle.ctf_class.specs.Names.{field_text}
 use Rattle.ctf_class.specs.declared.class.Class.{Class}
 use Rattle.ctf_class.specs.declared.class.Member.{Member}
+use Rattle.ctf_class.specs.declared.record_plan.Branch.{Branch}
 use Rattle.ctf_class.specs.declared.record_plan.PlannedField.{PlannedField}
 use Rattle.ctf_class.specs.declared.plan_builder.PlanBuilder.{PlanBuilder}
 use Rattle.ctf_class.specs.declared.plan_builder.Lead.{Lead}
 use Rattle.ctf_class.specs.declared.record_plan.PlannedRun.{PlannedRun}
 use Rattle.ctf_class.specs.declared.planned_number.PlannedNumber.{PlannedNumber}
 use Rattle.ctf_class.specs.declared.shown.Shown.TheVariants as shown
-use Rattle.ctf_class.specs.Records.{Slot, At, Piece, Pieces, Scoped, IsPiece, ArePieces, member_of, members_of, inside, insides, ended_by, ended_after, ends, ended_last, piece_slots, pieces_slots, all_slots, values_in, AreScoped, TakesNumbers, AreRuns, have_special, room_of}
+use Rattle.ctf_class.specs.Records.{Slot, At, Piece, Pieces, Scoped, IsPiece, ArePieces, member_of, members_of, inside, insides, ended_by, ended_after, ends, ended_last, piece_slots, pieces_slots, all_slots, values_in, AreScoped, TakesNumbers, AreRuns, AreBranches, IsOption, IsTag, IsVariant, have_special, room_of}
 
 -- where a member with so much before it comes, and the field that it is alone
 abbrev pub at_of : Lead → At
@@ -34,11 +35,21 @@ abbrev pub IsOpen : ℕ → List Slot → List PlannedNumber → ℕ → Type 0
 IsOpen align now numbers span =
     (rest : List Slot) → TakesNumbers align (now ++ rest) numbers span rest
 
--- fields are the whole runs and the open one
+-- fields are those of these branches, whatever branches and runs are after them, at this depth and below
+abbrev pub BranchesTo : ℕ → List Slot → List Branch → Type 0
+BranchesTo depth before branches =
+    (more : ℕ) (rest : List Slot) (bs : List Branch) (rs : List PlannedRun)
+    → AreBranches (IsOption (more + depth)) rest bs rs
+    → AreBranches (IsOption (more + depth)) (before ++ rest) (branches ++ bs) rs
+
+-- fields are those of the branches, of the whole runs and of the open one
 pub record IsMade (done : List Slot) (m : PlanBuilder) : Type 0 where
+  pub depth : ℕ
+  pub before : List Slot
   pub full : List Slot
   pub now : List Slot
-  pub are : done ≡ full ++ now
+  pub are : done ≡ before ++ (full ++ now)
+  pub branched : BranchesTo depth before m.branches
   pub whole : RunsTo full m.runs
   pub last : IsOpen m.align now m.numbers m.span
   pub room : m.room ≡ room_of m.numbers None
@@ -77,6 +88,8 @@ with_structure m values = record m { count = m.count + values; ended = m.ended +
 -- with one number more in the open run, which is of this alignment then
 abbrev pub with_number : PlanBuilder → ℕ → PlannedNumber → PlanBuilder
 with_number m align n = record {
+  begins_whole = m.begins_whole;
+  branches = m.branches;
   runs = m.runs;
   align = align;
   numbers = m.numbers ++ n ∷ [];
@@ -89,6 +102,8 @@ with_number m align n = record {
 -- with a field after the open run, which is whole then
 abbrev pub with_field : PlanBuilder → PlannedField → PlanBuilder
 with_field m f = record {
+  begins_whole = m.begins_whole;
+  branches = m.branches;
   runs = m.runs ++ record {
     align = m.align;
     numbers = m.numbers;
@@ -112,3 +127,54 @@ empty_scope text align = record { ready = text; align = 1; shown = shown.Empty a
 -- with a scope after the open run, which is whole then, as a field
 abbrev pub with_scope : PlanBuilder → PlannedField → PlanBuilder
 with_scope m f = record (with_field m f) { count = m.count + 1 }
+
+-- the field that is a variant with so many members before it, the last of which is its tag
+abbrev pub variant_slot : ℕ → Member → Slot
+variant_slot index m = record {
+  lead = 44 ∷ 32 ∷ field_text m.name;
+  align = 1;
+  index = index;
+  class = m.class;
+}
+
+-- a branch is of this tag, with so much before it, and this variant, with so many members before it, whatever runs are
+-- before them
+pub record IsBranch (lead : Lead) (index : ℕ) (tag variant : Member) (b : Branch) : Type 0 where
+  pub runs : b.runs ≡ []
+  pub is_tag : IsTag (slot_of lead tag) b
+  pub depth : ℕ
+  pub is_variant : IsVariant (IsOption depth) (variant_slot index variant) b
+
+-- the runs with the open one, if that has numbers
+abbrev pub runs_by : PlanBuilder → List PlannedNumber → List PlannedRun
+runs_by m [] = m.runs
+runs_by m (n ∷ ns) = m.runs ++ record {
+  align = m.align;
+  numbers = m.numbers;
+  has_special = have_special m.numbers;
+  span = m.span;
+  room = m.room;
+  field = None;
+} ∷ []
+
+-- with a branch after these
+abbrev pub with_branch : PlanBuilder → Branch → PlanBuilder
+with_branch m b = record {
+  begins_whole = m.begins_whole;
+  branches = m.branches ++ record b { runs = runs_by m m.numbers } ∷ [];
+  runs = [];
+  align = 1;
+  numbers = [];
+  span = 0;
+  room = 24;
+  count = m.count;
+  ended = 0;
+}
+
+-- so many members were added: one as a piece, or it and the next one as the fields of a branch
+abbrev pub TakesSome : Lead → Member → Option Branch → ℕ → PlanBuilder → PlanBuilder → Type 0
+TakesSome lead m found count old new =
+    ((count ≡ 1) × (found ≡ None) × ((done : List Slot) → IsMade done old → AddsPiece (at_of lead) m done old new))
+    ⊎ ((count ≡ 2) × (b : Branch) × (found ≡ Some b) × (new.count ≡ old.count) × (new.ended ≡ 0)
+    × ((index : ℕ) (v : Member) → IsBranch lead index m v b → (done : List Slot) → IsMade done old
+    → IsMade (done ++ (slot_of lead m ∷ (variant_slot index v ∷ []))) new))

@@ -9,6 +9,9 @@ use Rattle.ctf_class.specs.Names.{field_text}
 use Rattle.ctf_class.specs.declared.class.Class.{Class}
 use Rattle.ctf_class.specs.declared.class.Kind as kind
 use Rattle.ctf_class.specs.declared.class.Member.{Member}
+use Rattle.ctf_class.specs.declared.record_plan.Branch.{Branch}
+use Rattle.ctf_class.specs.declared.record_plan.Branches.{Branches, Branches-F, out-Branches}
+use Rattle.ctf_class.specs.declared.record_plan.OptionPlans.{OptionPlans, OptionPlans-F, out-OptionPlans}
 use Rattle.ctf_class.specs.declared.record_plan.PlannedField.{PlannedField}
 use Rattle.ctf_class.specs.declared.many.Many.{Many}
 use Rattle.ctf_class.specs.declared.many.Many.TheVariants as many
@@ -323,9 +326,61 @@ AreRuns ss (r ∷ rs) =
     × (r.room ≡ room_of r.numbers r.field) × (r.span ≤ 2 ^ 33)
     × (r.has_special ≡ have_special r.numbers) × After rest r.field (λ others. AreRuns others rs)
 
+-- a field is the tag of a branch
+pub record IsTag (s : Slot) (b : Branch) : Type 0 where
+  pub align : b.align ≡ s.align
+  pub ready : b.ready ≡ s.lead
+  pub is : s.class.kind ≡ kind.Enumeration b.tag.container b.tag.labels
+  pub own : b.tag.align ≡ s.class.align
+
+-- what options and their plans are
+module _ (IsOption : Member → RecordPlan → Type 0) where
+  -- each of these options has its plan
+  abbrev pub AreEach : List Member → List RecordPlan → Type 0
+  AreEach [] [] = ⊤
+  AreEach [] (p ∷ ps) = ⊥
+  AreEach (m ∷ ms) [] = ⊥
+  AreEach (m ∷ ms) (p ∷ ps) = IsOption m p × AreEach ms ps
+
+  abbrev pub AreListed : List Member → OptionPlans-F Branches OptionPlans Branch RecordPlan → Type 0
+  AreListed ms (OptionPlans-F.Each ps) = AreEach ms ps
+
+  -- a field is the variant of a branch, whose tag is the member before it
+  pub record IsVariant (s : Slot) (b : Branch) : Type 0 where
+    pub tag : Route
+    pub options : List Member
+    pub is : s.class.kind ≡ kind.Variant tag b.choices options
+    pub leads : LeadsBefore tag s.index
+    pub align : s.align ≡ 1
+    pub before : b.before ≡ s.lead
+    pub are : AreListed options (out-OptionPlans b.options)
+
+  -- fields are those of these branches, and then these runs, one after the other
+  abbrev pub AreBranches : List Slot → List Branch → List PlannedRun → Type 0
+  AreBranches ss [] rs = AreRuns ss rs
+  AreBranches ss (b ∷ bs) rs =
+      (used : List Slot) × (t : Slot) × (v : Slot) × (rest : List Slot)
+      × (ss ≡ used ++ (t ∷ (v ∷ rest)))
+      × AreRuns used b.runs × IsTag t b × IsVariant v b × AreBranches rest bs rs
+
+  abbrev pub AreThose : List Slot → Branches-F Branches OptionPlans Branch RecordPlan → List PlannedRun → Type 0
+  AreThose ss (Branches-F.Listed bs) rs = AreBranches ss bs rs
+
+-- A plan is that of an option in which variants lie less deep in one another than this.
+abbrev pub IsOption : ℕ → Member → RecordPlan → Type 0
+IsOption zero m p = ⊥
+IsOption (suc depth) m p =
+    (piece : Piece) × (member_of piece ≡ m) × IsPiece 1 piece
+    × (p.count ≡ inside piece) × (p.ended ≡ ended_by piece)
+    × AreThose (IsOption depth) (piece_slots (first_at (123 ∷ 32 ∷ []) 1) piece) (out-Branches p.branches) p.runs
+
+-- a plan has these fields, and variants lie so deep in one another in it at the most
+abbrev pub IsPlanned : ℕ → List Slot → RecordPlan → Type 0
+IsPlanned depth ss p = AreThose (IsOption depth) ss (out-Branches p.branches) p.runs
+
 -- a plan is one of these classes, if it has runs
 abbrev pub IsPlanOf : List Class → RecordPlan → Type 0
 IsPlanOf ks p =
     0 < length p.runs
     → (ss : List Scoped) × AreScoped ks ss × (p.count ≡ values_in ss) × (p.ended ≡ ended_last 0 ss)
-    × AreRuns (all_slots [] ss) p.runs
+    × (depth : ℕ) × IsPlanned depth (all_slots [] ss) p

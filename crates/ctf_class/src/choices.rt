@@ -7,7 +7,7 @@ use crate::labels::Labels;
 use crate::listed_choices::ListedChoices;
 use crate::names::Names;
 use crate::span::{Choice, Label};
-use ctf_list::{Boxed, List, NoMemory, Shared};
+use ctf_list::{List, NoMemory, Shared};
 use std::alloc::Global;
 use std::marker::Model;
 
@@ -37,7 +37,7 @@ enum KeptChoices {
 /// that declares them asks for. What is kept is on the heap, since each class of a field has room for the largest.
 #[derive(Drop)]
 pub struct Choices {
-    kept: Boxed<KeptChoices>,
+    kept: Shared<KeptChoices>,
 }
 
 impl Model for Choices {
@@ -65,7 +65,15 @@ impl Choices {
             names,
             count,
         };
-        let kept = Boxed::new(alloc, KeptChoices::of(alloc, named)?)?;
+        let kept = Shared::new(alloc, KeptChoices::of(alloc, named)?)?;
+        Ok(Choices { kept })
+    }
+
+    /// One more owner of the same choices. It fails where no more owners can be counted.
+    pub(crate) fn share(&self) -> Result<Choices, NoMemory>
+        ensures { IfOk result (λ other. other ≡ self.now) }
+    {
+        let kept = self.kept.clone()?;
         Ok(Choices { kept })
     }
 

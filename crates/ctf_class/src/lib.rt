@@ -4,12 +4,14 @@
 
 mod align;
 mod apart;
+mod branching;
 mod chain;
 mod choices;
 mod class;
 mod escape;
 mod field_name;
 mod firsts;
+mod fitted;
 mod frequency;
 mod front_class;
 mod header_plan;
@@ -62,7 +64,7 @@ pub use plan_builder::LONGEST_NUMBER;
 pub use plan_room::PlanRoom;
 pub use planned_number::PlannedNumber;
 pub use prepared_text::{PREPARED_HEAD, PreparedText};
-pub use record_plan::{PlannedField, PlannedRun, RecordPlan};
+pub use record_plan::{Branch, Branches, OptionPlans, PlannedField, PlannedRun, RecordPlan};
 pub use role::Role;
 pub use route::{Length, Origin, Route, Scope};
 pub use shown::{Integers, Labelled, LoneInteger, Shown};

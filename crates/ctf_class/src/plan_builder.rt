@@ -1,20 +1,21 @@
 //! Plans of event records while they are built.
 
-ghost use Rattle.std.specs.Prelude.{◌≡◌, ◌+◌, ◌%◌, ◌∷◌, ◌++◌, [], ◌^◌, ◌<◌, ◌≤◌, length, max, IsTrue, IsFalse, IfOk, IfSome, OnOk, option_copied};
+ghost use Rattle.std.specs.Prelude.{ℕ, ◌≡◌, ◌+◌, ◌%◌, ◌∷◌, ◌++◌, [], ◌^◌, ◌<◌, ◌≤◌, length, max, IsTrue, IsFalse, IfOk, IfSome, OnOk, option_copied};
 ghost use Rattle.std.specs.Int.{next_multiple_of};
 ghost use Rattle.ctf_class.specs.Alignment.{IsLarger};
-ghost use Rattle.ctf_class.specs.PlanBuilding.{AddsPiece, AddsPieces, IsMade, IsMadeOf, at_of, before_scope, empty_scope, slot_of, with_field, with_number, with_scope, with_structure};
-ghost use Rattle.ctf_class.specs.Records.{Slot, IsPlanOf, and_scope, ends, first_at, opened_lead};
+ghost use Rattle.ctf_class.specs.PlanBuilding.{AddsPiece, AddsPieces, IsMade, IsMadeOf, at_of, before_scope, empty_scope, slot_of, with_branch, with_field, with_number, with_scope, with_structure};
+ghost use Rattle.ctf_class.specs.Records.{Slot, IsPlanned, and_scope, ends, first_at, opened_lead};
 ghost use Rattle.ctf_class.specs.Names.{field_text};
 ghost use Rattle.ctf_class.specs.declared.class.Kind as kinds;
 
 use crate::align::Align;
 use crate::class::{Class, Kind, Member};
 use crate::field_name::FieldName;
+use crate::fitted::fitted;
 use crate::integer::Integer;
 use crate::planned_number::{PlannedNumber, have_special, is_special};
 use crate::prepared_text::{PREPARED_HEAD, PreparedText};
-use crate::record_plan::{PlannedField, PlannedRun, RecordPlan};
+use crate::record_plan::{Branch, Branches, PlannedField, PlannedRun, RecordPlan};
 use crate::shown::{Shown, shown_of};
 use ctf_bits::Window;
 use ctf_list::{List, NoMemory};
@@ -48,7 +49,11 @@ pub(crate) struct Lead<'a> {
 /// A plan on its way.
 #[derive(Drop)]
 pub(crate) struct PlanBuilder {
-    /// The runs that are whole.
+    /// Whether the first run begins at a byte, wherever it is.
+    pub(crate) begins_whole: bool,
+    /// The variants so far, each with the fields before it.
+    pub(crate) branches: List<Branch>,
+    /// The runs since that are whole.
     pub(crate) runs: List<PlannedRun>,
     /// The alignment of the open run, and its numbers.
     pub(crate) align: Align,
@@ -64,15 +69,18 @@ pub(crate) struct PlanBuilder {
 }
 
 impl PlanBuilder {
-    /// A plan of no scopes.
-    pub(crate) fn new(alloc: Global) -> PlanBuilder
+    /// A plan of no scopes, which begin at a byte or do not.
+    pub(crate) fn new(alloc: Global, begins_whole: bool) -> PlanBuilder
         ensures made { IsMadeOf [] result }
+        ensures branches { result.branches ≡ [] }
         ensures runs { result.runs ≡ [] }
         ensures count { result.count ≡ 0 }
         ensures few { result.room ≤ 2 ^ 18 }
         ensures near { result.span ≤ 2 ^ 33 }
     {
         PlanBuilder {
+            begins_whole,
+            branches: List::new(alloc),
             runs: List::new(alloc),
             align: Align::one_bit(),
             numbers: List::new(alloc),
@@ -83,11 +91,16 @@ impl PlanBuilder {
         }
     }
 
-    /// The plan of the scopes that were added.
+    /// The plan of what was added.
     pub(crate) fn finish(self) -> Result<RecordPlan, NoMemory>
-        ensures { IfOk result (λ plan. (ks : List Class) → IsMadeOf ks self → IsPlanOf ks plan) }
+        ensures fields { IfOk result (λ plan. (done : List Slot) → IsMade done self →
+            (depth : ℕ) × IsPlanned depth done plan) }
+        ensures count { IfOk result (λ plan. plan.count ≡ self.count) }
+        ensures ended { IfOk result (λ plan. plan.ended ≡ self.ended) }
     {
         let PlanBuilder {
+            begins_whole: _,
+            branches,
             mut runs,
             align,
             numbers,
@@ -96,18 +109,29 @@ impl PlanBuilder {
             count,
             ended,
         } = self;
+        let branches = Branches::Listed(fitted(branches));
         if numbers.is_empty() && !runs.is_empty() {
-            return Ok(RecordPlan { runs, count, ended });
+            return Ok(RecordPlan {
+                branches,
+                runs: fitted(runs),
+                count,
+                ended,
+            });
         }
         runs.push(PlannedRun {
             align,
             has_special: have_special(numbers.as_slice()),
-            numbers,
+            numbers: fitted(numbers),
             span,
             room,
             field: None,
         })?;
-        Ok(RecordPlan { runs, count, ended })
+        Ok(RecordPlan {
+            branches,
+            runs: fitted(runs),
+            count,
+            ended,
+        })
     }
 
     /// Adds a scope if there is one. Whether that could be done.
@@ -169,7 +193,7 @@ impl PlanBuilder {
         ensures { IfOk result
             (λ took. IsTrue took → self.new ≡ with_scope self.old (empty_scope text.now align)) }
     {
-        // A record that begins with such a scope is written as soon by its classes.
+        // Tracers rarely begin a record with such a scope, and one of nothing else is written as soon by its class.
         if self.count == 0 || text.len() > LONGEST_TEXT {
             return Ok(false);
         }
@@ -224,25 +248,31 @@ impl PlanBuilder {
         let mut text = first;
         let mut align = begin;
         let mut index = 0;
-        for (i, member) in members.iter().enumerate() {
+        let mut i = 0;
+        while i < members.len() {
             let lead = Lead {
                 text: text.as_slice(),
                 align,
                 index,
             };
-            if !self.add_member(alloc, &lead, member)? {
+            let branch = match members.get(i + 1) {
+                Some(next) => PlanBuilder::branch_of(alloc, &lead, next, &members[i], i)?,
+                None => None,
+            };
+            let Some(taken) = self.add_some(alloc, &lead, &members[i], branch)? else {
                 return Ok(false);
-            }
+            };
+            i += taken;
             text = after_ends(alloc, self.ended, b", ")?;
             align = Align::one_bit();
-            index = if self.ended == 0 { i + 1 } else { 0 };
+            index = if self.ended == 0 { i } else { 0 };
         }
         Ok(true)
     }
 
     /// Adds a member of a structure. Whether that could be done.
     #[cycle(plan)]
-    fn add_member(
+    pub(crate) fn add_member(
         &mut self,
         alloc: Global,
         lead: &Lead<'_>,
@@ -340,6 +370,8 @@ impl PlanBuilder {
         ensures near { IfOk result (λ took. IsTrue took → self.new.span ≤ 2 ^ 33) }
         ensures count { IfOk result (λ took. IsTrue took → self.new.count ≡ self.old.count) }
         ensures ended { IfOk result (λ took. IsTrue took → self.new.ended ≡ 0) }
+        ensures branches { IfOk result
+            (λ took. IsTrue took → self.new.branches ≡ self.old.branches) }
         ensures runs { IfOk result (λ took. IsTrue took → self.new.runs ≡ self.old.runs) }
         ensures made { IfOk result (λ took. IsTrue took → (done : List Slot) →
             IsMade done self.old → IsMade (done ++ slot_of lead.now member.now ∷ []) self.new) }
@@ -416,6 +448,33 @@ impl PlanBuilder {
         Some((*integer, window))
     }
 
+    /// Adds an enumeration and the variant whose tag it is, after the open run, which is whole then.
+    pub(crate) fn add_branch(&mut self, alloc: Global, branch: Branch) -> Result<(), NoMemory>
+        requires { branch.runs ≡ [] }
+        ensures { OnOk result (self.new ≡ with_branch self.old branch) }
+    {
+        let numbers = fitted(mem::replace(&mut self.numbers, List::new(alloc)));
+        let mut runs = mem::replace(&mut self.runs, List::new(alloc));
+        if !numbers.is_empty() {
+            runs.push(PlannedRun {
+                align: self.align,
+                has_special: have_special(numbers.as_slice()),
+                numbers,
+                span: self.span,
+                room: self.room,
+                field: None,
+            })?;
+        }
+        let mut branch = branch;
+        branch.runs = fitted(runs);
+        self.branches.push(branch)?;
+        self.align = Align::one_bit();
+        self.span = 0;
+        self.room = PREPARED_HEAD;
+        self.ended = 0;
+        Ok(())
+    }
+
     /// Whether the open run begins at a byte, wherever it is, as far as the field before it tells.
     fn begins_at_byte(&self) -> bool {
         let runs = self.runs.as_slice();
@@ -426,7 +485,7 @@ impl PlanBuilder {
                     ..
                 },
             ) => field.shown.ends_at_byte(),
-            _ => true,
+            _ => self.begins_whole && self.branches.is_empty(),
         }
     }
 
@@ -454,7 +513,7 @@ impl PlanBuilder {
         ensures { OnOk result (self.new ≡ with_field self.old field) }
     {
         let room = self.room + (field.ready.len() + LONGEST_NUMBER);
-        let numbers = mem::replace(&mut self.numbers, List::new(alloc));
+        let numbers = fitted(mem::replace(&mut self.numbers, List::new(alloc)));
         self.runs.push(PlannedRun {
             align: self.align,
             has_special: have_special(numbers.as_slice()),
@@ -484,7 +543,7 @@ fn after_ends(alloc: Global, ended: u32, text: &[u8]) -> Result<List<u8>, NoMemo
 }
 
 /// What is printed before the value of a member of this name, after a text, unless it is too long.
-fn ready_after(
+pub(crate) fn ready_after(
     alloc: Global,
     lead: &[u8],
     name: &FieldName,

@@ -4,11 +4,12 @@ ghost use Rattle.std.specs.Prelude.{◌≡◌, [], IfOk, option_copied};
 ghost use Rattle.ctf_class.specs.Records.{IsPlanOf, scopes_of};
 
 use crate::align::Align;
+use crate::choices::Choices;
 use crate::class::Class;
 use crate::plan_builder::PlanBuilder;
 use crate::planned_number::PlannedNumber;
 use crate::prepared_text::PreparedText;
-use crate::shown::Shown;
+use crate::shown::{Labelled, Shown};
 use ctf_list::{List, NoMemory};
 use std::alloc::Global;
 
@@ -41,17 +42,52 @@ pub struct PlannedRun {
 
 /// The fields of an event record's scopes after its header (CTF 1.8.3, section 6), one after the other, if all of them
 /// are integers, enumerations, strings, structures without members, texts and arrays of integers and of structures of
-/// integers whose length is fixed or the field before, or structures of such fields; else nothing, also where the first
-/// scope has no members or a text before a value has more than 1,024 bytes. The fields of a structure within are among
-/// those around it, and a scope without members is a field itself.
+/// integers whose length is fixed or the field before, variants whose tag is the field before and whose options are
+/// such fields, or structures of such fields; else nothing, also where the first scope has no members or a text before
+/// a value has more than 1,024 bytes. The fields of a structure within are among those around it, and a scope without
+/// members is a field itself. An option of a variant, with its name, has a plan of its own.
+#[cycle(branches)]
 #[derive(Drop)]
 pub struct RecordPlan {
+    /// The variants among these fields, each with those before it.
+    pub branches: Branches,
+    /// The fields after the last variant.
     pub runs: List<PlannedRun>,
     /// How many values these scopes have, without those in arrays.
     pub count: u32,
     /// How many structures end, one in the other, where the last scope does, itself among them; none where it has no
     /// members.
     pub ended: u32,
+}
+
+/// Variants, in their order.
+#[cycle(branches)]
+#[derive(Drop)]
+pub enum Branches {
+    Listed(List<Branch>),
+}
+
+/// An enumeration and the variant after it whose tag it is (CTF 1.8.3, section 4.2.2), with the fields before them.
+#[cycle(branches)]
+#[derive(Drop)]
+pub struct Branch {
+    pub runs: List<PlannedRun>,
+    /// What is printed before the enumeration.
+    pub ready: PreparedText,
+    /// The alignment of the structures that the enumeration begins, or 1.
+    pub align: Align,
+    pub tag: Labelled,
+    /// What is printed before the variant.
+    pub before: PreparedText,
+    pub choices: Choices,
+    pub options: OptionPlans,
+}
+
+/// The plans of a variant's options.
+#[cycle(branches)]
+#[derive(Drop)]
+pub enum OptionPlans {
+    Each(List<RecordPlan>),
 }
 
 impl RecordPlan {
@@ -67,7 +103,7 @@ impl RecordPlan {
             (scopes_of (option_copied stream_context.entry)
             (option_copied event_context.entry) fields.now)) }
     {
-        let mut builder = PlanBuilder::new(alloc);
+        let mut builder = PlanBuilder::new(alloc, true);
         if builder.add_optional(alloc, stream_context)?
             && builder.add_optional(alloc, event_context)?
             && builder.add_scope(alloc, fields)?
@@ -82,6 +118,7 @@ impl RecordPlan {
         ensures { result.runs ≡ [] }
     {
         RecordPlan {
+            branches: Branches::Listed(List::new(alloc)),
             runs: List::new(alloc),
             count: 0,
             ended: 0,

@@ -48,7 +48,7 @@ impl Structures {
         if members.is_empty() || class.align.bits() < 8 {
             return Ok(None);
         }
-        let mut builder = PlanBuilder::new(alloc);
+        let mut builder = PlanBuilder::new(alloc, true);
         if !builder.add_integers(alloc, class.align, members)? {
             return Ok(None);
         }
@@ -71,6 +71,8 @@ impl PlanBuilder {
     ) -> Result<bool, NoMemory>
         requires few { self.old.room ≤ 2 ^ 18 }
         requires near { self.old.span ≤ 2 ^ 33 }
+        ensures branches { IfOk result
+            (λ took. IsTrue took → self.new.branches ≡ self.old.branches) }
         ensures runs { IfOk result (λ took. IsTrue took → self.new.runs ≡ self.old.runs) }
         ensures made { IfOk result (λ took. IsTrue took → (done : List Slot) →
             IsMade done self.old → IsMade (done ++ member_slots begin members.now) self.new) }
@@ -94,6 +96,7 @@ impl PlanBuilder {
 
     /// The structure whose members are the open run, so many times, where one is so many values.
     fn into_structures(self, count: u64, many: Many) -> Structures
+        requires bare { self.branches ≡ [] }
         requires alone { self.runs ≡ [] }
         ensures is { (k : Class) (ms : List Member) → k.kind ≡ kinds.Structure ms →
             0 < length ms → count ≡ 1 + length ms → self.align ≡ k.align →
@@ -102,6 +105,8 @@ impl PlanBuilder {
         ensures many { result.many ≡ many }
     {
         let PlanBuilder {
+            begins_whole: _,
+            branches: _,
             runs: _,
             align,
             numbers,

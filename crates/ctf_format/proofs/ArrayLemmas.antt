@@ -37,7 +37,7 @@ use Rattle.ctf_format.specs.declared.standing.Next.{Next}
 use Rattle.ctf_format.proofs.StandingLemmas.{begins, form-is, value-is, member-is, form_integer, text_integer, last_of, row_more, mark_at, kind_text}
 
 -- what a route finds that leads to the member before
-found_last : (route : Route) (index : ℕ) (vs ws : List Val) (v : Val) (earlier : Scope → Option Val) (env : Env) → LeadsBefore route index → length vs ≡ index → vs ≡ ws ++ v ∷ [] → found route earlier (vs ∷ env) ≡ Some v
+pub found_last : (route : Route) (index : ℕ) (vs ws : List Val) (v : Val) (earlier : Scope → Option Val) (env : Env) → LeadsBefore route index → length vs ≡ index → vs ≡ ws ++ v ∷ [] → found route earlier (vs ∷ env) ≡ Some v
 unfolding found
 found_last route index vs ws v earlier env leads counted last =
     let step = leads.1.0 in

@@ -46,7 +46,7 @@ use Rattle.ctf_format.specs.declared.standing.MembersEnd.{MembersEnd}
 use Rattle.ctf_format.specs.declared.standing.Next.{Next}
 use Rattle.ctf_format.proofs.ArrayLemmas.{elements_snoc, elements_length}
 use Rattle.ctf_format.proofs.PartsLemmas.{closed_option}
-use Rattle.ctf_format.proofs.StandingLemmas.{begins, leaf_stands, form-is, value-is, member-is, row_more, puts_next, known_next, mark_at, kind_text}
+use Rattle.ctf_format.proofs.StandingLemmas.{begins, leaf_stands, form-is, value-is, member-is, row_more, puts_next, standing_next, mark_at, kind_text}
 
 -- What classes of the other kinds are decoded as, and what they show.
 text-Enumeration : (i : Integer) (ls : List Label) → kind_text (kind.Enumeration i ls) ≡ enumeration_text i ls
@@ -116,7 +116,7 @@ number_known : (signed : Bool) (bits : ℕ) (k : Form) (before : Before) (shown 
     → PutsNext before k shown packet content place line (record { place = end; text = text; more = 0; last = lasts.Unknown }) after → (signed ≡ false → StandsAsNumber k packet content place bits)
     → PutsNext before k shown packet content place line (record { place = end; text = text; more = 0; last = cond signed lasts.Unknown (lasts.Unsigned bits) }) after
 number_known true bits k before shown packet content place end text line after puts stands = puts
-number_known false bits k before shown packet content place end text line after puts stands = known_next (Some bits) before k shown packet content place end text 0 line after puts (stands refl)
+number_known false bits k before shown packet content place end text line after puts stands = standing_next (lasts.Unsigned bits) before k shown packet content place end text 0 line after puts (stands refl)
 
 pub writes_number : (before : Before) (a : ℕ) (i : Integer) (bits : ℕ) (packet : Content) (place end text : ℕ) (last : Last) (line items : List ℕ) → last ≡ known_of i bits → PutsOne (forms.integer a i) (integer_text i) packet.bytes.now packet.end place end line (take text items)
     → (i.is_signed ≡ false → StandsAsNumber (forms.integer a i) packet.bytes.now packet.end place bits)

@@ -15,6 +15,7 @@ pub mod RecordsLemmas
 pub mod StructuresLemmas
 pub mod AroundLemmas
 pub mod ArrayLemmas
+pub mod BranchesLemmas
 pub mod ByClassLemmas
 pub mod PassingLemmas
 pub mod WindowLemmas

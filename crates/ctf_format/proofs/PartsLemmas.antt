@@ -65,6 +65,9 @@ option_at [] i m within is = absurd (omega arith)
 option_at (n ∷ ms) zero m within is = ap (λ (k : Member). Some (member_part k)) (sym is)
 option_at (n ∷ ms) (suc i) m within is = option_at ms i m (omega arith) is
 
+pub option_shown : (ms : List Member) (i : ℕ) (m : Member) (v : Val) → i < length ms → m ≡ get_or ms i m → option_text (slice_get (map member_part ms) i) v ≡ enclosed 123 125 (part_text (member_part m) v ∷ [])
+option_shown ms i m v within is = ap (λ o. option_text o v) (option_at ms i m within is)
+
 pub closed_option : (ms : List Member) (i : ℕ) (m : Member) (v : Val) (line before : List ℕ) → i < length ms → m ≡ get_or ms i m → line ≡ before ++ (123 ∷ 32 ∷ part_text (member_part m) v) → line ++ (32 ∷ 125 ∷ []) ≡ before ++ option_text (slice_get (map member_part ms) i) v
 closed_option ms i m v line before within is wrote =
     let text = part_text (member_part m) v in

@@ -41,8 +41,8 @@ use Rattle.ctf_decode.specs.declared.scopes.TheConstants.{MOST_VALUES}
 use Rattle.ctf_format.specs.Structures.{IsNearStructure}
 use Rattle.ctf_format.specs.Numbers.{number_text}
 use Rattle.ctf_format.specs.RunNumbers.{IsPlaced, number_at, place_in, run_text}
-use Rattle.ctf_format.specs.Records.{Reached, CountsAfter, IsLastNumber, IsLastOf, PutsField, PutsFields, PutsScopes, TakesRun, IsNear, IsNearShown, after_members}
-use Rattle.ctf_format.specs.Standing.{Before, Counts, IfKnown, LastIs, Puts, PutsOne, PutsNext, StandsAsNumber, among, known}
+use Rattle.ctf_format.specs.Records.{Reached, CountsAfter, IsLastNumber, IsLastOf, PutsField, PutsFields, PutsScopes, TakesRun, IsNear, IsNearShown, after_last, after_members, after_value}
+use Rattle.ctf_format.specs.Standing.{Before, Counts, IfKnown, LastIs, Puts, PutsOne, PutsNext, StandsAs, StandsAsNumber, among, known}
 use Rattle.ctf_format.specs.Texts.{Shown, Part, integer_text, value_text, part_text, member_part, member_texts}
 use Rattle.ctf_format.specs.Rows.{row}
 use Rattle.ctf_format.specs.declared.placed_run.PlacedRun.{PlacedRun}
@@ -50,7 +50,7 @@ use Rattle.ctf_format.specs.declared.standing.Last.{Last}
 use Rattle.ctf_format.specs.declared.standing.Last.TheVariants as lasts
 use Rattle.ctf_format.specs.declared.standing.MembersEnd.{MembersEnd}
 use Rattle.ctf_format.specs.declared.standing.Next.{Next}
-use Rattle.ctf_format.proofs.StandingLemmas.{Going, anywhere, last_is, going_begins, going_on, puts_next, known_next, going_ends, closed, begins, form_structure, puts_structure, text-Structure, value-is, as_one, form_integer, text_integer, member-is, stands_number, mark_at, kind_text}
+use Rattle.ctf_format.proofs.StandingLemmas.{Going, anywhere, last_is, going_begins, going_on, puts_next, standing_next, going_ends, closed, begins, form_structure, puts_structure, text-Structure, value-is, as_one, form_integer, text_integer, member-is, stands_number, mark_at, kind_text}
 use Rattle.ctf_format.proofs.RunNumbersLemmas.{run_integer}
 use Rattle.ctf_format.proofs.StartsLemmas.{Leads, at_one, base_divides, below, larger_begins, leads_itself, run_leads}
 use Rattle.ctf_format.proofs.ArrayLemmas.{counts_last}
@@ -64,7 +64,7 @@ puts_led k lead packet content place end before line after wrote puts spent few 
     (p.0, p.1, p.2 ∙ ap (λ xs. xs ++ text) wrote ∙ append_assoc before lead text)
 
 -- so is one after the members of a structure
-next_led : (before : Before) (k : Class) (lead : List ℕ) (packet : List ℕ) (content place : ℕ) (from line : List ℕ) (n : Next) (after : List ℕ) → line ≡ from ++ lead → PutsNext before (form k) (value_text k) packet content place line n after
+pub next_led : (before : Before) (k : Class) (lead : List ℕ) (packet : List ℕ) (content place : ℕ) (from line : List ℕ) (n : Next) (after : List ℕ) → line ≡ from ++ lead → PutsNext before (form k) (value_text k) packet content place line n after
     → PutsNext before (form k) (λ v. lead ++ value_text k v) packet content place from n after
 next_led before k lead packet content place from line n after wrote puts spent room earlier env vs counted last =
     let p = puts spent room earlier env vs counted last in
@@ -205,23 +205,23 @@ number_stands s n base from first place content v packet is whole starts within 
 
 -- a value alone is a field
 alone_field : (s : Slot) (packet : List ℕ) (content : ℕ) (from to : Reached) → next_multiple_of from.place s.align ≤ content → PutsOne (form s.class) (λ v. s.lead ++ value_text s.class v) packet content (next_multiple_of from.place s.align) to.place from.line to.line → to.more ≡ from.more
-    → IfSome to.last (StandsAsNumber (form s.class) packet content (next_multiple_of from.place s.align)) → PutsField s packet content from to
+    → StandsAs to.last (form s.class) packet content (next_multiple_of from.place s.align) → PutsField s packet content from to
 alone_field s packet content from to within puts same stands =
     let shown : Shown = λ v. s.lead ++ value_text s.class v in
     let begun = next_multiple_of from.place s.align in
-    (within, 0, (let none : to.more ≡ from.more + 0 = omega (arith, same) in none), puts_next (after_members s.index from.last) (form s.class) shown packet content begun to.place 0 from.line to.line puts, stands)
+    (within, 0, (let none : to.more ≡ from.more + 0 = omega (arith, same) in none), puts_next (after_last s.index from.last) (form s.class) shown packet content begun to.place 0 from.line to.line puts, stands)
 
 -- how far the numbers of a run came
 abbrev pub numbers_to : ℕ → ℕ → Option ℕ → List ℕ → Reached
-numbers_to place more last line = record { place = place; more = more; last = last; line = line }
+numbers_to place more last line = after_value place more (known last) line
 
-number_field : (s : Slot) (n : PlannedNumber) (base from first place content more : ℕ) (known last : Option ℕ) (packet line : List ℕ) → IsNumber base from s n → place % base ≡ 0 → 8 * first ≡ place → place + (n.window.place + n.window.size) ≤ content → IfSome last (λ v. (n.integer.is_signed ≡ false) × (number_at n.integer packet (place_in first n) ≡ pos v))
-    → PutsField s packet content (numbers_to (place + from) more known line) (numbers_to (place + (n.window.place + n.window.size)) more last (line ++ run_text packet first n))
-number_field s n base from first place content more known last packet line is whole starts within number_is =
+number_field : (s : Slot) (n : PlannedNumber) (base from first place content more : ℕ) (earlier last : Option ℕ) (packet line : List ℕ) → IsNumber base from s n → place % base ≡ 0 → 8 * first ≡ place → place + (n.window.place + n.window.size) ≤ content → IfSome last (λ v. (n.integer.is_signed ≡ false) × (number_at n.integer packet (place_in first n) ≡ pos v))
+    → PutsField s packet content (numbers_to (place + from) more earlier line) (numbers_to (place + (n.window.place + n.window.size)) more last (line ++ run_text packet first n))
+number_field s n base from first place content more earlier last packet line is whole starts within number_is =
     let alone = number_alone s n base from first place content packet line is whole starts within in
-    alone_field s packet content (numbers_to (place + from) more known line) (numbers_to (place + (n.window.place + n.window.size)) more last (line ++ run_text packet first n)) alone.0 alone.1 refl (stands last number_is)
+    alone_field s packet content (numbers_to (place + from) more earlier line) (numbers_to (place + (n.window.place + n.window.size)) more last (line ++ run_text packet first n)) alone.0 alone.1 refl (stands last number_is)
   where
-    stands : (o : Option ℕ) → IfSome o (λ v. (n.integer.is_signed ≡ false) × (number_at n.integer packet (place_in first n) ≡ pos v)) → IfSome o (StandsAsNumber (form s.class) packet content (next_multiple_of (place + from) s.align))
+    stands : (o : Option ℕ) → IfSome o (λ v. (n.integer.is_signed ≡ false) × (number_at n.integer packet (place_in first n) ≡ pos v)) → StandsAs (known o) (form s.class) packet content (next_multiple_of (place + from) s.align)
     stands None told = tt
     stands (Some v) told = number_stands s n base from first place content v packet is whole starts within told.0 told.1
 
@@ -233,9 +233,10 @@ module _ (s : Slot) (i : Integer) (is : s.class.kind ≡ kind.Integer i) (packet
       let there = λ (b : ℕ). begin c spent (leaf c (b + bits_of i) spent (integer_at c i b)) in
       subst (λ f. walk f c env (next_multiple_of at s.align) spent ≡ walk f c env (next_multiple_of from s.align) spent) (form_integer s.class i is) (ap there same)
 
-  stands_led : (o : Option ℕ) → IfSome o (StandsAsNumber (form s.class) packet content (next_multiple_of from s.align)) → IfSome o (StandsAsNumber (form s.class) packet content (next_multiple_of at s.align))
-  stands_led None found = tt
-  stands_led (Some v) found = λ spent few earlier env. (let n = found spent few earlier env in (n.0, walks (among packet content earlier) env spent ∙ n.1))
+  stands_led : (l : Last) → StandsAs l (form s.class) packet content (next_multiple_of from s.align) → StandsAs l (form s.class) packet content (next_multiple_of at s.align)
+  stands_led lasts.Unknown found = tt
+  stands_led (lasts.Unsigned n) found = λ spent few earlier env. (let v = found spent few earlier env in (v.0, walks (among packet content earlier) env spent ∙ v.1))
+  stands_led (lasts.Label z) found = λ spent few earlier env. (let v = found spent few earlier env in (v.0, walks (among packet content earlier) env spent ∙ v.1))
 
   pub field_led : PutsField s packet content (numbers_to from more known line) to → PutsField s packet content (numbers_to at more known line) to
   field_led puts = (
@@ -288,16 +289,17 @@ drop_one (y ∷ xs) (suc i) x rest left =
     let more : suc i + 1 ≡ suc (i + 1) = omega arith in
     (omega (arith, d.0), d.1, ap (λ k. drop k (y ∷ xs)) more ∙ d.2)
 
--- the number of a member after which so many structures end
-abbrev last_known : ℕ → Option ℕ → Last
-last_known zero last = known last
+-- what is known of a member after which so many structures end
+abbrev last_known : ℕ → Last → Last
+last_known zero last = last
 last_known (suc n) last = lasts.Unknown
 
 -- what is known of the members before the next one
-known_after : (n i : ℕ) (last : Option ℕ) (vs : List Val) → length vs ≡ i → LastIs (last_known n last) vs → IfKnown (after_members (known_index n i) last).last (length vs ≡ (after_members (known_index n i) last).index) × LastIs (after_members (known_index n i) last).last vs
+known_after : (n i : ℕ) (last : Last) (vs : List Val) → length vs ≡ i → LastIs (last_known n last) vs → IfKnown (after_last (known_index n i) last).last (length vs ≡ (after_last (known_index n i) last).index) × LastIs (after_last (known_index n i) last).last vs
 known_after zero zero last vs many is = (tt, tt)
-known_after zero (suc i) None vs many is = (tt, tt)
-known_after zero (suc i) (Some n) vs many is = (many, is)
+known_after zero (suc i) lasts.Unknown vs many is = (tt, tt)
+known_after zero (suc i) (lasts.Unsigned n) vs many is = (many, is)
+known_after zero (suc i) (lasts.Label z) vs many is = (many, is)
 known_after (suc n) i last vs many is = (tt, tt)
 
 -- there are more pieces, or the last came to where the next one would begin
@@ -325,14 +327,14 @@ begins_some (more_pieces p ps) place content some begins = begins
 -- a field alone, after the text before it
 alone_next : (m : Member) (at : At) (opens : List ℕ) (mark : ℕ) (packet : List ℕ) (content : ℕ) (from to : Reached) → at.lead ≡ opens ++ (mark ∷ 32 ∷ []) → PutsField (record { lead = at.lead ++ field_text m.name; align = at.align; index = at.index; class = m.class }) packet content from to
     → (some : ℕ) × (to.more ≡ from.more + some) × (next_multiple_of from.place at.align ≤ content)
-    × PutsNext (after_members at.index from.last) (form m.class) (λ v. mark ∷ 32 ∷ part_text (member_part m) v) packet content (next_multiple_of from.place at.align) (from.line ++ opens) (record { place = to.place; text = 0; more = some; last = known to.last }) to.line
+    × PutsNext (after_last at.index from.last) (form m.class) (λ v. mark ∷ 32 ∷ part_text (member_part m) v) packet content (next_multiple_of from.place at.align) (from.line ++ opens) (record { place = to.place; text = 0; more = some; last = to.last }) to.line
 alone_next m at opens mark packet content from to lead field =
     let begin = next_multiple_of from.place at.align in
-    let before = after_members at.index from.last in
+    let before = after_last at.index from.last in
     let name = field_text m.name in
     let shown : Shown = λ v. (at.lead ++ name) ++ value_text m.class v in
-    let end : Next = record { place = to.place; text = 0; more = field.1; last = known to.last } in
-    let told : PutsNext before (form m.class) shown packet content begin from.line end to.line = known_next to.last before (form m.class) shown packet content begin to.place 0 field.1 from.line to.line field.3 field.4 in (
+    let end : Next = record { place = to.place; text = 0; more = field.1; last = to.last } in
+    let told : PutsNext before (form m.class) shown packet content begin from.line end to.line = standing_next to.last before (form m.class) shown packet content begin to.place 0 field.1 from.line to.line field.3 field.4 in (
       field.1,
       field.2,
       field.0,
@@ -375,9 +377,9 @@ module _ (packet : List ℕ) (content : ℕ) where
 
   mutual
     -- a piece is its member, after the text before it
-    piece_next : (p : Piece) (at : At) (opens : List ℕ) (mark : ℕ) (from to : Reached) → at.lead ≡ opens ++ (mark ∷ 32 ∷ []) → IsPiece at.align p → PutsFields (piece_slots at p) packet content from to
+    pub piece_next : (p : Piece) (at : At) (opens : List ℕ) (mark : ℕ) (from to : Reached) → at.lead ≡ opens ++ (mark ∷ 32 ∷ []) → IsPiece at.align p → PutsFields (piece_slots at p) packet content from to
         → (some : ℕ) × (to.more ≡ from.more + some) × (next_multiple_of from.place at.align ≤ content)
-        × PutsNext (after_members at.index from.last) (form (member_of p).class) (λ v. mark ∷ 32 ∷ part_text (member_part (member_of p)) v) packet content (next_multiple_of from.place at.align) (from.line ++ opens) (record { place = to.place; text = 0; more = some + inside p; last = last_known (ended_by p) to.last }) (to.line ++ ends (ended_by p))
+        × PutsNext (after_last at.index from.last) (form (member_of p).class) (λ v. mark ∷ 32 ∷ part_text (member_part (member_of p)) v) packet content (next_multiple_of from.place at.align) (from.line ++ opens) (record { place = to.place; text = 0; more = some + inside p; last = last_known (ended_by p) to.last }) (to.line ++ ends (ended_by p))
     piece_next (alone m) at opens mark from to lead is puts =
         let s : Slot = record { lead = at.lead ++ field_text m.name; align = at.align; index = at.index; class = m.class } in
         let one = alone_next m at opens mark packet content from to lead (subst (λ r. PutsField s packet content from r) (sym puts.2) puts.1) in
@@ -387,8 +389,8 @@ module _ (packet : List ℕ) (content : ℕ) where
           one.0,
           one.1,
           one.2,
-          subst (λ n. PutsNext (after_members at.index from.last) (form m.class) shown packet content begin (from.line ++ opens) (record { place = to.place; text = 0; more = n; last = known to.last }) (to.line ++ [])) none
-              (subst (λ xs. PutsNext (after_members at.index from.last) (form m.class) shown packet content begin (from.line ++ opens) (record { place = to.place; text = 0; more = one.0; last = known to.last }) xs) (sym (append-nil to.line)) one.3),
+          subst (λ n. PutsNext (after_last at.index from.last) (form m.class) shown packet content begin (from.line ++ opens) (record { place = to.place; text = 0; more = n; last = to.last }) (to.line ++ [])) none
+              (subst (λ xs. PutsNext (after_last at.index from.last) (form m.class) shown packet content begin (from.line ++ opens) (record { place = to.place; text = 0; more = one.0; last = to.last }) xs) (sym (append-nil to.line)) one.3),
         )
     piece_next (inner m base ps) at opens mark from to lead is puts =
         let name = field_text m.name in
@@ -408,7 +410,7 @@ module _ (packet : List ℕ) (content : ℕ) where
         let low = below from.place base at.align m.class.align (next_multiple_of from.place base) is.2 least in
         let starts : next_multiple_of begin m.class.align ≡ next_multiple_of from.place base = larger_begins from.place base at.align m.class.align (next_multiple_of from.place base) is.2 least in
         let end : Next = record { place = to.place; text = 0; more = more + (many + insides ps); last = lasts.Unknown } in
-        let puts_it : PutsNext (after_members at.index from.last) (form m.class) (λ v. mark ∷ 32 ∷ part_text (member_part m) v) packet content begin (from.line ++ opens) end (to.line ++ ends (suc n)) = λ spent room earlier env vs counted last.
+        let puts_it : PutsNext (after_last at.index from.last) (form m.class) (λ v. mark ∷ 32 ∷ part_text (member_part m) v) packet content begin (from.line ++ opens) end (to.line ++ ends (suc n)) = λ spent room earlier env vs counted last.
         let total : spent + 1 + many + insides ps + more ≡ spent + 1 + (more + (many + insides ps)) = omega arith in
         let few : spent + 1 + many + insides ps + more ≤ MOST_VALUES = omega (arith, room) in
         let p = structure_from ps m.class base more before from to is.0 is.1 within going.3 begin starts spent few earlier (vs ∷ env) in
@@ -423,7 +425,7 @@ module _ (packet : List ℕ) (content : ℕ) where
 
     -- pieces are members of a structure, one after the other
     pieces_going : (ps : Pieces) (i n : ℕ) (at : At) (opens : List ℕ) (all : List Member) (begin so_far : ℕ) (l : Last) (before : List ℕ) (from to : Reached) → drop i all ≡ members_of ps → at.lead ≡ opens ++ (mark_at 123 i ∷ 32 ∷ []) → ArePieces at.align ps → IsOver ps at.align n opens
-        → ((vs : List Val) → length vs ≡ i → LastIs l vs → IfKnown (after_members at.index from.last).last (length vs ≡ (after_members at.index from.last).index) × LastIs (after_members at.index from.last).last vs)
+        → ((vs : List Val) → length vs ≡ i → LastIs l vs → IfKnown (after_last at.index from.last).last (length vs ≡ (after_last at.index from.last).index) × LastIs (after_last at.index from.last).last vs)
         → Going anywhere all packet content begin i (next_multiple_of from.place at.align) so_far (LastIs l) before (from.line ++ opens) → PutsFields (pieces_slots i at ps) packet content from to
         → (more : ℕ) × (to.more ≡ from.more + more) × Begins ps (next_multiple_of from.place at.align) content × Going anywhere all packet content begin (i + length (members_of ps)) to.place (so_far + more + insides ps) (λ vs. ⊤) before (to.line ++ ends (ended_after n ps))
     pieces_going no_pieces i n at opens all begin so_far l before from to left lead are over known going puts =

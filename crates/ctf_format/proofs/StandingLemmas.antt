@@ -31,7 +31,7 @@ use Rattle.ctf_decode.specs.declared.scopes.TheConstants.{MOST_VALUES}
 use Rattle.ctf_format.specs.Around.{PutsMembers}
 use Rattle.ctf_format.specs.Numbers.{number_text}
 use Rattle.ctf_format.specs.Rows.{row, enclosed}
-use Rattle.ctf_format.specs.Standing.{Before, among, PutsOne, ValueIs, LastIs, known, PutsNext, StandsAsNumber}
+use Rattle.ctf_format.specs.Standing.{Before, among, PutsOne, ValueIs, LastIs, PutsNext, StandsAs, StandsAsNumber}
 use Rattle.ctf_format.specs.Texts.{Shown, Part, value_text, part_text, member_part, member_texts, integer_text, string_text, kind_step, class_step, member_step}
 use Rattle.ctf_format.specs.declared.standing.Position.{Position}
 use Rattle.ctf_format.specs.declared.standing.Last.{Last}
@@ -152,19 +152,16 @@ last_is lasts.Unknown vs v is = tt
 last_is (lasts.Unsigned n) vs v is = (vs, ap (λ w. vs ++ w ∷ []) is)
 last_is (lasts.Label z) vs v is = (vs, ap (λ w. vs ++ w ∷ []) is)
 
-known_is : (o : Option ℕ) (v : Val) → IfSome o (λ n. v ≡ unsigned n) → ValueIs (known o) v
-known_is None v is = tt
-known_is (Some n) v is = is
-
 -- what is there in a step, if there is a value
 abbrev value_of : Step Val → Val
 value_of (Ok x) = x.0
 value_of (Err e) = unsigned 0
 
-is_number : (o : Option ℕ) (k : Form) (packet : List ℕ) (content place end spent total : ℕ) (earlier : Scope → Option Val) (env : Env) (v : Val) → spent < MOST_VALUES → walk k (among packet content earlier) env place spent ≡ Ok (v, end, total)
-    → IfSome o (StandsAsNumber k packet content place) → IfSome o (λ n. v ≡ unsigned n)
-is_number None k packet content place end spent total earlier env v few walked stands = tt
-is_number (Some n) k packet content place end spent total earlier env v few walked stands = ap value_of (sym walked ∙ (stands spent few earlier env).1)
+-- a value that was found is what stands there
+stands_is : (l : Last) (k : Form) (packet : List ℕ) (content place end spent total : ℕ) (earlier : Scope → Option Val) (env : Env) (v : Val) → spent < MOST_VALUES → walk k (among packet content earlier) env place spent ≡ Ok (v, end, total) → StandsAs l k packet content place → ValueIs l v
+stands_is lasts.Unknown k packet content place end spent total earlier env v few walked stands = tt
+stands_is (lasts.Unsigned n) k packet content place end spent total earlier env v few walked stands = ap value_of (sym walked ∙ (stands spent few earlier env).1)
+stands_is (lasts.Label z) k packet content place end spent total earlier env v few walked stands = ap value_of (sym walked ∙ (stands spent few earlier env).1)
 
 abbrev Part_of : Type 0
 Part_of = List ℕ × Form
@@ -356,12 +353,12 @@ puts_next before k shown packet content place end text line after puts spent roo
     let none : spent + 1 ≡ spent + 1 + 0 = omega arith in
     (p.0, p.1 ∙ ap (λ n. Ok (p.0, end, n)) none, p.2, tt)
 
--- the same where its number is known
-pub known_next : (o : Option ℕ) (before : Before) (k : Form) (shown : Shown) (packet : List ℕ) (content place end text more : ℕ) (line after : List ℕ) → PutsNext before k shown packet content place line (record { place = end; text = text; more = more; last = lasts.Unknown }) after
-    → IfSome o (StandsAsNumber k packet content place) → PutsNext before k shown packet content place line (record { place = end; text = text; more = more; last = known o }) after
-known_next o before k shown packet content place end text more line after puts stands spent room earlier env vs counted last =
+-- the same where it is known
+pub standing_next : (l : Last) (before : Before) (k : Form) (shown : Shown) (packet : List ℕ) (content place end text more : ℕ) (line after : List ℕ) → PutsNext before k shown packet content place line (record { place = end; text = text; more = more; last = lasts.Unknown }) after
+    → StandsAs l k packet content place → PutsNext before k shown packet content place line (record { place = end; text = text; more = more; last = l }) after
+standing_next l before k shown packet content place end text more line after puts stands spent room earlier env vs counted last =
     let p = puts spent room earlier env vs counted last in
-    (p.0, p.1, p.2, known_is o p.0 (is_number o k packet content place end spent (spent + 1 + more) earlier (vs ∷ env) p.0 (omega (arith, room)) p.1 stands))
+    (p.0, p.1, p.2, stands_is l k packet content place end spent (spent + 1 + more) earlier (vs ∷ env) p.0 (omega (arith, room)) p.1 stands)
 
 -- one unsigned integer
 pub stands_number : (a : ℕ) (i : Integer) (packet : List ℕ) (content place n : ℕ) → i.is_signed ≡ false → next_multiple_of place a + bits_of i ≤ content → n ≡ number i.order packet (next_multiple_of place a) (bits_of i) → StandsAsNumber (integer a i) packet content place n

@@ -1,4 +1,5 @@
 pub mod Around
+pub mod Branches
 pub mod Digits
 pub mod Labels
 pub mod Lines

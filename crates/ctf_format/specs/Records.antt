@@ -16,45 +16,55 @@ use Rattle.ctf_class.specs.declared.structures.Structures.{Structures}
 use Rattle.ctf_decode.specs.Views.{form}
 use Rattle.ctf_format.specs.Structures.{IsNearStructure}
 use Rattle.ctf_format.specs.RunNumbers.{number_at, place_in, IsPlaced}
-use Rattle.ctf_format.specs.Standing.{Before, Counts, Puts, PutsNext, StandsAsNumber, known}
+use Rattle.ctf_format.specs.Standing.{Before, Counts, Puts, PutsNext, StandsAs, known}
 use Rattle.ctf_decode.specs.Forms.{Form}
 use Rattle.ctf_format.specs.Texts.{Shown, value_text}
 use Rattle.ctf_format.specs.declared.content.Content.{Content}
 use Rattle.ctf_format.specs.declared.placed_run.PlacedRun.{PlacedRun}
 use Rattle.ctf_format.specs.declared.planned_record.Reach.{Reach}
+use Rattle.ctf_format.specs.declared.standing.Last.{Last}
+use Rattle.ctf_format.specs.declared.standing.Last.TheVariants as lasts
 
 -- How far fields came: where the next one could begin, how many values were begun in arrays,
--- the number that comes last, if it is known, and what was written.
+-- the value that comes last, as far as it is known, and what was written.
 pub record Reached : Type 0 where
   pub place : ℕ
   pub more : ℕ
-  pub last : Option ℕ
+  pub last : Last
   pub line : List ℕ
 
--- as far as this, with this line, and no number is known
+-- as far as a place, with so many values in arrays and this line, after a value, as far as that is known
+abbrev pub after_value : ℕ → ℕ → Last → List ℕ → Reached
+after_value place more last line = record { place = place; more = more; last = last; line = line }
+
+-- as far as this, with this line, and no value is known
 abbrev pub reached : Reach → List ℕ → Reached
-reached r line = record { place = r.place; more = r.more; last = None; line = line }
+reached r line = after_value r.place r.more lasts.Unknown line
 
 -- as far as this, with this line, after a number, if it is known
 abbrev pub after_number : Reach → Option ℕ → List ℕ → Reached
-after_number r last line = record { place = r.place; more = r.more; last = last; line = line }
+after_number r last line = after_value r.place r.more (known last) line
 
--- what is known before a member after so many others: the number of the last one, if it is given; nothing before the
--- first, or after a structure that is gone into
+-- what is known before a member after so many others: the last one, as far as it is given; nothing before the first, or
+-- after a structure that is gone into
+abbrev pub after_last : ℕ → Last → Before
+after_last zero last = record { index = zero; last = lasts.Unknown }
+after_last (suc i) last = record { index = suc i; last = last }
+
+-- the same after a number, if it is given
 abbrev pub after_members : ℕ → Option ℕ → Before
-after_members zero last = record { index = zero; last = known None }
-after_members (suc i) last = record { index = suc i; last = known last }
+after_members index last = after_last index (known last)
 
 -- A field's value comes after other fields, whatever was decoded before them, and what is printed of it follows what
--- was written. If its number is known then, it is that.
+-- was written. It is what is known of it then.
 abbrev pub PutsField : Slot → List ℕ → ℕ → Reached → Reached → Type 0
 PutsField s packet content from to =
     let begun = next_multiple_of from.place s.align in
     (begun ≤ content) × (some : ℕ) × (to.more ≡ from.more + some)
-    × PutsNext (after_members s.index from.last) (form s.class)
+    × PutsNext (after_last s.index from.last) (form s.class)
     (λ v. s.lead ++ value_text s.class v) packet content begun from.line
     (record { place = to.place; text = 0; more = some; last = known None }) to.line
-    × IfSome to.last (StandsAsNumber (form s.class) packet content begun)
+    × StandsAs to.last (form s.class) packet content begun
 
 -- so do fields one after the other
 abbrev pub PutsFields : List Slot → List ℕ → ℕ → Reached → Reached → Type 0

@@ -1,5 +1,5 @@
 -- Values that are shown straight from the bits.
-use Rattle.std.specs.Prelude.{◌≡◌, ℕ, ◌+◌, ◌*◌, ◌<◌, ◌≤◌, List, [], ◌∷◌, ◌++◌, map, length, take, Option, Some, None, IfSome, Ok, ⊤, if◌then◌else◌}
+use Rattle.std.specs.Prelude.{◌≡◌, ℕ, ℤ, ◌+◌, ◌*◌, ◌<◌, ◌≤◌, List, [], ◌∷◌, ◌++◌, map, length, take, Option, Some, None, IfSome, Ok, ⊤, if◌then◌else◌}
 use Rattle.ctf_class.specs.declared.class.Member.{Member}
 use Rattle.ctf_class.specs.declared.integer.Integer.{Integer}
 use Rattle.ctf_class.specs.declared.route.Length.{Length}
@@ -91,6 +91,19 @@ StandsAsNumber k packet content place n =
     (spent : ℕ) → spent < MOST_VALUES → (earlier : Scope → Option Val) (env : Env)
     → (end : ℕ)
     × (walk k (among packet content earlier) env place spent ≡ Ok (unsigned n, end, spent + 1))
+
+-- an enumeration of this number is at a place, whatever was decoded before
+abbrev pub StandsAsLabel : Form → List ℕ → ℕ → ℕ → ℤ → Type 0
+StandsAsLabel k packet content place z =
+    (spent : ℕ) → spent < MOST_VALUES → (earlier : Scope → Option Val) (env : Env)
+    → (end : ℕ)
+    × (walk k (among packet content earlier) env place spent ≡ Ok (label z, end, spent + 1))
+
+-- a value at a place is this, as far as it is known, whatever was decoded before
+abbrev pub StandsAs : Last → Form → List ℕ → ℕ → ℕ → Type 0
+StandsAs lasts.Unknown k packet content place = ⊤
+StandsAs (lasts.Unsigned n) k packet content place = StandsAsNumber k packet content place n
+StandsAs (lasts.Label z) k packet content place = StandsAsLabel k packet content place z
 
 -- an array of this length has so many elements after the members of a structure
 abbrev pub Counts : Length → Before → ℕ → Type 0

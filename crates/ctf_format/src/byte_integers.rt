@@ -43,8 +43,9 @@ pub(crate) struct ByteIntegers<'a> {
 }
 
 impl<'a> ByteIntegers<'a> {
-    /// So many integers from a place on, in bits. `None` where they are not such ones, where padding is before or between
-    /// them, where the content ends before they do, and where fewer than eight bytes are there from the last one on.
+    /// So many integers from a place on, in bits. `None` where they are not such ones, where padding is before or
+    /// between them, where the content ends before they do, and where fewer than eight bytes are there from the last
+    /// one on.
     #[inline(always)]
     pub(crate) fn new(
         class: &AlignedInteger<'a>,

@@ -133,7 +133,7 @@ pub(crate) fn put_enumeration(
 
 /// The number of an enumeration that begins at a place.
 #[inline(always)]
-fn number_at(container: &Integer, packet: &Content<'_>, begin: u64) -> i128
+pub(crate) fn number_at(container: &Integer, packet: &Content<'_>, begin: u64) -> i128
     requires { begin + bits_of container.now ≤ packet.now.end }
     ensures { let i = container.now in let bytes = packet.now.bytes.now in let size = bits_of i in
         let above = pos (number i.order bytes begin size) in
@@ -149,7 +149,7 @@ fn number_at(container: &Integer, packet: &Content<'_>, begin: u64) -> i128
 
 /// What is known of an enumeration with this number.
 #[inline(always)]
-fn label_of(number: i128) -> Last
+pub(crate) fn label_of(number: i128) -> Last
     ensures { ValueIs result (label number) }
 {
     match i64::try_from(number) {

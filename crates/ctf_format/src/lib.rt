@@ -4,6 +4,7 @@
 mod around;
 mod array;
 mod binary;
+mod branches;
 mod by_class;
 mod byte_integers;
 mod content;
@@ -16,6 +17,7 @@ mod mark;
 mod number;
 mod octal;
 mod packet;
+mod passed_branches;
 mod passed_record;
 mod pattern;
 mod placed_run;

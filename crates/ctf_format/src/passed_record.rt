@@ -17,6 +17,7 @@ ghost use Rattle.ctf_format.specs.Texts as texts;
 
 use crate::array::begin_at;
 use crate::content::Content;
+use crate::passed_branches::pass_fields;
 use crate::placed_run::PlacedRun;
 use crate::planned_record::{Reach, count_after, placed_at};
 use crate::standing::bits_at;
@@ -60,15 +61,14 @@ pub fn pass_planned_record(plan: &RecordPlan, packet: &Content<'_>, from: Passed
         from.place from.spent p.place p.spent)) }
     ensures within { IfSome result (λ p. p.place ≤ packet.now.end) }
 {
-    let runs = plan.runs.as_slice();
-    if runs.is_empty() {
+    if plan.runs.as_slice().is_empty() {
         return None;
     }
     let begin = Reach {
         place: from.place,
         more: 0,
     };
-    let reach = pass_runs(runs, packet, begin)?;
+    let reach = pass_fields(plan, packet, begin)?;
     let count = u64::from(plan.count) + reach.more;
     if count > MOST_VALUES - from.spent {
         return None;
@@ -80,7 +80,8 @@ pub fn pass_planned_record(plan: &RecordPlan, packet: &Content<'_>, from: Passed
 }
 
 /// How far the fields of runs go.
-fn pass_runs(runs: &[PlannedRun], packet: &Content<'_>, from: Reach) -> Option<Reach>
+#[inline(always)]
+pub(crate) fn pass_runs(runs: &[PlannedRun], packet: &Content<'_>, from: Reach) -> Option<Reach>
     requires near { All IsNear runs.now }
     requires start { from.place ≤ packet.now.end }
     requires few { from.more ≤ MOST_VALUES }

@@ -15,6 +15,7 @@ ghost use Rattle.ctf_format.specs.Records.{BeginsAt, CountsAfter, IsNear, IsLast
 ghost use Rattle.ctf_format.specs.Texts as texts;
 
 use crate::array::{begin_at, put_integers};
+use crate::branches::put_fields;
 use crate::content::Content;
 use crate::leaf::put_enumeration;
 use crate::mark::{put_end, put_nothing};
@@ -45,9 +46,10 @@ pub(crate) struct Reach {
 /// of such records: `from` has the place after the header, in bits from the packet's first one, how many values were
 /// begun before, and the index, in bytes. What is before the index is kept, and the buffer grows where it has no room.
 ///
-/// `None` where there is no plan; where the record has a fault; where a run of numbers would begin within a byte; where
-/// the packet has fewer than eight bytes after the numbers of a run or of a structure in an array, or after the begin
-/// of a run without any; and where an allocation fails. The buffer is then unspecified.
+/// `None` where there is no plan; where the record has a fault; where a variant's tag is above 2^63 - 1; where a run of
+/// numbers would begin within a byte; where the packet has fewer than eight bytes after the numbers of a run or of a
+/// structure in an array, or after the begin of a run without any; and where an allocation fails. The buffer is then
+/// unspecified.
 #[inline(always)]
 pub fn put_planned_record(
     plan: &RecordPlan,
@@ -66,15 +68,14 @@ pub fn put_planned_record(
     ensures within { IfSome result (λ s. s.place ≤ packet.now.end) }
     ensures held { IfSome result (λ s. s.end ≤ vec_len buffer.new) }
 {
-    let runs = plan.runs.as_slice();
-    if runs.is_empty() {
+    if plan.runs.as_slice().is_empty() {
         return None;
     }
     let mut reach = Reach {
         place: from.place,
         more: 0,
     };
-    let text = put_runs(runs, packet, &mut reach, buffer, from.end)?;
+    let text = put_fields(plan, packet, &mut reach, buffer, from.end)?;
     let end = put_ends(plan.ended, buffer, text)?;
     let count = u64::from(plan.count) + reach.more;
     if count > MOST_VALUES - from.spent {
@@ -89,7 +90,7 @@ pub fn put_planned_record(
 
 /// Writes the fields of runs, and a brace, and gives the index after them; `reach` says how far they came then.
 #[inline(never)]
-fn put_runs(
+pub(crate) fn put_runs(
     runs: &[PlannedRun],
     packet: &Content<'_>,
     reach: &mut Reach,
@@ -121,7 +122,7 @@ fn put_runs(
 /// Writes the braces of so many structures that end after that of one, and gives the index after them. Mostly one ends;
 /// where none does, its brace is taken back.
 #[inline(always)]
-fn put_ends(ended: u32, buffer: &mut Vec<u8>, at: usize) -> Option<usize>
+pub(crate) fn put_ends(ended: u32, buffer: &mut Vec<u8>, at: usize) -> Option<usize>
     requires { at ≤ vec_len buffer.old }
     ensures puts { (line : List ℕ) → take at buffer.old.items ≡ line ++ (32 ∷ 125 ∷ []) →
         IfSome result (λ text. take text buffer.new.items ≡ line ++ ends ended) }
@@ -149,7 +150,7 @@ fn put_other_ends(ended: u32, buffer: &mut Vec<u8>, at: usize) -> Option<usize>
 }
 
 /// Writes a space and a brace for each of so many structures more.
-fn put_more_ends(ended: u32, buffer: &mut Vec<u8>, at: usize) -> Option<usize>
+pub(crate) fn put_more_ends(ended: u32, buffer: &mut Vec<u8>, at: usize) -> Option<usize>
     requires { at ≤ vec_len buffer.old }
     ensures { IfSome result (IsPut buffer.old at (ends ended) buffer.new) }
 {
@@ -315,7 +316,7 @@ fn put_run_field(
 
 /// Writes a text at an index of a buffer that has room for it and for 24 bytes more, and gives the index after it.
 #[inline(always)]
-fn put_before(ready: &PreparedText, buffer: &mut Vec<u8>, at: usize) -> usize
+pub(crate) fn put_before(ready: &PreparedText, buffer: &mut Vec<u8>, at: usize) -> usize
     requires { at + length ready.now + 24 ≤ vec_len buffer.old }
     ensures put { IsPut buffer.old at ready.now buffer.new result }
     ensures end { result ≡ at + length ready.now }

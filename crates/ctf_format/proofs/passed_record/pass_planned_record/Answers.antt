@@ -1,17 +1,16 @@
-use Rattle.std.proofs.Common.{◌≡◌, ◌+◌, ◌<◌, ◌≤◌, ◌++◌, ◌∷◌, [], None, length, sym, subst, append-nil, rules, arith}
-use Rattle.std.specs.List.{All}
-use Rattle.ctf_class.specs.Records.{AreRuns, all_slots, ended_last, ends, values_in}
+use Rattle.std.proofs.Common.{◌≡◌, ◌+◌, ◌<◌, ◌≤◌, ◌++◌, [], None, length, subst, append-nil, rules, arith}
+use Rattle.ctf_class.specs.Records.{all_slots, ended_last, ends, values_in}
 use Rattle.ctf_decode.specs.declared.scopes.TheConstants.{MOST_VALUES}
-use Rattle.ctf_format.specs.Records.{IsNear, PutsScopes, reached}
-use Rattle.ctf_format.proofs.RecordsLemmas.{numbers_to, runs_near, scopes_puts}
+use Rattle.ctf_format.specs.Records.{PutsScopes, reached}
+use Rattle.ctf_format.proofs.RecordsLemmas.{numbers_to, scopes_puts}
 use Rattle.ctf_format.proofs.passed_record.pass_planned_record.Goals as goal
 
-pub pass_runs-requires-clause-near : goal.pass_runs-requires-clause-near
-pass_runs-requires-clause-near c =
+pub pass_fields-requires-clause-is : goal.pass_fields-requires-clause-is
+pass_fields-requires-clause-is c =
     let plan = c.args.plan.now in
     let some : 0 < length plan.runs = search (rules, arith) in
     let is = c.requires.plan.1 some in
-    subst (All IsNear) (sym c.as_slice-runs.ensures) (runs_near (all_slots [] is.0) plan.runs is.4)
+    record { depth = is.4; slots = all_slots [] is.0; are = is.5 }
 
 pub returns-clause-passes : goal.returns-clause-passes
 returns-clause-passes c = λ classes several planned before.
@@ -24,7 +23,7 @@ returns-clause-passes c = λ classes several planned before.
     let some : 0 < length plan.runs = search (rules, arith) in
     let is = planned some in
     let slots = all_slots [] is.0 in
-    let p = c.in_ok-reach.ensures.passes slots (subst (AreRuns slots) (sym c.as_slice-runs.ensures) is.4) before in
+    let p = c.in_ok-reach.ensures.passes is.4 slots is.5 before in
     let line = p.0 in
     let whole = scopes_puts classes is.0 [] bytes content spent (numbers_to place 0 None before) (reached to line) several is.1 p.1 in
     let count = c.from.result + to.more in

@@ -1,17 +1,16 @@
-use Rattle.std.proofs.Common.{◌≡◌, ◌+◌, ◌<◌, ◌≤◌, ◌++◌, ◌∷◌, [], None, take, length, sym, ap, subst, ◌∙◌, append_assoc, append-nil, rules, arith}
-use Rattle.std.specs.List.{All}
-use Rattle.ctf_class.specs.Records.{AreRuns, all_slots, ended_last, ends, values_in}
+use Rattle.std.proofs.Common.{◌≡◌, ◌+◌, ◌<◌, ◌≤◌, ◌++◌, [], None, take, length, sym, ap, subst, ◌∙◌, append-nil, rules, arith}
+use Rattle.ctf_class.specs.Records.{all_slots, ended_last, ends, values_in}
 use Rattle.ctf_decode.specs.declared.scopes.TheConstants.{MOST_VALUES}
-use Rattle.ctf_format.specs.Records.{IsNear, PutsScopes, reached}
-use Rattle.ctf_format.proofs.RecordsLemmas.{numbers_to, runs_near, scopes_puts}
+use Rattle.ctf_format.specs.Records.{PutsScopes, reached}
+use Rattle.ctf_format.proofs.RecordsLemmas.{numbers_to, scopes_puts}
 use Rattle.ctf_format.proofs.planned_record.put_planned_record.Goals as goal
 
-pub put_runs-requires-clause-near : goal.put_runs-requires-clause-near
-put_runs-requires-clause-near c =
+pub put_fields-requires-clause-is : goal.put_fields-requires-clause-is
+put_fields-requires-clause-is c =
     let plan = c.args.plan.now in
     let some : 0 < length plan.runs = search (rules, arith) in
     let is = c.requires.plan.1 some in
-    subst (All IsNear) (sym c.as_slice-runs.ensures) (runs_near (all_slots [] is.0) plan.runs is.4)
+    record { depth = is.4; slots = all_slots [] is.0; are = is.5 }
 
 pub returns-clause-puts : goal.returns-clause-puts
 returns-clause-puts c = λ classes several planned.
@@ -20,14 +19,14 @@ returns-clause-puts c = λ classes several planned.
     let content = c.args.packet.now.end in
     let place = c.args.from.place in
     let spent = c.args.from.spent in
-    let to = c.put_runs.new.reach in
+    let to = c.put_fields.new.reach in
     let before = take c.args.from.end c.args.buffer.now.items in
-    let written = take c.in_ok-text.text c.put_runs.new.buffer.items in
+    let written = take c.in_ok-text.text c.put_fields.new.buffer.items in
     let after = take c.in_ok-end.end c.put_ends.new.buffer.items in
     let some : 0 < length plan.runs = search (rules, arith) in
     let is = planned some in
     let slots = all_slots [] is.0 in
-    let puts = c.in_ok-text.ensures.puts slots (subst (AreRuns slots) (sym c.as_slice-runs.ensures) is.4) in
+    let puts = c.in_ok-text.ensures.puts is.4 slots is.5 in
     let line = puts.0 in
     let whole = scopes_puts classes is.0 [] bytes content spent (numbers_to place 0 None before) (reached to line) several is.1 puts.1 in
     let count = c.from.result + to.more in

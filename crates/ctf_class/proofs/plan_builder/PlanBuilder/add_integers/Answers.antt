@@ -18,6 +18,7 @@ loop-i-preserved c =
     record {
       few = c.in_ok-add_integer.ensures.few took;
       near = c.in_ok-add_integer.ensures.near took;
+      branches = c.in_ok-add_integer.ensures.branches took ∙ l.invariant.branches;
       runs = c.in_ok-add_integer.ensures.runs took ∙ l.invariant.runs;
       comes = alone_next at ms l.i m c.loop-i-test.true c.index-members-i.is ∙ ap (λ a. record { lead = 44 ∷ 32 ∷ []; align = a; index = l.i + 1 }) (sym one);
       made = λ done made.

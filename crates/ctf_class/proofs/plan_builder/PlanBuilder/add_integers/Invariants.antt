@@ -8,6 +8,7 @@ abbrev pub invariant-loop-i : goal.invariant-loop-i
 invariant-loop-i l = record {
   few : l.self.room ≤ 2 ^ 18;
   near : l.self.span ≤ 2 ^ 33;
+  branches : l.self.branches ≡ l.fn.self.branches;
   runs : l.self.runs ≡ l.fn.self.runs;
   comes : after_pieces 0 (first_at (123 ∷ 32 ∷ []) l.fn.begin) (all_alone (take l.i l.members)) ≡ record { lead = l.text; align = l.align; index = l.i };
   made : (done : List Slot) → IsMade done l.fn.self → IsMade (done ++ pieces_slots 0 (first_at (123 ∷ 32 ∷ []) l.fn.begin) (all_alone (take l.i l.members))) l.self;

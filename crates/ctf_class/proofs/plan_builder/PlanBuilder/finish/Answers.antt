@@ -1,15 +1,20 @@
-use Rattle.std.proofs.Common.{◌≡◌, ◌∷◌, ◌++◌, ◌∙◌, [], Bool, None, ap, rules}
+use Rattle.std.proofs.Common.{List, ◌≡◌, ◌∷◌, ◌++◌, ◌∙◌, [], Bool, None, ap, rules}
 use Rattle.ctf_class.specs.Records.{have_special}
+use Rattle.ctf_class.specs.declared.record_plan.Branches.TheVariants as branches
+use Rattle.ctf_class.specs.declared.planned_number.PlannedNumber.{PlannedNumber}
 use Rattle.ctf_class.specs.declared.record_plan.PlannedRun.{PlannedRun}
-use Rattle.ctf_class.proofs.RecordsLemmas.{plan_of, plan_of_whole}
+use Rattle.ctf_class.proofs.RecordsLemmas.{planned, planned_whole}
 use Rattle.ctf_class.proofs.plan_builder.PlanBuilder.finish.Goals as goal
 
-pub returns : goal.returns
-returns c = λ ks of.
+pub returns-clause-fields : goal.returns-clause-fields
+returns-clause-fields c = λ done made.
     let m = c.args.self in
     let special : c.have_special.result ≡ have_special m.numbers = search rules in
-    let run : Bool → PlannedRun = λ b. record { align = m.align; numbers = m.numbers; has_special = b; span = m.span; room = m.room; field = None } in
-    plan_of ks m c.push.new.self (c.in_ok-push.ensures.ok ∙ ap (λ b. m.runs ++ run b ∷ []) special) of
+    let run : Bool → List PlannedNumber → PlannedRun = λ b ns. record { align = m.align; numbers = ns; has_special = b; span = m.span; room = m.room; field = None } in
+    let runs = c.fitted-3.ensures ∙ c.in_ok-push.ensures.ok ∙ (λ j. m.runs ++ run (special j) (c.fitted-2.ensures j) ∷ []) in
+    planned done m (record { branches = branches.Listed c.fitted.result; runs = c.fitted-3.result; count = m.count; ended = m.ended }) (ap branches.Listed c.fitted.ensures) runs made
 
-pub returns-then-not-is_empty : goal.returns-then-not-is_empty
-returns-then-not-is_empty c = λ ks of. plan_of_whole ks c.args.self (search rules) of
+pub returns-then-not-is_empty-clause-fields : goal.returns-then-not-is_empty-clause-fields
+returns-then-not-is_empty-clause-fields c = λ done made.
+    let m = c.args.self in
+    planned_whole done m (record { branches = branches.Listed c.fitted.result; runs = c.fitted-then-not-is_empty.result; count = m.count; ended = m.ended }) (ap branches.Listed c.fitted.ensures) c.fitted-then-not-is_empty.ensures (search rules) made

@@ -1,8 +1,7 @@
 use Rattle.std.proofs.Common.{[], ◌++◌, IsTrue, option_copied, rules, subst}
-use Rattle.std.proofs.lemmas.Result.{IfOk-weaker}
 use Rattle.ctf_class.specs.PlanBuilding.{IsMadeOf}
-use Rattle.ctf_class.specs.Records.{and_scope, scopes_of, IsPlanOf}
-use Rattle.ctf_class.proofs.RecordsLemmas.{scopes_are}
+use Rattle.ctf_class.specs.Records.{and_scope, scopes_of}
+use Rattle.ctf_class.proofs.RecordsLemmas.{finished, scopes_are}
 use Rattle.ctf_class.proofs.record_plan.RecordPlan.new.Goals as goal
 
 pub returns-then-branch-3 : goal.returns-then-branch-3
@@ -17,4 +16,5 @@ returns-then-branch-3 c =
     let second = c.in_ok-add_optional-2.ensures.made two (and_scope stream_context []) first in
     let third = c.in_ok-add_scope.ensures.made three (and_scope stream_context [] ++ and_scope event_context []) second in
     let all : IsMadeOf (scopes_of stream_context event_context fields) c.add_scope.new.self = subst (λ ks. IsMadeOf ks c.add_scope.new.self) (scopes_are stream_context event_context fields) third in
-    IfOk-weaker c.finish.result _ (IsPlanOf (scopes_of stream_context event_context fields)) (λ plan is. is (scopes_of stream_context event_context fields) all) c.finish.ensures
+    let ks = scopes_of stream_context event_context fields in
+    finished ks c.add_scope.new.self c.finish.result all c.finish.ensures.fields c.finish.ensures.count c.finish.ensures.ended

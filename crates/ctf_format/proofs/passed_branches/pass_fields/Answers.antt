@@ -1,0 +1,20 @@
+use Rattle.std.proofs.Common.{rules, ◌≡◌, [], subst, sym}
+use Rattle.std.specs.List.{All}
+use Rattle.ctf_class.specs.Records.{AreRuns}
+use Rattle.ctf_format.specs.Records.{IsNear}
+use Rattle.ctf_format.proofs.BranchesLemmas.{listed_in, planned_runs}
+use Rattle.ctf_format.proofs.RecordsLemmas.{runs_near}
+use Rattle.ctf_format.proofs.passed_branches.pass_fields.Goals as goal
+
+pub pass_runs-requires-clause-near : goal.pass_runs-requires-clause-near
+pass_runs-requires-clause-near c =
+    let p = c.args.plan.now in
+    let none : listed_in p.branches ≡ [] = search rules in
+    let is = c.requires.is in
+    subst (All IsNear) (sym c.as_slice.ensures) (runs_near is.slots p.runs (planned_runs is.depth is.slots p none is.are))
+
+pub returns-then-is_empty-clause-passes : goal.returns-then-is_empty-clause-passes
+returns-then-is_empty-clause-passes c = λ depth slots planned.
+    let p = c.args.plan.now in
+    let none : listed_in p.branches ≡ [] = search rules in
+    c.pass_runs.ensures.passes slots (subst (AreRuns slots) (sym c.as_slice.ensures) (planned_runs depth slots p none planned))
