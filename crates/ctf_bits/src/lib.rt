@@ -1,5 +1,5 @@
-//! Numbers at any bit of a list of bytes, where bytes come from, and where they go; calls that a signal interrupts, made
-//! again.
+//! Numbers at any bit of a list of bytes, where bytes come from, and where they go; calls that a signal interrupts,
+//! made again.
 #![tactic(auto)]
 
 mod align;

@@ -4,7 +4,7 @@ ghost use Rattle.std.specs.Prelude.{◌≡◌};
 
 use ctf_list::List;
 
-/// The same list, without what its memory has beyond its elements, where that can be given back.
+/// A list without what its memory has beyond its elements, where that can be given back.
 pub(crate) fn fitted<T: Drop>(list: List<T>) -> List<T>
     ensures { result ≡ list }
 {
