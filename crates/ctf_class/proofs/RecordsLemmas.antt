@@ -1,6 +1,6 @@
 -- Plans of event records that are made one field after the other.
-use Rattle.std.proofs.Common.{◌≡◌, ℕ, zero, suc, ◌+◌, ◌%◌, ◌^◌, ◌<◌, ◌≤◌, max, List, [], ◌∷◌, ◌++◌, length, take, get_or, Option, Some, None, refl, sym, ap, subst, ◌∙◌, arith, append_assoc, append-nil}
-use Rattle.std.proofs.Common.{Ok, Err, IfOk, inl, inr}
+use Rattle.std.proofs.Common.{◌≡◌, ℕ, zero, suc, ◌+◌, ◌%◌, ◌^◌, ◌<◌, ◌≤◌, max, List, [], ◌∷◌, ◌++◌, false, length, take, get_or, Option, Some, None, refl, sym, ap, subst, ◌∙◌, arith, append_assoc, append-nil}
+use Rattle.std.proofs.Common.{Bool, Ok, Err, IfOk, IsTrue, inl, inr}
 use Rattle.std.specs.declared.result.Result.{Result}
 use Rattle.ctf_list.specs.declared.no_memory.NoMemory.{NoMemory}
 use Rattle.std.proofs.lemmas.List.{take_more, length-take-le}
@@ -11,8 +11,18 @@ use Rattle.ctf_class.specs.declared.class.Kind as kind
 use Rattle.ctf_class.specs.declared.class.Member.{Member}
 use Rattle.ctf_class.specs.declared.record_plan.Branch.{Branch}
 use Rattle.ctf_class.specs.declared.record_plan.Branches.{Branches, Branches-F, out-Branches}
-use Rattle.ctf_class.specs.declared.record_plan.OptionPlans.{OptionPlans, OptionPlans-F, out-OptionPlans}
+use Rattle.ctf_class.specs.declared.record_plan.InnerPlans.{InnerPlans, InnerPlans-F, out-InnerPlans}
 use Rattle.ctf_class.specs.declared.record_plan.Branches.TheVariants as branches
+use Rattle.ctf_class.specs.declared.record_plan.Elements.{Elements}
+use Rattle.ctf_class.specs.declared.record_plan.InnerPlans.TheVariants as inner_plans
+use Rattle.ctf_class.specs.declared.record_plan.Nested.{Nested}
+use Rattle.ctf_class.specs.declared.record_plan.Nested.TheVariants as nested
+use Rattle.ctf_class.specs.declared.record_plan.PlannedSequence.{PlannedSequence}
+use Rattle.ctf_class.specs.declared.record_plan.PlannedVariant.{PlannedVariant}
+use Rattle.ctf_class.specs.declared.route.Length.{Length}
+use Rattle.ctf_class.specs.declared.route.Length.TheVariants as lengths
+use Rattle.ctf_class.specs.declared.route.Route.{Route}
+use Rattle.ctf_class.specs.declared.shown.Shown.{Shown}
 use Rattle.ctf_class.specs.declared.record_plan.PlannedField.{PlannedField}
 use Rattle.ctf_class.specs.declared.record_plan.RecordPlan.{RecordPlan}
 use Rattle.ctf_class.specs.declared.plan_builder.PlanBuilder.{PlanBuilder}
@@ -20,8 +30,8 @@ use Rattle.ctf_class.specs.declared.plan_builder.Lead.{Lead}
 use Rattle.ctf_class.specs.declared.record_plan.PlannedRun.{PlannedRun}
 use Rattle.ctf_class.specs.declared.many.Many.{Many}
 use Rattle.ctf_class.specs.declared.planned_number.PlannedNumber.{PlannedNumber}
-use Rattle.ctf_class.specs.PlanBuilding.{AddsPiece, AddsPieces, BranchesTo, IsBranch, TakesSome, IsOpen, IsMade, IsMadeOf, at_of, before_scope, empty_scope, runs_by, slot_of, variant_slot, with_branch, with_field, with_number, with_scope, with_structure}
-use Rattle.ctf_class.specs.Records.{Slot, At, Piece, Pieces, alone, inner, no_pieces, more_pieces, Scoped, IsPiece, ArePieces, member_of, members_of, inside, insides, ended_by, ended_after, ends, ended_last, first_at, later_at, known_index, opened_lead, piece_slots, pieces_slots, all_alone, member_slots, scope_slots, slots, ended_in, before_next, all_slots, values_in, AreScoped, and_scope, scopes_of, IsNumber, AreInRun, TakesNumbers, IsStructure, IsField, AreRuns, AreBranches, AreThose, AreEach, AreListed, IsTag, IsVariant, IsOption, IsPlanned, IsPlanOf, have_special, numbers_room, room_of}
+use Rattle.ctf_class.specs.PlanBuilding.{AddsElement, AddsPiece, AddsPieces, AreTwo, BranchesTo, IsAlone, IsBare, IsOfTwo, TakesSome, IsOpen, IsMade, IsMadeOf, at_of, before_scope, empty_scope, runs_by, slot_of, later_slot, with_branch, with_field, with_number, with_scope, with_structure}
+use Rattle.ctf_class.specs.Records.{Slot, At, Piece, Pieces, alone, inner, no_pieces, more_pieces, Scoped, IsPiece, ArePieces, member_of, members_of, inside, insides, ended_by, ended_after, ends, ended_last, first_at, later_at, known_index, opened_lead, piece_slots, pieces_slots, all_alone, member_slots, scope_slots, slots, ended_in, before_next, all_slots, values_in, AreScoped, and_scope, scopes_of, IsNumber, AreInRun, TakesNumbers, IsStructure, IsField, AreRuns, AreBranches, AreThose, AreEach, AreListed, AreNested, AreSequence, AreVariant, IsArray, IsBranch, IsElement, IsItem, IsInteger, IsLabelled, IsOfPieces, IsOption, IsPlanned, IsPlanOf, LeadsBefore, have_special, numbers_room, room_of}
 
 -- one number more after the others
 numbers_more : (base from span : ℕ) (ss : List Slot) (ns : List PlannedNumber) (s : Slot) (rest : List Slot) (n : PlannedNumber) → AreInRun base from ss ns span (s ∷ rest) → IsNumber base span s n → AreInRun base from ss (ns ++ n ∷ []) (n.window.place + n.window.size) rest
@@ -99,56 +109,118 @@ made_field done s m f is made = record {
   bounded = omega arith;
 }
 
--- options of less depth are of more
-each_more : (P Q : Member → RecordPlan → Type 0) → ((m : Member) (p : RecordPlan) → P m p → Q m p) → (ms : List Member) (ps : List RecordPlan) → AreEach P ms ps → AreEach Q ms ps
-each_more P Q more [] [] are = tt
-each_more P Q more [] (p ∷ ps) are = absurd are
-each_more P Q more (m ∷ ms) [] are = absurd are
-each_more P Q more (m ∷ ms) (p ∷ ps) are = (more m p are.0, each_more P Q more ms ps are.1)
+-- plans of less depth are of more
+module _ (P Q : List Slot → RecordPlan → Type 0) (more : (ss : List Slot) (p : RecordPlan) → P ss p → Q ss p) where
+  pub option_by : (m : Member) (p : RecordPlan) → IsOption P m p → IsOption Q m p
+  option_by m p is = (is.0, is.1, is.2, is.3, is.4, more (piece_slots (first_at (123 ∷ 32 ∷ []) 1) is.0) p is.5)
 
-variant_more : (P Q : Member → RecordPlan → Type 0) → ((m : Member) (p : RecordPlan) → P m p → Q m p) → (s : Slot) (b : Branch) → IsVariant P s b → IsVariant Q s b
-variant_more P Q more s b is = record { tag = is.tag; options = is.options; is = is.is; leads = is.leads; align = is.align; before = is.before; are = listed (out-OptionPlans b.options) is.are }
-  where
-    listed : (x : OptionPlans-F Branches OptionPlans Branch RecordPlan) → AreListed P is.options x → AreListed Q is.options x
-    listed (OptionPlans-F.Each ps) are = each_more P Q more is.options ps are
+  pub element_by : (k : Class) (p : RecordPlan) → IsElement P k p → IsElement Q k p
+  element_by k p is = (is.0, is.1, is.2, is.3, more (scope_slots [] k is.0) p is.4)
 
-branches_more : (P Q : Member → RecordPlan → Type 0) → ((m : Member) (p : RecordPlan) → P m p → Q m p) → (ss : List Slot) (bs : List Branch) (rs : List PlannedRun) → AreBranches P ss bs rs → AreBranches Q ss bs rs
-branches_more P Q more ss [] rs are = are
-branches_more P Q more ss (b ∷ bs) rs are = (are.0, are.1, are.2, are.3, are.4, are.5, are.6, variant_more P Q more are.2 b are.7, branches_more P Q more are.3 bs rs are.8)
+  pub each_by : (ms : List Member) (ps : List RecordPlan) → AreEach P ms ps → AreEach Q ms ps
+  each_by [] [] are = tt
+  each_by [] (p ∷ ps) are = absurd are
+  each_by (m ∷ ms) [] are = absurd are
+  each_by (m ∷ ms) (p ∷ ps) are = (option_by m p are.0, each_by ms ps are.1)
 
-those_more : (P Q : Member → RecordPlan → Type 0) → ((m : Member) (p : RecordPlan) → P m p → Q m p) → (ss : List Slot) (x : Branches-F Branches OptionPlans Branch RecordPlan) (rs : List PlannedRun) → AreThose P ss x rs → AreThose Q ss x rs
-those_more P Q more ss (Branches-F.Listed bs) rs are = branches_more P Q more ss bs rs are
+  variant_by : (t s : Slot) (v : PlannedVariant) (ps : List RecordPlan) → AreVariant P t s v ps → AreVariant Q t s v ps
+  variant_by t s v ps are = record { labelled = are.labelled; tag = are.tag; options = are.options; is = are.is; leads = are.leads; align = are.align; before = are.before; are = each_by are.options ps are.are }
 
-option_deeper : (d : ℕ) (m : Member) (p : RecordPlan) → IsOption d m p → IsOption (suc d) m p
-option_deeper zero m p is = absurd is
-option_deeper (suc d) m p is = (is.0, is.1, is.2, is.3, is.4, those_more (IsOption d) (IsOption (suc d)) (option_deeper d) (piece_slots (first_at (123 ∷ 32 ∷ []) 1) is.0) (out-Branches p.branches) p.runs is.5)
+  item_by : (k : Class) (shown : Option Shown) (ps : List RecordPlan) → IsItem P k shown ps → IsItem Q k shown ps
+  item_by k (Some shown) ps is = is
+  item_by k None ps is = (is.0, is.1, element_by k is.0 is.2)
 
-pub option_deep : (k d : ℕ) (m : Member) (p : RecordPlan) → IsOption d m p → IsOption (k + d) m p
-option_deep zero d m p is = (let same : d ≡ 0 + d = omega arith in subst (λ n. IsOption n m p) same is)
-option_deep (suc k) d m p is = (let more : suc (k + d) ≡ suc k + d = omega arith in subst (λ n. IsOption n m p) more (option_deeper (k + d) m p (option_deep k d m p is)))
+  array_by : (s : Slot) (many : Length) (e : Elements) (ps : List RecordPlan) → IsArray P s many e ps → IsArray Q s many e ps
+  array_by s many e ps is = record { element = is.element; is = is.is; align = is.align; are = item_by is.element e.shown ps is.are }
 
-pub each_deep : (k d : ℕ) (ms : List Member) (ps : List RecordPlan) → AreEach (IsOption d) ms ps → AreEach (IsOption (k + d)) ms ps
-each_deep k d ms ps are = each_more (IsOption d) (IsOption (k + d)) (option_deep k d) ms ps are
+  sequence_by : (n s : Slot) (q : PlannedSequence) (ps : List RecordPlan) → AreSequence P n s q ps → AreSequence Q n s q ps
+  sequence_by n s q ps are = record { counts = are.counts; unsigned = are.unsigned; route = are.route; leads = are.leads; align = are.align; before = are.before; array = array_by s _ q.elements ps are.array }
+
+  nested_by : (s : Slot) (ss : List Slot) (n : Nested) (ps : List RecordPlan) → AreNested P s ss n ps → AreNested Q s ss n ps
+  nested_by s ss (nested.Variant v) ps are = (are.0, are.1, variant_by s are.0 v ps are.2)
+  nested_by s ss (nested.Sequence q) ps are = (are.0, are.1, sequence_by s are.0 q ps are.2)
+  nested_by s ss (nested.Array a) ps are = (are.0, array_by s _ a.elements ps are.1)
+
+  listed_by : (s : Slot) (ss : List Slot) (n : Nested) (x : InnerPlans-F Branches InnerPlans Branch RecordPlan) → AreListed P s ss n x → AreListed Q s ss n x
+  listed_by s ss n (InnerPlans-F.Each ps) are = nested_by s ss n ps are
+
+  branch_by : (fields : List Slot) (b : Branch) → IsBranch P fields b → IsBranch Q fields b
+  branch_by fields b is = record { first = is.first; others = is.others; are = is.are; align = is.align; ready = is.ready; nested = listed_by is.first is.others b.nested (out-InnerPlans b.plans) is.nested }
+
+  branches_by : (ss : List Slot) (bs : List Branch) (rs : List PlannedRun) → AreBranches P ss bs rs → AreBranches Q ss bs rs
+  branches_by ss [] rs are = are
+  branches_by ss (b ∷ bs) rs are = (are.0, are.1, are.2, are.3, are.4, branch_by are.1 b are.5, branches_by are.2 bs rs are.6)
+
+  those_by : (ss : List Slot) (x : Branches-F Branches InnerPlans Branch RecordPlan) (rs : List PlannedRun) → AreThose P ss x rs → AreThose Q ss x rs
+  those_by ss (Branches-F.Listed bs) rs are = branches_by ss bs rs are
+
+planned_deeper : (d : ℕ) (ss : List Slot) (p : RecordPlan) → IsPlanned d ss p → IsPlanned (suc d) ss p
+planned_deeper zero ss p is = absurd is
+planned_deeper (suc d) ss p is = those_by (IsPlanned d) (IsPlanned (suc d)) (planned_deeper d) ss (out-Branches p.branches) p.runs is
+
+pub planned_deep : (k d : ℕ) (ss : List Slot) (p : RecordPlan) → IsPlanned d ss p → IsPlanned (k + d) ss p
+planned_deep zero d ss p is = (let same : d ≡ 0 + d = omega arith in subst (λ n. IsPlanned n ss p) same is)
+planned_deep (suc k) d ss p is = (let more : suc (k + d) ≡ suc k + d = omega arith in subst (λ n. IsPlanned n ss p) more (planned_deeper (k + d) ss p (planned_deep k d ss p is)))
 
 -- an option more
-pub each_and : (P : Member → RecordPlan → Type 0) (ms : List Member) (ps : List RecordPlan) (m : Member) (p : RecordPlan) → AreEach P ms ps → P m p → AreEach P (ms ++ m ∷ []) (ps ++ p ∷ [])
+pub each_and : (P : List Slot → RecordPlan → Type 0) (ms : List Member) (ps : List RecordPlan) (m : Member) (p : RecordPlan) → AreEach P ms ps → IsOption P m p → AreEach P (ms ++ m ∷ []) (ps ++ p ∷ [])
 each_and P [] [] m p are is = (is, tt)
 each_and P [] (q ∷ ps) m p are is = absurd are
 each_and P (n ∷ ms) [] m p are is = absurd are
 each_and P (n ∷ ms) (q ∷ ps) m p are is = (are.0, each_and P ms ps m p are.1 is)
 
-pub option_more : (ms : List Member) (ps : List RecordPlan) (m : Member) (p : RecordPlan) → (depth : ℕ) × AreEach (IsOption depth) ms ps → (depth : ℕ) × IsOption depth m p → (depth : ℕ) × AreEach (IsOption depth) (ms ++ m ∷ []) (ps ++ p ∷ [])
+pub option_more : (ms : List Member) (ps : List RecordPlan) (m : Member) (p : RecordPlan) → (depth : ℕ) × AreEach (IsPlanned depth) ms ps → (depth : ℕ) × IsOption (IsPlanned depth) m p → (depth : ℕ) × AreEach (IsPlanned depth) (ms ++ m ∷ []) (ps ++ p ∷ [])
 option_more ms ps m p are is =
     let same : are.0 + is.0 ≡ is.0 + are.0 = omega arith in
-    (is.0 + are.0, each_and (IsOption (is.0 + are.0)) ms ps m p (each_deep is.0 are.0 ms ps are.1) (subst (λ n. IsOption n m p) same (option_deep are.0 is.0 m p is.1)))
+    let P = IsPlanned (is.0 + are.0) in
+    let option : IsOption P m p = subst (λ n. IsOption (IsPlanned n) m p) same (option_by (IsPlanned is.0) (IsPlanned (are.0 + is.0)) (planned_deep are.0 is.0) m p is.1) in
+    (is.0 + are.0, each_and P ms ps m p (each_by (IsPlanned are.0) P (planned_deep is.0 are.0) ms ps are.1) option)
 
 -- the plan of an option
-pub option_made : (at : At) (m : Member) (old new : PlanBuilder) (p : RecordPlan) → at ≡ first_at (123 ∷ 32 ∷ []) 1 → old.count ≡ 0 → AddsPiece at m [] old new → ((done : List Slot) → IsMade done new → (depth : ℕ) × IsPlanned depth done p) → p.count ≡ new.count → p.ended ≡ new.ended → (depth : ℕ) × IsOption depth m p
+pub option_made : (at : At) (m : Member) (old new : PlanBuilder) (p : RecordPlan) → at ≡ first_at (123 ∷ 32 ∷ []) 1 → old.count ≡ 0 → AddsPiece at m [] old new → ((done : List Slot) → IsMade done new → (depth : ℕ) × IsPlanned depth done p) → p.count ≡ new.count → p.ended ≡ new.ended → (depth : ℕ) × IsOption (IsPlanned depth) m p
 option_made at m old new p here none adds planned count ended =
     let is = planned (piece_slots at adds.0) adds.5 in
     let slots_are = ap (λ a. piece_slots a adds.0) here in
     let values : p.count ≡ inside adds.0 = (let a = adds.3 in omega (arith, a, none, count)) in
-    (suc is.0, (adds.0, adds.1, subst (λ (a : At). IsPiece a.align adds.0) here adds.2, values, ended ∙ adds.4, subst (λ ss. IsPlanned is.0 ss p) slots_are is.1))
+    (is.0, (adds.0, adds.1, subst (λ (a : At). IsPiece a.align adds.0) here adds.2, values, ended ∙ adds.4, subst (λ ss. IsPlanned is.0 ss p) slots_are is.1))
+
+-- that of an element
+pub element_made : (k : Class) (old new : PlanBuilder) (p : RecordPlan) → old.count ≡ 0 → AddsElement k old new → ((done : List Slot) → IsMade done new → (depth : ℕ) × IsPlanned depth done p) → p.count ≡ new.count → p.ended ≡ new.ended → (depth : ℕ) × IsElement (IsPlanned depth) k p
+element_made k old new p none adds planned count ended =
+    let is = planned (scope_slots [] k adds.0) adds.4 in
+    let values : p.count ≡ length (members_of adds.0) + insides adds.0 = (let a = adds.2 in omega (arith, a, none, count)) in
+    (is.0, (adds.0, adds.1, values, ended ∙ adds.3, is.1))
+
+-- two members are a tag and its variant
+pub variant_made : (tag variant : Member) (index : ℕ) (v : PlannedVariant) (route : Route) (options : List Member) (ps : List RecordPlan) → IsLabelled tag.class v.tag → variant.class.kind ≡ kind.Variant route v.choices options → LeadsBefore route index → v.before ≡ (44 ∷ 32 ∷ []) ++ field_text variant.name
+    → (depth : ℕ) × AreEach (IsPlanned depth) options ps → AreTwo tag variant index (nested.Variant v) ps
+variant_made tag variant index v route options ps labelled is leads before plans = (plans.0, λ lead. (later_slot index variant, refl, record { labelled = labelled; tag = route; options = options; is = is; leads = leads; align = refl; before = before; are = plans.1 }))
+
+-- two members are a length and its array
+pub sequence_made : (length array : Member) (index : ℕ) (q : PlannedSequence) (route : Route) (k : Class) (ps : List RecordPlan) → IsInteger length.class q.length.integer q.length.align → q.length.integer.is_signed ≡ false → array.class.kind ≡ kind.Array (lengths.Field route) k → LeadsBefore route index → q.before ≡ (44 ∷ 32 ∷ []) ++ field_text array.name
+    → q.elements.align ≡ k.align → (depth : ℕ) × IsItem (IsPlanned depth) k q.elements.shown ps → AreTwo length array index (nested.Sequence q) ps
+sequence_made length array index q route k ps counts unsigned is leads before align items =
+    (items.0, λ lead. (later_slot index array, refl, record { counts = counts; unsigned = unsigned; route = route; leads = leads; align = refl; before = before; array = record { element = k; is = is; align = align; are = items.1 } }))
+
+-- what is listed in a branch
+listed_of : (P : List Slot → RecordPlan → Type 0) (s : Slot) (ss : List Slot) (nest : Nested) (ps : List RecordPlan) (b : Branch) → b.nested ≡ nest → b.plans ≡ inner_plans.Each ps → AreNested P s ss nest ps → AreListed P s ss b.nested (out-InnerPlans b.plans)
+listed_of P s ss nest ps b same each are = subst (λ x. AreListed P s ss b.nested x) (sym (ap out-InnerPlans each ∙ inner_plans.outs-Each ps)) (subst (λ n. AreNested P s ss n ps) (sym same) are)
+
+-- two members that have plans are the fields of a branch
+pub branch_made : (lead : Lead) (m n : Member) (index : ℕ) (nest : Nested) (ps : List RecordPlan) (b : Branch) → AreTwo m n index nest ps → b.runs ≡ [] → b.align ≡ lead.align → b.ready ≡ lead.text.now ++ field_text m.name → b.nested ≡ nest → b.plans ≡ inner_plans.Each ps → IsOfTwo lead index m n b
+branch_made lead m n index nest ps b are none align ready same each = record {
+  runs = none;
+  depth = are.0;
+  is = record { first = slot_of lead m; others = later_slot index n ∷ []; are = refl; align = align; ready = ready; nested = listed_of (IsPlanned are.0) (slot_of lead m) (later_slot index n ∷ []) nest ps b same each (are.1 lead) };
+}
+
+-- so is an array
+pub array_made : (s : Slot) (nest : Nested) (ps : List RecordPlan) (b : Branch) → IsAlone s.class nest ps → b.runs ≡ [] → b.align ≡ s.align → b.ready ≡ s.lead → b.nested ≡ nest → b.plans ≡ inner_plans.Each ps → IsBare (s ∷ []) b
+array_made s nest ps b are none align ready same each = record {
+  runs = none;
+  depth = are.0;
+  is = record { first = s; others = []; are = refl; align = align; ready = ready; nested = listed_of (IsPlanned are.0) s [] nest ps b same each (are.1 s refl) };
+}
 
 -- nothing yet
 pub made_none : (m : PlanBuilder) → m.branches ≡ [] → m.runs ≡ [] → m.align ≡ 1 → m.numbers ≡ [] → m.span ≡ 0 → m.room ≡ 24 → m.count ≡ 0 → m.ended ≡ 0 → IsMadeOf [] m
@@ -163,7 +235,7 @@ made_none m branches runs align numbers span room count ended = record {
     full = [];
     now = [];
     are = refl;
-    branched = λ more rest bs rs others. subst (λ xs. AreBranches (IsOption (more + 0)) rest (xs ++ bs) rs) (sym branches) others;
+    branched = λ more rest bs rs others. subst (λ xs. AreBranches (IsPlanned (more + 0)) rest (xs ++ bs) rs) (sym branches) others;
     whole = λ rest rs others. subst (λ ns. AreRuns rest (ns ++ rs)) (sym runs) others;
     last = λ rest. subst (λ ns. TakesNumbers m.align rest ns m.span rest) (sym numbers) (align, (span, refl));
     room = room ∙ ap (λ ns. room_of ns None) (sym numbers);
@@ -182,10 +254,10 @@ made_nothing m of = nothing of.scopes of.are of.made
 -- the plan of what was made, with the runs that are left after the last branch
 planned_by : (done rest : List Slot) (m : PlanBuilder) (p : RecordPlan) (made : IsMade done m) → p.branches ≡ branches.Listed m.branches → rest ≡ made.full ++ made.now → AreRuns rest p.runs → (depth : ℕ) × IsPlanned depth done p
 planned_by done rest m p made listed left are =
-    let O = IsOption (0 + made.depth) in
+    let O = IsPlanned (0 + made.depth) in
     let all : AreBranches O (made.before ++ rest) (m.branches ++ []) p.runs = made.branched 0 rest [] p.runs are in
     let whole : AreBranches O done m.branches p.runs = subst (λ xs. AreBranches O xs m.branches p.runs) (sym (made.are ∙ ap (λ xs. made.before ++ xs) (sym left))) (subst (λ bs. AreBranches O (made.before ++ rest) bs p.runs) (append-nil m.branches) all) in
-    (0 + made.depth, subst (λ bs. AreThose O done bs p.runs) (sym (ap out-Branches listed ∙ branches.outs-Listed m.branches)) whole)
+    (suc (0 + made.depth), subst (λ bs. AreThose O done bs p.runs) (sym (ap out-Branches listed ∙ branches.outs-Listed m.branches)) whole)
 
 pub planned : (done : List Slot) (m : PlanBuilder) (p : RecordPlan) → p.branches ≡ branches.Listed m.branches → p.runs ≡ m.runs ++ record { align = m.align; numbers = m.numbers; has_special = have_special m.numbers; span = m.span; room = m.room; field = None } ∷ [] → IsMade done m → (depth : ℕ) × IsPlanned depth done p
 planned done m p listed are made =
@@ -214,30 +286,27 @@ closed_runs done m made (n ∷ ns) some =
     made.whole made.now (run ∷ []) ([], numbers, made.room, made.bounded, refl, refl)
 
 -- the fields of a branch after these
-pub made_branch : (done : List Slot) (lead : Lead) (index : ℕ) (m v : Member) (b : Branch) (old : PlanBuilder) → IsBranch lead index m v b → IsMade done old → IsMade (done ++ (slot_of lead m ∷ (variant_slot index v ∷ []))) (with_branch old b)
-made_branch done lead index m v b old is made =
-    let t = slot_of lead m in
-    let w = variant_slot index v in
-    let two = t ∷ (w ∷ []) in
+pub made_branch : (done fields : List Slot) (b : Branch) (old : PlanBuilder) → IsBare fields b → IsMade done old → IsMade (done ++ fields) (with_branch old b)
+made_branch done fields b old bare made =
     let closed : Branch = record b { runs = runs_by old old.numbers } in
-    let depth = is.depth + made.depth in
+    let depth = bare.depth + made.depth in
     record {
       depth = depth;
-      before = done ++ two;
+      before = done ++ fields;
       full = [];
       now = [];
-      are = sym (append-nil (done ++ two));
+      are = sym (append-nil (done ++ fields));
       branched = λ more rest bs rs are.
-          let own : more + is.depth + made.depth ≡ more + depth = omega arith in
-          let theirs : more + made.depth + is.depth ≡ more + depth = omega arith in
-          let O = IsOption (more + depth) in
-          let deeper : (x : Member) (p : RecordPlan) → IsOption is.depth x p → O x p = λ x p o. subst (λ n. IsOption n x p) theirs (option_deep (more + made.depth) is.depth x p o) in
-          let variant : IsVariant O w closed = variant_more (IsOption is.depth) O deeper w closed (record { tag = is.is_variant.tag; options = is.is_variant.options; is = is.is_variant.is; leads = is.is_variant.leads; align = is.is_variant.align; before = is.is_variant.before; are = is.is_variant.are }) in
-          let tag : IsTag t closed = record { align = is.is_tag.align; ready = is.is_tag.ready; is = is.is_tag.is; own = is.is_tag.own } in
-          let inner : AreBranches O ((made.full ++ made.now) ++ (t ∷ (w ∷ rest))) (closed ∷ bs) rs = (made.full ++ made.now, t, w, rest, refl, closed_runs done old made old.numbers refl, tag, variant, are) in
-          let all : AreBranches O (made.before ++ ((made.full ++ made.now) ++ (t ∷ (w ∷ rest)))) (old.branches ++ closed ∷ bs) rs = subst (λ n. AreBranches (IsOption n) (made.before ++ ((made.full ++ made.now) ++ (t ∷ (w ∷ rest)))) (old.branches ++ closed ∷ bs) rs) own (made.branched (more + is.depth) ((made.full ++ made.now) ++ (t ∷ (w ∷ rest))) (closed ∷ bs) rs (subst (λ n. AreBranches (IsOption n) ((made.full ++ made.now) ++ (t ∷ (w ∷ rest))) (closed ∷ bs) rs) (sym own) inner)) in
-          let slots_are : made.before ++ ((made.full ++ made.now) ++ (t ∷ (w ∷ rest))) ≡ (done ++ two) ++ rest = sym (append_assoc made.before (made.full ++ made.now) (t ∷ (w ∷ rest))) ∙ ap (λ d. d ++ (t ∷ (w ∷ rest))) (sym made.are) ∙ sym (append_assoc done two rest) in
-          subst (λ xs. AreBranches O xs ((old.branches ++ closed ∷ []) ++ bs) rs) slots_are (subst (λ ys. AreBranches O (made.before ++ ((made.full ++ made.now) ++ (t ∷ (w ∷ rest)))) ys rs) (sym (append_assoc old.branches (closed ∷ []) bs)) all);
+          let own : more + bare.depth + made.depth ≡ more + depth = omega arith in
+          let theirs : more + made.depth + bare.depth ≡ more + depth = omega arith in
+          let O = IsPlanned (more + depth) in
+          let used = made.full ++ made.now in
+          let deeper : (ss : List Slot) (p : RecordPlan) → IsPlanned bare.depth ss p → O ss p = λ ss p o. subst (λ n. IsPlanned n ss p) theirs (planned_deep (more + made.depth) bare.depth ss p o) in
+          let is : IsBranch O fields closed = branch_by (IsPlanned bare.depth) O deeper fields closed (record { first = bare.is.first; others = bare.is.others; are = bare.is.are; align = bare.is.align; ready = bare.is.ready; nested = bare.is.nested }) in
+          let inner : AreBranches O (used ++ (fields ++ rest)) (closed ∷ bs) rs = (used, fields, rest, refl, closed_runs done old made old.numbers refl, is, are) in
+          let all : AreBranches O (made.before ++ (used ++ (fields ++ rest))) (old.branches ++ closed ∷ bs) rs = subst (λ n. AreBranches (IsPlanned n) (made.before ++ (used ++ (fields ++ rest))) (old.branches ++ closed ∷ bs) rs) own (made.branched (more + bare.depth) (used ++ (fields ++ rest)) (closed ∷ bs) rs (subst (λ n. AreBranches (IsPlanned n) (used ++ (fields ++ rest)) (closed ∷ bs) rs) (sym own) inner)) in
+          let slots_are : made.before ++ (used ++ (fields ++ rest)) ≡ (done ++ fields) ++ rest = sym (append_assoc made.before used (fields ++ rest)) ∙ ap (λ d. d ++ (fields ++ rest)) (sym made.are) ∙ sym (append_assoc done fields rest) in
+          subst (λ xs. AreBranches O xs ((old.branches ++ closed ∷ []) ++ bs) rs) slots_are (subst (λ ys. AreBranches O (made.before ++ (used ++ (fields ++ rest))) ys rs) (sym (append_assoc old.branches (closed ∷ []) bs)) all);
       whole = λ rest rs others. others;
       last = λ rest. (refl, (refl, refl));
       room = refl;
@@ -378,7 +447,7 @@ added_more first ms i m at done old mid new within is added adds =
 
 -- so were the next two, each a field alone
 pub added_two : (first : At) (ms : List Member) (i : ℕ) (m n : Member) (lead : Lead) (done : List Slot) (old mid new : PlanBuilder) → i + 1 < length ms → m ≡ get_or ms i m → n ≡ get_or ms (i + 1) n → AddedTo first ms i (at_of lead) done old mid
-    → new.count ≡ mid.count → new.ended ≡ 0 → ((before : List Slot) → IsMade before mid → IsMade (before ++ slot_of lead m ∷ (variant_slot (i + 1) n ∷ [])) new)
+    → new.count ≡ mid.count → new.ended ≡ 0 → ((before : List Slot) → IsMade before mid → IsMade (before ++ slot_of lead m ∷ (later_slot (i + 1) n ∷ [])) new)
     → AddedTo first ms (i + 2) (later_at new.ended (i + 2)) done old new
 added_two first ms i m n lead done old mid new within is next added counted ended makes =
     let ps = added.0 in
@@ -401,9 +470,9 @@ added_two first ms i m n lead done old mid new within is next added counted ende
     let so : At → Member → Slot = λ at x. record { lead = at.lead ++ field_text x.name; align = at.align; index = at.index; class = x.class } in
     let before = done ++ pieces_slots 0 first ps in
     let first_slots : pieces_slots 0 first one ≡ pieces_slots 0 first ps ++ slot_of lead m ∷ [] = slots_and 0 first ps (alone m) ∙ ap (λ t. pieces_slots 0 first ps ++ so t m ∷ []) added.3 in
-    let second_slot : so (after_pieces 0 first one) n ≡ variant_slot (i + 1) n = ap (λ t. so t n) at_next ∙ ap (λ k. record { lead = 44 ∷ (32 ∷ field_text n.name); align = 1; index = k; class = n.class }) index_next in
-    let slots_two : pieces_slots 0 first two ≡ pieces_slots 0 first ps ++ slot_of lead m ∷ (variant_slot (i + 1) n ∷ []) = slots_and 0 first one (alone n) ∙ (λ j. first_slots j ++ second_slot j ∷ []) ∙ append_assoc (pieces_slots 0 first ps) (slot_of lead m ∷ []) (variant_slot (i + 1) n ∷ []) in
-    let slots_are : before ++ slot_of lead m ∷ (variant_slot (i + 1) n ∷ []) ≡ done ++ pieces_slots 0 first two = append_assoc done (pieces_slots 0 first ps) (slot_of lead m ∷ (variant_slot (i + 1) n ∷ [])) ∙ ap (λ xs. done ++ xs) (sym slots_two) in
+    let second_slot : so (after_pieces 0 first one) n ≡ later_slot (i + 1) n = ap (λ t. so t n) at_next ∙ ap (λ k. record { lead = 44 ∷ (32 ∷ field_text n.name); align = 1; index = k; class = n.class }) index_next in
+    let slots_two : pieces_slots 0 first two ≡ pieces_slots 0 first ps ++ slot_of lead m ∷ (later_slot (i + 1) n ∷ []) = slots_and 0 first one (alone n) ∙ (λ j. first_slots j ++ second_slot j ∷ []) ∙ append_assoc (pieces_slots 0 first ps) (slot_of lead m ∷ []) (later_slot (i + 1) n ∷ []) in
+    let slots_are : before ++ slot_of lead m ∷ (later_slot (i + 1) n ∷ []) ≡ done ++ pieces_slots 0 first two = append_assoc done (pieces_slots 0 first ps) (slot_of lead m ∷ (later_slot (i + 1) n ∷ [])) ∙ ap (λ xs. done ++ xs) (sym slots_two) in
     (two, members, are_and 0 first one (alone n) (are_and 0 first ps (alone m) added.2 tt) tt, at_last, count, ended ∙ sym (closing_and old.ended one (alone n)), subst (λ d. IsMade d new) slots_are (makes before added.6))
   where
     known_more : (k : ℕ) → known_index 0 (k + 1) ≡ k + 1
@@ -417,7 +486,7 @@ same_element (z ∷ xs) (suc i) x y within one other = same_element xs i x y (om
 
 -- so was what a step adds
 pub added_some : (first : At) (ms : List Member) (i count : ℕ) (m : Member) (lead : Lead) (done : List Slot) (old mid new : PlanBuilder) (found : Option Branch) → i < length ms → m ≡ get_or ms i m → AddedTo first ms i (at_of lead) done old mid → TakesSome lead m found count mid new
-    → ((b : Branch) → found ≡ Some b → (t v : Member) × (t ≡ get_or ms i t) × (i + 1 < length ms) × (v ≡ get_or ms (i + 1) v) × IsBranch lead (i + 1) t v b)
+    → ((b : Branch) → found ≡ Some b → (t v : Member) × (t ≡ get_or ms i t) × (i + 1 < length ms) × (v ≡ get_or ms (i + 1) v) × IsOfTwo lead (i + 1) t v b)
     → AddedTo first ms (i + count) (later_at new.ended (i + count)) done old new
 added_some first ms i count m lead done old mid new found within is added takes branches = elim takes [
   | inl w ↦ subst (λ n. AddedTo first ms (i + n) (later_at new.ended (i + n)) done old new) (sym w.0) (added_more first ms i m (at_of lead) done old mid new within is added w.2)
@@ -425,7 +494,7 @@ added_some first ms i count m lead done old mid new found within is added takes 
       let b = branches w.1 w.2 in
       let same : b.0 ≡ m = same_element ms i b.0 m within b.2 is in
       subst (λ n. AddedTo first ms (i + n) (later_at new.ended (i + n)) done old new) (sym w.0)
-      (added_two first ms i m b.1 lead done old mid new b.3 is b.4 added w.3 w.4 (λ before made. w.5 (i + 1) b.1 (subst (λ x. IsBranch lead (i + 1) x b.1 w.1) same b.5) before made)))
+      (added_two first ms i m b.1 lead done old mid new b.3 is b.4 added w.3 w.4 (λ before made. w.5 (i + 1) b.1 (subst (λ x. IsOfTwo lead (i + 1) x b.1 w.1) same b.5) before made)))
 ]
 
 -- no branch was found
@@ -434,7 +503,7 @@ no_branch found b none some = cc
 
 -- a step stays within the members
 pub added_within : (ms : List Member) (i count : ℕ) (m : Member) (lead : Lead) (mid new : PlanBuilder) (found : Option Branch) → i < length ms → TakesSome lead m found count mid new
-    → ((b : Branch) → found ≡ Some b → (t v : Member) × (t ≡ get_or ms i t) × (i + 1 < length ms) × (v ≡ get_or ms (i + 1) v) × IsBranch lead (i + 1) t v b)
+    → ((b : Branch) → found ≡ Some b → (t v : Member) × (t ≡ get_or ms i t) × (i + 1 < length ms) × (v ≡ get_or ms (i + 1) v) × IsOfTwo lead (i + 1) t v b)
     → i + count ≤ length ms
 added_within ms i count m lead mid new found within takes branches = elim takes [
   | inl w ↦ (let one = w.0 in omega (arith, within, one))
@@ -476,6 +545,40 @@ scope_some before k (more_pieces p ps) some = refl
 ended_some : (n : ℕ) (ps : Pieces) → 0 < length (members_of ps) → suc (ended_after n ps) ≡ ended_in ps
 ended_some n no_pieces some = absurd (omega (arith, some))
 ended_some n (more_pieces p ps) some = refl
+
+-- a member that is an array with plans
+pub array_added : (lead : Lead) (m : Member) (ready : List ℕ) (old new : PlanBuilder) (r : Result Bool NoMemory) → ready ≡ lead.text.now ++ field_text m.name → IfOk r (λ took. IsTrue took → new.count ≡ old.count) → IfOk r (λ took. IsTrue took → new.ended ≡ 0)
+    → IfOk r (λ took. IsTrue took → (done : List Slot) (s : Slot) → s.lead ≡ ready → s.align ≡ lead.align → s.class ≡ m.class → IsMade done old → IsMade (done ++ s ∷ []) new)
+    → IfOk r (λ took. IsTrue took → (done : List Slot) → IsMade done old → AddsPiece (at_of lead) m done old new)
+array_added lead m ready old new (Ok b) is counted ended makes = λ took done made. piece_alone lead m done old new (counted took) (ended took) (makes took done (slot_of lead m) (sym is) refl refl made)
+array_added lead m ready old new (Err e) is counted ended makes = tt
+
+-- an element that is one
+pub field_added : (k : Class) (ready : List ℕ) (one : ℕ) (old new : PlanBuilder) (r : Result Bool NoMemory) → ready ≡ [] → one ≡ 1 → IfOk r (λ took. IsTrue took → new.count ≡ old.count) → IfOk r (λ took. IsTrue took → new.ended ≡ 0)
+    → IfOk r (λ took. IsTrue took → (done : List Slot) (s : Slot) → s.lead ≡ ready → s.align ≡ one → s.class ≡ k → IsMade done old → IsMade (done ++ s ∷ []) new)
+    → IfOk r (λ took. IsTrue took → IsMade [] old → AddsElement k old new)
+field_added k ready one old new (Ok b) empty aligned counted ended makes = λ took made.
+    let same = counted took in
+    let count : new.count ≡ old.count + 0 + 0 = omega (arith, same) in
+    (no_pieces, tt, count, ended took, makes took [] (record { lead = []; align = 1; index = 0; class = k }) (sym empty) (sym aligned) refl made)
+field_added k ready one old new (Err e) empty aligned counted ended makes = tt
+
+-- the members of an element
+pub element_added : (k : Class) (ms : List Member) (lead : List ℕ) (old mid new : PlanBuilder) → k.kind ≡ kind.Structure ms → 0 < length ms → lead ≡ 123 ∷ 32 ∷ [] → AddsPieces (first_at lead k.align) ms [] old mid → new ≡ with_structure mid (length ms) → AddsElement k old new
+element_added k ms lead old mid new is some leads all same =
+    let ps = all.0 in
+    let lengths : length (members_of ps) ≡ length ms = ap length all.1 in
+    let members : 0 < length (members_of ps) = omega (arith, lengths, some) in
+    let slots_are : pieces_slots 0 (first_at lead k.align) ps ≡ scope_slots [] k ps = ap (λ l. pieces_slots 0 (first_at l k.align) ps) leads ∙ sym (scope_some [] k ps members) in
+    let counted : new.count ≡ mid.count + length ms = ap (λ (m : PlanBuilder). m.count) same in
+    let count : new.count ≡ old.count + length (members_of ps) + insides ps = (let a = all.3 in omega (arith, counted, a, lengths)) in
+    let one : mid.ended + 1 ≡ suc mid.ended = omega arith in
+    let ended : new.ended ≡ ended_in ps = ap (λ (m : PlanBuilder). m.ended) same ∙ one ∙ ap suc all.4 ∙ ended_some old.ended ps members in
+    (ps, pieces_of ps (is ∙ ap kind.Structure (sym all.1)) all.2, count, ended, subst (λ d. IsMade d new) slots_are (subst (IsMade (pieces_slots 0 (first_at lead k.align) ps)) (sym same) (made_counted _ mid (with_structure mid (length ms)) refl all.5)))
+  where
+    pieces_of : (ps : Pieces) → k.kind ≡ kind.Structure (members_of ps) → ArePieces k.align ps → IsOfPieces k ps
+    pieces_of no_pieces is are = tt
+    pieces_of (more_pieces p ps) is are = (is, are)
 
 -- one scope more
 one_scope : (ks : List Class) (old new : PlanBuilder) (s : Scoped) → (of : IsMadeOf ks old) → s.class.kind ≡ kind.Structure (members_of s.pieces) → ArePieces s.class.align s.pieces → new.count ≡ old.count + (1 + length (members_of s.pieces) + insides s.pieces) → new.ended ≡ ended_in s.pieces
@@ -559,7 +662,7 @@ room_plain (n ∷ ns) = ap (λ r. length n.ready + 66 + r) (room_plain ns)
 
 -- no branch has no fields
 nothing_before : (depth : ℕ) (before : List Slot) (bs : List Branch) → bs ≡ [] → BranchesTo depth before bs → before ≡ []
-nothing_before depth before bs none branched = sym (append-nil before) ∙ subst (λ xs. AreBranches (IsOption (0 + depth)) (before ++ []) (xs ++ []) []) none (branched 0 [] [] [] refl)
+nothing_before depth before bs none branched = sym (append-nil before) ∙ subst (λ xs. AreBranches (IsPlanned (0 + depth)) (before ++ []) (xs ++ []) []) none (branched 0 [] [] [] refl)
 
 -- the numbers of one structure alone
 pub structure_made : (k : Class) (ms : List Member) (m : PlanBuilder) (values : ℕ) (several : Many) → k.kind ≡ kind.Structure ms → 0 < length ms → values ≡ 1 + length ms → m.branches ≡ [] → m.runs ≡ [] → m.align ≡ k.align → m.align % 8 ≡ 0 → IsMade (member_slots k.align ms) m

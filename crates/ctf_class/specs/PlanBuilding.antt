@@ -4,13 +4,15 @@ use Rattle.ctf_class.specs.Names.{field_text}
 use Rattle.ctf_class.specs.declared.class.Class.{Class}
 use Rattle.ctf_class.specs.declared.class.Member.{Member}
 use Rattle.ctf_class.specs.declared.record_plan.Branch.{Branch}
+use Rattle.ctf_class.specs.declared.record_plan.Nested.{Nested}
 use Rattle.ctf_class.specs.declared.record_plan.PlannedField.{PlannedField}
 use Rattle.ctf_class.specs.declared.plan_builder.PlanBuilder.{PlanBuilder}
 use Rattle.ctf_class.specs.declared.plan_builder.Lead.{Lead}
 use Rattle.ctf_class.specs.declared.record_plan.PlannedRun.{PlannedRun}
+use Rattle.ctf_class.specs.declared.record_plan.RecordPlan.{RecordPlan}
 use Rattle.ctf_class.specs.declared.planned_number.PlannedNumber.{PlannedNumber}
 use Rattle.ctf_class.specs.declared.shown.Shown.TheVariants as shown
-use Rattle.ctf_class.specs.Records.{Slot, At, Piece, Pieces, Scoped, IsPiece, ArePieces, member_of, members_of, inside, insides, ended_by, ended_after, ends, ended_last, piece_slots, pieces_slots, all_slots, values_in, AreScoped, TakesNumbers, AreRuns, AreBranches, IsOption, IsTag, IsVariant, have_special, room_of}
+use Rattle.ctf_class.specs.Records.{Slot, At, Piece, Pieces, Scoped, IsPiece, ArePieces, IsOfPieces, scope_slots, ended_in, member_of, members_of, inside, insides, ended_by, ended_after, ends, ended_last, piece_slots, pieces_slots, all_slots, values_in, AreScoped, TakesNumbers, AreRuns, AreBranches, AreNested, IsBranch, IsPlanned, have_special, room_of}
 
 -- where a member with so much before it comes, and the field that it is alone
 abbrev pub at_of : Lead → At
@@ -35,12 +37,12 @@ abbrev pub IsOpen : ℕ → List Slot → List PlannedNumber → ℕ → Type 0
 IsOpen align now numbers span =
     (rest : List Slot) → TakesNumbers align (now ++ rest) numbers span rest
 
--- fields are those of these branches, whatever branches and runs are after them, at this depth and below
+-- fields are those of these branches, whatever branches and runs are after them, at each depth that is not less
 abbrev pub BranchesTo : ℕ → List Slot → List Branch → Type 0
 BranchesTo depth before branches =
     (more : ℕ) (rest : List Slot) (bs : List Branch) (rs : List PlannedRun)
-    → AreBranches (IsOption (more + depth)) rest bs rs
-    → AreBranches (IsOption (more + depth)) (before ++ rest) (branches ++ bs) rs
+    → AreBranches (IsPlanned (more + depth)) rest bs rs
+    → AreBranches (IsPlanned (more + depth)) (before ++ rest) (branches ++ bs) rs
 
 -- fields are those of the branches, of the whole runs and of the open one
 pub record IsMade (done : List Slot) (m : PlanBuilder) : Type 0 where
@@ -75,6 +77,13 @@ AddsPieces at ms done old new =
     (ps : Pieces) × (members_of ps ≡ ms) × ArePieces at.align ps
     × (new.count ≡ old.count + insides ps) × (new.ended ≡ ended_after old.ended ps)
     × IsMade (done ++ pieces_slots 0 at ps) new
+
+-- an element was added to nothing, as a structure's members or as a field
+abbrev pub AddsElement : Class → PlanBuilder → PlanBuilder → Type 0
+AddsElement k old new =
+    (ps : Pieces) × IsOfPieces k ps
+    × (new.count ≡ old.count + length (members_of ps) + insides ps) × (new.ended ≡ ended_in ps)
+    × IsMade (scope_slots [] k ps) new
 
 -- what is before a scope after so many values, where so many structures end
 abbrev pub before_scope : ℕ → ℕ → List ℕ
@@ -128,22 +137,37 @@ empty_scope text align = record { ready = text; align = 1; shown = shown.Empty a
 abbrev pub with_scope : PlanBuilder → PlannedField → PlanBuilder
 with_scope m f = record (with_field m f) { count = m.count + 1 }
 
--- the field that is a variant with so many members before it, the last of which is its tag
-abbrev pub variant_slot : ℕ → Member → Slot
-variant_slot index m = record {
+-- the field that is a member with so many others before it, the last of which is a field alone
+abbrev pub later_slot : ℕ → Member → Slot
+later_slot index m = record {
   lead = 44 ∷ 32 ∷ field_text m.name;
   align = 1;
   index = index;
   class = m.class;
 }
 
--- a branch is of this tag, with so much before it, and this variant, with so many members before it, whatever runs are
--- before them
-pub record IsBranch (lead : Lead) (index : ℕ) (tag variant : Member) (b : Branch) : Type 0 where
+-- a member and the next one, with so many others before that, are the fields of a branch that has these plans
+abbrev pub AreTwo : Member → Member → ℕ → Nested → List RecordPlan → Type 0
+AreTwo m n index nested plans =
+    (depth : ℕ)
+    × ((lead : Lead)
+    → AreNested (IsPlanned depth) (slot_of lead m) (later_slot index n ∷ []) nested plans)
+
+-- a field is the array of a branch that has these plans
+abbrev pub IsAlone : Class → Nested → List RecordPlan → Type 0
+IsAlone k nested plans =
+    (depth : ℕ)
+    × ((s : Slot) → s.class ≡ k → AreNested (IsPlanned depth) s [] nested plans)
+
+-- fields are those of a branch without runs
+pub record IsBare (fields : List Slot) (b : Branch) : Type 0 where
   pub runs : b.runs ≡ []
-  pub is_tag : IsTag (slot_of lead tag) b
   pub depth : ℕ
-  pub is_variant : IsVariant (IsOption depth) (variant_slot index variant) b
+  pub is : IsBranch (IsPlanned depth) fields b
+
+-- so are those of a member and of the next one, with so many others before that
+abbrev pub IsOfTwo : Lead → ℕ → Member → Member → Branch → Type 0
+IsOfTwo lead index m n b = IsBare (slot_of lead m ∷ (later_slot index n ∷ [])) b
 
 -- the runs with the open one, if that has numbers
 abbrev pub runs_by : PlanBuilder → List PlannedNumber → List PlannedRun
@@ -174,7 +198,8 @@ with_branch m b = record {
 -- so many members were added: one as a piece, or it and the next one as the fields of a branch
 abbrev pub TakesSome : Lead → Member → Option Branch → ℕ → PlanBuilder → PlanBuilder → Type 0
 TakesSome lead m found count old new =
-    ((count ≡ 1) × (found ≡ None) × ((done : List Slot) → IsMade done old → AddsPiece (at_of lead) m done old new))
+    ((count ≡ 1) × (found ≡ None)
+    × ((done : List Slot) → IsMade done old → AddsPiece (at_of lead) m done old new))
     ⊎ ((count ≡ 2) × (b : Branch) × (found ≡ Some b) × (new.count ≡ old.count) × (new.ended ≡ 0)
-    × ((index : ℕ) (v : Member) → IsBranch lead index m v b → (done : List Slot) → IsMade done old
-    → IsMade (done ++ (slot_of lead m ∷ (variant_slot index v ∷ []))) new))
+    × ((index : ℕ) (n : Member) → IsOfTwo lead index m n b → (done : List Slot) → IsMade done old
+    → IsMade (done ++ (slot_of lead m ∷ (later_slot index n ∷ []))) new))

@@ -11,12 +11,19 @@ use Rattle.ctf_class.specs.declared.class.Kind as kind
 use Rattle.ctf_class.specs.declared.class.Member.{Member}
 use Rattle.ctf_class.specs.declared.record_plan.Branch.{Branch}
 use Rattle.ctf_class.specs.declared.record_plan.Branches.{Branches, Branches-F, out-Branches}
-use Rattle.ctf_class.specs.declared.record_plan.OptionPlans.{OptionPlans, OptionPlans-F, out-OptionPlans}
+use Rattle.ctf_class.specs.declared.record_plan.Elements.{Elements}
+use Rattle.ctf_class.specs.declared.record_plan.InnerPlans.{InnerPlans, InnerPlans-F, out-InnerPlans}
+use Rattle.ctf_class.specs.declared.record_plan.Nested.{Nested}
+use Rattle.ctf_class.specs.declared.record_plan.Nested.TheVariants as nested
+use Rattle.ctf_class.specs.declared.record_plan.PlannedSequence.{PlannedSequence}
+use Rattle.ctf_class.specs.declared.record_plan.PlannedVariant.{PlannedVariant}
 use Rattle.ctf_class.specs.declared.record_plan.PlannedField.{PlannedField}
 use Rattle.ctf_class.specs.declared.many.Many.{Many}
 use Rattle.ctf_class.specs.declared.many.Many.TheVariants as many
 use Rattle.ctf_class.specs.declared.record_plan.RecordPlan.{RecordPlan}
 use Rattle.ctf_class.specs.declared.record_plan.PlannedRun.{PlannedRun}
+use Rattle.ctf_class.specs.declared.shown.Labelled.{Labelled}
+use Rattle.ctf_class.specs.declared.shown.LoneInteger.{LoneInteger}
 use Rattle.ctf_class.specs.declared.shown.Shown.{Shown}
 use Rattle.ctf_class.specs.declared.shown.Shown.TheVariants as shown
 use Rattle.ctf_class.specs.declared.integer.Integer.{Integer}
@@ -288,6 +295,10 @@ pub record IsStructure (k : Class) (s : Structures) : Type 0 where
   pub bounded : s.span ≤ 2 ^ 33
   pub special : s.has_special ≡ have_special s.numbers
 
+-- a class is this enumeration
+abbrev pub IsLabelled : Class → Labelled → Type 0
+IsLabelled c is = (c.kind ≡ kind.Enumeration is.container is.labels) × (is.align ≡ c.align)
+
 -- what a member of a class after so many others is shown as
 abbrev pub IsShown : ℕ → Class → Shown → Type 0
 IsShown index c shown.String = c.kind ≡ kind.String
@@ -297,8 +308,7 @@ IsShown index c (shown.Empty align) = (c.kind ≡ kind.Structure []) × (align �
 IsShown index c (shown.Integer lone) = IsInteger c lone.integer lone.align
 IsShown index c (shown.Integers are) = AreIntegers index c are.integer are.align are.many
 IsShown index c (shown.Structures are) = AreMany (λ k. IsStructure k are) index c are.many
-IsShown index c (shown.Labelled is) =
-    (c.kind ≡ kind.Enumeration is.container is.labels) × (is.align ≡ c.align)
+IsShown index c (shown.Labelled is) = IsLabelled c is
 
 -- a field is shown so
 pub record IsField (s : Slot) (f : PlannedField) : Type 0 where
@@ -326,15 +336,28 @@ AreRuns ss (r ∷ rs) =
     × (r.room ≡ room_of r.numbers r.field) × (r.span ≤ 2 ^ 33)
     × (r.has_special ≡ have_special r.numbers) × After rest r.field (λ others. AreRuns others rs)
 
--- a field is the tag of a branch
-pub record IsTag (s : Slot) (b : Branch) : Type 0 where
-  pub align : b.align ≡ s.align
-  pub ready : b.ready ≡ s.lead
-  pub is : s.class.kind ≡ kind.Enumeration b.tag.container b.tag.labels
-  pub own : b.tag.align ≡ s.class.align
+-- a class is a structure of these pieces, or a field itself
+abbrev pub IsOfPieces : Class → Pieces → Type 0
+IsOfPieces k no_pieces = ⊤
+IsOfPieces k (more_pieces p ps) =
+    (k.kind ≡ kind.Structure (members_of (more_pieces p ps))) × ArePieces k.align (more_pieces p ps)
 
--- what options and their plans are
-module _ (IsOption : Member → RecordPlan → Type 0) where
+-- what branches and their plans are, where plans have fields so
+module _ (HasFields : List Slot → RecordPlan → Type 0) where
+  -- a plan is that of an option of a variant
+  abbrev pub IsOption : Member → RecordPlan → Type 0
+  IsOption m p =
+      (piece : Piece) × (member_of piece ≡ m) × IsPiece 1 piece
+      × (p.count ≡ inside piece) × (p.ended ≡ ended_by piece)
+      × HasFields (piece_slots (first_at (123 ∷ 32 ∷ []) 1) piece) p
+
+  -- a plan is that of elements of a class
+  abbrev pub IsElement : Class → RecordPlan → Type 0
+  IsElement k p =
+      (pieces : Pieces) × IsOfPieces k pieces
+      × (p.count ≡ length (members_of pieces) + insides pieces) × (p.ended ≡ ended_in pieces)
+      × HasFields (scope_slots [] k pieces) p
+
   -- each of these options has its plan
   abbrev pub AreEach : List Member → List RecordPlan → Type 0
   AreEach [] [] = ⊤
@@ -342,41 +365,75 @@ module _ (IsOption : Member → RecordPlan → Type 0) where
   AreEach (m ∷ ms) [] = ⊥
   AreEach (m ∷ ms) (p ∷ ps) = IsOption m p × AreEach ms ps
 
-  abbrev pub AreListed : List Member → OptionPlans-F Branches OptionPlans Branch RecordPlan → Type 0
-  AreListed ms (OptionPlans-F.Each ps) = AreEach ms ps
-
-  -- a field is the variant of a branch, whose tag is the member before it
-  pub record IsVariant (s : Slot) (b : Branch) : Type 0 where
+  -- two fields are a tag and its variant, whose options have these plans
+  pub record AreVariant (t s : Slot) (v : PlannedVariant) (ps : List RecordPlan) : Type 0 where
+    pub labelled : IsLabelled t.class v.tag
     pub tag : Route
     pub options : List Member
-    pub is : s.class.kind ≡ kind.Variant tag b.choices options
+    pub is : s.class.kind ≡ kind.Variant tag v.choices options
     pub leads : LeadsBefore tag s.index
     pub align : s.align ≡ 1
-    pub before : b.before ≡ s.lead
-    pub are : AreListed options (out-OptionPlans b.options)
+    pub before : v.before ≡ s.lead
+    pub are : AreEach options ps
+
+  -- elements of a class are shown so, or by the only one of these plans
+  abbrev pub IsItem : Class → Option Shown → List RecordPlan → Type 0
+  IsItem k (Some shown) ps = IsShown 0 k shown
+  IsItem k None ps = (p : RecordPlan) × (ps ≡ p ∷ []) × IsElement k p
+
+  -- a field is an array of this length and of such elements
+  pub record IsArray (s : Slot) (length : Length) (e : Elements) (ps : List RecordPlan) : Type 0 where
+    pub element : Class
+    pub is : s.class.kind ≡ kind.Array length element
+    pub align : e.align ≡ element.align
+    pub are : IsItem element e.shown ps
+
+  -- two fields are an unsigned integer and the array that it counts
+  pub record AreSequence (n s : Slot) (q : PlannedSequence) (ps : List RecordPlan) : Type 0 where
+    pub counts : IsInteger n.class q.length.integer q.length.align
+    pub unsigned : q.length.integer.is_signed ≡ false
+    pub route : Route
+    pub leads : LeadsBefore route s.index
+    pub align : s.align ≡ 1
+    pub before : q.before ≡ s.lead
+    pub array : IsArray s (lengths.Field route) q.elements ps
+
+  -- a field and those after it are these
+  abbrev pub AreNested : Slot → List Slot → Nested → List RecordPlan → Type 0
+  AreNested s ss (nested.Variant v) ps =
+      (variant : Slot) × (ss ≡ variant ∷ []) × AreVariant s variant v ps
+  AreNested s ss (nested.Sequence q) ps =
+      (array : Slot) × (ss ≡ array ∷ []) × AreSequence s array q ps
+  AreNested s ss (nested.Array a) ps = (ss ≡ []) × IsArray s (lengths.Fixed a.count) a.elements ps
+
+  abbrev pub AreListed : Slot → List Slot → Nested
+      → InnerPlans-F Branches InnerPlans Branch RecordPlan → Type 0
+  AreListed s ss n (InnerPlans-F.Each ps) = AreNested s ss n ps
+
+  -- fields are those of a branch after its runs
+  pub record IsBranch (fields : List Slot) (b : Branch) : Type 0 where
+    pub first : Slot
+    pub others : List Slot
+    pub are : fields ≡ first ∷ others
+    pub align : b.align ≡ first.align
+    pub ready : b.ready ≡ first.lead
+    pub nested : AreListed first others b.nested (out-InnerPlans b.plans)
 
   -- fields are those of these branches, and then these runs, one after the other
   abbrev pub AreBranches : List Slot → List Branch → List PlannedRun → Type 0
   AreBranches ss [] rs = AreRuns ss rs
   AreBranches ss (b ∷ bs) rs =
-      (used : List Slot) × (t : Slot) × (v : Slot) × (rest : List Slot)
-      × (ss ≡ used ++ (t ∷ (v ∷ rest)))
-      × AreRuns used b.runs × IsTag t b × IsVariant v b × AreBranches rest bs rs
+      (used fields rest : List Slot) × (ss ≡ used ++ (fields ++ rest))
+      × AreRuns used b.runs × IsBranch fields b × AreBranches rest bs rs
 
-  abbrev pub AreThose : List Slot → Branches-F Branches OptionPlans Branch RecordPlan → List PlannedRun → Type 0
+  abbrev pub AreThose : List Slot → Branches-F Branches InnerPlans Branch RecordPlan
+      → List PlannedRun → Type 0
   AreThose ss (Branches-F.Listed bs) rs = AreBranches ss bs rs
 
--- A plan is that of an option in which variants lie less deep in one another than this.
-abbrev pub IsOption : ℕ → Member → RecordPlan → Type 0
-IsOption zero m p = ⊥
-IsOption (suc depth) m p =
-    (piece : Piece) × (member_of piece ≡ m) × IsPiece 1 piece
-    × (p.count ≡ inside piece) × (p.ended ≡ ended_by piece)
-    × AreThose (IsOption depth) (piece_slots (first_at (123 ∷ 32 ∷ []) 1) piece) (out-Branches p.branches) p.runs
-
--- a plan has these fields, and variants lie so deep in one another in it at the most
+-- a plan has these fields, and plans lie in one another less deep than this, itself among them
 abbrev pub IsPlanned : ℕ → List Slot → RecordPlan → Type 0
-IsPlanned depth ss p = AreThose (IsOption depth) ss (out-Branches p.branches) p.runs
+IsPlanned zero ss p = ⊥
+IsPlanned (suc depth) ss p = AreThose (IsPlanned depth) ss (out-Branches p.branches) p.runs
 
 -- a plan is one of these classes, if it has runs
 abbrev pub IsPlanOf : List Class → RecordPlan → Type 0

@@ -64,7 +64,10 @@ pub use plan_builder::LONGEST_NUMBER;
 pub use plan_room::PlanRoom;
 pub use planned_number::PlannedNumber;
 pub use prepared_text::{PREPARED_HEAD, PreparedText};
-pub use record_plan::{Branch, Branches, OptionPlans, PlannedField, PlannedRun, RecordPlan};
+pub use record_plan::{
+    Branch, Branches, Elements, InnerPlans, Nested, PlannedArray, PlannedField, PlannedRun, PlannedSequence,
+    PlannedVariant, RecordPlan,
+};
 pub use role::Role;
 pub use route::{Length, Origin, Route, Scope};
 pub use shown::{Integers, Labelled, LoneInteger, Shown};

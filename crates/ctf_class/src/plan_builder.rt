@@ -214,7 +214,7 @@ impl PlanBuilder {
     }
 
     /// Ends a structure of so many values. Whether these can be counted.
-    fn end_structure(&mut self, values: usize) -> bool
+    pub(crate) fn end_structure(&mut self, values: usize) -> bool
         ensures { IsTrue result → self.new ≡ with_structure self.old values }
     {
         let Some(count) = with_members(self.count, values) else {
@@ -230,7 +230,7 @@ impl PlanBuilder {
 
     /// Adds the members of a structure, the first after a text and at an alignment. Whether that could be done.
     #[cycle(plan)]
-    fn add_members(
+    pub(crate) fn add_members(
         &mut self,
         alloc: Global,
         first: List<u8>,
@@ -256,7 +256,7 @@ impl PlanBuilder {
                 index,
             };
             let branch = match members.get(i + 1) {
-                Some(next) => PlanBuilder::branch_of(alloc, &lead, next, &members[i], i)?,
+                Some(next) => PlanBuilder::branch_of(alloc, &lead, next, &members[i], i + 1)?,
                 None => None,
             };
             let Some(taken) = self.add_some(alloc, &lead, &members[i], branch)? else {
@@ -326,7 +326,8 @@ impl PlanBuilder {
         Ok(self.end_structure(members.len()))
     }
 
-    /// Adds a member as a field after the open run, if it can be shown so. Whether it can.
+    /// Adds a member as a field after the open run, or as an array with plans, if it can be one. Whether it can.
+    #[cycle(plan)]
     fn add_shown(
         &mut self,
         alloc: Global,
@@ -344,7 +345,7 @@ impl PlanBuilder {
             return Ok(false);
         };
         let Some(shown) = shown_of(alloc, &member.class, lead.index)? else {
-            return Ok(false);
+            return self.add_array(alloc, ready, lead.align, &member.class);
         };
         self.add_field(
             alloc,
@@ -448,7 +449,7 @@ impl PlanBuilder {
         Some((*integer, window))
     }
 
-    /// Adds an enumeration and the variant whose tag it is, after the open run, which is whole then.
+    /// Adds a branch without runs after the open run, which is whole then.
     pub(crate) fn add_branch(&mut self, alloc: Global, branch: Branch) -> Result<(), NoMemory>
         requires { branch.runs ≡ [] }
         ensures { OnOk result (self.new ≡ with_branch self.old branch) }

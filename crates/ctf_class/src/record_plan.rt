@@ -9,7 +9,7 @@ use crate::class::Class;
 use crate::plan_builder::PlanBuilder;
 use crate::planned_number::PlannedNumber;
 use crate::prepared_text::PreparedText;
-use crate::shown::{Labelled, Shown};
+use crate::shown::{Labelled, LoneInteger, Shown};
 use ctf_list::{List, NoMemory};
 use std::alloc::Global;
 
@@ -67,26 +67,65 @@ pub enum Branches {
     Listed(List<Branch>),
 }
 
-/// An enumeration and the variant after it whose tag it is (CTF 1.8.3, section 4.2.2), with the fields before them.
+/// A variant or an array whose options or elements have plans of their own, with the fields before it.
 #[cycle(branches)]
 #[derive(Drop)]
 pub struct Branch {
     pub runs: List<PlannedRun>,
-    /// What is printed before the enumeration.
+    /// What is printed before its first field.
     pub ready: PreparedText,
-    /// The alignment of the structures that the enumeration begins, or 1.
+    /// The alignment of the structures that its first field begins, or 1.
     pub align: Align,
+    pub nested: Nested,
+    /// The plans of the options, or the one of the elements, if they are not shown otherwise.
+    pub plans: InnerPlans,
+}
+
+/// The fields of a branch.
+#[derive(Drop)]
+pub enum Nested {
+    Variant(PlannedVariant),
+    Sequence(PlannedSequence),
+    Array(PlannedArray),
+}
+
+/// An enumeration and the variant after it whose tag it is (CTF 1.8.3, section 4.2.2).
+#[derive(Drop)]
+pub struct PlannedVariant {
     pub tag: Labelled,
     /// What is printed before the variant.
     pub before: PreparedText,
     pub choices: Choices,
-    pub options: OptionPlans,
 }
 
-/// The plans of a variant's options.
+/// An unsigned integer and the array after it that has so many elements (CTF 1.8.3, section 4.2.4).
+#[derive(Drop)]
+pub struct PlannedSequence {
+    pub length: LoneInteger,
+    /// What is printed before the array.
+    pub before: PreparedText,
+    pub elements: Elements,
+}
+
+/// An array of so many elements (CTF 1.8.3, section 4.2.3).
+#[derive(Drop)]
+pub struct PlannedArray {
+    pub count: u64,
+    pub elements: Elements,
+}
+
+/// The elements of an array.
+#[derive(Drop)]
+pub struct Elements {
+    pub align: Align,
+    /// How each is shown, if not by a plan.
+    pub shown: Option<Shown>,
+}
+
+/// The plans of a branch.
 #[cycle(branches)]
 #[derive(Drop)]
-pub enum OptionPlans {
+pub enum InnerPlans {
     Each(List<RecordPlan>),
 }
 

@@ -1,6 +1,6 @@
 use Rattle.std.proofs.Common.{ℕ, ◌-◌, ◌^◌, ◌≤◌, List, length, take}
 use Rattle.ctf_class.specs.PlanBuilding.{IsMade}
-use Rattle.ctf_class.specs.Records.{Slot, AreEach, IsOption, first_at}
+use Rattle.ctf_class.specs.Records.{Slot, AreEach, IsPlanned, first_at}
 use Rattle.ctf_class.proofs.RecordsLemmas.{AddedTo}
 use Rattle.ctf_class.proofs.plan_builder.PlanBuilder.+plan.Given as goal
 
@@ -16,4 +16,4 @@ abbrev pub decreases-add_members-loop-i : goal.decreases-add_members-loop-i
 decreases-add_members-loop-i l = length l.members - l.i
 
 abbrev pub invariant-option_plans-loop-option : goal.invariant-option_plans-loop-option
-invariant-option_plans-loop-option l = (depth : ℕ) × AreEach (IsOption depth) (take l.option-index l.options) l.plans
+invariant-option_plans-loop-option l = (depth : ℕ) × AreEach (IsPlanned depth) (take l.option-index l.options) l.plans
