@@ -23,7 +23,6 @@ use Rattle.ctf_class.specs.declared.many.Many.TheVariants as many
 use Rattle.ctf_class.specs.declared.record_plan.RecordPlan.{RecordPlan}
 use Rattle.ctf_class.specs.declared.record_plan.PlannedRun.{PlannedRun}
 use Rattle.ctf_class.specs.declared.shown.Labelled.{Labelled}
-use Rattle.ctf_class.specs.declared.shown.LoneInteger.{LoneInteger}
 use Rattle.ctf_class.specs.declared.shown.Shown.{Shown}
 use Rattle.ctf_class.specs.declared.shown.Shown.TheVariants as shown
 use Rattle.ctf_class.specs.declared.integer.Integer.{Integer}

@@ -65,8 +65,8 @@ pub use plan_room::PlanRoom;
 pub use planned_number::PlannedNumber;
 pub use prepared_text::{PREPARED_HEAD, PreparedText};
 pub use record_plan::{
-    Branch, Branches, Elements, InnerPlans, Nested, PlannedArray, PlannedField, PlannedRun, PlannedSequence,
-    PlannedVariant, RecordPlan,
+    Branch, Branches, Elements, InnerPlans, Nested, PlannedArray, PlannedField, PlannedRun,
+    PlannedSequence, PlannedVariant, RecordPlan,
 };
 pub use role::Role;
 pub use route::{Length, Origin, Route, Scope};

@@ -35,7 +35,7 @@ use Rattle.ctf_decode.proofs.Views.{shape-Array, shape-Enumeration, shape-Varian
 use Rattle.ctf_format.specs.Labels.{labelled_text}
 use Rattle.ctf_format.specs.Rows.{row, enclosed}
 use Rattle.ctf_format.specs.Around.{ChoosesIn, CountsIn, PutsIn, PutsItems, PutsMembers, Sees, WritesIn, packet_of}
-use Rattle.ctf_format.specs.Standing.{Before, among, ValueIs, known_of, PutsOne, PutsNext, StandsAsNumber, Counts, Writes, structure_text, array_text}
+use Rattle.ctf_format.specs.Standing.{PutsRow, PutsWhere, Before, among, ValueIs, known_of, PutsOne, PutsNext, StandsAsNumber, Counts, Writes, structure_text, array_text}
 use Rattle.ctf_format.specs.declared.around.Seen.{Seen}
 use Rattle.ctf_format.specs.Texts.{Shown, Part, value_text, part_text, member_part, element_text, element_texts, integer_text, enumeration_text, string_text, chosen_text}
 use Rattle.ctf_format.specs.declared.content.Content.{Content}
@@ -183,25 +183,24 @@ writes_option seen a tag choices ms i m place more text next line inner items wi
 
 -- The loop over elements: as many as an index says were written, with so many values in them, and the others are after
 -- them.
-abbrev pub Going : Seen → Form → Shown → ℕ → ℕ → ℕ → ℕ → ℕ → List ℕ → List ℕ → Type 0
-Going seen k shown count place i at more line now =
-    (spent : ℕ) → spent + count + more ≤ MOST_VALUES → (earlier : Scope → Option Val) (env : Env) → Sees seen earlier env
+abbrev pub Going : ((Scope → Option Val) → Env → Type 0) → List ℕ → ℕ → Form → Shown → ℕ → ℕ → ℕ → ℕ → ℕ → List ℕ → List ℕ → Type 0
+Going Where packet content k shown count place i at more line now =
+    (spent : ℕ) → spent + count + more ≤ MOST_VALUES → (earlier : Scope → Option Val) (env : Env) → Where earlier env
     → (ws : List Val)
-    × (repeat (walk k (packet_of seen earlier) env) (count - i) ws at (spent + i + more) ≡ repeat (walk k (packet_of seen earlier) env) count [] place spent)
+    × (repeat (walk k (among packet content earlier) env) (count - i) ws at (spent + i + more) ≡ repeat (walk k (among packet content earlier) env) count [] place spent)
     × (length ws ≡ i) × (now ≡ line ++ row 91 (element_texts shown 0 (vals_of ws)))
 
-module _ (seen : Seen) (k : Form) (shown : Shown) (count place : ℕ) (line : List ℕ) where
-  pub going_begins : Going seen k shown count place 0 place 0 line line
+module _ (Where : (Scope → Option Val) → Env → Type 0) (packet : List ℕ) (content : ℕ) (k : Form) (shown : Shown) (count place : ℕ) (line : List ℕ) where
+  pub going_begins : Going Where packet content k shown count place 0 place 0 line line
   going_begins spent room earlier env sees =
       let s : spent + 0 + 0 ≡ spent = omega arith in
       let all : count - 0 ≡ count = omega arith in
-      ([], (λ j. repeat (walk k (packet_of seen earlier) env) (all j) [] place (s j)), refl, sym (append-nil line))
+      ([], (λ j. repeat (walk k (among packet content earlier) env) (all j) [] place (s j)), refl, sym (append-nil line))
 
-  pub going_on : (i at more lead : ℕ) (now : List ℕ) (next : Next) (after : List ℕ) → i < count → lead ≡ mark_at 91 i → Going seen k shown count place i at more line now
-      → PutsIn seen k (λ v. lead ∷ 32 ∷ element_text shown i v) at now next after → Going seen k shown count place (i + 1) next.place (more + next.more) line after
+  pub going_on : (i at more lead : ℕ) (now : List ℕ) (next : Next) (after : List ℕ) → i < count → lead ≡ mark_at 91 i → Going Where packet content k shown count place i at more line now
+      → PutsWhere Where k (λ v. lead ∷ 32 ∷ element_text shown i v) packet content at now next after → Going Where packet content k shown count place (i + 1) next.place (more + next.more) line after
   going_on i at more lead now next after within marked going puts spent room earlier env sees =
-      let c = packet_of seen earlier in
-      let f = walk k c env in
+      let f = walk k (among packet content earlier) env in
       let g = going spent (omega (arith, room)) earlier env sees in
       let ws = g.0 in
       let p = puts (spent + i + more) (omega (arith, room, within)) earlier env sees in
@@ -219,44 +218,53 @@ module _ (seen : Seen) (k : Form) (shown : Shown) (count place : ℕ) (line : Li
       in
       (ws ++ p.0 ∷ [], walked, longer, wrote)
 
-  pub going_ends : (at more text : ℕ) (now : List ℕ) → Going seen k shown count place count at more line now → PutsItems (row 91) seen k shown count place line (record { place = at; text = text; more = more }) now
+  pub going_ends : (at more text : ℕ) (now : List ℕ) → Going Where packet content k shown count place count at more line now → PutsRow (row 91) Where k shown count packet content place line (record { place = at; text = text; more = more }) now
   going_ends at more text now going spent room earlier env sees =
       let g = going spent room earlier env sees in
       let over : count - count ≡ 0 = omega arith in
-      (g.0, sym g.1 ∙ ap (λ n. repeat (walk k (packet_of seen earlier) env) n g.0 at (spent + count + more)) over, g.2, g.3)
+      (g.0, sym g.1 ∙ ap (λ n. repeat (walk k (among packet content earlier) env) n g.0 at (spent + count + more)) over, g.2, g.3)
 
   closed_row : (ws : List Val) → 0 < length ws → row 91 (element_texts shown 0 (vals_of ws)) ++ (32 ∷ 93 ∷ []) ≡ enclosed 91 93 (element_texts shown 0 (vals_of ws))
   closed_row [] some = absurd (omega (arith, some))
   closed_row (v ∷ ws) some = refl
 
   -- the mark after the elements
-  pub closed : (end : MembersEnd) (text : ℕ) (now after : List ℕ) → 0 < count → after ≡ now ++ (32 ∷ 93 ∷ []) → PutsItems (row 91) seen k shown count place line end now → PutsItems (enclosed 91 93) seen k shown count place line (record { place = end.place; text = text; more = end.more }) after
+  pub closed : (end : MembersEnd) (text : ℕ) (now after : List ℕ) → 0 < count → after ≡ now ++ (32 ∷ 93 ∷ []) → PutsRow (row 91) Where k shown count packet content place line end now → PutsRow (enclosed 91 93) Where k shown count packet content place line (record { place = end.place; text = text; more = end.more }) after
   closed end text now after some added puts spent room earlier env sees =
       let p = puts spent room earlier env sees in
       let all = element_texts shown 0 (vals_of p.0) in
       (p.0, p.1, p.2, added ∙ ap (λ xs. xs ++ (32 ∷ 93 ∷ [])) p.3 ∙ append_assoc line (row 91 all) (32 ∷ 93 ∷ []) ∙ ap (λ xs. line ++ xs) (closed_row p.0 (omega (arith, some, p.2))))
 
 -- no elements
-pub no_items : (seen : Seen) (k : Form) (shown : Shown) (count place text : ℕ) (line after : List ℕ) → count ≡ 0 → after ≡ line ++ (91 ∷ 32 ∷ 93 ∷ []) → PutsItems (enclosed 91 93) seen k shown count place line (record { place = place; text = text; more = 0 }) after
-no_items seen k shown count place text line after none wrote = subst (λ n. PutsItems (enclosed 91 93) seen k shown n place line (record { place = place; text = text; more = 0 }) after) (sym none)
+pub no_items : (Where : (Scope → Option Val) → Env → Type 0) (packet : List ℕ) (content : ℕ) (k : Form) (shown : Shown) (count place text : ℕ) (line after : List ℕ) → count ≡ 0 → after ≡ line ++ (91 ∷ 32 ∷ 93 ∷ []) → PutsRow (enclosed 91 93) Where k shown count packet content place line (record { place = place; text = text; more = 0 }) after
+no_items Where packet content k shown count place text line after none wrote = subst (λ n. PutsRow (enclosed 91 93) Where k shown n packet content place line (record { place = place; text = text; more = 0 }) after) (sym none)
     (λ spent room earlier env sees. (let s : spent ≡ spent + 0 + 0 = omega arith in ([], ap (λ n. Ok ([], place, n)) s, refl, wrote)))
 
--- the elements are the value of an array
+-- the elements, walked, are the value of an array
+pub items_walk : (Where : (Scope → Option Val) → Env → Type 0) (packet : List ℕ) (content a : ℕ) (many : Length) (k : Class) (place start count more : ℕ) (end : MembersEnd) (line after : List ℕ) → start ≡ next_multiple_of place k.align → start ≤ content → more ≡ count + end.more
+    → PutsRow (enclosed 91 93) Where (form k) (value_text k) count packet content start line end after
+    → (spent : ℕ) → spent + more < MOST_VALUES → (earlier : Scope → Option Val) (env : Env) → Where earlier env → length_of many earlier env ≡ count
+    → (v : Val) × (walk (forms.array a many (form k)) (among packet content earlier) env place spent ≡ Ok (v, end.place, spent + 1 + more)) × (after ≡ line ++ array_text (value_text k) v)
+items_walk Where packet content a many k place start count more end line after starts within counted puts spent room earlier env sees counts =
+    let c = among packet content earlier in
+    let p = puts (spent + 1) (omega (arith, counted, room)) earlier env sees in
+    let inner = form k in
+    let rest = λ (b n : ℕ). and_then (repeat (walk inner c env) n [] b (spent + 1)) as_list in
+    let opened : open_at c start (rest start count) ≡ rest start count = ap (λ b. cond b (Err (past start)) (rest start count)) (le-ltb content start within) in
+    let total : spent + 1 + count + end.more ≡ spent + 1 + more = omega (arith, counted) in
+    let begun : next_multiple_of place (forms.align_of inner) ≡ start = ap (next_multiple_of place) (align-is k) ∙ sym starts in
+    let walked =
+    (λ j. begin c spent (open_at c (begun j) (rest (begun j) (counts j)))) ∙ begins c spent (open_at c start (rest start count)) (omega (arith, room)) ∙ opened ∙ ap (λ r. and_then r as_list) p.1 ∙ ap (λ n. Ok (list (vals_of p.0), end.place, n)) total
+    in
+    (list (vals_of p.0), walked, p.3)
+
+-- so are those among what is seen around it
 pub writes_items : (seen : Seen) (a : ℕ) (many : Length) (k : Class) (place start count more : ℕ) (end : MembersEnd) (line items : List ℕ) → start ≡ next_multiple_of place k.align → start ≤ seen.packet.now.end → CountsIn seen many count → more ≡ count + end.more
     → PutsItems (enclosed 91 93) seen (form k) (value_text k) count start line end (take end.text items)
     → WritesIn (Some (record { place = end.place; text = end.text; more = more; last = lasts.Unknown })) seen (forms.array a many (form k)) (array_text (value_text k)) place line items
 writes_items seen a many k place start count more end line items starts within counts counted puts spent room earlier env sees =
-    let c = packet_of seen earlier in
-    let p = puts (spent + 1) (omega (arith, counted, room)) earlier env sees in
-    let inner = form k in
-    let rest = λ (b n : ℕ). and_then (repeat (walk inner c env) n [] b (spent + 1)) as_list in
-    let opened : open_at c start (rest start count) ≡ rest start count = ap (λ b. cond b (Err (past start)) (rest start count)) (le-ltb seen.packet.now.end start within) in
-    let total : spent + 1 + count + end.more ≡ spent + 1 + more = omega (arith, counted) in
-    let begun : next_multiple_of place (forms.align_of inner) ≡ start = ap (next_multiple_of place) (align-is k) ∙ sym starts in
-    let walked =
-    (λ j. begin c spent (open_at c (begun j) (rest (begun j) (counts earlier env sees j)))) ∙ begins c spent (open_at c start (rest start count)) (omega (arith, room)) ∙ opened ∙ ap (λ r. and_then r as_list) p.1 ∙ ap (λ n. Ok (list (vals_of p.0), end.place, n)) total
-    in
-    (list (vals_of p.0), walked, p.3, tt)
+    let v = items_walk (Sees seen) seen.packet.now.bytes.now seen.packet.now.end a many k place start count more end line (take end.text items) starts within counted puts spent room earlier env sees (counts earlier env sees) in
+    (v.0, v.1, v.2, tt)
 
 pub text_members : (c : Class) (ms : List Member) → c.kind ≡ kind.Structure ms → structure_text ms ≡ value_text c
 text_members c ms is = sym (value-is c ∙ ap kind_text is ∙ text-Members ms)

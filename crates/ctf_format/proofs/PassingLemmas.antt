@@ -23,10 +23,11 @@ use Rattle.ctf_class.specs.declared.many.Many.{Many}
 use Rattle.ctf_class.specs.declared.structures.Structures.{Structures}
 use Rattle.ctf_decode.specs.Forms as forms
 use Rattle.ctf_decode.specs.Forms.{Form, align_of, integer}
+use Rattle.ctf_decode.specs.Routes.{length_of}
 use Rattle.ctf_decode.proofs.Aligns.{align-is}
 use Rattle.ctf_decode.specs.Values.{Val, label, signed, unsigned}
 use Rattle.ctf_decode.specs.Views.{form}
-use Rattle.ctf_format.specs.Passing.{IsElement, Passes, PassesFields, PassesOther}
+use Rattle.ctf_format.specs.Passing.{IsElement, Passes, PassesFields, PassesOther, next_at}
 use Rattle.ctf_format.specs.Records.{BeginsAt, IsLastNumber, IsLastOf, PutsField, PutsFields, TakesRun, after_members, after_number, reached}
 use Rattle.ctf_format.specs.RunNumbers.{run_text}
 use Rattle.ctf_format.specs.Rows.{enclosed}
@@ -181,6 +182,13 @@ array_passes before length_is c k packet e place start count more end is element
     let begins : start ≡ next_multiple_of place (align_of (form k)) = starts ∙ ap (next_multiple_of place) (element.align ∙ sym (align-is k)) in
     let next = puts_array before length_is c.align (form k) (value_text k) e.count bytes content place start count more end 0 line p.0 begins within sum counts p.1 in
     (p.0, subst (λ t. PutsNext before (form c) t bytes content place line to p.0) (text_any c length_is k is) (subst (λ f. PutsNext before f (array_text (value_text k)) bytes content place line to p.0) (form_any c length_is k is) next))
+
+-- an array of a fixed length, whatever is before it
+pub fixed_passes : (r : Option Reach) (packet : Content) (e : Element) (count place : ℕ) (c k : Class) (many : Length) → c.kind ≡ kind.Array many k → IsElement packet e k → many ≡ lengths.Fixed count
+    → ((before : Before) (d l : Class) (length_is : Length) → d.kind ≡ kind.Array length_is l → IsElement packet e l → Counts length_is before count → IfSome r (λ to. Passes (λ line after. PutsNext before (form d) (value_text d) packet.bytes.now packet.end place line (next_at to) after)))
+    → IfSome r (λ to. (before : Before) → Passes (λ line after. PutsNext before (form c) (value_text c) packet.bytes.now packet.end place line (next_at to) after))
+fixed_passes None packet e count place c k many is element fixed passes = tt
+fixed_passes (Some to) packet e count place c k many is element fixed passes = λ before. passes before c k many is element (λ earlier env vs counted last. ap (λ l. length_of l earlier (vs ∷ env)) fixed)
 
 -- no field was passed over
 pub fields_begin : (slots : List Slot) (packet : Content) (from : Reach) → PassesFields slots slots packet from from

@@ -128,7 +128,7 @@ structure_near k s is =
     let fields = member_slots k.align is.members in
     record { room = is.room; bounded = is.bounded; special = is.special; within_span = run_after (max 8 s.align) 0 s.span fields [] s.numbers is.numbers.1; placed = run_placed (max 8 s.align) 0 s.span fields [] s.numbers is.numbers.1 }
 
-shown_near : (index : ℕ) (m : Class) (what : PlannedShown) → IsShown index m what → IsNearShown what
+pub shown_near : (index : ℕ) (m : Class) (what : PlannedShown) → IsShown index m what → IsNearShown what
 shown_near index m fields.String is = tt
 shown_near index m (fields.Text many) is = tt
 shown_near index m (fields.Empty align) is = tt
@@ -516,7 +516,7 @@ bare_puts k opens packet content from to is field = (
 )
 
 -- the fields of a scope, and the braces after them, are its value
-scope_puts : (k : Class) (ps : Pieces) (opens packet : List ℕ) (content : ℕ) (from to : Reached) → k.kind ≡ kind.Structure (members_of ps) → ArePieces k.align ps → PutsFields (scope_slots opens k ps) packet content from to
+pub scope_puts : (k : Class) (ps : Pieces) (opens packet : List ℕ) (content : ℕ) (from to : Reached) → k.kind ≡ kind.Structure (members_of ps) → ArePieces k.align ps → PutsFields (scope_slots opens k ps) packet content from to
     → (more : ℕ) × (to.more ≡ from.more + more)
     × ((spent : ℕ) → spent + 1 + length (members_of ps) + insides ps + more ≤ MOST_VALUES → Puts (form k) (value_text k) packet content from.place spent to.place (spent + 1 + length (members_of ps) + insides ps + more) (from.line ++ opens) (to.line ++ ends (ended_in ps)))
 scope_puts k no_pieces opens packet content from to is are puts = bare_puts k opens packet content from to is (subst (λ r. PutsField (record { lead = opens; align = 1; index = 0; class = k }) packet content from r) (sym puts.2) puts.1)

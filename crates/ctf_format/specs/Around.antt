@@ -12,10 +12,10 @@ use Rattle.ctf_decode.specs.Known.{Known}
 use Rattle.ctf_decode.specs.Routes.{length_of, option_at}
 use Rattle.ctf_decode.specs.Values.{Val, vals_of, unsigned, label, down}
 use Rattle.ctf_decode.specs.Views as views
-use Rattle.ctf_decode.specs.Walk.{walk, walk_members, repeat}
+use Rattle.ctf_decode.specs.Walk.{walk, walk_members}
 use Rattle.ctf_decode.specs.declared.scopes.TheConstants.{MOST_VALUES}
-use Rattle.ctf_format.specs.Standing.{among, ValueIs}
-use Rattle.ctf_format.specs.Texts.{Shown, member_part, member_texts, element_texts}
+use Rattle.ctf_format.specs.Standing.{PutsRow, PutsWhere, among}
+use Rattle.ctf_format.specs.Texts.{Shown, member_part, member_texts}
 use Rattle.ctf_format.specs.declared.around.OuterMembers.{OuterMembers, fold-OuterMembers}
 use Rattle.ctf_format.specs.declared.around.OuterMembers.TheOpen.{OuterMembers-F}
 use Rattle.ctf_format.specs.declared.around.MemberNumbers.{MemberNumbers}
@@ -132,11 +132,7 @@ packet_of seen earlier = among seen.packet.now.bytes.now seen.packet.now.end ear
 -- follows a text.
 abbrev pub PutsIn : Seen → Form → Shown → ℕ → List ℕ → Next → List ℕ → Type 0
 PutsIn seen k shown place line next after =
-    (spent : ℕ) → spent + next.more < MOST_VALUES → (earlier : Scope → Option Val) (env : Env)
-    → Sees seen earlier env
-    → (v : Val)
-    × (walk k (packet_of seen earlier) env place spent ≡ Ok (v, next.place, spent + 1 + next.more))
-    × (after ≡ line ++ shown v) × ValueIs next.last v
+    PutsWhere (Sees seen) k shown seen.packet.now.bytes.now seen.packet.now.end place line next after
 
 -- a value, if one was written, is there, and its text is after a line now
 abbrev pub WritesIn : Option Next → Seen → Form → Shown → ℕ → List ℕ → List ℕ → Type 0
@@ -171,10 +167,5 @@ WritesMembers together result outside members ms place line items =
 abbrev pub PutsItems : (List (List ℕ) → List ℕ) → Seen → Form → Shown → ℕ → ℕ → List ℕ → MembersEnd
     → List ℕ → Type 0
 PutsItems together seen k shown count place line end after =
-    (spent : ℕ) → spent + count + end.more ≤ MOST_VALUES
-    → (earlier : Scope → Option Val) (env : Env) → Sees seen earlier env
-    → (ws : List Val)
-    × (repeat (walk k (packet_of seen earlier) env) count [] place spent
-    ≡ Ok (ws, end.place, spent + count + end.more))
-    × (length ws ≡ count)
-    × (after ≡ line ++ together (element_texts shown 0 (vals_of ws)))
+    PutsRow together (Sees seen) k shown count seen.packet.now.bytes.now seen.packet.now.end place
+    line end after

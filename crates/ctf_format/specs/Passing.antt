@@ -11,10 +11,16 @@ use Rattle.ctf_format.specs.declared.content.Content.{Content}
 use Rattle.ctf_format.specs.declared.passed_record.Element.{Element}
 use Rattle.ctf_format.specs.declared.placed_run.PlacedRun.{PlacedRun}
 use Rattle.ctf_format.specs.declared.planned_record.Reach.{Reach}
+use Rattle.ctf_format.specs.declared.standing.Last.TheVariants as lasts
+use Rattle.ctf_format.specs.declared.standing.Next.{Next}
 
 -- values whose text would be put so after any text
 abbrev pub Passes : (List ℕ → List ℕ → Type 0) → Type 0
 Passes Puts = (before : List ℕ) → (after : List ℕ) × Puts before after
+
+-- a value goes as far as this
+abbrev pub next_at : Reach → Next
+next_at r = record { place = r.place; text = 0; more = r.more; last = lasts.Unknown }
 
 -- the first of some fields go from a place to another, and the others are left
 abbrev pub PassesFields : List Slot → List Slot → Content → Reach → Reach → Type 0

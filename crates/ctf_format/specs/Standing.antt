@@ -16,6 +16,7 @@ use Rattle.ctf_format.specs.Texts.{Shown, member_part, member_texts, element_tex
 use Rattle.ctf_format.specs.declared.content.Content.{Content}
 use Rattle.ctf_format.specs.declared.standing.Last.{Last}
 use Rattle.ctf_format.specs.declared.standing.Last.TheVariants as lasts
+use Rattle.ctf_format.specs.declared.standing.MembersEnd.{MembersEnd}
 use Rattle.ctf_format.specs.declared.standing.Next.{Next}
 
 -- a packet's bytes and the place in bits where its content ends, whatever was decoded before (own)
@@ -84,6 +85,30 @@ PutsNext before k shown packet content place line next after =
     × (walk k (among packet content earlier) (vs ∷ env) place spent
     ≡ Ok (v, next.place, spent + 1 + next.more))
     × (after ≡ line ++ shown v) × ValueIs next.last v
+
+-- a value and its text are there where this was decoded before, with so many values in it, of which so much is known
+abbrev pub PutsWhere : ((Scope → Option Val) → Env → Type 0) → Form → Shown → List ℕ → ℕ → ℕ → List ℕ
+    → Next → List ℕ → Type 0
+PutsWhere Where k shown packet content place line next after =
+    (spent : ℕ) → spent + next.more < MOST_VALUES → (earlier : Scope → Option Val) (env : Env)
+    → Where earlier env
+    → (v : Val)
+    × (walk k (among packet content earlier) env place spent
+    ≡ Ok (v, next.place, spent + 1 + next.more))
+    × (after ≡ line ++ shown v) × ValueIs next.last v
+
+-- so many elements of an array are there one after the other where this was decoded before, with so many values in all
+-- of them
+abbrev pub PutsRow : (List (List ℕ) → List ℕ) → ((Scope → Option Val) → Env → Type 0) → Form → Shown
+    → ℕ → List ℕ → ℕ → ℕ → List ℕ → MembersEnd → List ℕ → Type 0
+PutsRow together Where k shown count packet content place line end after =
+    (spent : ℕ) → spent + count + end.more ≤ MOST_VALUES
+    → (earlier : Scope → Option Val) (env : Env) → Where earlier env
+    → (ws : List Val)
+    × (repeat (walk k (among packet content earlier) env) count [] place spent
+    ≡ Ok (ws, end.place, spent + count + end.more))
+    × (length ws ≡ count)
+    × (after ≡ line ++ together (element_texts shown 0 (vals_of ws)))
 
 -- an unsigned integer of this number is at a place, whatever was decoded before
 abbrev pub StandsAsNumber : Form → List ℕ → ℕ → ℕ → ℕ → Type 0

@@ -233,7 +233,7 @@ fn is_in_packet(origin: Origin) -> bool
 }
 
 /// The number of an unsigned integer, if it is known.
-fn unsigned(last: Last) -> Option<u64>
+pub(crate) fn unsigned(last: Last) -> Option<u64>
     ensures { IfSome result (λ n. last ≡ lasts.Unsigned n) }
 {
     match last {

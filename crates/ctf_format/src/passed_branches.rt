@@ -1,30 +1,27 @@
-//! Variants that are passed over by their plans.
+//! Variants and arrays that are passed over by their plans.
 
-ghost use Rattle.std.specs.Prelude.{ℕ, List, ◌≤◌, IfSome};
+ghost use Rattle.std.specs.Prelude.{ℕ, List, [], ◌∷◌, ◌≡◌, ◌≤◌, IfSome};
 ghost use Rattle.std.specs.List.{All};
-ghost use Rattle.ctf_class.specs.Records.{Slot, AreBranches, AreRuns, IsOption, IsPlanned, IsTag};
+ghost use Rattle.ctf_class.specs.Records.{Slot, AreBranches, AreNested, AreRuns, AreSequence, AreVariant, IsElement, IsItem, IsPlanned};
+ghost use Rattle.ctf_class.specs.declared.class.Class.{Class};
 ghost use Rattle.ctf_class.specs.declared.record_plan.PlannedRun.{PlannedRun as Planned};
-ghost use Rattle.ctf_format.specs.Branches.{HasBranch, HasBranches, HasFields, HasOptions, PassesOption, TakesBranch};
+ghost use Rattle.ctf_format.specs.Branches.{HasBranch, HasBranches, HasElement, HasFields, HasItems, HasNested, HasOptions, HasSequence, HasVariant, PassesArray, PassesElement, PassesOption, PassesRow, PassesThose, TakesBranch};
 ghost use Rattle.ctf_format.specs.Passing.{Passes, PassesFields};
-ghost use Rattle.ctf_format.specs.Records.{IsNear, PutsField, PutsFields, after_value, reached};
-ghost use Rattle.ctf_format.specs.declared.standing.Last.TheVariants as lasts;
+ghost use Rattle.ctf_format.specs.Records.{IsNear, PutsFields, reached};
 
 use crate::array::begin_at;
-use crate::branches::option_of;
+use crate::branches::{Items, option_of};
 use crate::content::Content;
 use crate::leaf::{label_of, number_at};
 use crate::passed_record::pass_runs;
+use crate::passed_row::pass_shown_row;
 use crate::planned_record::Reach;
-use crate::standing::{Last, bits_at};
-use ctf_class::{Branch, Branches, OptionPlans, PlannedRun, RecordPlan};
+use crate::standing::bits_at;
+use ctf_bits::uint_within;
+use ctf_class::{
+    Branch, Branches, InnerPlans, Nested, PlannedRun, PlannedSequence, PlannedVariant, RecordPlan,
+};
 use ctf_decode::MOST_VALUES;
-
-/// Where a variant's tag ends, in bits from the packet's first one, and what is known of it.
-#[derive(Clone, Copy)]
-struct PassedTag {
-    end: u64,
-    last: Last,
-}
 
 /// How far the fields of a plan go.
 #[inline(always)]
@@ -46,9 +43,8 @@ pub(crate) fn pass_fields(plan: &RecordPlan, packet: &Content<'_>, from: Reach) 
     pass_branched(plan, packet, from)
 }
 
-/// How far those of a plan go that has variants or is an option's.
+/// How far those of a plan go that has branches, or is that of an option or of elements.
 #[cycle(branches)]
-#[tactic(auto, using(crate::proofs::BranchesLemmas::has_branches))]
 #[inline(never)]
 fn pass_branched(plan: &RecordPlan, packet: &Content<'_>, from: Reach) -> Option<Reach>
     requires is { HasFields plan.now }
@@ -73,7 +69,7 @@ fn pass_branches(branches: &[Branch], packet: &Content<'_>, from: Reach) -> Opti
     requires start { from.place ≤ packet.now.end }
     requires few { from.more ≤ MOST_VALUES }
     ensures passes { (depth : ℕ) (slots : List Slot) (runs : List Planned) →
-        AreBranches (IsOption depth) slots branches.now runs → IfSome result (λ to.
+        AreBranches (IsPlanned depth) slots branches.now runs → IfSome result (λ to.
         (others : List Slot) × AreRuns others runs ×
         PassesFields slots others packet.now from to) }
     ensures within { IfSome result (λ to. to.place ≤ packet.now.end) }
@@ -88,7 +84,6 @@ fn pass_branches(branches: &[Branch], packet: &Content<'_>, from: Reach) -> Opti
 
 /// How far the fields of a branch go.
 #[cycle(branches)]
-#[tactic(auto, using(crate::proofs::BranchesLemmas::branch_options))]
 fn pass_branch(branch: &Branch, packet: &Content<'_>, from: Reach) -> Option<Reach>
     requires is { HasBranch branch.now }
     requires start { from.place ≤ packet.now.end }
@@ -100,11 +95,194 @@ fn pass_branch(branch: &Branch, packet: &Content<'_>, from: Reach) -> Option<Rea
     ensures few { IfSome result (λ to. to.more ≤ MOST_VALUES) }
 {
     let reach = pass_some(branch.runs.as_slice(), packet, from)?;
-    let tag = pass_tag(branch, packet, reach.place)?;
-    let option = option_of(branch, tag.last)?;
-    let OptionPlans::Each(plans) = &branch.options;
-    let inner = pass_option(plans.as_slice(), option, packet, tag.end)?;
+    let place = begin_at(branch.align, packet, reach.place)?;
+    let InnerPlans::Each(plans) = &branch.plans;
+    let inner = pass_nested(plans.as_slice(), &branch.nested, packet, place)?;
     let more = reach.more + inner.more;
+    if more > MOST_VALUES {
+        return None;
+    }
+    Some(Reach {
+        place: inner.place,
+        more,
+    })
+}
+
+/// How far the fields of a branch go from the place where the first of them begins, and how many values were begun in
+/// them.
+#[cycle(branches)]
+fn pass_nested(
+    plans: &[RecordPlan],
+    nested: &Nested,
+    packet: &Content<'_>,
+    place: u64,
+) -> Option<Reach>
+    requires are { HasNested nested.now plans.now }
+    requires start { place ≤ packet.now.end }
+    ensures passes { (depth : ℕ) (first : Slot) (others : List Slot) →
+        AreNested (IsPlanned depth) first others nested.now plans.now →
+        PassesThose result first others packet.now place }
+    ensures within { IfSome result (λ to. to.place ≤ packet.now.end) }
+    ensures few { IfSome result (λ to. to.more ≤ MOST_VALUES) }
+{
+    match nested {
+        Nested::Variant(variant) => pass_variant(plans, variant, packet, place),
+        Nested::Sequence(sequence) => pass_sequence(plans, sequence, packet, place),
+        Nested::Array(array) => {
+            let items = Items {
+                elements: &array.elements,
+                count: array.count,
+            };
+            pass_items(plans, items, packet, place)
+        }
+    }
+}
+
+/// How far a tag and its variant go.
+#[cycle(branches)]
+fn pass_variant(
+    plans: &[RecordPlan],
+    variant: &PlannedVariant,
+    packet: &Content<'_>,
+    place: u64,
+) -> Option<Reach>
+    requires are { HasVariant variant.now plans.now }
+    requires start { place ≤ packet.now.end }
+    ensures passes { (depth : ℕ) (tag slot : Slot) →
+        AreVariant (IsPlanned depth) tag slot variant.now plans.now →
+        PassesThose result tag (slot ∷ []) packet.now place }
+    ensures within { IfSome result (λ to. to.place ≤ packet.now.end) }
+    ensures few { IfSome result (λ to. to.more ≤ MOST_VALUES) }
+{
+    let container = &variant.tag.container;
+    let at = bits_at(container, variant.tag.align, packet, place)?;
+    let number = number_at(container, packet, at.begin);
+    let option = option_of(variant, label_of(number))?;
+    pass_option(plans, option, packet, at.end)
+}
+
+/// How far a length and the array that it counts go.
+#[cycle(branches)]
+fn pass_sequence(
+    plans: &[RecordPlan],
+    sequence: &PlannedSequence,
+    packet: &Content<'_>,
+    place: u64,
+) -> Option<Reach>
+    requires are { HasSequence sequence.now plans.now }
+    requires start { place ≤ packet.now.end }
+    ensures passes { (depth : ℕ) (number array : Slot) →
+        AreSequence (IsPlanned depth) number array sequence.now plans.now →
+        PassesThose result number (array ∷ []) packet.now place }
+    ensures within { IfSome result (λ to. to.place ≤ packet.now.end) }
+    ensures few { IfSome result (λ to. to.more ≤ MOST_VALUES) }
+{
+    let integer = &sequence.length.integer;
+    let at = bits_at(integer, sequence.length.align, packet, place)?;
+    let items = Items {
+        elements: &sequence.elements,
+        count: uint_within(packet.bytes, at.begin, integer.size.bits(), integer.order),
+    };
+    pass_items(plans, items, packet, at.end)
+}
+
+/// How far an array goes, and how many values were begun in it.
+#[cycle(branches)]
+fn pass_items(
+    plans: &[RecordPlan],
+    items: Items<'_>,
+    packet: &Content<'_>,
+    place: u64,
+) -> Option<Reach>
+    requires are { HasItems items.elements.now plans.now }
+    requires start { place ≤ packet.now.end }
+    ensures passes { let e = items.entry.elements.now in (depth : ℕ) (k : Class) →
+        e.align ≡ k.align → IsItem (IsPlanned depth) k e.shown plans.now →
+        PassesArray result k items.entry.count packet.now place }
+    ensures within { IfSome result (λ to. to.place ≤ packet.now.end) }
+    ensures few { IfSome result (λ to. to.more ≤ MOST_VALUES) }
+{
+    if items.count > MOST_VALUES {
+        return None;
+    }
+    let begin = begin_at(items.elements.align, packet, place)?;
+    let ends = pass_row(plans, items, packet, begin)?;
+    let more = items.count + ends.more;
+    if more > MOST_VALUES {
+        return None;
+    }
+    Some(Reach {
+        place: ends.place,
+        more,
+    })
+}
+
+/// How far the elements of an array go, and how many values were begun in all of them.
+#[cycle(branches)]
+fn pass_row(
+    plans: &[RecordPlan],
+    items: Items<'_>,
+    packet: &Content<'_>,
+    place: u64,
+) -> Option<Reach>
+    requires are { HasItems items.elements.now plans.now }
+    requires start { place ≤ packet.now.end }
+    ensures passes { let e = items.entry.elements.now in (depth : ℕ) (k : Class) →
+        IsItem (IsPlanned depth) k e.shown plans.now →
+        PassesRow result k items.entry.count packet.now place }
+    ensures within { IfSome result (λ to. to.place ≤ packet.now.end) }
+    ensures few { IfSome result (λ to. to.more ≤ MOST_VALUES) }
+{
+    if let Some(shown) = &items.elements.shown {
+        return pass_shown_row(shown, items.count, packet, place);
+    }
+    if plans.is_empty() {
+        return None;
+    }
+    pass_planned_row(&plans[0], items.count, packet, place)
+}
+
+/// How far so many elements go by their plan.
+#[cycle(branches)]
+fn pass_planned_row(
+    plan: &RecordPlan,
+    count: u64,
+    packet: &Content<'_>,
+    place: u64,
+) -> Option<Reach>
+    requires is { HasElement plan.now }
+    requires start { place ≤ packet.now.end }
+    ensures passes { (depth : ℕ) (k : Class) → IsElement (IsPlanned depth) k plan.now →
+        PassesRow result k count packet.now place }
+    ensures within { IfSome result (λ to. to.place ≤ packet.now.end) }
+    ensures few { IfSome result (λ to. to.more ≤ MOST_VALUES) }
+{
+    let mut at = place;
+    let mut more = 0;
+    for i in 0..count {
+        let next = pass_element(plan, packet, at)?;
+        at = next.place;
+        more += next.more;
+        if more > MOST_VALUES {
+            return None;
+        }
+    }
+    Some(Reach { place: at, more })
+}
+
+/// How far an element goes, by its plan, and how many values were begun in it.
+#[cycle(branches)]
+#[tactic(auto, using(crate::proofs::BranchesLemmas::element_planned))]
+fn pass_element(plan: &RecordPlan, packet: &Content<'_>, place: u64) -> Option<Reach>
+    requires is { HasElement plan.now }
+    requires start { place ≤ packet.now.end }
+    ensures passes { (depth : ℕ) (k : Class) → IsElement (IsPlanned depth) k plan.now →
+        PassesElement result k packet.now place }
+    ensures within { IfSome result (λ to. to.place ≤ packet.now.end) }
+    ensures few { IfSome result (λ to. to.more ≤ MOST_VALUES) }
+{
+    let inner = pass_branched(plan, packet, Reach { place, more: 0 })?;
+    let more = inner.more + u64::from(plan.count);
     if more > MOST_VALUES {
         return None;
     }
@@ -143,7 +321,7 @@ fn pass_option(
     })
 }
 
-/// How far the fields of runs go, out of the way of records without variants.
+/// How far the fields of runs go, out of the way of records without branches.
 #[inline(never)]
 fn pass_some(runs: &[PlannedRun], packet: &Content<'_>, from: Reach) -> Option<Reach>
     requires near { All IsNear runs.now }
@@ -157,24 +335,4 @@ fn pass_some(runs: &[PlannedRun], packet: &Content<'_>, from: Reach) -> Option<R
     ensures few { IfSome result (λ to. to.more ≤ MOST_VALUES) }
 {
     pass_runs(runs, packet, from)
-}
-
-/// The tag of a branch, an enumeration that could begin at a place.
-#[inline(always)]
-fn pass_tag(branch: &Branch, packet: &Content<'_>, place: u64) -> Option<PassedTag>
-    requires start { place ≤ packet.now.end }
-    ensures passes { let packet = packet.now in (slot : Slot) (more : ℕ) → IsTag slot branch.now →
-        IfSome result (λ tag. Passes (λ before after.
-        PutsField slot packet.bytes.now packet.end
-        (after_value place more lasts.Unknown before)
-        (after_value tag.end more tag.last after))) }
-    ensures within { IfSome result (λ tag. tag.end ≤ packet.now.end) }
-{
-    let begin = begin_at(branch.align, packet, place)?;
-    let container = &branch.tag.container;
-    let at = bits_at(container, branch.tag.align, packet, begin)?;
-    Some(PassedTag {
-        end: at.end,
-        last: label_of(number_at(container, packet, at.begin)),
-    })
 }

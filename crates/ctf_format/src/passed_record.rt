@@ -6,13 +6,16 @@ ghost use Rattle.std.specs.List.{All};
 ghost use Rattle.ctf_class.specs.Integers.{bits_of};
 ghost use Rattle.ctf_class.specs.Records.{Slot, AreMany, AreRuns, IsField, IsPlanOf, IsStructure};
 ghost use Rattle.ctf_class.specs.declared.class.Class.{Class};
+ghost use Rattle.ctf_class.specs.declared.class.Kind as kinds;
+ghost use Rattle.ctf_class.specs.declared.route.Length.{Length};
 ghost use Rattle.ctf_class.specs.declared.route.Length.TheVariants.{Fixed};
 ghost use Rattle.ctf_decode.specs.Forms as forms;
 ghost use Rattle.ctf_decode.specs.Views.{form};
-ghost use Rattle.ctf_format.specs.Passing.{IsElement, Passes, PassesField, PassesFields, PassesOther};
+ghost use Rattle.ctf_format.specs.Passing.{IsElement, Passes, PassesField, PassesFields, PassesOther, next_at};
 ghost use Rattle.ctf_format.specs.Records.{IsNear, PutsFields, PutsScopes, TakesRun, reached};
 ghost use Rattle.ctf_format.specs.Rows.{enclosed};
-ghost use Rattle.ctf_format.specs.Standing.{PutsElements, PutsOne};
+ghost use Rattle.ctf_format.specs.Standing.{Before, Counts, PutsElements, PutsNext, PutsOne};
+ghost use Rattle.ctf_format.specs.declared.content.Content.{Content as Packet};
 ghost use Rattle.ctf_format.specs.Texts as texts;
 
 use crate::array::begin_at;
@@ -175,13 +178,16 @@ fn pass_field(field: &PlannedField, placed: PlacedRun<'_>, from: Reach) -> Optio
             })
         }
         Shown::Integers(are) => pass_elements(&element_of(are), are.many, placed, begin),
-        Shown::Structures(are) => pass_structures(are, placed, begin),
+        Shown::Structures(are) => {
+            let element = structure_as_element(are)?;
+            pass_elements(&element, are.many, placed, begin)
+        }
     }
 }
 
 /// Where the string ends that could begin at a place.
 #[inline(always)]
-fn end_of_string(packet: &Content<'_>, place: u64) -> Option<u64>
+pub(crate) fn end_of_string(packet: &Content<'_>, place: u64) -> Option<u64>
     requires start { place ≤ packet.now.end }
     ensures passes { let content = packet.now in IfSome result (λ end. (a : ℕ) →
         Passes (PutsOne (forms.string a) texts.string_text content.bytes.now content.end place
@@ -199,7 +205,7 @@ fn end_of_string(packet: &Content<'_>, place: u64) -> Option<u64>
 
 /// Where the text of so many bytes ends that could begin at a place.
 #[inline(always)]
-fn end_of_text(count: u64, packet: &Content<'_>, place: u64) -> Option<u64>
+pub(crate) fn end_of_text(count: u64, packet: &Content<'_>, place: u64) -> Option<u64>
     requires start { place ≤ packet.now.end }
     ensures passes { let content = packet.now in IfSome result (λ end. (a : ℕ) →
         Passes (PutsOne (forms.text a (Fixed count)) texts.string_text content.bytes.now
@@ -218,7 +224,7 @@ fn end_of_text(count: u64, packet: &Content<'_>, place: u64) -> Option<u64>
 
 /// An integer as an element.
 #[inline(always)]
-fn element_of(are: &Integers) -> Element
+pub(crate) fn element_of(are: &Integers) -> Element
     ensures align { result.align ≡ are.now.align }
     ensures span { result.span ≡ bits_of are.now.integer }
     ensures count { result.count ≡ 1 }
@@ -230,27 +236,21 @@ fn element_of(are: &Integers) -> Element
     }
 }
 
-/// How far structures of integers go.
+/// A structure of integers as an element, if it begins at a byte: only then, as each plan's does, are its numbers at
+/// their distances.
 #[inline(always)]
-fn pass_structures(are: &Structures, placed: PlacedRun<'_>, from: Reach) -> Option<Reach>
-    requires start { from.place ≤ placed.packet.now.end }
-    requires few { from.more ≤ MOST_VALUES }
-    ensures passes { (index : ℕ) (class : Class) →
-        AreMany (λ k. IsStructure k are.now) index class are.now.many →
-        IfSome result (PassesOther index class placed.entry from) }
-    ensures within { IfSome result (λ to. to.place ≤ placed.entry.packet.now.end) }
-    ensures few { IfSome result (λ to. to.more ≤ MOST_VALUES) }
+pub(crate) fn structure_as_element(are: &Structures) -> Option<Element>
+    ensures { IfSome result (λ e. (packet : Packet) (k : Class) → IsStructure k are.now →
+        IsElement packet e k) }
 {
-    // Only where it begins at a byte, as each plan's does, are its numbers at their distances.
     if are.align.bits() % 8 != 0 {
         return None;
     }
-    let element = Element {
+    Some(Element {
         align: are.align,
         span: are.span,
         count: are.count,
-    };
-    pass_elements(&element, are.many, placed, from)
+    })
 }
 
 /// How far an array of so many elements goes.
@@ -265,14 +265,41 @@ fn pass_elements(element: &Element, many: Many, placed: PlacedRun<'_>, from: Rea
     ensures few { IfSome result (λ to. to.more ≤ MOST_VALUES) }
 {
     let count = count_after(many, placed)?;
-    let values = count.checked_mul(element.count)?;
-    let more = from.more.checked_add(values)?;
+    let ends = pass_counted(element, count, placed.packet, from.place)?;
+    let more = from.more + ends.more;
     if more > MOST_VALUES {
         return None;
     }
-    let begin = begin_at(element.align, placed.packet, from.place)?;
-    let place = end_of_row(element, count, placed.packet, begin)?;
-    Some(Reach { place, more })
+    Some(Reach {
+        place: ends.place,
+        more,
+    })
+}
+
+/// How far an array of so many elements goes that could begin at a place, and how many values were begun in it.
+#[inline(always)]
+pub(crate) fn pass_counted(
+    element: &Element,
+    count: u64,
+    packet: &Content<'_>,
+    place: u64,
+) -> Option<Reach>
+    requires start { place ≤ packet.now.end }
+    ensures passes { let content = packet.now in (before : Before) (class k : Class)
+        (many : Length) → class.kind ≡ kinds.Array many k → IsElement content element.now k →
+        Counts many before count → IfSome result (λ to. Passes (λ line after.
+        PutsNext before (form class) (texts.value_text class) content.bytes.now content.end place
+        line (next_at to) after)) }
+    ensures within { IfSome result (λ to. to.place ≤ packet.now.end) }
+    ensures few { IfSome result (λ to. to.more ≤ MOST_VALUES) }
+{
+    let more = count.checked_mul(element.count)?;
+    if more > MOST_VALUES {
+        return None;
+    }
+    let begin = begin_at(element.align, packet, place)?;
+    let end = end_of_row(element, count, packet, begin)?;
+    Some(Reach { place: end, more })
 }
 
 /// Where so many elements end, one after the other.

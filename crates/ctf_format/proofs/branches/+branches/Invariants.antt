@@ -1,14 +1,28 @@
 use Rattle.std.proofs.Common.{ℕ, List, ◌≡◌, ◌≤◌, ◌++◌, take, drop}
-use Rattle.ctf_class.specs.Records.{Slot, AreBranches, IsOption}
+use Rattle.ctf_class.specs.Records.{Slot, AreBranches, IsElement, IsPlanned}
 use Rattle.ctf_class.specs.declared.record_plan.PlannedRun.{PlannedRun}
 use Rattle.ctf_decode.specs.declared.scopes.TheConstants.{MOST_VALUES}
 use Rattle.ctf_format.specs.Put.{IsWithin}
 use Rattle.ctf_format.specs.Records.{PutsFields, reached}
+use Rattle.ctf_class.specs.declared.class.Class.{Class}
+use Rattle.ctf_decode.specs.Views.{form}
+use Rattle.ctf_format.specs.Branches.{Anywhere}
+use Rattle.ctf_format.specs.Texts.{value_text}
+use Rattle.ctf_format.proofs.ByClassLemmas.{Going}
+use Rattle.ctf_format.proofs.StandingLemmas.{mark_at}
 use Rattle.ctf_format.proofs.branches.+branches.Given as goal
 
 abbrev pub invariant-put_branches-loop-branch : goal.invariant-put_branches-loop-branch
 invariant-put_branches-loop-branch l = record {
   within : IsWithin l.packet l.so_far.place l.buffer l.text;
   few : l.so_far.more ≤ MOST_VALUES;
-  puts : (depth : ℕ) (slots : List Slot) (runs : List PlannedRun) → AreBranches (IsOption depth) slots l.branches runs → (done others : List Slot) × (slots ≡ done ++ others) × AreBranches (IsOption depth) others (drop l.branch-index l.branches) runs × PutsFields done l.packet.bytes.now l.packet.end (reached l.fn.reach (take l.at l.fn.buffer.items)) (reached l.so_far (take l.text l.buffer.items));
+  puts : (depth : ℕ) (slots : List Slot) (runs : List PlannedRun) → AreBranches (IsPlanned depth) slots l.branches runs → (done others : List Slot) × (slots ≡ done ++ others) × AreBranches (IsPlanned depth) others (drop l.branch-index l.branches) runs × PutsFields done l.packet.bytes.now l.packet.end (reached l.fn.reach (take l.at l.fn.buffer.items)) (reached l.so_far (take l.text l.buffer.items));
+}
+
+abbrev pub invariant-put_planned_row-loop-i : goal.invariant-put_planned_row-loop-i
+invariant-put_planned_row-loop-i l = record {
+  within : IsWithin l.packet l.at.place l.buffer l.at.text;
+  few : l.more ≤ MOST_VALUES;
+  marked : l.mark ≡ mark_at 91 l.i;
+  going : (depth : ℕ) (k : Class) → IsElement (IsPlanned depth) k l.plan → Going Anywhere l.packet.bytes.now l.packet.end (form k) (value_text k) l.count l.fn.from.place l.i l.at.place l.more (take l.fn.from.text l.fn.buffer.items) (take l.at.text l.buffer.items);
 }

@@ -6,7 +6,7 @@ use Rattle.ctf_decode.specs.Views as views
 use Rattle.ctf_decode.specs.Views.{form}
 use Rattle.ctf_decode.specs.Forms.{parts_of}
 use Rattle.ctf_decode.specs.Fields.{choice_in}
-use Rattle.ctf_format.specs.Around.{Agrees, MembersAre, sight}
+use Rattle.ctf_format.specs.Around.{Agrees, MembersAre, Sees, sight}
 use Rattle.ctf_format.specs.Standing.{array_text, structure_text}
 use Rattle.ctf_format.specs.Texts.{value_text, part_text, member_part, element_text, integer_text, enumeration_text, string_text, chosen_text}
 use Rattle.ctf_format.proofs.Chains.{of_ok}
@@ -149,7 +149,7 @@ pub put_bracketed-returns-clause-puts : goal.put_bracketed-returns-clause-puts
 put_bracketed-returns-clause-puts t c =
     let k = c.args.element.now in
     let some : 0 < c.args.count = search (rules, arith) in
-    items.closed c.args.seen.now (form k) (value_text k) c.args.count c.args.from.place (take c.args.from.text c.args.buffer.now.items) c.in_ok-ends.ends c.in_ok-text-2.text (take c.in_ok-ends.ends.text c.put_row.new.buffer.items) (take c.in_ok-text-2.text c.put_end.new.buffer.items) some (of_ok _ _ c.in_ok-text-2.ensures.value c.put_end.ensures).text c.in_ok-ends.ensures.puts
+    items.closed (Sees c.args.seen.now) c.args.seen.now.packet.now.bytes.now c.args.seen.now.packet.now.end (form k) (value_text k) c.args.count c.args.from.place (take c.args.from.text c.args.buffer.now.items) c.in_ok-ends.ends c.in_ok-text-2.text (take c.in_ok-ends.ends.text c.put_row.new.buffer.items) (take c.in_ok-text-2.text c.put_end.new.buffer.items) some (of_ok _ _ c.in_ok-text-2.ensures.value c.put_end.ensures).text c.in_ok-ends.ensures.puts
 
 pub put_row-loop-i-preserved : goal.put_row-loop-i-preserved
 put_row-loop-i-preserved t c =
@@ -160,7 +160,7 @@ put_row-loop-i-preserved t c =
       within = c.in_ok-next.ensures.within;
       few = search (rules, arith);
       marked = mark_next 91 l.i;
-      going = items.going_on c.args.seen.now (form k) (value_text k) c.args.count c.args.from.place (take c.args.from.text c.args.buffer.now.items) l.i l.at.place l.more l.mark (take l.at.text l.buffer.items) next (take next.text c.put_item.new.buffer.items) c.loop-i-test.true l.invariant.marked l.invariant.going c.in_ok-next.ensures.puts;
+      going = items.going_on (Sees c.args.seen.now) c.args.seen.now.packet.now.bytes.now c.args.seen.now.packet.now.end (form k) (value_text k) c.args.count c.args.from.place (take c.args.from.text c.args.buffer.now.items) l.i l.at.place l.more l.mark (take l.at.text l.buffer.items) next (take next.text c.put_item.new.buffer.items) c.loop-i-test.true l.invariant.marked l.invariant.going c.in_ok-next.ensures.puts;
     }
 
 pub put_row-returns-clause-puts : goal.put_row-returns-clause-puts
@@ -170,7 +170,7 @@ put_row-returns-clause-puts t c =
     let before = take c.args.from.text c.args.buffer.now.items in
     let after = take l.at.text l.buffer.items in
     let all : l.i ≡ c.args.count = omega (arith, c.loop-i-test.false, l.auto.i-end) in
-    items.going_ends c.args.seen.now (form k) (value_text k) c.args.count c.args.from.place before l.at.place l.more l.at.text after (subst (λ i. items.Going c.args.seen.now (form k) (value_text k) c.args.count c.args.from.place i l.at.place l.more before after) all l.invariant.going)
+    items.going_ends (Sees c.args.seen.now) c.args.seen.now.packet.now.bytes.now c.args.seen.now.packet.now.end (form k) (value_text k) c.args.count c.args.from.place before l.at.place l.more l.at.text after (subst (λ i. items.Going (Sees c.args.seen.now) c.args.seen.now.packet.now.bytes.now c.args.seen.now.packet.now.end (form k) (value_text k) c.args.count c.args.from.place i l.at.place l.more before after) all l.invariant.going)
 
 pub put_item-returns-clause-puts : goal.put_item-returns-clause-puts
 put_item-returns-clause-puts t c =

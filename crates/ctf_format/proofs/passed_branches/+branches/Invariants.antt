@@ -1,13 +1,24 @@
-use Rattle.std.proofs.Common.{ℕ, List, ◌≤◌, drop}
-use Rattle.ctf_class.specs.Records.{Slot, AreBranches, IsOption}
+use Rattle.std.proofs.Common.{ℕ, List, ◌≡◌, ◌≤◌, drop}
+use Rattle.ctf_class.specs.Records.{Slot, AreBranches, IsElement, IsPlanned}
 use Rattle.ctf_class.specs.declared.record_plan.PlannedRun.{PlannedRun}
 use Rattle.ctf_decode.specs.declared.scopes.TheConstants.{MOST_VALUES}
 use Rattle.ctf_format.specs.Passing.{PassesFields}
+use Rattle.ctf_class.specs.declared.class.Class.{Class}
+use Rattle.ctf_format.proofs.BranchesLemmas.{PassesGoing}
 use Rattle.ctf_format.proofs.passed_branches.+branches.Given as goal
 
 abbrev pub invariant-pass_branches-loop-branch : goal.invariant-pass_branches-loop-branch
 invariant-pass_branches-loop-branch l = record {
   within : l.reach.place ≤ l.packet.end;
   few : l.reach.more ≤ MOST_VALUES;
-  passes : (depth : ℕ) (slots : List Slot) (runs : List PlannedRun) → AreBranches (IsOption depth) slots l.branches runs → (others : List Slot) × AreBranches (IsOption depth) others (drop l.branch-index l.branches) runs × PassesFields slots others l.packet l.fn.from l.reach;
+  passes : (depth : ℕ) (slots : List Slot) (runs : List PlannedRun) → AreBranches (IsPlanned depth) slots l.branches runs → (others : List Slot) × AreBranches (IsPlanned depth) others (drop l.branch-index l.branches) runs × PassesFields slots others l.packet l.fn.from l.reach;
+}
+
+abbrev pub invariant-pass_planned_row-loop-i : goal.invariant-pass_planned_row-loop-i
+invariant-pass_planned_row-loop-i l = record {
+  within : l.at ≤ l.packet.end;
+  few : l.more ≤ MOST_VALUES;
+  begun : l.i ≡ 0 → l.at ≡ l.place;
+  none : l.i ≡ 0 → l.more ≡ 0;
+  going : (depth : ℕ) (k : Class) → IsElement (IsPlanned depth) k l.plan → PassesGoing k l.count l.packet l.place l.i l.at l.more;
 }

@@ -1,7 +1,7 @@
 use Rattle.std.proofs.Common.{◌≡◌, ◌+◌, ◌-◌, ◌/◌, ◌≤◌, ◌∷◌, ◌++◌, [], ◌∙◌, None, refl, sym, ap, subst, arith}
 use Rattle.std.specs.Int.{next_multiple_of}
 use Rattle.std.proofs.lemmas.Option.{IfSome_then}
-use Rattle.ctf_class.specs.Records.{IsInteger, IsShown}
+use Rattle.ctf_class.specs.Records.{IsInteger, IsShown, IsStructure}
 use Rattle.ctf_decode.specs.Forms as forms
 use Rattle.ctf_decode.specs.Views.{form}
 use Rattle.ctf_format.specs.Passing.{IsElement, Passes}
@@ -105,7 +105,11 @@ returns-in-Integers-clause-passes c = λ slot is.
     let many = many_so (λ k. IsInteger k are.integer are.align) (IsElement placed.packet.now e) (λ k k_is. integer_element placed.packet.now e are.integer are.align k k_is c.element_of.ensures.align c.element_of.ensures.span c.element_of.ensures.count) slot.index slot.class are.many shown in
     IfSome_then c.pass_elements.result (c.pass_elements.ensures.passes slot.index slot.class many) (λ to passes. other_passes slot c.args.field.now placed c.args.from c.in_ok-place.place to is c.in_ok-place.ensures.begin c.in_ok-place.ensures.within passes)
 
-pub returns-in-Structures-clause-passes : goal.returns-in-Structures-clause-passes
-returns-in-Structures-clause-passes c = λ slot is.
+pub returns-in_ok-element-in-Structures-clause-passes : goal.returns-in_ok-element-in-Structures-clause-passes
+returns-in_ok-element-in-Structures-clause-passes c = λ slot is.
+    let are = c.in-Structures.are in
     let shown = subst (IsShown slot.index slot.class) c.in-Structures.is is.shown in
-    IfSome_then c.pass_structures.result (c.pass_structures.ensures.passes slot.index slot.class shown) (λ to passes. other_passes slot c.args.field.now c.args.placed c.args.from c.in_ok-place.place to is c.in_ok-place.ensures.begin c.in_ok-place.ensures.within passes)
+    let placed = c.args.placed in
+    let e = c.in_ok-element-in-Structures.element in
+    let many = many_so (λ k. IsStructure k are) (IsElement placed.packet.now e) (λ k k_is. c.in_ok-element-in-Structures.ensures placed.packet.now k k_is) slot.index slot.class are.many shown in
+    IfSome_then c.pass_elements-in-Structures.result (c.pass_elements-in-Structures.ensures.passes slot.index slot.class many) (λ to passes. other_passes slot c.args.field.now placed c.args.from c.in_ok-place.place to is c.in_ok-place.ensures.begin c.in_ok-place.ensures.within passes)

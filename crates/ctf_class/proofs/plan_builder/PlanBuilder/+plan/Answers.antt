@@ -7,7 +7,6 @@ use Rattle.ctf_class.specs.declared.record_plan.Nested.TheVariants as nested
 use Rattle.ctf_class.specs.declared.record_plan.PlannedField.{PlannedField}
 use Rattle.ctf_class.specs.declared.record_plan.PlannedSequence.{PlannedSequence}
 use Rattle.ctf_class.specs.declared.record_plan.PlannedVariant.{PlannedVariant}
-use denote.Param.Weighed.{at_most}
 use Rattle.ctf_class.specs.declared.class.Member.{Member}
 use Rattle.std.specs.Prelude.{get_or}
 use Rattle.ctf_class.specs.Names.{field_text}
@@ -16,7 +15,7 @@ use Rattle.ctf_class.specs.declared.class.Kind as kind
 use Rattle.ctf_class.specs.declared.record_plan.InnerPlans.TheVariants as inner_plans
 use Rattle.ctf_class.specs.declared.record_plan.RecordPlan.{RecordPlan}
 use Rattle.ctf_class.specs.declared.route.Length.TheVariants as lengths
-use Rattle.ctf_class.specs.PlanBuilding.{AddsElement, AreTwo, IsAlone, IsBare, IsOfTwo, TakesSome, AddsPiece, AddsPieces, IsMade, at_of, slot_of, later_slot, with_branch, with_field, with_structure}
+use Rattle.ctf_class.specs.PlanBuilding.{AreTwo, IsAlone, IsBare, IsOfTwo, TakesSome, AddsPiece, AddsPieces, IsMade, at_of, slot_of, later_slot, with_branch, with_field, with_structure}
 use Rattle.ctf_class.specs.Records.{At, Slot, AreEach, IsElement, IsField, IsItem, IsPlanned, IsShown, LeadsBefore, ends, first_at, later_at}
 use Rattle.ctf_class.specs.declared.plan_builder.PlanBuilder.{PlanBuilder}
 use Rattle.ctf_class.proofs.RecordsLemmas.{AddedTo, array_added, array_made, branch_made, element_added, element_made, field_added, added_some, added_within, no_branch, added_none, added_all, index_zero, index_some, made_branch, made_field, made_nothing, option_made, option_more, piece_alone, piece_inner, sequence_made, variant_made}
