@@ -11,7 +11,7 @@
 //! A class is in a list, whose drop is a call.
 
 use crate::classes::{front, members_of, put_class, scope};
-use crate::plans::put_runs;
+use crate::plans::put_fields;
 use crate::row::Row;
 use ctf_class::{
     Class, EventClass, HasId, Heading, Host, Indexed, PlanRoom, PlannedEvent, StreamClass,
@@ -174,7 +174,7 @@ fn put_planned(
     }
     if let Some(planned) = planned {
         row.put(b", plan ");
-        put_runs(row, planned.plan);
+        put_fields(row, planned.plan);
     }
 }
 

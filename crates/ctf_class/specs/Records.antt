@@ -184,7 +184,7 @@ abbrev pub ended_last : ℕ → List Scoped → ℕ
 ended_last n [] = n
 ended_last n (s ∷ ss) = ended_last (ended_in s.pieces) ss
 
--- how many values structures are, with all in them but what is in arrays
+-- how many values structures are, with all in them but what is in arrays and options
 abbrev pub values_in : List Scoped → ℕ
 values_in [] = 0
 values_in (s ∷ ss) = 1 + length (members_of s.pieces) + insides s.pieces + values_in ss
@@ -429,7 +429,7 @@ module _ (HasFields : List Slot → RecordPlan → Type 0) where
       → List PlannedRun → Type 0
   AreThose ss (Branches-F.Listed bs) rs = AreBranches ss bs rs
 
--- a plan has these fields, and plans lie in one another less deep than this, itself among them
+-- a plan has these fields, and plans lie in one another no deeper than this, itself among them
 abbrev pub IsPlanned : ℕ → List Slot → RecordPlan → Type 0
 IsPlanned zero ss p = ⊥
 IsPlanned (suc depth) ss p = AreThose (IsPlanned depth) ss (out-Branches p.branches) p.runs

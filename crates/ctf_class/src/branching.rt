@@ -47,8 +47,8 @@ impl PlanBuilder {
         }
     }
 
-    /// The branch of a member with so many others before it and of the first before it, if they are a variant and its
-    /// tag, or an array and its length, that have plans.
+    /// The branch of a member, which has so many before it, and of the one before it: a variant and its tag, or an
+    /// array and its length. None where they are others, or where an option or an element can't have a plan.
     #[cycle(plan)]
     pub(crate) fn branch_of(
         alloc: Global,
@@ -189,8 +189,8 @@ impl PlanBuilder {
         Ok(Some((nested, plans)))
     }
 
-    /// Adds an array of a fixed length after the open run, with a text before it, if its elements have plans. It begins
-    /// structures of this alignment, or 1. Whether it could be done.
+    /// Adds an array of a fixed length after the open run, with a text before it, as a branch. It begins structures of
+    /// this alignment, or 1. Whether that could be done.
     #[cycle(plan)]
     pub(crate) fn add_array(
         &mut self,
@@ -283,7 +283,7 @@ impl PlanBuilder {
         Ok(Some(builder.finish()?))
     }
 
-    /// Adds the members of an element, or an array that it is, to nothing. Whether that could be done.
+    /// Adds the members of an element to nothing, or the array that it is. Whether that could be done.
     #[cycle(plan)]
     fn add_element(&mut self, alloc: Global, class: &Class) -> Result<bool, NoMemory>
         requires few { self.old.room ≤ 2 ^ 18 }

@@ -51,7 +51,7 @@ pub(crate) struct Lead<'a> {
 pub(crate) struct PlanBuilder {
     /// Whether the first run begins at a byte, wherever it is.
     pub(crate) begins_whole: bool,
-    /// The variants so far, each with the fields before it.
+    /// The branches so far.
     pub(crate) branches: List<Branch>,
     /// The runs since that are whole.
     pub(crate) runs: List<PlannedRun>,
@@ -193,7 +193,7 @@ impl PlanBuilder {
         ensures { IfOk result
             (λ took. IsTrue took → self.new ≡ with_scope self.old (empty_scope text.now align)) }
     {
-        // Tracers rarely begin a record with such a scope, and one of nothing else is written as soon by its class.
+        // Tracers rarely begin a record with such a scope.
         if self.count == 0 || text.len() > LONGEST_TEXT {
             return Ok(false);
         }
@@ -326,7 +326,7 @@ impl PlanBuilder {
         Ok(self.end_structure(members.len()))
     }
 
-    /// Adds a member as a field after the open run, or as an array with plans, if it can be one. Whether it can.
+    /// Adds a member as a field after the open run, or as an array that is a branch. Whether it can be one.
     #[cycle(plan)]
     fn add_shown(
         &mut self,

@@ -4,7 +4,8 @@ ghost use Rattle.std.specs.Prelude.{◌≡◌, ◌+◌, ◌<◌, IsTrue, IsFalse
 
 /// For how many classes, those of the contexts and of the fields of each event, a trace has plans at the most. Tracers
 /// write far fewer. Metadata may have more that are made to take memory: a plan takes some 200 bytes for a string, 400
-/// for an option of a variant, and the plan of each event of a stream has the stream's event context in it.
+/// for an option of a variant, 900 for an array of arrays, and the plan of each event of a stream has the stream's
+/// event context in it.
 const MOST_PLANNED: u64 = 1 << 15;
 
 /// For how many classes more a trace may have plans.

@@ -40,34 +40,34 @@ pub struct PlannedRun {
     pub field: Option<PlannedField>,
 }
 
-/// The fields of an event record's scopes after its header (CTF 1.8.3, section 6), one after the other, if all of them
-/// are integers, enumerations, strings, structures without members, texts and arrays of integers and of structures of
-/// integers whose length is fixed or the field before, variants whose tag is the field before and whose options are
-/// such fields, or structures of such fields; else nothing, also where the first scope has no members or a text before
-/// a value has more than 1,024 bytes. The fields of a structure within are among those around it, and a scope without
-/// members is a field itself. An option of a variant, with its name, has a plan of its own.
+/// The fields of an event record's scopes after its header (CTF 1.8.3, section 6), one after the other, if these are
+/// integers, enumerations, strings, texts, arrays, variants and structures of such fields, and if each length and each
+/// tag is the member before; else nothing, also where the first scope has no members or a text before a value has more
+/// than 1,024 bytes. The fields of a structure within are among those around it, and one without members is a field
+/// itself. An option of a variant, with its name, has a plan of its own, and so has an element of an array, unless it
+/// is shown without one.
 #[cycle(branches)]
 #[derive(Drop)]
 pub struct RecordPlan {
-    /// The variants among these fields, each with those before it.
+    /// The variants among these fields and the arrays that are no field after a run, each with those before it.
     pub branches: Branches,
-    /// The fields after the last variant.
+    /// The fields after the last of these.
     pub runs: List<PlannedRun>,
-    /// How many values these scopes have, without those in arrays.
+    /// How many values these scopes have, or are in the option or the element, without those in arrays and variants.
     pub count: u32,
-    /// How many structures end, one in the other, where the last scope does, itself among them; none where it has no
-    /// members.
+    /// How many structures end, one in the other, where the last scope or the element does, itself among them; none
+    /// where it has no members. The braces around an option are not among them.
     pub ended: u32,
 }
 
-/// Variants, in their order.
+/// Branches in their order.
 #[cycle(branches)]
 #[derive(Drop)]
 pub enum Branches {
     Listed(List<Branch>),
 }
 
-/// A variant or an array whose options or elements have plans of their own, with the fields before it.
+/// A variant, or an array that is no field after a run, with the fields before it.
 #[cycle(branches)]
 #[derive(Drop)]
 pub struct Branch {
@@ -77,7 +77,7 @@ pub struct Branch {
     /// The alignment of the structures that its first field begins, or 1.
     pub align: Align,
     pub nested: Nested,
-    /// The plans of the options, or the one of the elements, if they are not shown otherwise.
+    /// The plans of the options, or the one of the elements, if these are not shown without one.
     pub plans: InnerPlans,
 }
 
@@ -117,8 +117,9 @@ pub struct PlannedArray {
 /// The elements of an array.
 #[derive(Drop)]
 pub struct Elements {
+    /// The alignment at which each begins.
     pub align: Align,
-    /// How each is shown, if not by a plan.
+    /// How each is shown without a plan, if it can be.
     pub shown: Option<Shown>,
 }
 

@@ -25,7 +25,7 @@ use Rattle.ctf_format.specs.declared.planned_record.Reach.{Reach}
 use Rattle.ctf_format.specs.declared.standing.Last.{Last}
 use Rattle.ctf_format.specs.declared.standing.Last.TheVariants as lasts
 
--- How far fields came: where the next one could begin, how many values were begun in arrays,
+-- How far fields came: where the next one could begin, how many values were begun in arrays and variants,
 -- the value that comes last, as far as it is known, and what was written.
 pub record Reached : Type 0 where
   pub place : ℕ
@@ -33,7 +33,7 @@ pub record Reached : Type 0 where
   pub last : Last
   pub line : List ℕ
 
--- as far as a place, with so many values in arrays and this line, after a value, as far as that is known
+-- as far as a place, with so many values in them and this line, after a value, as far as that is known
 abbrev pub after_value : ℕ → ℕ → Last → List ℕ → Reached
 after_value place more last line = record { place = place; more = more; last = last; line = line }
 

@@ -62,7 +62,7 @@ pub(crate) fn put_fields(
     put_branched(plan, packet, reach, buffer, at)
 }
 
-/// Writes those of a plan with variants, out of the way of records without any.
+/// Writes those of a plan with branches, out of the way of records without any.
 #[cycle(branches)]
 #[inline(never)]
 fn put_branched(
@@ -471,7 +471,7 @@ fn put_element(
     })
 }
 
-/// Writes the fields of runs that are before a branch's own fields, and gives the index after them; `reach` says how far they
+/// Writes the fields of runs that are before a branch's own, and gives the index after them; `reach` says how far they
 /// came then.
 fn put_runs_before(
     runs: &[PlannedRun],
