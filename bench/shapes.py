@@ -200,6 +200,10 @@ def short_text(rng: random.Random) -> bytes:
     return letters(rng, rng.randrange(3, 12)) + b"\0"
 
 
+def named(rng: random.Random) -> bytes:
+    return word(rng) + short_text(rng)
+
+
 def name_of(room: int) -> Callable[[random.Random], bytes]:
     return lambda rng: letters(rng, rng.randrange(3, room)).ljust(room, b"\0")
 
@@ -323,6 +327,8 @@ COMPOUNDS = [
         stream_context=LENGTH_IN_CONTEXT,
     ),
     Shape("a chain of calls", counted("u64 n; x64 a[n];", "<Q", 16, address), COMPACT),
+    Shape("a sequence of strings", counted("u8 n; string a[n];", "<B", 6, short_text), COMPACT),
+    Shape("a sequence of structures with a string", counted("u8 n; struct { u32 x; string s; } a[n];", "<B", 6, named), COMPACT),
 ]
 
 HEADERS = [

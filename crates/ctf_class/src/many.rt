@@ -14,6 +14,16 @@ pub enum Many {
     Counted,
 }
 
+impl Many {
+    /// Whether the field before says it.
+    pub(crate) fn is_counted(self) -> bool {
+        match self {
+            Many::Fixed(_) => false,
+            Many::Counted => true,
+        }
+    }
+}
+
 /// How many elements an array has that is after so many members of its structure, if its length is fixed or the member
 /// before.
 pub(crate) fn many_of(length: &Length, index: usize) -> Option<Many>

@@ -347,6 +347,10 @@ impl PlanBuilder {
         let Some(shown) = shown_of(alloc, &member.class, lead.index)? else {
             return self.add_array(alloc, ready, lead.align, &member.class);
         };
+        // Only the number of a length in the open run is known to the field after it.
+        if shown.is_counted() && self.numbers.is_empty() {
+            return Ok(false);
+        }
         self.add_field(
             alloc,
             PlannedField {

@@ -42,10 +42,10 @@ pub struct PlannedRun {
 
 /// The fields of an event record's scopes after its header (CTF 1.8.3, section 6), one after the other, if these are
 /// integers, enumerations, strings, texts, arrays, variants and structures of such fields, and if each length and each
-/// tag is the member before; else nothing, also where the first scope has no members or a text before a value has more
-/// than 1,024 bytes. The fields of a structure within are among those around it, and one without members is a field
-/// itself. An option of a variant, with its name, has a plan of its own, and so has an element of an array, unless it
-/// is shown without one.
+/// tag is the member before; else nothing, also where the first scope has no members, a text before a value has more
+/// than 1,024 bytes, or the length of a field after a run is no number of this run. The fields of a structure within
+/// are among those around it, and one without members is a field itself. An option of a variant, with its name, has a
+/// plan of its own, and so has an element of an array, unless it is shown without one.
 #[cycle(branches)]
 #[derive(Drop)]
 pub struct RecordPlan {

@@ -41,6 +41,16 @@ impl Shown {
             Shown::Labelled(labelled) => are_bytes(&labelled.container, labelled.align),
         }
     }
+
+    /// Whether each field that is shown so has as many elements as the number before it says.
+    pub(crate) fn is_counted(&self) -> bool {
+        match self {
+            Shown::Text(many) => many.is_counted(),
+            Shown::Integers(are) => are.many.is_counted(),
+            Shown::Structures(are) => are.many.is_counted(),
+            Shown::String | Shown::Empty(_) | Shown::Integer(_) | Shown::Labelled(_) => false,
+        }
+    }
 }
 
 /// Whether integers of this alignment are whole bytes.

@@ -46,10 +46,10 @@ pub(crate) struct Reach {
 /// of such records: `from` has the place after the header, in bits from the packet's first one, how many values were
 /// begun before, and the index, in bytes. What is before the index is kept, and the buffer grows where it has no room.
 ///
-/// `None` where there is no plan; where the record has a fault; where a variant's tag is above 2^63 - 1; where the length
-/// of a text, or of an array of integers or of structures of these, is no number of a run; where a run of numbers would
-/// begin within a byte; where the packet has fewer than eight bytes after the numbers of a run or of a structure in an
-/// array, or after the begin of a run without any; and where an allocation fails. The buffer is then unspecified.
+/// `None` where there is no plan; where the record has a fault; where a variant's tag is above 2^63 - 1; where a run of
+/// numbers would begin within a byte; where the packet has fewer than eight bytes after the numbers of a run or of a
+/// structure in an array, or after the begin of a run without any; and where an allocation fails. The buffer is then
+/// unspecified.
 #[inline(always)]
 pub fn put_planned_record(
     plan: &RecordPlan,
