@@ -2,11 +2,11 @@
 //!
 //! - `plan CLASS` is the plan of event records whose fields have this class, and whose stream event context and event
 //!   context have those before it, where there are any: the count of values, of each run its bits and whether a field
-//!   follows it, and where a variant or an array with plans of its own is.
+//!   follows it, and where a number is kept, or a variant, an array or a text goes by one.
 
 use crate::classes::members_of;
 use crate::row::Row;
-use ctf_class::{Branch, Branches, Class, Nested, PlannedRun, RecordPlan};
+use ctf_class::{Branch, Branches, Class, Count, Nested, PlannedRun, RecordPlan};
 
 /// Puts what comes of a row of a class.
 pub fn put_row(row: &mut Row<'_>) {
@@ -54,9 +54,19 @@ pub fn put_fields(row: &mut Row<'_>, plan: &RecordPlan) {
 fn put_branch(row: &mut Row<'_>, branch: &Branch) {
     put_runs(row, branch.runs.as_slice());
     match &branch.nested {
-        Nested::Variant(_) => row.put(b", a variant"),
-        Nested::Sequence(_) => row.put(b", a length and its array"),
-        Nested::Array(_) => row.put(b", an array"),
+        Nested::Number(_) => row.put(b", a number kept"),
+        Nested::Label(_) => row.put(b", a label kept"),
+        Nested::Variant(variant) => row.put_number(b", a variant by number ", variant.tag as i128),
+        Nested::Array(array) => put_count(row, b", an array", array.count),
+        Nested::Text(count) => put_count(row, b", a text", *count),
+    }
+}
+
+fn put_count(row: &mut Row<'_>, name: &[u8], count: Count) {
+    row.put(name);
+    match count {
+        Count::Fixed(count) => row.put_number(b" of ", count as i128),
+        Count::Kept(place) => row.put_number(b" by number ", place as i128),
     }
 }
 

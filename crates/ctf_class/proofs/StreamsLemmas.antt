@@ -5,7 +5,7 @@ use Rattle.ctf_class.specs.declared.class.Class.{Class}
 use Rattle.ctf_class.specs.declared.record_plan.PlannedRun.{PlannedRun}
 use Rattle.ctf_class.specs.declared.record_plan.RecordPlan.{RecordPlan}
 use Rattle.ctf_class.specs.declared.trace.EventClass.{EventClass}
-use Rattle.ctf_class.specs.Records.{IsPlanOf, classes_in, scopes_of}
+use Rattle.ctf_class.specs.Records.{ScopeClass, IsPlanOf, classes_in, scopes_of}
 use Rattle.ctf_class.specs.Streams.{ArePlans, classes_if, planned_classes}
 use Rattle.ctf_class.proofs.PlacesLemmas.{find-at_place}
 
@@ -44,7 +44,7 @@ plans_more shared (d ∷ es) [] e p are is = absurd are
 plans_more shared (d ∷ es) (q ∷ ps) e p are is = (are.0, plans_more shared es ps e p are.1 is)
 
 -- a plan is paid for, or has no runs
-pub paid_for : (rs : List PlannedRun) (ks : List Class) {new old : ℕ} → new ≤ old → (0 < length rs → new + classes_in ks ≡ old) → new + classes_if rs ks ≤ old
+pub paid_for : (rs : List PlannedRun) (ks : List ScopeClass) {new old : ℕ} → new ≤ old → (0 < length rs → new + classes_in ks ≡ old) → new + classes_if rs ks ≤ old
 paid_for [] ks less paid = omega (arith, less)
 paid_for (r ∷ rs) ks less paid =
     let whole = paid (omega (arith)) in

@@ -5,7 +5,7 @@ use Rattle.ctf_class.specs.declared.record_plan.PlannedRun.{PlannedRun}
 use Rattle.ctf_class.specs.declared.record_plan.RecordPlan.{RecordPlan}
 use Rattle.ctf_class.specs.declared.trace.Clock.{Clock}
 use Rattle.ctf_class.specs.declared.trace.EventClass.{EventClass}
-use Rattle.ctf_class.specs.Records.{IsPlanOf, classes_in, scopes_of}
+use Rattle.ctf_class.specs.Records.{ScopeClass, IsPlanOf, classes_in, scopes_of}
 
 -- the parts of a stream class
 pub record StreamClass : Type 0 where
@@ -25,7 +25,7 @@ ArePlans shared (e ∷ es) (p ∷ ps) =
     IsPlanOf (scopes_of shared e.context e.fields) p × ArePlans shared es ps
 
 -- how many classes are in the scopes of records that have a plan of these runs; none if it has no runs
-abbrev pub classes_if : List PlannedRun → List Class → ℕ
+abbrev pub classes_if : List PlannedRun → List ScopeClass → ℕ
 classes_if [] ks = 0
 classes_if (r ∷ rs) ks = classes_in ks
 

@@ -19,6 +19,7 @@ mod heading;
 mod host;
 mod indexed;
 mod integer;
+mod known;
 mod label_at;
 mod label_name;
 mod labels;
@@ -41,6 +42,7 @@ mod sorted;
 mod span;
 mod structures;
 mod trace;
+mod wanted;
 mod width;
 mod words;
 
@@ -65,8 +67,8 @@ pub use plan_room::PlanRoom;
 pub use planned_number::PlannedNumber;
 pub use prepared_text::{PREPARED_HEAD, PreparedText};
 pub use record_plan::{
-    Branch, Branches, Elements, InnerPlans, Nested, PlannedArray, PlannedField, PlannedRun,
-    PlannedSequence, PlannedVariant, RecordPlan,
+    Branch, Branches, Count, Elements, InnerPlans, Nested, PlannedArray, PlannedField, PlannedRun,
+    PlannedVariant, RecordPlan,
 };
 pub use role::Role;
 pub use route::{Length, Origin, Route, Scope};

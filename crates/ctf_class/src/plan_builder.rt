@@ -1,10 +1,11 @@
 //! Plans of event records while they are built.
 
-ghost use Rattle.std.specs.Prelude.{ℕ, ◌≡◌, ◌+◌, ◌%◌, ◌∷◌, ◌++◌, [], ◌^◌, ◌<◌, ◌≤◌, length, max, IsTrue, IsFalse, IfOk, IfSome, OnOk, option_copied};
+ghost use Rattle.std.specs.Prelude.{ℕ, ◌≡◌, ◌+◌, ◌%◌, ◌∷◌, ◌++◌, [], ◌^◌, ◌<◌, ◌≤◌, false, length, map, max, IsTrue, IsFalse, IfOk, IfSome, OnOk, option_copied};
+ghost use Rattle.ctf_class.specs.declared.route.Route.{Route as RouteOf};
 ghost use Rattle.std.specs.Int.{next_multiple_of};
 ghost use Rattle.ctf_class.specs.Alignment.{IsLarger};
-ghost use Rattle.ctf_class.specs.PlanBuilding.{AddsPiece, AddsPieces, IsMade, IsMadeOf, at_of, before_scope, empty_scope, slot_of, with_branch, with_field, with_number, with_scope, with_structure};
-ghost use Rattle.ctf_class.specs.Records.{Slot, IsPlanned, and_scope, ends, first_at, opened_lead};
+ghost use Rattle.ctf_class.specs.PlanBuilding.{AddsPiece, AddsPieces, IsMade, IsMadeOf, at_of, before_scope, empty_scope, moved_by, slot_of, with_branch, with_field, with_number, with_scope, with_structure};
+ghost use Rattle.ctf_class.specs.Records.{Slot, ScopeClass, IsPlanned, IsShown, and_scope, ends, first_at, opened_lead};
 ghost use Rattle.ctf_class.specs.Names.{field_text};
 ghost use Rattle.ctf_class.specs.declared.class.Kind as kinds;
 
@@ -13,12 +14,15 @@ use crate::class::{Class, Kind, Member};
 use crate::field_name::FieldName;
 use crate::fitted::fitted;
 use crate::integer::Integer;
+use crate::known::{Move, moved};
 use crate::planned_number::{PlannedNumber, have_special, is_special};
 use crate::prepared_text::{PREPARED_HEAD, PreparedText};
 use crate::record_plan::{Branch, Branches, PlannedField, PlannedRun, RecordPlan};
+use crate::route::{Route, Scope};
 use crate::shown::{Shown, shown_of};
+use crate::wanted::{Wanted, index_of, scope_number};
 use ctf_bits::Window;
-use ctf_list::{List, NoMemory};
+use ctf_list::{List, NoMemory, Shared};
 use std::alloc::Global;
 use std::mem;
 
@@ -44,6 +48,8 @@ pub(crate) struct Lead<'a> {
     pub(crate) align: Align,
     /// How many members of its structure are before it, or 0 where the one before it is a structure that is gone into.
     pub(crate) index: usize,
+    /// How many members of its structure are before it; those before its variant, if it is an option.
+    pub(crate) place: usize,
 }
 
 /// A plan on its way.
@@ -51,6 +57,12 @@ pub(crate) struct Lead<'a> {
 pub(crate) struct PlanBuilder {
     /// Whether the first run begins at a byte, wherever it is.
     pub(crate) begins_whole: bool,
+    /// Which members' numbers are kept; none without it.
+    pub(crate) wanted: Option<Shared<Wanted>>,
+    /// The way to the structure whose members are added: the number of its scope, and the indices of members.
+    pub(crate) trail: List<u32>,
+    /// The routes to the numbers that are kept so far, from where the plan goes on.
+    pub(crate) known: List<Route>,
     /// The branches so far.
     pub(crate) branches: List<Branch>,
     /// The runs since that are whole.
@@ -69,8 +81,8 @@ pub(crate) struct PlanBuilder {
 }
 
 impl PlanBuilder {
-    /// A plan of no scopes, which begin at a byte or do not.
-    pub(crate) fn new(alloc: Global, begins_whole: bool) -> PlanBuilder
+    /// A plan of no scopes, and which members' numbers are kept.
+    pub(crate) fn new(alloc: Global, wanted: Option<Shared<Wanted>>) -> PlanBuilder
         ensures made { IsMadeOf [] result }
         ensures branches { result.branches ≡ [] }
         ensures runs { result.runs ≡ [] }
@@ -79,7 +91,10 @@ impl PlanBuilder {
         ensures near { result.span ≤ 2 ^ 33 }
     {
         PlanBuilder {
-            begins_whole,
+            begins_whole: true,
+            wanted,
+            trail: List::new(alloc),
+            known: List::new(alloc),
             branches: List::new(alloc),
             runs: List::new(alloc),
             align: Align::one_bit(),
@@ -91,6 +106,25 @@ impl PlanBuilder {
         }
     }
 
+    /// A plan of nothing, for an option or an element.
+    pub(crate) fn within(&self, alloc: Global) -> Result<PlanBuilder, NoMemory>
+        ensures made { IfOk result (IsMade []) }
+        ensures known { IfOk result (λ inner. inner.known ≡ self.now.known) }
+        ensures count { IfOk result (λ inner. inner.count ≡ 0) }
+        ensures few { IfOk result (λ inner. inner.room ≤ 2 ^ 18) }
+        ensures near { IfOk result (λ inner. inner.span ≤ 2 ^ 33) }
+    {
+        let wanted = match &self.wanted {
+            Some(wanted) => Some(wanted.clone()?),
+            None => None,
+        };
+        let mut inner = PlanBuilder::new(alloc, wanted);
+        inner.begins_whole = false;
+        inner.trail.extend_from_slice(self.trail.as_slice())?;
+        inner.known = moved(alloc, self.known.as_slice(), Move::Within)?;
+        Ok(inner)
+    }
+
     /// The plan of what was added.
     pub(crate) fn finish(self) -> Result<RecordPlan, NoMemory>
         ensures fields { IfOk result (λ plan. (done : List Slot) → IsMade done self →
@@ -100,6 +134,9 @@ impl PlanBuilder {
     {
         let PlanBuilder {
             begins_whole: _,
+            wanted: _,
+            trail: _,
+            known: _,
             branches,
             mut runs,
             align,
@@ -138,43 +175,63 @@ impl PlanBuilder {
     pub(crate) fn add_optional(
         &mut self,
         alloc: Global,
+        scope: Scope,
         class: Option<&Class>,
     ) -> Result<bool, NoMemory>
         requires few { self.old.room ≤ 2 ^ 18 }
         requires near { self.old.span ≤ 2 ^ 33 }
         ensures few { IfOk result (λ took. IsTrue took → self.new.room ≤ 2 ^ 18) }
         ensures near { IfOk result (λ took. IsTrue took → self.new.span ≤ 2 ^ 33) }
-        ensures made { IfOk result (λ took. IsTrue took → (ks : List Class) → IsMadeOf ks self.old →
-            IsMadeOf (ks ++ and_scope (option_copied class.entry) []) self.new) }
+        ensures made { IfOk result (λ took. IsTrue took → (ks : List ScopeClass) →
+            IsMadeOf ks self.old →
+            IsMadeOf (ks ++ and_scope scope (option_copied class.entry) []) self.new) }
     {
         match class {
-            Some(class) => self.add_scope(alloc, class),
+            Some(class) => self.add_scope(alloc, scope, class),
             None => Ok(true),
         }
     }
 
     /// Adds a scope. Whether that could be done.
-    pub(crate) fn add_scope(&mut self, alloc: Global, class: &Class) -> Result<bool, NoMemory>
+    pub(crate) fn add_scope(
+        &mut self,
+        alloc: Global,
+        scope: Scope,
+        class: &Class,
+    ) -> Result<bool, NoMemory>
         requires few { self.old.room ≤ 2 ^ 18 }
         requires near { self.old.span ≤ 2 ^ 33 }
         ensures few { IfOk result (λ took. IsTrue took → self.new.room ≤ 2 ^ 18) }
         ensures near { IfOk result (λ took. IsTrue took → self.new.span ≤ 2 ^ 33) }
-        ensures made { IfOk result (λ took. IsTrue took → (ks : List Class) → IsMadeOf ks self.old →
-            IsMadeOf (ks ++ class.now ∷ []) self.new) }
+        ensures made { IfOk result (λ took. IsTrue took → (ks : List ScopeClass) →
+            IsMadeOf ks self.old → IsMadeOf (ks ++ (scope, class.now) ∷ []) self.new) }
     {
         let Kind::Structure { members } = &class.kind else {
             return Ok(false);
         };
         let members = members.as_slice();
         let mut text = self.before_scope(alloc)?;
-        if members.is_empty() {
-            return self.add_empty(alloc, text.as_slice(), class.align);
-        }
-        text.extend_from_slice(b"{ ")?;
-        if !self.add_members(alloc, text, class.align, members)? {
-            return Ok(false);
-        }
-        Ok(self.end_structure(members.len() + 1))
+        self.trail.clear();
+        self.trail.push(scope_number(scope))?;
+        self.go(alloc, Move::Inside)?;
+        let took = if members.is_empty() {
+            self.add_empty(alloc, text.as_slice(), class.align)?
+        } else {
+            text.extend_from_slice(b"{ ")?;
+            self.add_members(alloc, text, class.align, members)?
+                && self.end_structure(members.len() + 1)
+        };
+        self.go(alloc, Move::Later(scope))?;
+        Ok(took)
+    }
+
+    /// Goes on from elsewhere.
+    pub(crate) fn go(&mut self, alloc: Global, by: Move) -> Result<(), NoMemory>
+        ensures { OnOk result
+            (self.new ≡ record self.old { known = map (moved_by by) self.old.known }) }
+    {
+        self.known = moved(alloc, self.known.as_slice(), by)?;
+        Ok(())
     }
 
     /// What is printed before the next scope.
@@ -243,34 +300,55 @@ impl PlanBuilder {
         ensures near { IfOk result (λ took. IsTrue took → self.new.span ≤ 2 ^ 33) }
         ensures made { IfOk result (λ took. IsTrue took → (done : List Slot) →
             IsMade done self.old →
-            AddsPieces (first_at first begin) members.now done self.old self.new) }
+            AddsPieces (first_at first begin self.old.known) members.now done self.old self.new) }
     {
         let mut text = first;
         let mut align = begin;
         let mut index = 0;
-        let mut i = 0;
-        while i < members.len() {
+        for (i, member) in members.iter().enumerate() {
             let lead = Lead {
                 text: text.as_slice(),
                 align,
                 index,
+                place: i,
             };
-            let branch = match members.get(i + 1) {
-                Some(next) => PlanBuilder::branch_of(alloc, &lead, next, &members[i], i + 1)?,
-                None => None,
-            };
-            let Some(taken) = self.add_some(alloc, &lead, &members[i], branch)? else {
+            let is_kept = self.keeps(alloc, &lead, member, members.get(i + 1))?;
+            if !self.add_one(alloc, &lead, member, is_kept)? {
                 return Ok(false);
-            };
-            i += taken;
+            }
             text = after_ends(alloc, self.ended, b", ")?;
             align = Align::one_bit();
-            index = if self.ended == 0 { i } else { 0 };
+            index = if self.ended == 0 { i + 1 } else { 0 };
         }
         Ok(true)
     }
 
-    /// Adds a member of a structure. Whether that could be done.
+    /// Adds a member of a structure, whose number is kept or is not. Whether that could be done.
+    #[cycle(plan)]
+    fn add_one(
+        &mut self,
+        alloc: Global,
+        lead: &Lead<'_>,
+        member: &Member,
+        is_kept: bool,
+    ) -> Result<bool, NoMemory>
+        requires few { self.old.room ≤ 2 ^ 18 }
+        requires near { self.old.span ≤ 2 ^ 33 }
+        ensures few { IfOk result (λ took. IsTrue took → self.new.room ≤ 2 ^ 18) }
+        ensures near { IfOk result (λ took. IsTrue took → self.new.span ≤ 2 ^ 33) }
+        ensures made { IfOk result (λ took. IsTrue took → (done : List Slot) →
+            IsMade done self.old →
+            AddsPiece lead.now.place (at_of lead.now self.old.known) member.now done
+            self.old self.new) }
+    {
+        if is_kept {
+            self.add_kept(alloc, lead, member)
+        } else {
+            self.add_member(alloc, lead, member)
+        }
+    }
+
+    /// Adds a member of a structure, whose number is not kept. Whether that could be done.
     #[cycle(plan)]
     pub(crate) fn add_member(
         &mut self,
@@ -283,7 +361,9 @@ impl PlanBuilder {
         ensures few { IfOk result (λ took. IsTrue took → self.new.room ≤ 2 ^ 18) }
         ensures near { IfOk result (λ took. IsTrue took → self.new.span ≤ 2 ^ 33) }
         ensures made { IfOk result (λ took. IsTrue took → (done : List Slot) →
-            IsMade done self.old → AddsPiece (at_of lead.now) member.now done self.old self.new) }
+            IsMade done self.old →
+            AddsPiece lead.now.place (at_of lead.now self.old.known) member.now done
+            self.old self.new) }
     {
         if self.add_integer(alloc, lead, member)? {
             return Ok(true);
@@ -312,21 +392,28 @@ impl PlanBuilder {
         ensures few { IfOk result (λ took. IsTrue took → self.new.room ≤ 2 ^ 18) }
         ensures near { IfOk result (λ took. IsTrue took → self.new.span ≤ 2 ^ 33) }
         ensures made { IfOk result (λ took. IsTrue took → (done : List Slot) →
-            IsMade done self.old → AddsPiece (at_of lead.now) member.now done self.old self.new) }
+            IsMade done self.old →
+            AddsPiece lead.now.place (at_of lead.now self.old.known) member.now done
+            self.old self.new) }
     {
         // Structures that begin with one another have all their names in one text.
         if is_long(lead.text, &member.name) {
             return Ok(false);
         }
+        let depth = self.trail.len();
+        self.trail.push(index_of(lead.place)?)?;
+        self.go(alloc, Move::Inside)?;
         let text = opened(alloc, lead.text, &member.name)?;
         let begin = lead.align.larger(member.class.align);
         if !self.add_members(alloc, text, begin, members)? {
             return Ok(false);
         }
+        self.trail.truncate(depth);
+        self.go(alloc, Move::After(lead.place))?;
         Ok(self.end_structure(members.len()))
     }
 
-    /// Adds a member as a field after the open run, or as an array that is a branch. Whether it can be one.
+    /// Adds a member as a field after the open run, or as one of a branch. Whether it can be one.
     #[cycle(plan)]
     fn add_shown(
         &mut self,
@@ -339,18 +426,15 @@ impl PlanBuilder {
         ensures near { IfOk result (λ took. IsTrue took → self.new.span ≤ 2 ^ 33) }
         ensures made { IfOk result (λ took. IsTrue took → (done : List Slot) →
             IsMade done self.old →
-            AddsPiece (at_of lead.now) member.now done self.old self.new) }
+            AddsPiece lead.now.place (at_of lead.now self.old.known) member.now done
+            self.old self.new) }
     {
         let Some(ready) = ready_after(alloc, lead.text, &member.name)? else {
             return Ok(false);
         };
-        let Some(shown) = shown_of(alloc, &member.class, lead.index)? else {
-            return self.add_array(alloc, ready, lead.align, &member.class);
+        let Some(shown) = self.field_of(alloc, lead.index, &member.class)? else {
+            return self.add_nested(alloc, ready, lead, &member.class);
         };
-        // Only the number of a length in the open run is known to the field after it.
-        if shown.is_counted() && self.numbers.is_empty() {
-            return Ok(false);
-        }
         self.add_field(
             alloc,
             PlannedField {
@@ -360,6 +444,25 @@ impl PlanBuilder {
             },
         )?;
         Ok(true)
+    }
+
+    /// How a class is shown as the field after the open run, after so many members of its structure, if it can be one.
+    fn field_of(
+        &self,
+        alloc: Global,
+        index: usize,
+        class: &Class,
+    ) -> Result<Option<Shown>, NoMemory>
+        ensures { IfOk result (λ shown. IfSome shown (IsShown index class.now)) }
+    {
+        let Some(shown) = shown_of(alloc, class, index)? else {
+            return Ok(None);
+        };
+        // Only the number of a length in the open run is known to the field after it.
+        if shown.is_counted() && self.numbers.is_empty() {
+            return Ok(None);
+        }
+        Ok(Some(shown))
     }
 
     /// Adds a member as the next number of the open run, if it can be one. Whether it can.
@@ -378,8 +481,10 @@ impl PlanBuilder {
         ensures branches { IfOk result
             (λ took. IsTrue took → self.new.branches ≡ self.old.branches) }
         ensures runs { IfOk result (λ took. IsTrue took → self.new.runs ≡ self.old.runs) }
+        ensures known { IfOk result (λ took. IsTrue took → self.new.known ≡ self.old.known) }
         ensures made { IfOk result (λ took. IsTrue took → (done : List Slot) →
-            IsMade done self.old → IsMade (done ++ slot_of lead.now member.now ∷ []) self.new) }
+            IsMade done self.old → (known : List RouteOf) →
+            IsMade (done ++ slot_of lead.now known false member.now ∷ []) self.new) }
         ensures left { IfOk result (λ took. IsFalse took → self.new ≡ self.old) }
     {
         let align = lead.align;
@@ -402,7 +507,7 @@ impl PlanBuilder {
 
     /// The alignment of the open run with one number more, of the alignment `own`, that begins structures of the
     /// alignment `begin`, or 1.
-    fn align_with(&self, begin: Align, own: Align) -> Align
+    pub(crate) fn align_with(&self, begin: Align, own: Align) -> Align
         ensures first { self.now.numbers ≡ [] → IsLarger result begin own }
         ensures later { 0 < length self.now.numbers → result ≡ self.now.align }
     {
@@ -415,7 +520,12 @@ impl PlanBuilder {
 
     /// A field of a class as the next number of the open run, which is of the alignment `run` then, if it can be one.
     /// It begins structures of the alignment `begin`, or 1.
-    fn as_number(&self, class: &Class, begin: Align, run: Align) -> Option<(Integer, Window)>
+    pub(crate) fn as_number(
+        &self,
+        class: &Class,
+        begin: Align,
+        run: Align,
+    ) -> Option<(Integer, Window)>
         requires { self.now.span ≤ 2 ^ 33 }
         ensures is { IfSome result (λ found. class.now.kind ≡ kinds.Integer found.0) }
         ensures begins { IfSome result (λ _. max 8 run % begin ≡ 0) }

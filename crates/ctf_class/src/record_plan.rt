@@ -9,8 +9,10 @@ use crate::class::Class;
 use crate::plan_builder::PlanBuilder;
 use crate::planned_number::PlannedNumber;
 use crate::prepared_text::PreparedText;
+use crate::route::Scope;
 use crate::shown::{Labelled, LoneInteger, Shown};
-use ctf_list::{List, NoMemory};
+use crate::wanted::Wanted;
+use ctf_list::{List, NoMemory, Shared};
 use std::alloc::Global;
 
 /// A field after the numbers of a run.
@@ -40,16 +42,20 @@ pub struct PlannedRun {
     pub field: Option<PlannedField>,
 }
 
-/// The fields of an event record's scopes after its header (CTF 1.8.3, section 6), one after the other, if these are
-/// integers, enumerations, strings, texts, arrays, variants and structures of such fields, and if each length and each
-/// tag is the member before; else nothing, also where the first scope has no members, a text before a value has more
-/// than 1,024 bytes, or the length of a field after a run is no number of this run. The fields of a structure within
-/// are among those around it, and one without members is a field itself. An option of a variant, with its name, has a
-/// plan of its own, and so has an element of an array, unless it is shown without one.
+/// The fields of an event record's scopes after its header (CTF 1.8.3, section 6), one after the other, if each length
+/// and each tag is among them; else nothing, also where the first scope has no members, a text before a value has more
+/// than 1,024 bytes, or more than 128 numbers are kept. The fields of a structure within are among those around it, and
+/// one without members is a field itself. An option of a variant, with its name, has a plan of its own, and so has an
+/// element of an array, unless it is shown without one.
+///
+/// The number of a tag is kept, and that of a length but where it is the last one of a run and its text or array the
+/// field after that. Each is kept after those that are kept before it in the scopes, the options and the elements that
+/// it is in, and so has a place; what is kept in an option or an element is forgotten at its end.
 #[cycle(branches)]
 #[derive(Drop)]
 pub struct RecordPlan {
-    /// The variants among these fields and the arrays that are no field after a run, each with those before it.
+    /// Those of these fields that are kept or go by what is kept, and other variants and arrays that are no field after a
+    /// run, each with the fields before it.
     pub branches: Branches,
     /// The fields after the last of these.
     pub runs: List<PlannedRun>,
@@ -67,51 +73,55 @@ pub enum Branches {
     Listed(List<Branch>),
 }
 
-/// A variant, or an array that is no field after a run, with the fields before it.
+/// Such a field, and the fields before it.
 #[cycle(branches)]
 #[derive(Drop)]
 pub struct Branch {
     pub runs: List<PlannedRun>,
-    /// What is printed before its first field.
+    /// What is printed before its value.
     pub ready: PreparedText,
-    /// The alignment of the structures that its first field begins, or 1.
+    /// The alignment of the structures that it begins, or 1.
     pub align: Align,
     pub nested: Nested,
     /// The plans of the options, or the one of the elements, if these are not shown without one.
     pub plans: InnerPlans,
 }
 
-/// The fields of a branch.
+/// The field of a branch.
 #[derive(Drop)]
 pub enum Nested {
+    /// An unsigned integer whose number is kept.
+    Number(LoneInteger),
+    /// An enumeration whose number is kept.
+    Label(Labelled),
     Variant(PlannedVariant),
-    Sequence(PlannedSequence),
     Array(PlannedArray),
+    /// A text of so many bytes (CTF 1.8.3, section 4.2.4).
+    Text(Count),
 }
 
-/// An enumeration and the variant after it whose tag it is (CTF 1.8.3, section 4.2.2).
+/// A variant (CTF 1.8.3, section 4.2.2).
 #[derive(Drop)]
 pub struct PlannedVariant {
-    pub tag: Labelled,
-    /// What is printed before the variant.
-    pub before: PreparedText,
+    /// The place of the kept number that is its tag's.
+    pub tag: usize,
     pub choices: Choices,
 }
 
-/// An unsigned integer and the array after it that has so many elements (CTF 1.8.3, section 4.2.4).
+/// An array of so many elements.
 #[derive(Drop)]
-pub struct PlannedSequence {
-    pub length: LoneInteger,
-    /// What is printed before the array.
-    pub before: PreparedText,
+pub struct PlannedArray {
+    pub count: Count,
     pub elements: Elements,
 }
 
-/// An array of so many elements (CTF 1.8.3, section 4.2.3).
-#[derive(Drop)]
-pub struct PlannedArray {
-    pub count: u64,
-    pub elements: Elements,
+/// How many elements a field of a branch has.
+#[derive(Clone, Copy)]
+pub enum Count {
+    /// So many (CTF 1.8.3, section 4.2.3).
+    Fixed(u64),
+    /// As many as the kept number of a place says (CTF 1.8.3, section 4.2.4).
+    Kept(usize),
 }
 
 /// The elements of an array.
@@ -143,10 +153,11 @@ impl RecordPlan {
             (scopes_of (option_copied stream_context.entry)
             (option_copied event_context.entry) fields.now)) }
     {
-        let mut builder = PlanBuilder::new(alloc, true);
-        if builder.add_optional(alloc, stream_context)?
-            && builder.add_optional(alloc, event_context)?
-            && builder.add_scope(alloc, fields)?
+        let wanted = Wanted::new(alloc, stream_context, event_context, fields)?;
+        let mut builder = PlanBuilder::new(alloc, Some(Shared::new(alloc, wanted)?));
+        if builder.add_optional(alloc, Scope::StreamEventContext, stream_context)?
+            && builder.add_optional(alloc, Scope::EventContext, event_context)?
+            && builder.add_scope(alloc, Scope::EventFields, fields)?
         {
             return builder.finish();
         }

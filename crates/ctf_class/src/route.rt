@@ -1,6 +1,7 @@
 //! Where lengths and tags are found.
 
-ghost use Rattle.std.specs.Prelude.{IsTrue, IsFalse};
+ghost use Rattle.std.specs.Prelude.{ℕ, ◌≡◌, IsTrue, IsFalse};
+ghost use Rattle.ctf_class.specs.declared.route.Origin.TheVariants.{Enclosing as Around};
 ghost use Rattle.ctf_class.specs.Records.{LeadsBefore};
 
 use ctf_list::List;
@@ -47,6 +48,17 @@ impl Route {
             return false;
         };
         out == 0 && index > 0 && *step as usize == index - 1
+    }
+
+    /// Whether another route is this one, which begins around a class.
+    pub(crate) fn is(&self, other: &Route) -> bool
+        ensures same { IsTrue result → self.now ≡ other.now }
+        ensures around { IsTrue result → (out : ℕ) × (self.now.origin ≡ Around out) }
+    {
+        let (Origin::Enclosing(one), Origin::Enclosing(two)) = (self.origin, other.origin) else {
+            return false;
+        };
+        one == two && self.steps.as_slice() == other.steps.as_slice()
     }
 }
 

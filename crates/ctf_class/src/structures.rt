@@ -48,7 +48,7 @@ impl Structures {
         if members.is_empty() || class.align.bits() < 8 {
             return Ok(None);
         }
-        let mut builder = PlanBuilder::new(alloc, true);
+        let mut builder = PlanBuilder::new(alloc, None);
         if !builder.add_integers(alloc, class.align, members)? {
             return Ok(None);
         }
@@ -84,6 +84,7 @@ impl PlanBuilder {
                 text,
                 align,
                 index: i,
+                place: i,
             };
             if !self.add_integer(alloc, &lead, member)? {
                 return Ok(false);
@@ -106,6 +107,9 @@ impl PlanBuilder {
     {
         let PlanBuilder {
             begins_whole: _,
+            wanted: _,
+            trail: _,
+            known: _,
             branches: _,
             runs: _,
             align,

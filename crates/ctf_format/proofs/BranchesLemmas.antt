@@ -1,47 +1,52 @@
--- Variants and arrays that are written by their plans are shown as their classes say.
-use Rattle.std.proofs.Common.{◌≡◌, ℕ, ℤ, zero, suc, ◌+◌, ◌<◌, ◌≤◌, List, [], ◌∷◌, ◌++◌, map, take, length, get_or, Option, Some, None, IfSome, Ok, refl, sym, ap, subst, ◌∙◌, arith, append_assoc, append-nil}
+-- Fields that are kept, or go by what is kept, variants and arrays that are written by their plans are shown as their
+-- classes say.
+use Rattle.std.proofs.Common.{◌≡◌, ℕ, ℤ, zero, suc, ◌+◌, ◌<◌, ◌≤◌, true, false, List, [], ◌∷◌, ◌++◌, map, length, take, get_or, Option, Some, None, IfSome, Ok, refl, sym, ap, subst, ◌∙◌, arith, append_assoc, append-nil}
 use Rattle.std.proofs.Common.{codes}
 use Rattle.std.specs.Fmt.{decimal}
 use Rattle.std.specs.Int.{next_multiple_of}
-use Rattle.ctf_bits.specs.Number.{number}
 use Rattle.std.specs.Prelude.{option_and_then}
 use Rattle.ctf_class.proofs.RecordsLemmas.{ends_on}
-use Rattle.ctf_class.specs.Records.{Slot, Piece, Pieces, no_pieces, more_pieces, AreBranches, AreEach, AreListed, AreNested, AreRuns, AreSequence, AreThose, AreVariant, IsArray, IsElement, IsItem, IsOfPieces, IsOption, IsPlanned, IsShown, LeadsBefore, member_of, members_of, inside, insides, ended_by, ended_in, ends, first_at, piece_slots, scope_slots}
+use Rattle.ctf_class.specs.Records.{Slot, Piece, Pieces, no_pieces, more_pieces, AreBranches, AreEach, AreRuns, AreThose, IsArray, IsCount, IsElement, IsInteger, IsItem, IsLabelled, IsListed, IsNested, IsOfPieces, IsOption, IsPlanned, IsShown, IsVariant, LeadsTo, member_of, members_of, inside, insides, ended_by, ended_in, ends, first_at, piece_slots, scope_slots}
 use Rattle.ctf_class.specs.declared.class.Kind as kind
 use Rattle.ctf_class.specs.declared.class.Member.{Member}
 use Rattle.ctf_class.specs.declared.record_plan.Branch.{Branch}
 use Rattle.ctf_class.specs.declared.record_plan.Branches.{Branches, Branches-F, out-Branches}
+use Rattle.ctf_class.specs.declared.record_plan.Count.{Count}
+use Rattle.ctf_class.specs.declared.record_plan.Count.TheVariants as counts
 use Rattle.ctf_class.specs.declared.record_plan.InnerPlans.{InnerPlans, InnerPlans-F, out-InnerPlans}
 use Rattle.ctf_class.specs.declared.record_plan.Elements.{Elements}
 use Rattle.ctf_class.specs.declared.record_plan.Nested.{Nested}
 use Rattle.ctf_class.specs.declared.record_plan.Nested.TheVariants as nested
 use Rattle.ctf_class.specs.declared.record_plan.PlannedArray.{PlannedArray}
 use Rattle.ctf_class.specs.declared.record_plan.PlannedRun.{PlannedRun}
-use Rattle.ctf_class.specs.declared.record_plan.PlannedSequence.{PlannedSequence}
 use Rattle.ctf_class.specs.declared.record_plan.PlannedVariant.{PlannedVariant}
 use Rattle.ctf_class.specs.declared.record_plan.RecordPlan.{RecordPlan}
 use Rattle.ctf_class.specs.declared.class.Class.{Class}
 use Rattle.ctf_class.specs.declared.route.Length.{Length}
 use Rattle.ctf_class.specs.declared.route.Length.TheVariants as lengths
 use Rattle.ctf_class.specs.declared.route.Route.{Route}
+use Rattle.ctf_class.specs.declared.shown.Labelled.{Labelled}
+use Rattle.ctf_class.specs.declared.shown.LoneInteger.{LoneInteger}
 use Rattle.ctf_class.specs.declared.shown.Shown.{Shown as PlannedShown}
 use Rattle.ctf_class.specs.declared.route.Scope.{Scope}
-use Rattle.ctf_class.specs.declared.span.Choice.{Choice}
 use Rattle.ctf_decode.specs.Forms as forms
 use Rattle.ctf_decode.specs.Forms.{Form, parts_of}
 use Rattle.ctf_decode.specs.Input.{Env, Input}
-use Rattle.ctf_decode.specs.Routes.{chosen, length_of, option_at, tag_of}
+use Rattle.ctf_decode.specs.Routes.{chosen, found, length_of, number_of, option_at, tag_of}
 use Rattle.ctf_decode.specs.Values.{Val, choice, label, unsigned}
 use Rattle.ctf_decode.specs.Views as views
 use Rattle.ctf_decode.specs.Views.{form}
 use Rattle.ctf_decode.specs.Walk.{and_then, as_choice, walk, walk_option, with_option}
+use Rattle.ctf_decode.specs.declared.scopes.TheConstants.{MOST_VALUES}
 use Rattle.ctf_decode.proofs.Steps.{choice_ok}
-use Rattle.ctf_format.specs.Branches.{Anywhere, AreThere, HasBranch, HasBranches, HasElement, HasFields, HasItems, HasNested, HasOptions, HasSequence, HasVariant, IsThere, PassesArray, PutsRowOf, TakesBranch, WritesArray, ends_at}
+use Rattle.ctf_format.specs.Around.{Finds}
+use Rattle.ctf_format.specs.Branches.{Anywhere, HasBranch, HasBranches, HasElement, HasFields, HasItems, HasNested, HasOptions, IsArrayThere, IsSlotThere, IsThere, PassesSlots, PutsRowOf, TakesBranch, WritesArray, ends_at}
+use Rattle.ctf_format.specs.Kept.{CountsWhere, IsCounted, KeepsIf, PutsSlot, PutsSlots, Within}
 use Rattle.ctf_format.specs.Passing.{Passes, next_at}
-use Rattle.ctf_format.specs.Records.{IsNearShown, PutsField, PutsFields, after_last, after_value, reached}
+use Rattle.ctf_format.specs.Records.{PutsFields, Reached, IsNearShown, after_last, after_value, reached}
 use Rattle.ctf_format.specs.Rows.{enclosed}
-use Rattle.ctf_format.specs.Standing.{Before, Counts, LastIs, PutsNext, PutsOne, PutsWhere, StandsAs, ValueIs, among, array_text, variant_text}
-use Rattle.ctf_format.specs.Texts.{Shown, element_text, enumeration_text, integer_text, member_part, part_text, value_text}
+use Rattle.ctf_format.specs.Standing.{Before, Counts, PutsNext, PutsOne, PutsWhere, StandsAs, ValueIs, Writes, among, array_text, variant_text}
+use Rattle.ctf_format.specs.Texts.{Shown, element_text, enumeration_text, integer_text, member_part, part_text, string_text, value_text}
 use Rattle.ctf_format.specs.declared.content.Content.{Content}
 use Rattle.ctf_format.specs.declared.planned_record.Reach.{Reach}
 use Rattle.ctf_format.specs.declared.standing.Last.{Last}
@@ -49,11 +54,12 @@ use Rattle.ctf_format.specs.declared.standing.Last.TheVariants as lasts
 use Rattle.ctf_format.specs.declared.element.ElementLead.{ElementLead}
 use Rattle.ctf_format.specs.declared.standing.MembersEnd.{MembersEnd}
 use Rattle.ctf_format.specs.declared.standing.Next.{Next}
-use Rattle.ctf_format.proofs.ArrayLemmas.{counts_last, found_last}
-use Rattle.ctf_format.proofs.ByClassLemmas.{Going, closed, element_after, forget, going_begins, going_ends, going_on, items_walk, no_items, form_any, form_enumeration, form_variant, text_any, text_enumeration, text_variant}
+use Rattle.ctf_format.proofs.AroundLemmas.{counted_array}
+use Rattle.ctf_format.proofs.ByClassLemmas.{Going, closed, counted_text, element_after, going_begins, going_ends, going_on, items_walk, no_items, form_any, form_enumeration, form_variant, text_any, text_enumeration, text_variant}
+use Rattle.ctf_format.proofs.KeptLemmas.{knows_at}
 use Rattle.ctf_format.proofs.PartsLemmas.{closed_option, option_shown}
-use Rattle.ctf_format.proofs.RecordsLemmas.{next_led, piece_next, scope_puts, shown_near}
-use Rattle.ctf_format.proofs.StandingLemmas.{begins, form_integer, mark_at, puts_next, text_integer}
+use Rattle.ctf_format.proofs.RecordsLemmas.{fields_slots, piece_next, pieces_scope, runs_plain, shown_near, slots_join}
+use Rattle.ctf_format.proofs.StandingLemmas.{begins, form_integer, form_text, mark_at, puts_next, text_integer, text_text}
 use Rattle.ctf_format.proofs.StartsLemmas.{at_one}
 
 -- what is listed
@@ -87,52 +93,52 @@ each_of (InnerPlans-F.Each ps) = ps
 abbrev pub each_in : InnerPlans → List RecordPlan
 each_in ps = each_of (out-InnerPlans ps)
 
--- fields have the plans that are listed
-pub nested_listed : (P : List Slot → RecordPlan → Type 0) (s : Slot) (ss : List Slot) (n : Nested) (ps : InnerPlans) → AreListed P s ss n (out-InnerPlans ps) → AreNested P s ss n (each_in ps)
-nested_listed P s ss n ps are = listed (out-InnerPlans ps) are
+-- a field has the plans that are listed
+pub nested_listed : (P : List Slot → RecordPlan → Type 0) (s : Slot) (n : Nested) (ps : InnerPlans) → IsListed P s n (out-InnerPlans ps) → IsNested P s n (each_in ps)
+nested_listed P s n ps is = listed (out-InnerPlans ps) is
   where
-    listed : (those : InnerPlans-F Branches InnerPlans Branch RecordPlan) → AreListed P s ss n those → AreNested P s ss n (each_of those)
-    listed (InnerPlans-F.Each qs) are = are
+    listed : (those : InnerPlans-F Branches InnerPlans Branch RecordPlan) → IsListed P s n those → IsNested P s n (each_of those)
+    listed (InnerPlans-F.Each qs) is = is
 
 -- the option of an index, and its plan
-pub option_plan : (P : List Slot → RecordPlan → Type 0) (ms : List Member) (ps : List RecordPlan) (i : ℕ) (p : RecordPlan) → AreEach P ms ps → i < length ps → p ≡ get_or ps i p → (m : Member) × (i < length ms) × (m ≡ get_or ms i m) × IsOption P m p
-option_plan P [] [] i p are within is = absurd (omega (arith, within))
-option_plan P [] (q ∷ ps) i p are within is = absurd are
-option_plan P (m ∷ ms) [] i p are within is = absurd are
-option_plan P (m ∷ ms) (q ∷ ps) zero p are within is = (m, omega arith, refl, subst (IsOption P m) (sym is) are.0)
-option_plan P (m ∷ ms) (q ∷ ps) (suc i) p are within is =
-    let o = option_plan P ms ps i p are.1 (omega (arith, within)) is in
+pub option_plan : (P : List Slot → RecordPlan → Type 0) (known : List Route) (ms : List Member) (ps : List RecordPlan) (i : ℕ) (p : RecordPlan) → AreEach P known ms ps → i < length ps → p ≡ get_or ps i p → (m : Member) × (i < length ms) × (m ≡ get_or ms i m) × IsOption P known m p
+option_plan P known [] [] i p are within is = absurd (omega (arith, within))
+option_plan P known [] (q ∷ ps) i p are within is = absurd are
+option_plan P known (m ∷ ms) [] i p are within is = absurd are
+option_plan P known (m ∷ ms) (q ∷ ps) zero p are within is = (m, omega arith, refl, subst (IsOption P known m) (sym is) are.0)
+option_plan P known (m ∷ ms) (q ∷ ps) (suc i) p are within is =
+    let o = option_plan P known ms ps i p are.1 (omega (arith, within)) is in
     (o.0, omega (arith, o.1), o.2, o.3)
 
 -- so each of some plans has fields
-pub option_planned : (depth : ℕ) (m : Member) (p : RecordPlan) → IsOption (IsPlanned depth) m p → HasFields p
-option_planned depth m p is = record { depth = depth; slots = piece_slots (first_at (123 ∷ 32 ∷ []) 1) is.0; are = is.5 }
+pub option_planned : (depth : ℕ) (known : List Route) (m : Member) (p : RecordPlan) → IsOption (IsPlanned depth) known m p → HasFields p
+option_planned depth known m p is = record { depth = depth; slots = piece_slots (first_at (123 ∷ 32 ∷ []) 1 known) is.0; are = is.5 }
 
 pub option_fields : (ps : List RecordPlan) (i : ℕ) (p : RecordPlan) → HasOptions ps → i < length ps → p ≡ get_or ps i p → HasFields p
 option_fields ps i p has within is =
-    let found = option_plan (IsPlanned has.depth) has.options ps i p has.are within is in
-    option_planned has.depth found.0 p found.3
+    let found = option_plan (IsPlanned has.depth) has.known has.options ps i p has.are within is in
+    option_planned has.depth has.known found.0 p found.3
 
 pub element_planned : (p : RecordPlan) → HasElement p → HasFields p
-element_planned p has = record { depth = has.depth; slots = scope_slots [] has.class has.is.0; are = has.is.4 }
+element_planned p has = record { depth = has.depth; slots = scope_slots [] has.known has.class has.is.0; are = has.is.4 }
 
 -- the plan of elements that are not shown otherwise is the first
-pub item_plan : (P : List Slot → RecordPlan → Type 0) (k : Class) (shown : Option PlannedShown) (ps : List RecordPlan) (p : RecordPlan) → IsItem P k shown ps → shown ≡ None → p ≡ get_or ps 0 p → IsElement P k p
-item_plan P k (Some shown) ps p are none is = absurd (some_none none)
+pub item_plan : (P : List Slot → RecordPlan → Type 0) (known : List Route) (k : Class) (shown : Option PlannedShown) (ps : List RecordPlan) (p : RecordPlan) → IsItem P known k shown ps → shown ≡ None → p ≡ get_or ps 0 p → IsElement P known k p
+item_plan P known k (Some shown) ps p are none is = absurd (some_none none)
   where
     some_none : Some shown ≡ None → ⊥
     some_none same = cc
-item_plan P k None ps p are none is = subst (IsElement P k) (sym (is ∙ ap (λ qs. get_or qs 0 p) are.1)) are.2
+item_plan P known k None ps p are none is = subst (IsElement P known k) (sym (is ∙ ap (λ qs. get_or qs 0 p) are.1)) are.2
 
 pub has_element : (e : Elements) (ps : List RecordPlan) (p : RecordPlan) → HasItems e ps → e.shown ≡ None → p ≡ get_or ps 0 p → HasElement p
-has_element e ps p has none is = record { depth = has.depth; class = has.class; is = item_plan (IsPlanned has.depth) has.class e.shown ps p has.are none is }
+has_element e ps p has none is = record { depth = has.depth; known = has.known; class = has.class; is = item_plan (IsPlanned has.depth) has.known has.class e.shown ps p has.are none is }
 
 -- what is shown otherwise is near
-pub item_shown : (P : List Slot → RecordPlan → Type 0) (k : Class) (shown : Option PlannedShown) (what : PlannedShown) (ps : List RecordPlan) → IsItem P k shown ps → shown ≡ Some what → IsShown 0 k what
-item_shown P k shown what ps are is = subst (λ o. IsItem P k o ps) is are
+pub item_shown : (P : List Slot → RecordPlan → Type 0) (known : List Route) (k : Class) (shown : Option PlannedShown) (what : PlannedShown) (ps : List RecordPlan) → IsItem P known k shown ps → shown ≡ Some what → IsShown 0 k what
+item_shown P known k shown what ps are is = subst (λ o. IsItem P known k o ps) is are
 
 pub has_near : (e : Elements) (what : PlannedShown) (ps : List RecordPlan) → HasItems e ps → e.shown ≡ Some what → IsNearShown what
-has_near e what ps has is = shown_near 0 has.class what (item_shown (IsPlanned has.depth) has.class e.shown what ps has.are is)
+has_near e what ps has is = shown_near 0 has.class what (item_shown (IsPlanned has.depth) has.known has.class e.shown what ps has.are is)
 
 -- and each branch of a plan, and its plans
 branch_at : (depth : ℕ) (ss : List Slot) (bs : List Branch) (rs : List PlannedRun) (i : ℕ) (b : Branch) → AreBranches (IsPlanned depth) ss bs rs → i < length bs → b ≡ get_or bs i b → HasBranch b
@@ -152,98 +158,100 @@ has_branches p bs has same =
 
 pub has_nested : (b : Branch) (ps : List RecordPlan) → HasBranch b → ps ≡ each_in b.plans → HasNested b.nested ps
 has_nested b ps has same =
-    let is = has.takes.4 in
     let P = IsPlanned has.depth in
-    record { depth = has.depth; first = is.first; others = is.others; are = subst (AreNested P is.first is.others b.nested) (sym same) (nested_listed P is.first is.others b.nested b.plans is.nested) }
+    let s = has.takes.1 in
+    record { depth = has.depth; slot = s; is = subst (IsNested P s b.nested) (sym same) (nested_listed P s b.nested b.plans has.takes.4.nested) }
 
-pub has_variant : (n : Nested) (v : PlannedVariant) (ps : List RecordPlan) → HasNested n ps → n ≡ nested.Variant v → HasVariant v ps
-has_variant n v ps has is =
-    let are = subst (λ x. AreNested (IsPlanned has.depth) has.first has.others x ps) is has.are in
-    record { depth = has.depth; tag = has.first; variant = are.0; are = are.2 }
+pub has_unsigned : (n : Nested) (lone : LoneInteger) (ps : List RecordPlan) → HasNested n ps → n ≡ nested.Number lone → lone.integer.is_signed ≡ false
+has_unsigned n lone ps has is = (subst (λ x. IsNested (IsPlanned has.depth) has.slot x ps) is has.is).2
 
-pub has_sequence : (n : Nested) (q : PlannedSequence) (ps : List RecordPlan) → HasNested n ps → n ≡ nested.Sequence q → HasSequence q ps
-has_sequence n q ps has is =
-    let are = subst (λ x. AreNested (IsPlanned has.depth) has.first has.others x ps) is has.are in
-    record { depth = has.depth; number = has.first; array = are.0; are = are.2 }
+pub has_options : (n : Nested) (v : PlannedVariant) (ps : List RecordPlan) → HasNested n ps → n ≡ nested.Variant v → HasOptions ps
+has_options n v ps has is =
+    let so = (subst (λ x. IsNested (IsPlanned has.depth) has.slot x ps) is has.is).1 in
+    record { depth = has.depth; known = has.slot.known; options = so.options; are = so.are }
 
-pub has_array : (n : Nested) (a : PlannedArray) (ps : List RecordPlan) → HasNested n ps → n ≡ nested.Array a → HasItems a.elements ps
-has_array n a ps has is =
-    let are = subst (λ x. AreNested (IsPlanned has.depth) has.first has.others x ps) is has.are in
-    record { depth = has.depth; class = are.1.element; are = are.1.are }
-
-pub has_options : (v : PlannedVariant) (ps : List RecordPlan) → HasVariant v ps → HasOptions ps
-has_options v ps has = record { depth = has.depth; options = has.are.options; are = has.are.are }
-
-pub has_items : (q : PlannedSequence) (ps : List RecordPlan) → HasSequence q ps → HasItems q.elements ps
-has_items q ps has = record { depth = has.depth; class = has.are.array.element; are = has.are.array.are }
+pub has_items : (n : Nested) (a : PlannedArray) (ps : List RecordPlan) → HasNested n ps → n ≡ nested.Array a → HasItems a.elements ps
+has_items n a ps has is =
+    let so = (subst (λ x. IsNested (IsPlanned has.depth) has.slot x ps) is has.is).1 in
+    record { depth = has.depth; known = has.slot.known; class = so.element; are = so.are }
 
 -- braces after a text, and one more before them
 one_more : (n : ℕ) (line : List ℕ) → (line ++ (32 ∷ 125 ∷ [])) ++ ends n ≡ (line ++ ends n) ++ (32 ∷ 125 ∷ [])
 one_more n line = append_assoc line (32 ∷ 125 ∷ []) (ends n) ∙ ap (λ xs. line ++ xs) (sym (ends_on n)) ∙ sym (append_assoc line (ends n) (32 ∷ 125 ∷ []))
 
+-- within a structure where something is known is within one
+anywhere_of : (known : List Route) (ns : List Last) (earlier : Scope → Option Val) (env : Env) → Within known ns earlier env → Anywhere earlier env
+anywhere_of known ns earlier [] there = absurd there
+anywhere_of known ns earlier (vs ∷ env) there = tt
+
+pub where_less : (known : List Route) (ns : List Last) (k : Form) (shown : Shown) (packet : List ℕ) (content place : ℕ) (line : List ℕ) (n : Next) (after : List ℕ) → PutsWhere Anywhere k shown packet content place line n after → PutsWhere (Within known ns) k shown packet content place line n after
+where_less known ns k shown packet content place line n after puts spent room earlier env there = puts spent room earlier env (anywhere_of known ns earlier env there)
+
+pub row_less : (together : List (List ℕ) → List ℕ) (known : List Route) (ns : List Last) (k : Class) (count : ℕ) (packet : Content) (place : ℕ) (line : List ℕ) (end : MembersEnd) (after : List ℕ) → PutsRowOf together Anywhere k count packet place line end after → PutsRowOf together (Within known ns) k count packet place line end after
+row_less together known ns k count packet place line end after puts spent room earlier env there = puts spent room earlier env (anywhere_of known ns earlier env there)
+
 -- the fields of an option's plan, and the braces after them, are the option
-pub option_there : (depth : ℕ) (m : Member) (p : RecordPlan) (packet : Content) (to end : Reach) (place : ℕ) (before line after : List ℕ) (is : IsOption (IsPlanned depth) m p) → PutsFields (option_planned depth m p is).slots packet.bytes.now packet.end (after_value place 0 lasts.Unknown before) (reached to line)
-    → after ≡ (line ++ (32 ∷ 125 ∷ [])) ++ ends p.ended → end.more ≡ to.more + p.count + 1 → end.place ≡ to.place → IsThere m packet place end before after
+pub option_there : (depth : ℕ) (known : List Route) (m : Member) (p : RecordPlan) (packet : Content) (to end : Reach) (place : ℕ) (ns ms : List Last) (before line after : List ℕ) (is : IsOption (IsPlanned depth) known m p) → PutsSlots (option_planned depth known m p is).slots packet.bytes.now packet.end (after_value place 0 lasts.Unknown before) ns (reached to line) ms
+    → after ≡ (line ++ (32 ∷ 125 ∷ [])) ++ ends p.ended → end.more ≡ to.more + p.count + 1 → end.place ≡ to.place → IsThere known ns m packet place end before after
 unfolding option_planned
-option_there depth m p packet to end place before line after is puts wrote counted ends_at =
+option_there depth known m p packet to end place ns ms before line after is puts wrote counted ends_at =
     let piece : Piece = is.0 in
     let o : Member = member_of piece in
     let ended = ended_by piece in
-    let one = piece_next packet.bytes.now packet.end piece (first_at (123 ∷ 32 ∷ []) 1) [] 123 (after_value place 0 lasts.Unknown before) (reached to line) refl is.2 puts in
-    let some = one.0 + inside piece in
-    let total : end.more ≡ 1 + some = (let a = one.1 in let b = is.3 in omega (arith, counted, a, b)) in
+    let some = to.more + inside piece in
+    let total : end.more ≡ 1 + some = (let b = is.3 in omega (arith, counted, b)) in
     let shown : Shown = λ v. enclosed 123 125 (part_text (member_part o) v ∷ []) in
     let longer = line ++ ends ended in
     let braced : after ≡ longer ++ (32 ∷ 125 ∷ []) = wrote ∙ ap (λ k. (line ++ (32 ∷ 125 ∷ [])) ++ ends k) is.4 ∙ one_more ended line in
     let there : Next = record { place = end.place; text = 0; more = some; last = lasts.Unknown } in
-    let next : PutsNext (after_last 0 lasts.Unknown) (form o.class) shown packet.bytes.now packet.end place before there after = λ spent room earlier env vs counted last.
-    let v = one.3 spent room earlier env vs tt tt in
-    let begun : longer ≡ before ++ (123 ∷ 32 ∷ part_text (member_part o) v.0) = v.2 ∙ ap (λ xs. xs ++ (123 ∷ 32 ∷ part_text (member_part o) v.0)) (append-nil before) in
-    (v.0, ap (λ q. walk (form o.class) (among packet.bytes.now packet.end earlier) (vs ∷ env) q spent) (sym (at_one place)) ∙ v.1 ∙ ap (λ q. Ok (v.0, q, spent + 1 + some)) (sym ends_at), braced ∙ closed_option (o ∷ []) 0 o v.0 longer before (omega arith) refl begun, tt)
-    in
-    subst (λ x. IsThere x packet place end before after) is.1 (some, total, next)
+    let next : (spent : ℕ) → spent + some < MOST_VALUES → (earlier : Scope → Option Val) (env : Env) → Within known ns earlier env → (v : Val) × (walk (form o.class) (among packet.bytes.now packet.end earlier) env place spent ≡ Ok (v, end.place, spent + 1 + some)) × (after ≡ before ++ shown v) × ValueIs lasts.Unknown v = λ spent room earlier env within. in_structure spent room earlier env within in
+    subst (λ x. IsThere known ns x packet place end before after) is.1 (some, total, next)
+  where
+    in_structure : (spent : ℕ) → spent + (to.more + inside is.0) < MOST_VALUES → (earlier : Scope → Option Val) (env : Env) → Within known ns earlier env → (v : Val) × (walk (form (member_of is.0).class) (among packet.bytes.now packet.end earlier) env place spent ≡ Ok (v, end.place, spent + 1 + (to.more + inside is.0))) × (after ≡ before ++ enclosed 123 125 (part_text (member_part (member_of is.0)) v ∷ [])) × ValueIs lasts.Unknown v
+    in_structure spent room earlier [] within = absurd within
+    in_structure spent room earlier (vs ∷ env) within =
+        let piece : Piece = is.0 in
+        let o : Member = member_of piece in
+        let ended = ended_by piece in
+        let one = piece_next packet.bytes.now packet.end piece (length vs) (first_at (123 ∷ 32 ∷ []) 1 known) [] 123 (after_value place 0 lasts.Unknown before) (reached to line) ns ms refl is.2 within.0 puts in
+        let same : to.more ≡ one.0 = (let a = one.1 in omega (arith, a)) in
+        let v = one.4 spent (omega (arith, room, same)) earlier env vs refl tt tt within.1 in
+        let longer = line ++ ends ended in
+        let braced : after ≡ longer ++ (32 ∷ 125 ∷ []) = wrote ∙ ap (λ k. (line ++ (32 ∷ 125 ∷ [])) ++ ends k) is.4 ∙ one_more ended line in
+        let begun : longer ≡ before ++ (123 ∷ 32 ∷ part_text (member_part o) v.0) = v.2 ∙ ap (λ xs. xs ++ (123 ∷ 32 ∷ part_text (member_part o) v.0)) (append-nil before) in
+        let sum : spent + 1 + (one.0 + inside piece) ≡ spent + 1 + (to.more + inside piece) = omega (arith, same) in
+        (v.0, ap (λ q. walk (form o.class) (among packet.bytes.now packet.end earlier) (vs ∷ env) q spent) (sym (at_one place)) ∙ v.1 ∙ (λ j. Ok (v.0, sym ends_at j, sum j)), braced ∙ closed_option (o ∷ []) 0 o v.0 longer before (omega arith) refl begun, tt)
 
 -- so are those that are passed over
-pub option_passes : (depth : ℕ) (m : Member) (p : RecordPlan) (packet : Content) (to end : Reach) (place : ℕ) (is : IsOption (IsPlanned depth) m p) → Passes (λ before line. PutsFields (option_planned depth m p is).slots packet.bytes.now packet.end (after_value place 0 lasts.Unknown before) (reached to line))
-    → end.more ≡ to.more + p.count + 1 → end.place ≡ to.place → Passes (IsThere m packet place end)
-option_passes depth m p packet to end place is passes counted ends_at before =
+pub option_passes : (depth : ℕ) (known : List Route) (m : Member) (p : RecordPlan) (packet : Content) (to end : Reach) (place : ℕ) (ns ms : List Last) (is : IsOption (IsPlanned depth) known m p) → Passes (λ before line. PutsSlots (option_planned depth known m p is).slots packet.bytes.now packet.end (after_value place 0 lasts.Unknown before) ns (reached to line) ms)
+    → end.more ≡ to.more + p.count + 1 → end.place ≡ to.place → Passes (IsThere known ns m packet place end)
+option_passes depth known m p packet to end place ns ms is passes counted ends_at before =
     let w = passes before in
     let after = (w.0 ++ (32 ∷ 125 ∷ [])) ++ ends p.ended in
-    (after, option_there depth m p packet to end place before w.0 after is w.1 refl counted ends_at)
+    (after, option_there depth known m p packet to end place ns ms before w.0 after is w.1 refl counted ends_at)
 
--- the option that a tag chooses, which is the member before
-chosen_last : (tag : Route) (choices : List Choice) (index i : ℕ) (z : ℤ) (earlier : Scope → Option Val) (env : Env) (vs : List Val) → LeadsBefore tag index → chosen choices z ≡ Some i → length vs ≡ index → LastIs (lasts.Label z) vs → option_at tag choices earlier (vs ∷ env) ≡ Some i
-chosen_last tag choices index i z earlier env vs leads chooses counted last =
-    ap (λ o. option_and_then (chosen choices) (tag_of o)) (found_last tag index vs last.0 (label z) earlier env leads counted last.1) ∙ chooses
+-- a value after what is printed before it is a field
+pub nested_slot : (s : Slot) (packet : Content) (place : ℕ) (n : Next) (line after : List ℕ) (ns ms : List Last) → place ≤ packet.end → PutsWhere (Within s.known ns) (form s.class) (value_text s.class) packet.bytes.now packet.end place line n after → KeepsIf s.kept (form s.class) packet.bytes.now packet.end place ns ms
+    → IsSlotThere s packet place (ends_at n) line ns after ms
+nested_slot s packet place n line after ns ms within puts keeps from more before begins led =
+    let bytes = packet.bytes.now in
+    let begun = next_multiple_of from s.align in
+    let shown : Shown = λ v. s.lead ++ value_text s.class v in
+    let at : place ≡ begun = begins in (
+      omega (arith, begins, within),
+      n.more,
+      refl,
+      λ spent room earlier env vs counted last there.
+          let p = puts spent room earlier (vs ∷ env) there in
+          let text = value_text s.class p.0 in
+          (p.0, ap (λ q. walk (form s.class) (among bytes packet.end earlier) (vs ∷ env) q spent) (sym at) ∙ p.1, p.2 ∙ ap (λ xs. xs ++ text) led ∙ append_assoc before s.lead text, tt),
+      tt,
+      subst (λ q. KeepsIf s.kept (form s.class) bytes packet.end q ns ms) at keeps,
+    )
 
--- and its value is that of the variant
-module _ (tag : Route) (choices : List Choice) (ms : List Member) (a i : ℕ) (z : ℤ) (m : Member) (chooses : chosen choices z ≡ Some i) (within : i < length ms) (is : m ≡ get_or ms i m) where
-  variant_next : (index : ℕ) (packet : Content) (place : ℕ) (to : Reach) (line after : List ℕ) → LeadsBefore tag index → (option : IsThere m packet place to line after)
-      → PutsNext (after_last index (lasts.Label z)) (forms.variant a tag choices (parts_of (map views.member_part ms))) (variant_text ms) packet.bytes.now packet.end place line (record { place = to.place; text = 0; more = 1 + option.0; last = lasts.Unknown }) after
-  variant_next zero packet place to line after leads option = absurd (omega (arith, leads.1.2))
-  variant_next (suc k) packet place to line after leads option = λ spent room earlier env vs counted last.
-      let c = among packet.bytes.now packet.end earlier in
-      let e = vs ∷ env in
-      let p = option.2 (spent + 1) (omega (arith, room)) earlier env vs tt tt in
-      let parts = parts_of (map views.member_part ms) in
-      let rest = λ (k : ℕ). and_then (walk_option parts k c e place (spent + 1)) (as_choice k) in
-      let total : spent + 1 + 1 + option.0 ≡ spent + 1 + (1 + option.0) = omega arith in
-      let walked = begins c spent (with_option (option_at tag choices earlier e) rest) (omega (arith, room)) ∙ ap (λ o. with_option o rest) (chosen_last tag choices (suc k) i z earlier env vs leads chooses counted last) ∙ choice_ok c e ms i m within is place (spent + 1) p.0 to.place (spent + 1 + 1 + option.0) p.1 ∙ ap (λ k. Ok (choice i p.0, to.place, k)) total in
-      (choice i p.0, walked, p.2 ∙ ap (λ xs. line ++ xs) (sym (option_shown ms i m p.0 within is)), tt)
-
-  -- it is the field of the variant
-  pub variant_puts : (s : Slot) (packet : Content) (place more : ℕ) (to : Reach) (before line after : List ℕ) → s.class.kind ≡ kind.Variant tag choices ms → a ≡ s.class.align → LeadsBefore tag s.index → s.align ≡ 1 → place ≤ packet.end → line ≡ before ++ s.lead → IsThere m packet place to line after
-      → PutsField s packet.bytes.now packet.end (after_value place more (lasts.Label z) before) (after_value to.place (more + to.more) lasts.Unknown after)
-  variant_puts s packet place more to before line after variant aligned leads align content wrote option =
-      let k = forms.variant a tag choices (parts_of (map views.member_part ms)) in
-      let known = after_last s.index (lasts.Label z) in
-      let end : Next = record { place = to.place; text = 0; more = 1 + option.0; last = lasts.Unknown } in
-      let there : next_multiple_of place s.align ≡ place = ap (next_multiple_of place) align ∙ at_one place in
-      let forms_are : k ≡ form s.class = ap (λ k. forms.variant k tag choices (parts_of (map views.member_part ms))) aligned ∙ form_variant s.class tag choices ms variant in
-      let next = variant_next s.index packet place to line after leads option in
-      let puts : PutsNext known (form s.class) (value_text s.class) packet.bytes.now packet.end place line end after = subst (λ t. PutsNext known (form s.class) t packet.bytes.now packet.end place line end after) (text_variant s.class tag choices ms variant) (subst (λ f. PutsNext known f (variant_text ms) packet.bytes.now packet.end place line end after) forms_are next) in
-      let led = next_led known s.class s.lead packet.bytes.now packet.end place before line end after wrote puts in
-      (omega (arith, there, content), 1 + option.0, ap (λ k. more + k) option.1, subst (λ q. PutsNext known (form s.class) (λ v. s.lead ++ value_text s.class v) packet.bytes.now packet.end q before end after) (sym there) led, tt)
+-- one whose number is not kept
+unkept : (s : Slot) (packet : Content) (place : ℕ) (ns : List Last) → s.kept ≡ false → KeepsIf s.kept (form s.class) packet.bytes.now packet.end place ns ns
+unkept s packet place ns none = subst (λ b. KeepsIf b (form s.class) packet.bytes.now packet.end place ns ns) (sym none) refl
 
 -- what is decoded before has no part in a value
 abbrev IsBlind : Form → Type 0
@@ -263,100 +271,122 @@ last_stands (lasts.Label z) f shown packet content place line n after blind is n
     let total : spent + 1 + n.more ≡ spent + 1 = omega (arith, none) in
     (n.place, blind (among packet content earlier) env place spent ∙ p.1 ∙ (λ j. Ok (known j, n.place, total j)))
 
--- a value after what is printed before it is a field
-pub next_field : (s : Slot) (known l : Last) (packet : Content) (from more begin : ℕ) (n : Next) (before line after : List ℕ) → begin ≡ next_multiple_of from s.align → begin ≤ packet.end → line ≡ before ++ s.lead
-    → PutsNext (after_last s.index known) (form s.class) (value_text s.class) packet.bytes.now packet.end begin line n after → StandsAs l (form s.class) packet.bytes.now packet.end begin
-    → PutsField s packet.bytes.now packet.end (after_value from more known before) (after_value n.place (more + n.more) l after)
-next_field s known l packet from more begin n before line after begins within wrote puts stands =
-    let bytes = packet.bytes.now in
-    let k = after_last s.index known in
-    let end : Next = record { place = n.place; text = 0; more = n.more; last = lasts.Unknown } in
-    let alone : PutsNext k (form s.class) (value_text s.class) bytes packet.end begin line end after = forget k (form s.class) (value_text s.class) bytes packet.end begin line n after puts in
-    let led = next_led k s.class s.lead bytes packet.end begin before line end after wrote alone in
-    (omega (arith, begins, within), n.more, refl, subst (λ q. PutsNext k (form s.class) (λ v. s.lead ++ value_text s.class v) bytes packet.end q before end after) begins led, subst (λ q. StandsAs l (form s.class) bytes packet.end q) begins stands)
-
--- a value alone at the begin of a branch is its first field
-first_field : (s : Slot) (f : Form) (shown : Shown) (l : Last) (packet : Content) (from more place : ℕ) (n : Next) (before line after : List ℕ) → IsBlind f → f ≡ form s.class → shown ≡ value_text s.class → place ≡ next_multiple_of from s.align → place ≤ packet.end → line ≡ before ++ s.lead → n.more ≡ 0 → n.last ≡ l
-    → ((k : Before) → PutsNext k f shown packet.bytes.now packet.end place line n after) → PutsField s packet.bytes.now packet.end (after_value from more lasts.Unknown before) (after_value n.place more l after)
-first_field s f shown l packet from more place n before line after blind forms_are texts_are begins within led none is puts =
-    let bytes = packet.bytes.now in
-    let known = after_last s.index lasts.Unknown in
-    let as_class : PutsNext known (form s.class) (value_text s.class) bytes packet.end place line n after = subst (λ t. PutsNext known (form s.class) t bytes packet.end place line n after) texts_are (subst (λ g. PutsNext known g shown bytes packet.end place line n after) forms_are (puts known)) in
-    let stands = last_stands l f shown bytes packet.end place line n after blind (sym is) none (puts (after_last 0 lasts.Unknown)) in
-    let field = next_field s lasts.Unknown l packet from more place n before line after begins within led as_class (subst (λ g. StandsAs l g bytes packet.end place) forms_are stands) in
-    let sum : more + n.more ≡ more = omega (arith, none) in
-    subst (λ q. PutsField s bytes packet.end (after_value from more lasts.Unknown before) (after_value n.place q l after)) sum field
-
--- a tag and the option that it chooses are a variant's fields
-pub variant_there : (P : List Slot → RecordPlan → Type 0) (v : PlannedVariant) (ps : List RecordPlan) (tag s : Slot) (are : AreVariant P tag s v ps) (packet : Content) (place i : ℕ) (n : Next) (z : ℤ) (m : Member) (to : Reach) (line third last after : List ℕ) → place ≤ packet.end → n.place ≤ packet.end → n.more ≡ 0 → n.last ≡ lasts.Label z
-    → ((k : Before) → PutsNext k (forms.enumeration v.tag.align v.tag.container) (enumeration_text v.tag.container v.tag.labels) packet.bytes.now packet.end place line n third)
-    → chosen v.choices z ≡ Some i → i < length are.options → m ≡ get_or are.options i m → last ≡ third ++ v.before → IsThere m packet n.place to last after
-    → AreThere tag (s ∷ []) packet place to line after
-variant_there P v ps tag s are packet place i n z m to line third last after within ends none is puts chooses few option wrote there from more before begins led =
-    let k = v.tag.container in
-    let a = v.tag.align in
-    let forms_are : forms.enumeration a k ≡ form tag.class = ap (λ x. forms.enumeration x k) are.labelled.1 ∙ form_enumeration tag.class k v.tag.labels are.labelled.0 in
-    let tag_is = first_field tag (forms.enumeration a k) (enumeration_text k v.tag.labels) (lasts.Label z) packet from more place n before line third (λ c env q r. refl) forms_are (text_enumeration tag.class k v.tag.labels are.labelled.0) begins within led none is puts in
-    let variant_is = variant_puts are.tag v.choices are.options s.class.align i z m chooses few option s packet n.place more to third last after are.is refl are.leads are.align ends (wrote ∙ ap (λ xs. third ++ xs) are.before) there in
-    (after_value n.place more (lasts.Label z) third, tag_is, (after_value to.place (more + to.more) lasts.Unknown after, variant_is, refl))
-
--- an array of a known count is its field
-array_field : (P : List Slot → RecordPlan → Type 0) (s : Slot) (many : Length) (e : Elements) (ps : List RecordPlan) (is : IsArray P s many e ps) (known : Last) (packet : Content) (from more place : ℕ) (n : Next) (before line after : List ℕ) → place ≡ next_multiple_of from s.align → place ≤ packet.end → line ≡ before ++ s.lead
-    → PutsNext (after_last s.index known) (forms.array s.class.align many (form is.element)) (array_text (value_text is.element)) packet.bytes.now packet.end place line n after
-    → PutsField s packet.bytes.now packet.end (after_value from more known before) (after_value n.place (more + n.more) lasts.Unknown after)
-array_field P s many e ps is known packet from more place n before line after begins within wrote puts =
-    let bytes = packet.bytes.now in
-    let k = after_last s.index known in
-    let as_class : PutsNext k (form s.class) (value_text s.class) bytes packet.end place line n after = subst (λ t. PutsNext k (form s.class) t bytes packet.end place line n after) (text_any s.class many is.element is.is) (subst (λ f. PutsNext k f (array_text (value_text is.element)) bytes packet.end place line n after) (form_any s.class many is.element is.is) puts) in
-    next_field s known lasts.Unknown packet from more place n before line after begins within wrote as_class tt
-
--- an array that was written, or passed over, with so many elements
-abbrev pub IsArrayThere : Class → ℕ → Content → ℕ → Next → List ℕ → List ℕ → Type 0
-IsArrayThere k count packet place n line after =
-    (before : Before) (many : Length) (a : ℕ) → Counts many before count → PutsNext before (forms.array a many (form k)) (array_text (value_text k)) packet.bytes.now packet.end place line n after
-
--- what is known of a result for all that is before it
-pub written_array : (r : Option Next) (k : Class) (count : ℕ) (packet : Content) (place : ℕ) (line items : List ℕ) → WritesArray r k count packet place line items → IfSome r (λ n. IsArrayThere k count packet place n line (take n.text items))
-written_array None k count packet place line items writes = tt
-written_array (Some n) k count packet place line items writes = writes
-
-pub passed_array : (r : Option Reach) (k : Class) (count : ℕ) (packet : Content) (place : ℕ) → PassesArray r k count packet place → IfSome r (λ to. (before : Before) (many : Length) (a : ℕ) → Counts many before count → Passes (λ line after. PutsNext before (forms.array a many (form k)) (array_text (value_text k)) packet.bytes.now packet.end place line (next_at to) after))
-passed_array None k count packet place passes = tt
-passed_array (Some to) k count packet place passes = passes
-
--- an array of a fixed length
-pub array_there_in : (P : List Slot → RecordPlan → Type 0) (s : Slot) (count : ℕ) (e : Elements) (ps : List RecordPlan) (is : IsArray P s (lengths.Fixed count) e ps) (packet : Content) (place : ℕ) (n : Next) (line after : List ℕ) → place ≤ packet.end
-    → PutsNext (after_last s.index lasts.Unknown) (forms.array s.class.align (lengths.Fixed count) (form is.element)) (array_text (value_text is.element)) packet.bytes.now packet.end place line n after → AreThere s [] packet place (ends_at n) line after
-array_there_in P s count e ps is packet place n line after within puts from more before begins led =
-    let field = array_field P s (lengths.Fixed count) e ps is lasts.Unknown packet from more place n before line after begins within led puts in
-    (after_value n.place (more + n.more) lasts.Unknown after, field, refl)
-
-pub array_there : (P : List Slot → RecordPlan → Type 0) (s : Slot) (count : ℕ) (e : Elements) (ps : List RecordPlan) (is : IsArray P s (lengths.Fixed count) e ps) (packet : Content) (place : ℕ) (n : Next) (line after : List ℕ) → place ≤ packet.end → IsArrayThere is.element count packet place n line after → AreThere s [] packet place (ends_at n) line after
-array_there P s count e ps is packet place n line after within puts =
-    array_there_in P s count e ps is packet place n line after within (puts (after_last s.index lasts.Unknown) (lengths.Fixed count) s.class.align (λ earlier env vs counted last. refl))
-
--- what is known of the length before an array
-pub counts_before : (route : Route) (index n : ℕ) → LeadsBefore route index → Counts (lengths.Field route) (after_last index (lasts.Unsigned n)) n
-counts_before route zero n leads = absurd (omega (arith, leads.1.2))
-counts_before route (suc i) n leads = counts_last route (record { index = suc i; last = lasts.Unsigned n }) n leads refl
-
--- a length and the array that it counts
-pub sequence_there : (P : List Slot → RecordPlan → Type 0) (q : PlannedSequence) (ps : List RecordPlan) (number s : Slot) (are : AreSequence P number s q ps) (packet : Content) (place count : ℕ) (m n : Next) (line third last after : List ℕ) → place ≤ packet.end → m.place ≤ packet.end → m.more ≡ 0 → m.last ≡ lasts.Unsigned count
-    → ((k : Before) → PutsNext k (forms.integer q.length.align q.length.integer) (integer_text q.length.integer) packet.bytes.now packet.end place line m third) → last ≡ third ++ q.before
-    → PutsNext (after_last s.index (lasts.Unsigned count)) (forms.array s.class.align (lengths.Field are.route) (form are.array.element)) (array_text (value_text are.array.element)) packet.bytes.now packet.end m.place last n after → AreThere number (s ∷ []) packet place (ends_at n) line after
-sequence_there P q ps number s are packet place count m n line third last after within ends none is puts wrote there from more before begins led =
-    let i = q.length.integer in
-    let a = q.length.align in
-    let forms_are : forms.integer a i ≡ form number.class = ap (λ x. forms.integer x i) are.counts.1 ∙ form_integer number.class i are.counts.0 in
-    let first = first_field number (forms.integer a i) (integer_text i) (lasts.Unsigned count) packet from more place m before line third (λ c env q r. refl) forms_are (text_integer number.class i are.counts.0) begins within led none is puts in
-    let here : m.place ≡ next_multiple_of m.place s.align = sym (ap (next_multiple_of m.place) are.align ∙ at_one m.place) in
-    let array = array_field P s (lengths.Field are.route) q.elements ps are.array (lasts.Unsigned count) packet m.place more m.place n third last after here ends (wrote ∙ ap (λ xs. third ++ xs) are.before) there in
-    (after_value m.place more (lasts.Unsigned count) third, first, (after_value n.place (more + n.more) lasts.Unknown after, array, refl))
-
 -- a value after members of which nothing is known is anywhere in a structure
 pub next_anywhere : (k : Form) (shown : Shown) (packet : List ℕ) (content place : ℕ) (line : List ℕ) (n : Next) (after : List ℕ) → PutsNext (after_last 0 lasts.Unknown) k shown packet content place line n after → PutsWhere Anywhere k shown packet content place line n after
 next_anywhere k shown packet content place line n after puts spent room earlier [] there = absurd there
 next_anywhere k shown packet content place line n after puts spent room earlier (vs ∷ env) there = puts spent room earlier env vs tt tt
+
+-- a value alone whose number is kept
+kept_there : (s : Slot) (f : Form) (shown : Shown) (packet : Content) (place : ℕ) (n : Next) (line after : List ℕ) (ns ms : List Last) → IsBlind f → f ≡ form s.class → shown ≡ value_text s.class → s.kept ≡ true → place ≤ packet.end → n.more ≡ 0 → ms ≡ ns ++ n.last ∷ []
+    → PutsNext (after_last 0 lasts.Unknown) f shown packet.bytes.now packet.end place line n after → IsSlotThere s packet place (ends_at n) line ns after ms
+kept_there s f shown packet place n line after ns ms blind forms_are texts_are kept within none keeps puts =
+    let bytes = packet.bytes.now in
+    let stands = last_stands n.last f shown bytes packet.end place line n after blind refl none puts in
+    let told : PutsWhere (Within s.known ns) f shown bytes packet.end place line n after = where_less s.known ns f shown bytes packet.end place line n after (next_anywhere f shown bytes packet.end place line n after puts) in
+    let as_class : PutsWhere (Within s.known ns) (form s.class) (value_text s.class) bytes packet.end place line n after = subst (λ t. PutsWhere (Within s.known ns) (form s.class) t bytes packet.end place line n after) texts_are (subst (λ g. PutsWhere (Within s.known ns) g shown bytes packet.end place line n after) forms_are told) in
+    let keeps_it : KeepsIf s.kept (form s.class) bytes packet.end place ns ms = subst (λ b. KeepsIf b (form s.class) bytes packet.end place ns ms) (sym kept) (n.last, subst (λ g. StandsAs n.last g bytes packet.end place) forms_are stands, keeps) in
+    nested_slot s packet place n line after ns ms within as_class keeps_it
+
+pub number_there : (s : Slot) (lone : LoneInteger) (packet : Content) (place : ℕ) (n : Next) (line after : List ℕ) (ns ms : List Last) → IsInteger s.class lone.integer lone.align → s.kept ≡ true → place ≤ packet.end → n.more ≡ 0 → ms ≡ ns ++ n.last ∷ []
+    → PutsNext (after_last 0 lasts.Unknown) (forms.integer lone.align lone.integer) (integer_text lone.integer) packet.bytes.now packet.end place line n after → IsSlotThere s packet place (ends_at n) line ns after ms
+number_there s lone packet place n line after ns ms is kept within none keeps puts =
+    let i = lone.integer in
+    let forms_are : forms.integer lone.align i ≡ form s.class = ap (λ x. forms.integer x i) is.1 ∙ form_integer s.class i is.0 in
+    kept_there s (forms.integer lone.align i) (integer_text i) packet place n line after ns ms (λ c env q r. refl) forms_are (text_integer s.class i is.0) kept within none keeps puts
+
+pub label_there : (s : Slot) (labelled : Labelled) (packet : Content) (place : ℕ) (n : Next) (line after : List ℕ) (ns ms : List Last) → IsLabelled s.class labelled → s.kept ≡ true → place ≤ packet.end → n.more ≡ 0 → ms ≡ ns ++ n.last ∷ []
+    → PutsNext (after_last 0 lasts.Unknown) (forms.enumeration labelled.align labelled.container) (enumeration_text labelled.container labelled.labels) packet.bytes.now packet.end place line n after → IsSlotThere s packet place (ends_at n) line ns after ms
+label_there s labelled packet place n line after ns ms is kept within none keeps puts =
+    let k = labelled.container in
+    let forms_are : forms.enumeration labelled.align k ≡ form s.class = ap (λ x. forms.enumeration x k) is.1 ∙ form_enumeration s.class k labelled.labels is.0 in
+    kept_there s (forms.enumeration labelled.align k) (enumeration_text k labelled.labels) packet place n line after ns ms (λ c env q r. refl) forms_are (text_enumeration s.class k labelled.labels is.0) kept within none keeps puts
+
+-- the number that a route leads to is the kept one
+found_number : (known : List Route) (ns : List Last) (place n : ℕ) (r : Route) (earlier : Scope → Option Val) (env : Env) → LeadsTo known r place → get_or ns place lasts.Unknown ≡ lasts.Unsigned n → Within known ns earlier env → found r earlier env ≡ Some (unsigned n)
+found_number known ns place n r earlier [] leads is there = absurd there
+found_number known ns place n r earlier (vs ∷ env) leads is there = subst (λ l. Finds l (found r earlier (vs ∷ env))) is (knows_at known ns place r earlier (vs ∷ env) leads there.1)
+
+found_label : (known : List Route) (ns : List Last) (place : ℕ) (z : ℤ) (r : Route) (earlier : Scope → Option Val) (env : Env) → LeadsTo known r place → get_or ns place lasts.Unknown ≡ lasts.Label z → Within known ns earlier env → found r earlier env ≡ Some (label z)
+found_label known ns place z r earlier [] leads is there = absurd there
+found_label known ns place z r earlier (vs ∷ env) leads is there = subst (λ l. Finds l (found r earlier (vs ∷ env))) is (knows_at known ns place r earlier (vs ∷ env) leads there.1)
+
+-- how many elements a length says
+pub counts_where : (known : List Route) (ns : List Last) (many : Length) (c : Count) (n : ℕ) → IsCount known many c → IsCounted c ns n → CountsWhere (Within known ns) many n
+counts_where known ns many (counts.Fixed m) n is counted earlier env there = ap (λ l. length_of l earlier env) is ∙ sym counted
+counts_where known ns many (counts.Kept place) n is counted earlier env there = ap (λ l. length_of l earlier env) is.1 ∙ ap number_of (found_number known ns place n is.0 earlier env is.2 counted there)
+
+-- the option that a tag chooses is the value of its variant
+pub variant_there : (P : List Slot → RecordPlan → Type 0) (s : Slot) (v : PlannedVariant) (ps : List RecordPlan) (packet : Content) (place i : ℕ) (z : ℤ) (m : Member) (n : Next) (line after : List ℕ) (ns : List Last) → s.kept ≡ false → (is : IsVariant P s v ps) → place ≤ packet.end → get_or ns v.tag lasts.Unknown ≡ lasts.Label z → chosen v.choices z ≡ Some i → i < length is.options → m ≡ get_or is.options i m
+    → IsThere s.known ns m packet place (ends_at n) line after → IsSlotThere s packet place (ends_at n) line ns after ns
+variant_there P s v ps packet place i z m n line after ns kept is within tagged chooses few option there =
+    let ms = is.options in
+    let a = s.class.align in
+    let bytes = packet.bytes.now in
+    let k = forms.variant a is.tag v.choices (parts_of (map views.member_part ms)) in
+    let to : Next = record { place = n.place; text = 0; more = n.more; last = lasts.Unknown } in
+    let puts : PutsWhere (Within s.known ns) k (variant_text ms) bytes packet.end place line to after = λ spent room earlier env around.
+    let c = among bytes packet.end earlier in
+    let more = there.1 in
+    let p = there.2 (spent + 1) (omega (arith, room, more)) earlier env around in
+    let parts = parts_of (map views.member_part ms) in
+    let rest = λ (x : ℕ). and_then (walk_option parts x c env place (spent + 1)) (as_choice x) in
+    let total : spent + 1 + 1 + there.0 ≡ spent + 1 + n.more = omega (arith, more) in
+    let choice_is : option_at is.tag v.choices earlier env ≡ Some i = ap (λ o. option_and_then (chosen v.choices) (tag_of o)) (found_label s.known ns v.tag z is.tag earlier env is.leads tagged around) ∙ chooses in
+    let walked = begins c spent (with_option (option_at is.tag v.choices earlier env) rest) (omega (arith, room)) ∙ ap (λ o. with_option o rest) choice_is ∙ choice_ok c env ms i m few option place (spent + 1) p.0 n.place (spent + 1 + 1 + there.0) p.1 ∙ ap (λ x. Ok (choice i p.0, n.place, x)) total in
+    (choice i p.0, walked, p.2 ∙ ap (λ xs. line ++ xs) (sym (option_shown ms i m p.0 few option)), tt)
+    in
+    let as_class : PutsWhere (Within s.known ns) (form s.class) (value_text s.class) bytes packet.end place line to after = subst (λ t. PutsWhere (Within s.known ns) (form s.class) t bytes packet.end place line to after) (text_variant s.class is.tag v.choices ms is.is) (subst (λ f. PutsWhere (Within s.known ns) f (variant_text ms) bytes packet.end place line to after) (form_variant s.class is.tag v.choices ms is.is) puts) in
+    nested_slot s packet place to line after ns ns within as_class (unkept s packet place ns kept)
+
+-- an array of as many elements as its count says
+pub array_there : (P : List Slot → RecordPlan → Type 0) (s : Slot) (a : PlannedArray) (ps : List RecordPlan) (packet : Content) (place count : ℕ) (n : Next) (line after : List ℕ) (ns : List Last) → s.kept ≡ false → (is : IsArray P s a ps) → place ≤ packet.end → IsCounted a.count ns count
+    → IsArrayThere (Within s.known ns) is.element count packet place n line after → IsSlotThere s packet place (ends_at n) line ns after ns
+array_there P s a ps packet place count n line after ns kept is within counted there =
+    let bytes = packet.bytes.now in
+    let k = forms.array s.class.align is.length (form is.element) in
+    let puts = there is.length s.class.align (counts_where s.known ns is.length a.count count is.counts counted) in
+    let as_class : PutsWhere (Within s.known ns) (form s.class) (value_text s.class) bytes packet.end place line n after = subst (λ t. PutsWhere (Within s.known ns) (form s.class) t bytes packet.end place line n after) (text_any s.class is.length is.element is.is) (subst (λ f. PutsWhere (Within s.known ns) f (array_text (value_text is.element)) bytes packet.end place line n after) (form_any s.class is.length is.element is.is) puts) in
+    nested_slot s packet place n line after ns ns within as_class (unkept s packet place ns kept)
+
+-- a text of so many bytes
+pub text_there : (s : Slot) (many : Length) (c : Count) (packet : Content) (place end count text : ℕ) (line after : List ℕ) (ns : List Last) → s.kept ≡ false → s.class.kind ≡ kind.Text many → IsCount s.known many c → place ≤ packet.end → IsCounted c ns count
+    → PutsOne (forms.text s.class.align (lengths.Fixed count)) string_text packet.bytes.now packet.end place end line after → IsSlotThere s packet place (record { place = end; more = 0 }) line ns after ns
+text_there s many c packet place end count text line after ns kept is counts within counted puts =
+    let bytes = packet.bytes.now in
+    let a = s.class.align in
+    let n : Next = record { place = end; text = text; more = 0; last = lasts.Unknown } in
+    let told : PutsWhere (Within s.known ns) (forms.text a many) string_text bytes packet.end place line n after = λ spent room earlier env there.
+    let p = puts spent (omega (arith, room)) earlier env in
+    let same = counted_text a many count (among bytes packet.end earlier) env place spent (counts_where s.known ns many c count counts counted earlier env there) in
+    let none : spent + 1 ≡ spent + 1 + 0 = omega arith in
+    (p.0, same ∙ p.1 ∙ ap (λ x. Ok (p.0, end, x)) none, p.2, tt)
+    in
+    let as_class : PutsWhere (Within s.known ns) (form s.class) (value_text s.class) bytes packet.end place line n after = subst (λ t. PutsWhere (Within s.known ns) (form s.class) t bytes packet.end place line n after) (text_text s.class many is) (subst (λ f. PutsWhere (Within s.known ns) f string_text bytes packet.end place line n after) (form_text s.class many is) told) in
+    nested_slot s packet place n line after ns ns within as_class (unkept s packet place ns kept)
+
+-- what holds where the numbers kept are those before
+pub kept_same : {A : Type 0} (r : Option A) (P : List Last → A → Type 0) (ns ms : List Last) → IfSome r (λ x. ms ≡ ns) → IfSome r (P ns) → IfSome r (P ms)
+kept_same None P ns ms same holds = tt
+kept_same (Some x) P ns ms same holds = subst (λ xs. P xs x) (sym same) holds
+
+-- a field is passed over as it is written
+pub slot_passes : (s : Slot) (packet : Content) (place : ℕ) (to : Reach) (ns ms : List Last) → ((line : List ℕ) → (after : List ℕ) × IsSlotThere s packet place to line ns after ms)
+    → (from more : ℕ) → place ≡ next_multiple_of from s.align → Passes (λ before after. PutsSlot s packet.bytes.now packet.end (after_value from more lasts.Unknown before) ns (after_value to.place (more + to.more) lasts.Unknown after) ms)
+slot_passes s packet place to ns ms there from more begins before =
+    let w = there (before ++ s.lead) in
+    (w.0, w.1 from more before begins refl)
+
+-- fields that are passed over, one after the other
+pub slots_pass : (xs ys : List Slot) (packet : Content) (from mid to : Reach) (ns ks ms : List Last) → PassesSlots xs packet from ns mid ks → PassesSlots ys packet mid ks to ms → PassesSlots (xs ++ ys) packet from ns to ms
+slots_pass xs ys packet from mid to ns ks ms first second before =
+    let a = first before in
+    let b = second a.0 in
+    (b.0, slots_join packet.bytes.now packet.end xs ys (reached from before) (reached mid a.0) (reached to b.0) ns ks ms a.1 b.1)
+
+pub runs_pass : (ss : List Slot) (rs : List PlannedRun) (packet : Content) (from to : Reach) (ns : List Last) → AreRuns ss rs → Passes (λ before after. PutsFields ss packet.bytes.now packet.end (reached from before) (reached to after)) → PassesSlots ss packet from ns to ns
+runs_pass ss rs packet from to ns are passes before =
+    let a = passes before in
+    (a.0, fields_slots packet.bytes.now packet.end ss (reached from before) (reached to a.0) ns (runs_plain ss rs are) a.1)
 
 -- a value after a text that is printed before it
 pub where_after : (Where : (Scope → Option Val) → Env → Type 0) (k : Form) (shown told : Shown) (packet : List ℕ) (content place : ℕ) (from lead line : List ℕ) (n : Next) (after : List ℕ) → line ≡ from ++ lead → ((v : Val) → told v ≡ lead ++ shown v) → PutsWhere Where k shown packet content place line n after → PutsWhere Where k told packet content place from n after
@@ -369,47 +399,47 @@ abbrev pub index_of : ℕ → ℕ → List ℕ
 index_of mark i = mark ∷ 32 ∷ 91 ∷ (decimal i ++ codes "] = ")
 
 -- an element after its mark and its index
-pub element_puts : (lead : ElementLead) (k : Class) (packet : Content) (place : ℕ) (from line : List ℕ) (n : Next) (after : List ℕ) → line ≡ from ++ index_of lead.mark lead.index → PutsWhere Anywhere (form k) (value_text k) packet.bytes.now packet.end place line n after
-    → PutsWhere Anywhere (form k) (λ v. lead.mark ∷ 32 ∷ element_text (value_text k) lead.index v) packet.bytes.now packet.end place from n after
-element_puts lead k packet place from line n after wrote puts = where_after Anywhere (form k) (value_text k) (λ v. lead.mark ∷ 32 ∷ element_text (value_text k) lead.index v) packet.bytes.now packet.end place from (index_of lead.mark lead.index) line n after wrote (element_after (value_text k) lead.mark lead.index) puts
+pub element_puts : (Where : (Scope → Option Val) → Env → Type 0) (lead : ElementLead) (k : Class) (packet : Content) (place : ℕ) (from line : List ℕ) (n : Next) (after : List ℕ) → line ≡ from ++ index_of lead.mark lead.index → PutsWhere Where (form k) (value_text k) packet.bytes.now packet.end place line n after
+    → PutsWhere Where (form k) (λ v. lead.mark ∷ 32 ∷ element_text (value_text k) lead.index v) packet.bytes.now packet.end place from n after
+element_puts Where lead k packet place from line n after wrote puts = where_after Where (form k) (value_text k) (λ v. lead.mark ∷ 32 ∷ element_text (value_text k) lead.index v) packet.bytes.now packet.end place from (index_of lead.mark lead.index) line n after wrote (element_after (value_text k) lead.mark lead.index) puts
 
 -- elements that are passed over, one after the other
-module _ (k : Class) (count : ℕ) (packet : Content) (place : ℕ) where
+module _ (Where : (Scope → Option Val) → Env → Type 0) (k : Class) (count : ℕ) (packet : Content) (place : ℕ) where
   abbrev pub PassesGoing : ℕ → ℕ → ℕ → Type 0
-  PassesGoing i at more = Passes (λ before line. Going Anywhere packet.bytes.now packet.end (form k) (value_text k) count place i at more before line)
+  PassesGoing i at more = Passes (λ before line. Going Where packet.bytes.now packet.end (form k) (value_text k) count place i at more before line)
 
   pub passing_begins : PassesGoing 0 place 0
-  passing_begins before = (before, going_begins Anywhere packet.bytes.now packet.end (form k) (value_text k) count place before)
+  passing_begins before = (before, going_begins Where packet.bytes.now packet.end (form k) (value_text k) count place before)
 
-  pub passing_on : (i at more : ℕ) (to : Reach) → i < count → PassesGoing i at more → Passes (λ before after. PutsWhere Anywhere (form k) (value_text k) packet.bytes.now packet.end at before (next_at to) after) → PassesGoing (i + 1) to.place (more + to.more)
+  pub passing_on : (i at more : ℕ) (to : Reach) → i < count → PassesGoing i at more → Passes (λ before after. PutsWhere Where (form k) (value_text k) packet.bytes.now packet.end at before (next_at to) after) → PassesGoing (i + 1) to.place (more + to.more)
   passing_on i at more to few so_far there before =
       let g = so_far before in
       let mark = mark_at 91 i in
       let line = g.0 ++ index_of mark i in
       let one = there line in
-      let element = element_puts (record { mark = mark; index = i }) k packet at g.0 line (next_at to) one.0 refl one.1 in
-      (one.0, going_on Anywhere packet.bytes.now packet.end (form k) (value_text k) count place before i at more mark g.0 (next_at to) one.0 few refl g.1 element)
+      let element = element_puts Where (record { mark = mark; index = i }) k packet at g.0 line (next_at to) one.0 refl one.1 in
+      (one.0, going_on Where packet.bytes.now packet.end (form k) (value_text k) count place before i at more mark g.0 (next_at to) one.0 few refl g.1 element)
 
-  pub passing_ends : (at more : ℕ) → (count ≡ 0 → at ≡ place) → (count ≡ 0 → more ≡ 0) → PassesGoing count at more → Passes (λ before after. PutsRowOf (enclosed 91 93) k count packet place before (record { place = at; text = 0; more = more }) after)
+  pub passing_ends : (at more : ℕ) → (count ≡ 0 → at ≡ place) → (count ≡ 0 → more ≡ 0) → PassesGoing count at more → Passes (λ before after. PutsRowOf (enclosed 91 93) Where k count packet place before (record { place = at; text = 0; more = more }) after)
   passing_ends at more here none all before = by count refl
     where
-      by : (n : ℕ) → count ≡ n → (after : List ℕ) × PutsRowOf (enclosed 91 93) k count packet place before (record { place = at; text = 0; more = more }) after
+      by : (n : ℕ) → count ≡ n → (after : List ℕ) × PutsRowOf (enclosed 91 93) Where k count packet place before (record { place = at; text = 0; more = more }) after
       by zero zeroed =
           let after = before ++ (91 ∷ 32 ∷ 93 ∷ []) in
-          let bare = no_items Anywhere packet.bytes.now packet.end (form k) (value_text k) count place 0 before after zeroed refl in
-          (after, subst (λ q. PutsRowOf (enclosed 91 93) k count packet place before (record { place = q; text = 0; more = more }) after) (sym (here zeroed)) (subst (λ q. PutsRowOf (enclosed 91 93) k count packet place before (record { place = place; text = 0; more = q }) after) (sym (none zeroed)) bare))
+          let bare = no_items Where packet.bytes.now packet.end (form k) (value_text k) count place 0 before after zeroed refl in
+          (after, subst (λ q. PutsRowOf (enclosed 91 93) Where k count packet place before (record { place = q; text = 0; more = more }) after) (sym (here zeroed)) (subst (λ q. PutsRowOf (enclosed 91 93) Where k count packet place before (record { place = place; text = 0; more = q }) after) (sym (none zeroed)) bare))
       by (suc n) some =
           let g = all before in
           let after = g.0 ++ (32 ∷ 93 ∷ []) in
-          let ends_so = going_ends Anywhere packet.bytes.now packet.end (form k) (value_text k) count place before at more 0 g.0 g.1 in
-          (after, closed Anywhere packet.bytes.now packet.end (form k) (value_text k) count place before (record { place = at; text = 0; more = more }) 0 g.0 after (omega (arith, some)) refl ends_so)
+          let ends_so = going_ends Where packet.bytes.now packet.end (form k) (value_text k) count place before at more 0 g.0 g.1 in
+          (after, closed Where packet.bytes.now packet.end (form k) (value_text k) count place before (record { place = at; text = 0; more = more }) 0 g.0 after (omega (arith, some)) refl ends_so)
 
 -- an array of elements that are there
-pub row_array : (k : Class) (count : ℕ) (packet : Content) (place start more align : ℕ) (end : MembersEnd) (n : Next) (line after : List ℕ) → align ≡ k.align → start ≡ next_multiple_of place align → start ≤ packet.end → more ≡ count + end.more → n.place ≡ end.place → n.more ≡ more → n.last ≡ lasts.Unknown
-    → PutsRowOf (enclosed 91 93) k count packet start line end after → IsArrayThere k count packet place n line after
-row_array k count packet place start more align end n line after aligned begins within sum at total unknown row before many a counts spent room earlier env vs counted last =
+pub row_array : (Where : (Scope → Option Val) → Env → Type 0) (k : Class) (count : ℕ) (packet : Content) (place start more align : ℕ) (end : MembersEnd) (n : Next) (line after : List ℕ) → align ≡ k.align → start ≡ next_multiple_of place align → start ≤ packet.end → more ≡ count + end.more → n.place ≡ end.place → n.more ≡ more → n.last ≡ lasts.Unknown
+    → PutsRowOf (enclosed 91 93) Where k count packet start line end after → IsArrayThere Where k count packet place n line after
+row_array Where k count packet place start more align end n line after aligned begins within sum at total unknown row many a counts spent room earlier env there =
     let starts : start ≡ next_multiple_of place k.align = begins ∙ ap (next_multiple_of place) aligned in
-    let v = items_walk Anywhere packet.bytes.now packet.end a many k place start count more end line after starts within sum row spent (omega (arith, room, total)) earlier (vs ∷ env) tt (counts earlier env vs counted last) in
+    let v = items_walk Where packet.bytes.now packet.end a many k place start count more end line after starts within sum row spent (omega (arith, room, total)) earlier env there (counts earlier env there) in
     (v.0, v.1 ∙ (λ j. Ok (v.0, sym at j, spent + 1 + sym total j)), v.2, subst (λ l. ValueIs l v.0) (sym unknown) tt)
 
 -- a value alone that is passed over
@@ -423,31 +453,46 @@ pub counts_so : (many : Length) (count : ℕ) (before : Before) → many ≡ len
 counts_so many count before is earlier env vs counted last = ap (λ l. length_of l earlier (vs ∷ env)) is
 
 -- the fields of an element's pieces, and the braces after them, are the element
-element_pieces : (ps : Pieces) (k : Class) (packet : List ℕ) (content place : ℕ) (to : Reach) (before line : List ℕ) → IsOfPieces k ps → PutsFields (scope_slots [] k ps) packet content (after_value place 0 lasts.Unknown before) (reached to line)
-    → PutsWhere Anywhere (form k) (value_text k) packet content place before (record { place = to.place; text = 0; more = to.more + (length (members_of ps) + insides ps); last = lasts.Unknown }) (line ++ ends (ended_in ps))
-element_pieces no_pieces k packet content place to before line is puts =
-    let s : Slot = record { lead = []; align = 1; index = 0; class = k } in
-    let field = subst (λ r. PutsField s packet content (after_value place 0 lasts.Unknown before) r) (sym puts.2) puts.1 in
-    let total : field.1 ≡ to.more + (0 + 0) = (let a = field.2 in omega (arith, a)) in
-    let at : PutsNext (after_last 0 lasts.Unknown) (form k) (value_text k) packet content place before (record { place = to.place; text = 0; more = field.1; last = lasts.Unknown }) line = subst (λ q. PutsNext (after_last 0 lasts.Unknown) (form k) (value_text k) packet content q before (record { place = to.place; text = 0; more = field.1; last = lasts.Unknown }) line) (at_one place) field.3 in
-    let there : PutsNext (after_last 0 lasts.Unknown) (form k) (value_text k) packet content place before (record { place = to.place; text = 0; more = to.more + (0 + 0); last = lasts.Unknown }) (line ++ []) = subst (λ xs. PutsNext (after_last 0 lasts.Unknown) (form k) (value_text k) packet content place before (record { place = to.place; text = 0; more = to.more + (0 + 0); last = lasts.Unknown }) xs) (sym (append-nil line)) (subst (λ c. PutsNext (after_last 0 lasts.Unknown) (form k) (value_text k) packet content place before (record { place = to.place; text = 0; more = c; last = lasts.Unknown }) line) total at) in
-    next_anywhere (form k) (value_text k) packet content place before (record { place = to.place; text = 0; more = to.more + (0 + 0); last = lasts.Unknown }) (line ++ []) there
-element_pieces (more_pieces p ps) k packet content place to before line is puts =
+element_pieces : (ps : Pieces) (k : Class) (known : List Route) (packet : List ℕ) (content place : ℕ) (to : Reach) (ns ms : List Last) (before line : List ℕ) → IsOfPieces k ps → PutsSlots (scope_slots [] known k ps) packet content (after_value place 0 lasts.Unknown before) ns (reached to line) ms
+    → (spent : ℕ) → spent + (to.more + (length (members_of ps) + insides ps)) < MOST_VALUES → (earlier : Scope → Option Val) (env : Env) → Within known ns earlier env
+    → (v : Val) × (walk (form k) (among packet content earlier) env place spent ≡ Ok (v, to.place, spent + 1 + (to.more + (length (members_of ps) + insides ps)))) × (line ++ ends (ended_in ps) ≡ before ++ value_text k v)
+element_pieces ps k known packet content place to ns ms before line is puts spent room earlier [] there = absurd there
+element_pieces no_pieces k known packet content place to ns ms before line is puts spent room earlier (vs ∷ env) there =
+    let f = puts.2 in
+    let ends_so : (reached to line) ≡ puts.0 = puts.3.0 in
+    let more : to.more ≡ f.1 = (let a = ap (λ (r : Reached). r.more) ends_so in let b = f.2 in omega (arith, a, b)) in
+    let p = f.3 spent (omega (arith, room, more)) earlier env vs tt tt there in
+    let total : spent + 1 + f.1 ≡ spent + 1 + (to.more + (0 + 0)) = omega (arith, more) in
+    let place_is : puts.0.place ≡ to.place = ap (λ (r : Reached). r.place) (sym ends_so) in
+    let line_is : line ≡ puts.0.line = ap (λ (r : Reached). r.line) ends_so in
+    (p.0, ap (λ q. walk (form k) (among packet content earlier) (vs ∷ env) q spent) (sym (at_one place)) ∙ p.1 ∙ (λ j. Ok (p.0, place_is j, total j)), append-nil line ∙ line_is ∙ p.2)
+element_pieces (more_pieces p ps) k known packet content place to ns ms before line is puts spent room earlier (vs ∷ env) there =
     let all = more_pieces p ps in
-    let one = scope_puts k all [] packet content (after_value place 0 lasts.Unknown before) (reached to line) is.0 is.1 puts in
-    let inner = length (members_of all) + insides all in
-    λ spent room earlier env there.
-    let sum = one.1 in
-    let v = one.2 spent (omega (arith, room, sum)) earlier env in
-    let total : spent + 1 + length (members_of all) + insides all + one.0 ≡ spent + 1 + (to.more + inner) = omega (arith, sum) in
-    (v.0, v.1 ∙ ap (λ c. Ok (v.0, to.place, c)) total, v.2 ∙ ap (λ xs. xs ++ value_text k v.0) (append-nil before), tt)
+    let one = pieces_scope packet content all k k.align [] known (after_value place 0 lasts.Unknown before) (reached to line) ns ms is.0 (omega arith) is.1 there.0 puts in
+    let same : to.more ≡ one.0 = (let a = one.1 in omega (arith, a)) in
+    let v = one.3 place refl spent (omega (arith, room, same)) earlier (vs ∷ env) there.1 in
+    let total : spent + 1 + length (members_of all) + insides all + one.0 ≡ spent + 1 + (to.more + (length (members_of all) + insides all)) = omega (arith, same) in
+    (v.0, v.1 ∙ ap (λ c. Ok (v.0, to.place, c)) total, ap (λ xs. line ++ xs) (sym (ends_on _)) ∙ v.2 ∙ ap (λ xs. xs ++ value_text k v.0) (append-nil before))
 
-pub element_there : (depth : ℕ) (k : Class) (p : RecordPlan) (packet : Content) (to : Reach) (n : Next) (place : ℕ) (before line after : List ℕ) (is : IsElement (IsPlanned depth) k p) → PutsFields (scope_slots [] k is.0) packet.bytes.now packet.end (after_value place 0 lasts.Unknown before) (reached to line)
-    → after ≡ line ++ ends p.ended → n.more ≡ to.more + p.count → n.place ≡ to.place → n.last ≡ lasts.Unknown → PutsWhere Anywhere (form k) (value_text k) packet.bytes.now packet.end place before n after
-element_there depth k p packet to n place before line after is puts wrote counted ends_there unknown =
-    let one = element_pieces is.0 k packet.bytes.now packet.end place to before line is.1 puts in
-    let text : line ++ ends (ended_in is.0) ≡ after = ap (λ c. line ++ ends c) (sym is.3) ∙ sym wrote in
+pub element_there : (depth : ℕ) (known : List Route) (k : Class) (p : RecordPlan) (packet : Content) (to : Reach) (n : Next) (place : ℕ) (ns ms : List Last) (before line after : List ℕ) (is : IsElement (IsPlanned depth) known k p) → PutsSlots (scope_slots [] known k is.0) packet.bytes.now packet.end (after_value place 0 lasts.Unknown before) ns (reached to line) ms
+    → after ≡ line ++ ends p.ended → n.more ≡ to.more + p.count → n.place ≡ to.place → n.last ≡ lasts.Unknown → PutsWhere (Within known ns) (form k) (value_text k) packet.bytes.now packet.end place before n after
+element_there depth known k p packet to n place ns ms before line after is puts wrote counted ends_there unknown spent room earlier env there =
+    let text : after ≡ line ++ ends (ended_in is.0) = wrote ∙ ap (λ c. line ++ ends c) is.3 in
     let more : to.more + (length (members_of is.0) + insides is.0) ≡ n.more = ap (λ c. to.more + c) (sym is.2) ∙ sym counted in
-    λ spent room earlier env there.
-    let v = one spent (omega (arith, room, more)) earlier env there in
-    (v.0, v.1 ∙ (λ j. Ok (v.0, sym ends_there j, spent + 1 + more j)), sym text ∙ v.2, subst (λ l. ValueIs l v.0) (sym unknown) tt)
+    let v = element_pieces is.0 k known packet.bytes.now packet.end place to ns ms before line is.1 puts spent (omega (arith, room, more)) earlier env there in
+    (v.0, v.1 ∙ (λ j. Ok (v.0, sym ends_there j, spent + 1 + more j)), text ∙ v.2, subst (λ l. ValueIs l v.0) (sym unknown) tt)
+
+-- An array that is there by any length that counts so many is there by one that kept numbers tell.
+pub array_counted : (r : Option Next) (known : List Route) (ns : List Last) (k : Class) (e : Form) (shown : Shown) (count : ℕ) (packet : Content) (place : ℕ) (line items : List ℕ) → e ≡ form k → shown ≡ value_text k
+    → ((before : Before) (many : Length) (a : ℕ) → Counts many before count → Writes r before (forms.array a many e) (array_text shown) packet place line items)
+    → WritesArray r (Within known ns) k count packet place line items
+array_counted None known ns k e shown count packet place line items forms_are texts_are writes = tt
+array_counted (Some n) known ns k e shown count packet place line items forms_are texts_are writes = λ many a counts.
+    subst (λ t. PutsWhere (Within known ns) (forms.array a many (form k)) (array_text t) packet.bytes.now packet.end place line n (take n.text items)) texts_are
+    (subst (λ f. PutsWhere (Within known ns) (forms.array a many f) (array_text shown) packet.bytes.now packet.end place line n (take n.text items)) forms_are (there many a counts))
+  where
+    there : (many : Length) (a : ℕ) → CountsWhere (Within known ns) many count → PutsWhere (Within known ns) (forms.array a many e) (array_text shown) packet.bytes.now packet.end place line n (take n.text items)
+    there many a counts spent room earlier [] within = absurd within
+    there many a counts spent room earlier (vs ∷ env) within =
+        let p = writes (record { index = length vs; last = lasts.Unknown }) (lengths.Fixed count) a (λ ea en ws counted last. refl) spent room earlier env vs tt tt in
+        (p.0, counted_array a e many count (among packet.bytes.now packet.end earlier) (vs ∷ env) place spent (counts earlier (vs ∷ env) within) ∙ p.1, p.2, p.3)

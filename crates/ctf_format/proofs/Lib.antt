@@ -1,4 +1,5 @@
 pub mod TextLemmas
+pub mod KeptLemmas
 pub mod LinesLemmas
 pub mod PartsLemmas
 pub mod Chains

@@ -1,5 +1,5 @@
 -- Event records that are written by their plan are shown as their classes say.
-use Rattle.std.proofs.Common.{◌≡◌, ℕ, zero, suc, ◌+◌, ◌-◌, ◌*◌, ◌%◌, ◌/◌, ◌<◌, ◌≤◌, max, false, ℤ, pos, negsuc, List, [], ◌∷◌, ◌++◌, map, take, drop, length, get_or, Option, Some, None, IfSome, Ok, Err, cond, codes, inl, inr, refl, sym, ap, subst, ◌∙◌, arith, append_assoc, append-nil}
+use Rattle.std.proofs.Common.{◌≡◌, ℕ, zero, suc, ◌+◌, ◌-◌, ◌*◌, ◌%◌, ◌/◌, ◌<◌, ◌≤◌, max, Bool, true, false, ℤ, pos, negsuc, List, [], ◌∷◌, ◌++◌, map, take, drop, length, get_or, Option, Some, None, IfSome, Ok, Err, cond, codes, inl, inr, refl, sym, ap, subst, ◌∙◌, arith, append_assoc, append-nil}
 use Rattle.std.specs.Prelude.{⊤, if◌then◌else◌}
 use Rattle.std.specs.Int.{next_multiple_of}
 use Rattle.ctf_bits.specs.Number.{number, signed_number}
@@ -13,7 +13,7 @@ use Rattle.ctf_class.proofs.RecordsLemmas.{ends_on}
 use Rattle.ctf_class.specs.Alignment.{IsLarger}
 use Rattle.ctf_class.specs.Integers.{bits_of}
 use Rattle.ctf_class.specs.Names.{field_text}
-use Rattle.ctf_class.specs.Records.{Slot, At, Piece, Pieces, alone, inner, no_pieces, more_pieces, Scoped, IsPiece, ArePieces, member_of, members_of, inside, insides, ended_by, ended_after, ends, ended_last, first_at, later_at, known_index, member_slots, opened_lead, piece_slots, pieces_slots, scope_slots, slots, ended_in, before_next, all_slots, values_in, AreScoped, IsNumber, AreInRun, TakesNumbers, IsLength, IsShown, IsStructure, IsField, After, LeadsBefore, numbers_room, room_of, AreRuns}
+use Rattle.ctf_class.specs.Records.{ScopeClass, Slot, At, from_after, from_inside, from_later, known_after, known_by, known_scope, with_kept, Piece, Pieces, alone, inner, no_pieces, more_pieces, Scoped, IsPiece, ArePieces, member_of, members_of, inside, insides, ended_by, ended_after, ends, ended_last, first_at, later_at, known_index, member_slots, opened_lead, piece_slots, pieces_slots, scope_slots, slots, ended_in, before_next, all_slots, values_in, AreScoped, IsNumber, AreInRun, TakesNumbers, IsLength, IsShown, IsStructure, IsField, After, LeadsBefore, numbers_room, room_of, AreRuns}
 use Rattle.ctf_class.specs.declared.class.Class.{Class}
 use Rattle.ctf_class.specs.declared.class.Kind as kind
 use Rattle.ctf_class.specs.declared.class.Member.{Member}
@@ -28,10 +28,11 @@ use Rattle.ctf_class.specs.declared.structures.Structures.{Structures}
 use Rattle.ctf_class.specs.declared.route.Length.{Length}
 use Rattle.ctf_class.specs.declared.route.Length.TheVariants as lengths
 use Rattle.ctf_class.specs.declared.route.Route.{Route}
-use Rattle.ctf_decode.specs.Forms.{integer, parts_of, structure}
+use Rattle.ctf_decode.specs.Forms.{Form, integer, parts_of, structure}
 use Rattle.ctf_decode.specs.Input.{Input, Env, integer_at}
 use Rattle.ctf_decode.specs.Breaks.{past}
 use Rattle.ctf_decode.specs.Routes.{length_of}
+use Rattle.ctf_class.specs.declared.route.Scope.{Scope}
 use Rattle.ctf_decode.specs.Values.{Val, group, vals_of}
 use Rattle.std.proofs.lemmas.Bool.{le-ltb}
 use Rattle.ctf_decode.specs.Walk.{and_then, as_group, begin, leaf, open_at, walk, walk_members}
@@ -39,10 +40,11 @@ use Rattle.ctf_decode.specs.Views as views
 use Rattle.ctf_decode.specs.Views.{form}
 use Rattle.ctf_decode.specs.declared.scopes.TheConstants.{MOST_VALUES}
 use Rattle.ctf_format.specs.Structures.{IsNearStructure}
+use Rattle.ctf_format.specs.Kept.{KeepsIf, Knows, PutsSlot, PutsSlots}
 use Rattle.ctf_format.specs.Numbers.{number_text}
 use Rattle.ctf_format.specs.RunNumbers.{IsPlaced, number_at, place_in, run_text}
 use Rattle.ctf_format.specs.Records.{Reached, CountsAfter, IsLastNumber, IsLastOf, PutsField, PutsFields, PutsScopes, TakesRun, IsNear, IsNearShown, after_last, after_members, after_value}
-use Rattle.ctf_format.specs.Standing.{Before, Counts, IfKnown, LastIs, Puts, PutsOne, PutsNext, StandsAs, StandsAsNumber, among, known}
+use Rattle.ctf_format.specs.Standing.{Before, Counts, IfKnown, LastIs, Puts, PutsOne, PutsNext, StandsAs, StandsAsNumber, ValueIs, among, known}
 use Rattle.ctf_format.specs.Texts.{Shown, Part, integer_text, value_text, part_text, member_part, member_texts}
 use Rattle.ctf_format.specs.Rows.{row}
 use Rattle.ctf_format.specs.declared.placed_run.PlacedRun.{PlacedRun}
@@ -50,7 +52,8 @@ use Rattle.ctf_format.specs.declared.standing.Last.{Last}
 use Rattle.ctf_format.specs.declared.standing.Last.TheVariants as lasts
 use Rattle.ctf_format.specs.declared.standing.MembersEnd.{MembersEnd}
 use Rattle.ctf_format.specs.declared.standing.Next.{Next}
-use Rattle.ctf_format.proofs.StandingLemmas.{Going, anywhere, last_is, going_begins, going_on, puts_next, standing_next, going_ends, closed, begins, form_structure, puts_structure, text-Structure, value-is, as_one, form_integer, text_integer, member-is, stands_number, mark_at, kind_text}
+use Rattle.ctf_format.proofs.KeptLemmas.{kept_knows, kept_lengths, knows_after, knows_inside, knows_later}
+use Rattle.ctf_format.proofs.StandingLemmas.{Going, PutsBecoming, last_is, stands_is, going_begins, going_further, puts_next, going_ends, closed, begins, form_structure, puts_structure, text-Structure, value-is, as_one, form_integer, text_integer, member-is, stands_number, mark_at, kind_text}
 use Rattle.ctf_format.proofs.RunNumbersLemmas.{run_integer}
 use Rattle.ctf_format.proofs.StartsLemmas.{Leads, at_one, base_divides, below, larger_begins, leads_itself, run_leads}
 use Rattle.ctf_format.proofs.ArrayLemmas.{counts_last}
@@ -76,13 +79,44 @@ pub fields_join : (packet : List ℕ) (content : ℕ) (xs ys : List Slot) (from 
 fields_join packet content [] ys from mid to first second = subst (λ r. PutsFields ys packet content r to) first second
 fields_join packet content (x ∷ xs) ys from mid to first second = (first.0, first.1, fields_join packet content xs ys first.0 mid to first.2 second)
 
+-- the same where numbers are kept
+pub slots_join : (packet : List ℕ) (content : ℕ) (xs ys : List Slot) (from mid to : Reached) (ns ks ms : List Last) → PutsSlots xs packet content from ns mid ks → PutsSlots ys packet content mid ks to ms → PutsSlots (xs ++ ys) packet content from ns to ms
+slots_join packet content [] ys from mid to ns ks ms first second = subst (λ r. PutsSlots ys packet content r ns to ms) first.0 (subst (λ k. PutsSlots ys packet content mid k to ms) first.1 second)
+slots_join packet content (x ∷ xs) ys from mid to ns ks ms first second = (first.0, first.1, first.2, slots_join packet content xs ys first.0 mid to first.1 ks ms first.3 second)
+
 -- and apart again
-pub fields_split : (packet : List ℕ) (content : ℕ) (xs ys : List Slot) (from to : Reached) → PutsFields (xs ++ ys) packet content from to
-    → (mid : Reached) × PutsFields xs packet content from mid × PutsFields ys packet content mid to
-fields_split packet content [] ys from to puts = (from, refl, puts)
-fields_split packet content (x ∷ xs) ys from to puts =
-    let s = fields_split packet content xs ys puts.0 to puts.2 in
-    (s.0, (puts.0, puts.1, s.1), s.2)
+pub slots_split : (packet : List ℕ) (content : ℕ) (xs ys : List Slot) (from to : Reached) (ns ms : List Last) → PutsSlots (xs ++ ys) packet content from ns to ms
+    → (mid : Reached) × (ks : List Last) × PutsSlots xs packet content from ns mid ks × PutsSlots ys packet content mid ks to ms
+slots_split packet content [] ys from to ns ms puts = (from, ns, (refl, refl), puts)
+slots_split packet content (x ∷ xs) ys from to ns ms puts =
+    let s = slots_split packet content xs ys puts.0 to puts.1 ms puts.3 in
+    (s.0, s.1, (puts.0, puts.1, puts.2, s.2), s.3)
+
+-- numbers are kept after those before
+keeps_longer : (kept : Bool) (k : Form) (packet : List ℕ) (content place : ℕ) (ns ms : List Last) → KeepsIf kept k packet content place ns ms → (more : List Last) × (ms ≡ ns ++ more)
+keeps_longer false k packet content place ns ms keeps = ([], keeps ∙ sym (append-nil ns))
+keeps_longer true k packet content place ns ms keeps = (keeps.0 ∷ [], keeps.2)
+
+pub slots_longer : (packet : List ℕ) (content : ℕ) (ss : List Slot) (from to : Reached) (ns ms : List Last) → PutsSlots ss packet content from ns to ms → (more : List Last) × (ms ≡ ns ++ more)
+slots_longer packet content [] from to ns ms puts = ([], puts.1 ∙ sym (append-nil ns))
+slots_longer packet content (s ∷ ss) from to ns ms puts =
+    let one = keeps_longer s.kept (form s.class) packet content (next_multiple_of from.place s.align) ns puts.1 puts.2.5 in
+    let all = slots_longer packet content ss puts.0 to puts.1 ms puts.3 in
+    (one.0 ++ all.0, all.1 ∙ ap (λ xs. xs ++ all.0) one.1 ∙ append_assoc ns one.0 all.0)
+
+-- fields of which no number is kept
+abbrev pub Plain : List Slot → Type 0
+Plain [] = ⊤
+Plain (s ∷ ss) = (s.kept ≡ false) × Plain ss
+
+keeps_none : (kept : Bool) (s : Slot) (packet : List ℕ) (content place : ℕ) (ns : List Last) → kept ≡ false → KeepsIf kept (form s.class) packet content place ns ns
+keeps_none kept s packet content place ns none = subst (λ b. KeepsIf b (form s.class) packet content place ns ns) (sym none) refl
+
+pub fields_slots : (packet : List ℕ) (content : ℕ) (ss : List Slot) (from to : Reached) (ns : List Last) → Plain ss → PutsFields ss packet content from to → PutsSlots ss packet content from ns to ns
+fields_slots packet content [] from to ns plain puts = (puts, refl)
+fields_slots packet content (s ∷ ss) from to ns plain puts =
+    let f = puts.1 in
+    (puts.0, ns, (f.0, f.1, f.2, (λ spent room earlier env vs counted last knows. f.3 spent room earlier env vs counted last), f.4, keeps_none s.kept s packet content (next_multiple_of from.place s.align) ns plain.0), fields_slots packet content ss puts.0 to ns plain.1 puts.2)
 
 -- numbers of a run end within it
 run_reach : (base from span : ℕ) (ss rest : List Slot) (ns : List PlannedNumber) → AreInRun base from ss ns span rest → from ≤ span
@@ -148,6 +182,21 @@ runs_near ss [] are = All-nil IsNear
 runs_near ss (r ∷ rs) are =
     let first = takes_first ss r rs are in
     All-cons IsNear r rs (record { room = are.2; bounded = are.3; special = are.4; within_span = run_after (max 8 r.align) 0 r.span ss are.0 r.numbers are.1.1; placed = run_placed (max 8 r.align) 0 r.span ss are.0 r.numbers are.1.1; inner = field_near are.0 r.field (λ xs. AreRuns xs rs) are.5 }) (runs_near first.0 rs first.2)
+
+-- no number of runs is kept
+pub plain_numbers : (base from span : ℕ) (ss rest : List Slot) (ns : List PlannedNumber) → AreInRun base from ss ns span rest → Plain rest → Plain ss
+plain_numbers base from span ss rest [] are plain = subst Plain are.1 plain
+plain_numbers base from span [] rest (n ∷ ns) are plain = tt
+plain_numbers base from span (s ∷ ss) rest (n ∷ ns) are plain = (are.0.kept, plain_numbers base (n.window.place + n.window.size) span ss rest ns are.1 plain)
+
+plain_after : (ss : List Slot) (f : Option PlannedField) (Holds : List Slot → Type 0) → After ss f Holds → ((xs : List Slot) → Holds xs → Plain xs) → Plain ss
+plain_after ss None Holds after plain = plain ss after
+plain_after [] (Some f) Holds after plain = absurd after
+plain_after (s ∷ ss) (Some f) Holds after plain = (after.0.kept, plain ss after.1)
+
+pub runs_plain : (ss : List Slot) (rs : List PlannedRun) → AreRuns ss rs → Plain ss
+runs_plain ss [] are = subst Plain (sym are) tt
+runs_plain ss (r ∷ rs) are = plain_numbers (max 8 r.align) 0 r.span ss are.0 r.numbers are.1.1 (plain_after are.0 r.field (λ xs. AreRuns xs rs) are.5 (λ xs holds. runs_plain xs rs holds))
 
 -- the room of numbers alone, and of the text after them
 pub room_alone : (ns : List PlannedNumber) (f : Option PlannedField) → numbers_room ns ≤ room_of ns f
@@ -295,12 +344,12 @@ last_known zero last = last
 last_known (suc n) last = lasts.Unknown
 
 -- what is known of the members before the next one
-known_after : (n i : ℕ) (last : Last) (vs : List Val) → length vs ≡ i → LastIs (last_known n last) vs → IfKnown (after_last (known_index n i) last).last (length vs ≡ (after_last (known_index n i) last).index) × LastIs (after_last (known_index n i) last).last vs
-known_after zero zero last vs many is = (tt, tt)
-known_after zero (suc i) lasts.Unknown vs many is = (tt, tt)
-known_after zero (suc i) (lasts.Unsigned n) vs many is = (many, is)
-known_after zero (suc i) (lasts.Label z) vs many is = (many, is)
-known_after (suc n) i last vs many is = (tt, tt)
+known_after_last : (n i : ℕ) (last : Last) (vs : List Val) → length vs ≡ i → LastIs (last_known n last) vs → IfKnown (after_last (known_index n i) last).last (length vs ≡ (after_last (known_index n i) last).index) × LastIs (after_last (known_index n i) last).last vs
+known_after_last zero zero last vs many is = (tt, tt)
+known_after_last zero (suc i) lasts.Unknown vs many is = (tt, tt)
+known_after_last zero (suc i) (lasts.Unsigned n) vs many is = (many, is)
+known_after_last zero (suc i) (lasts.Label z) vs many is = (many, is)
+known_after_last (suc n) i last vs many is = (tt, tt)
 
 -- there are more pieces, or the last came to where the next one would begin
 abbrev IsOver : Pieces → ℕ → ℕ → List ℕ → Type 0
@@ -324,26 +373,45 @@ begins_some : (ps : Pieces) (place content : ℕ) → 0 < length (members_of ps)
 begins_some no_pieces place content some begins = absurd (omega (arith, some))
 begins_some (more_pieces p ps) place content some begins = begins
 
+-- this is what is decoded before
+abbrev Only : (Scope → Option Val) → Env → (Scope → Option Val) → Env → Type 0
+Only earlier env other around = (other ≡ earlier) × (around ≡ env)
+
+only : (P : (Scope → Option Val) → Env → Type 0) (earlier other : Scope → Option Val) (env around : Env) → Only earlier env other around → P earlier env → P other around
+only P earlier other env around is holds = subst (λ e. P other e) (sym is.1) (subst (λ o. P o env) (sym is.0) holds)
+
+-- what is known of the members before one, and where routes lead
+abbrev AreKnown : Last → List Route → List Last → (Scope → Option Val) → Env → List Val → Type 0
+AreKnown l known ns earlier env vs = LastIs l vs × Knows known ns earlier (vs ∷ env)
+
+-- A value is there as a member of an index where routes lead to these numbers, and its text follows a text. Then these
+-- routes lead to these.
+abbrev pub PutsPiece : At → ℕ → Last → List Last → List Route → List Last → Form → Shown → List ℕ → ℕ → ℕ → List ℕ → Next → List ℕ → Type 0
+PutsPiece at i last ns rs ms k shown packet content place line next after =
+    (spent : ℕ) → spent + next.more < MOST_VALUES → (earlier : Scope → Option Val) (env : Env) (vs : List Val) → length vs ≡ i
+    → IfKnown (after_last at.index last).last (length vs ≡ (after_last at.index last).index) → LastIs (after_last at.index last).last vs → Knows at.known ns earlier (vs ∷ env)
+    → (v : Val) × (walk k (among packet content earlier) (vs ∷ env) place spent ≡ Ok (v, next.place, spent + 1 + next.more)) × (after ≡ line ++ shown v) × ValueIs next.last v
+    × Knows rs ms earlier ((vs ++ v ∷ []) ∷ env)
+
 -- a field alone, after the text before it
-alone_next : (m : Member) (at : At) (opens : List ℕ) (mark : ℕ) (packet : List ℕ) (content : ℕ) (from to : Reached) → at.lead ≡ opens ++ (mark ∷ 32 ∷ []) → PutsField (record { lead = at.lead ++ field_text m.name; align = at.align; index = at.index; class = m.class }) packet content from to
+alone_next : (kept : Bool) (m : Member) (i : ℕ) (at : At) (opens : List ℕ) (mark : ℕ) (packet : List ℕ) (content : ℕ) (from to : Reached) (ns ms : List Last) → at.lead ≡ opens ++ (mark ∷ 32 ∷ []) → length at.known ≡ length ns → PutsSlot (record { lead = at.lead ++ field_text m.name; align = at.align; index = at.index; known = at.known; kept = kept; class = m.class }) packet content from ns to ms
     → (some : ℕ) × (to.more ≡ from.more + some) × (next_multiple_of from.place at.align ≤ content)
-    × PutsNext (after_last at.index from.last) (form m.class) (λ v. mark ∷ 32 ∷ part_text (member_part m) v) packet content (next_multiple_of from.place at.align) (from.line ++ opens) (record { place = to.place; text = 0; more = some; last = to.last }) to.line
-alone_next m at opens mark packet content from to lead field =
+    × PutsPiece at i from.last ns (with_kept kept i at.known) ms (form m.class) (λ v. mark ∷ 32 ∷ part_text (member_part m) v) packet content (next_multiple_of from.place at.align) (from.line ++ opens) (record { place = to.place; text = 0; more = some; last = to.last }) to.line
+alone_next kept m i at opens mark packet content from to ns ms lead same field =
     let begin = next_multiple_of from.place at.align in
-    let before = after_last at.index from.last in
-    let name = field_text m.name in
-    let shown : Shown = λ v. (at.lead ++ name) ++ value_text m.class v in
-    let end : Next = record { place = to.place; text = 0; more = field.1; last = to.last } in
-    let told : PutsNext before (form m.class) shown packet content begin from.line end to.line = standing_next to.last before (form m.class) shown packet content begin to.place 0 field.1 from.line to.line field.3 field.4 in (
+    let name = field_text m.name in (
       field.1,
       field.2,
       field.0,
-      λ spent room earlier env vs counted last.
-          let p = told spent room earlier env vs counted last in
+      λ spent room earlier env vs placed counted last knows.
+          let p = field.3 spent room earlier env vs counted last (same, knows) in
           let text = value_text m.class p.0 in
           let part : part_text (member_part m) p.0 ≡ name ++ text = ap (λ (x : Part). part_text x p.0) (member-is m) in
           let led : (at.lead ++ name) ++ text ≡ opens ++ (mark ∷ 32 ∷ part_text (member_part m) p.0) = append_assoc at.lead name text ∙ ap (λ l. l ++ (name ++ text)) lead ∙ append_assoc opens (mark ∷ 32 ∷ []) (name ++ text) ∙ ap (λ xs. opens ++ (mark ∷ 32 ∷ xs)) (sym part) in
-          (p.0, p.1, p.2 ∙ ap (λ xs. from.line ++ xs) led ∙ sym (append_assoc from.line opens (mark ∷ 32 ∷ part_text (member_part m) p.0)), p.3),
+          let few : spent < MOST_VALUES = omega (arith, room) in
+          let is = stands_is to.last (form m.class) packet content begin to.place spent (spent + 1 + field.1) earlier (vs ∷ env) p.0 few p.1 field.4 in
+          let next = kept_knows kept i at.known (form m.class) packet content begin to.place (spent + 1 + field.1) spent ns ms earlier env vs p.0 same field.5 few placed knows p.1 in
+          (p.0, p.1, p.2 ∙ ap (λ xs. from.line ++ xs) led ∙ sym (append_assoc from.line opens (mark ∷ 32 ∷ part_text (member_part m) p.0)), is, next),
     )
 
 larger_some : (align one other : ℕ) → IsLarger align one other → 0 < align
@@ -352,13 +420,30 @@ larger_some align one other l = elim l.is [
   | inr is ↦ (let some = l.other_some in omega (arith, is, some))
 ]
 
+-- a structure's value has these members, from which routes lead to these numbers
+abbrev IsGroup : List Route → List Last → (Scope → Option Val) → Env → Option Val → Type 0
+IsGroup known ms earlier env None = ⊥
+IsGroup known ms earlier env (Some v) = (ws : List Val) × (v ≡ group (vals_of ws)) × Knows known ms earlier (ws ∷ env)
+
+from_after_length : (i : ℕ) (rs : List Route) → length (from_after i rs) ≡ length rs
+from_after_length i [] = refl
+from_after_length i (r ∷ rs) = ap suc (from_after_length i rs)
+
+pub from_inside_length : (rs : List Route) → length (from_inside rs) ≡ length rs
+from_inside_length [] = refl
+from_inside_length (r ∷ rs) = ap suc (from_inside_length rs)
+
+from_later_length : (scope : Scope) (rs : List Route) → length (from_later scope rs) ≡ length rs
+from_later_length scope [] = refl
+from_later_length scope (r ∷ rs) = ap suc (from_later_length scope rs)
+
 module _ (packet : List ℕ) (content : ℕ) where
   -- members of a structure, and the brace after them, are its value
-  structure_from : (ps : Pieces) (k : Class) (base more : ℕ) (opens : List ℕ) (from to : Reached) → k.kind ≡ kind.Structure (members_of ps) → 0 < length (members_of ps) → next_multiple_of from.place base ≤ content
-      → Going anywhere (members_of ps) packet content (next_multiple_of from.place base) (0 + length (members_of ps)) to.place (0 + more + insides ps) (λ vs. ⊤) (from.line ++ opens) (to.line ++ ends (ended_after 0 ps))
+  structure_from : (ps : Pieces) (k : Class) (base more : ℕ) (opens : List ℕ) (from to : Reached) (known : List Route) (ms : List Last) (earlier : Scope → Option Val) (env : Env) → k.kind ≡ kind.Structure (members_of ps) → 0 < length (members_of ps) → next_multiple_of from.place base ≤ content
+      → Going (Only earlier env) (members_of ps) packet content (next_multiple_of from.place base) (0 + length (members_of ps)) to.place (0 + more + insides ps) (λ vs. Knows known ms earlier (vs ∷ env)) (from.line ++ opens) (to.line ++ ends (ended_after 0 ps))
       → (place : ℕ) → next_multiple_of place k.align ≡ next_multiple_of from.place base → (spent : ℕ) → spent + 1 + length (members_of ps) + insides ps + more ≤ MOST_VALUES
-      → Puts (form k) (value_text k) packet content place spent to.place (spent + 1 + length (members_of ps) + insides ps + more) (from.line ++ opens) (to.line ++ (ends (ended_after 0 ps) ++ (32 ∷ 125 ∷ [])))
-  structure_from ps k base more opens from to is some within going place starts spent few earlier env =
+      → (v : Val) × (walk (form k) (among packet content earlier) env place spent ≡ Ok (v, to.place, spent + 1 + length (members_of ps) + insides ps + more)) × (to.line ++ (ends (ended_after 0 ps) ++ (32 ∷ 125 ∷ [])) ≡ (from.line ++ opens) ++ value_text k v) × IsGroup known ms earlier env (Some v)
+  structure_from ps k base more opens from to known ms earlier env is some within going place starts spent few =
       let all = members_of ps in
       let begin = next_multiple_of from.place base in
       let opened = from.line ++ opens in
@@ -366,122 +451,160 @@ module _ (packet : List ℕ) (content : ℕ) where
       let closes_now = ends (ended_after 0 ps) in
       let line = to.line ++ closes_now in
       let after = to.line ++ (closes_now ++ (32 ∷ 125 ∷ [])) in
+      let Where = Only earlier env in
+      let Are : List Val → Type 0 = λ vs. Knows known ms earlier (vs ∷ env) in
       let end : MembersEnd = record { place = to.place; text = 0; more = inner_more } in
       let counted : 0 + length all ≡ length all = omega arith in
-      let rows = going_ends anywhere all packet content begin opened to.place inner_more 0 (λ vs. ⊤) line (subst (λ n. Going anywhere all packet content begin n to.place inner_more (λ vs. ⊤) opened line) counted going) in
+      let rows = going_ends Where all packet content begin opened to.place inner_more 0 Are line (subst (λ n. Going Where all packet content begin n to.place inner_more Are opened line) counted going) in
       let text : line ++ (32 ∷ 125 ∷ []) ≡ after = append_assoc to.line closes_now (32 ∷ 125 ∷ []) in
-      let whole = closed anywhere (λ vs. ⊤) all packet content begin 0 end opened line after some (sym text) rows in
+      let whole = closed Where Are all packet content begin 0 end opened line after some (sym text) rows in
       let total : spent + 1 + length all + insides ps + more ≡ spent + 1 + length all + inner_more = omega arith in
-      let v = puts_structure anywhere (λ vs. ⊤) (λ o. ⊤) (λ vs are. tt) k all packet content place begin spent end (spent + 1 + length all + insides ps + more) opened after is (sym starts) within total few whole earlier env tt in
-      (v.0, v.1, v.2)
+      puts_structure Where Are (IsGroup known ms earlier env) (λ vs are. (vs, refl, are)) k all packet content place begin spent end (spent + 1 + length all + insides ps + more) opened after is (sym starts) within total few whole earlier env (refl, refl)
 
   mutual
     -- a piece is its member, after the text before it
-    pub piece_next : (p : Piece) (at : At) (opens : List ℕ) (mark : ℕ) (from to : Reached) → at.lead ≡ opens ++ (mark ∷ 32 ∷ []) → IsPiece at.align p → PutsFields (piece_slots at p) packet content from to
-        → (some : ℕ) × (to.more ≡ from.more + some) × (next_multiple_of from.place at.align ≤ content)
-        × PutsNext (after_last at.index from.last) (form (member_of p).class) (λ v. mark ∷ 32 ∷ part_text (member_part (member_of p)) v) packet content (next_multiple_of from.place at.align) (from.line ++ opens) (record { place = to.place; text = 0; more = some + inside p; last = last_known (ended_by p) to.last }) (to.line ++ ends (ended_by p))
-    piece_next (alone m) at opens mark from to lead is puts =
-        let s : Slot = record { lead = at.lead ++ field_text m.name; align = at.align; index = at.index; class = m.class } in
-        let one = alone_next m at opens mark packet content from to lead (subst (λ r. PutsField s packet content from r) (sym puts.2) puts.1) in
+    pub piece_next : (p : Piece) (i : ℕ) (at : At) (opens : List ℕ) (mark : ℕ) (from to : Reached) (ns ms : List Last) → at.lead ≡ opens ++ (mark ∷ 32 ∷ []) → IsPiece at.align p → length at.known ≡ length ns → PutsSlots (piece_slots at p) packet content from ns to ms
+        → (some : ℕ) × (to.more ≡ from.more + some) × (next_multiple_of from.place at.align ≤ content) × (length (known_by i at.known p) ≡ length ms)
+        × PutsPiece at i from.last ns (known_by i at.known p) ms (form (member_of p).class) (λ v. mark ∷ 32 ∷ part_text (member_part (member_of p)) v) packet content (next_multiple_of from.place at.align) (from.line ++ opens) (record { place = to.place; text = 0; more = some + inside p; last = last_known (ended_by p) to.last }) (to.line ++ ends (ended_by p))
+    piece_next (alone kept m) i at opens mark from to ns ms lead is same puts =
+        let s : Slot = record { lead = at.lead ++ field_text m.name; align = at.align; index = at.index; known = at.known; kept = kept; class = m.class } in
+        let slot : PutsSlot s packet content from ns to ms = subst (λ r. PutsSlot s packet content from ns r ms) (sym puts.3.0) (subst (λ k. PutsSlot s packet content from ns puts.0 k) (sym puts.3.1) puts.2) in
+        let one = alone_next kept m i at opens mark packet content from to ns ms lead same slot in
         let shown : Shown = λ v. mark ∷ 32 ∷ part_text (member_part m) v in
         let begin = next_multiple_of from.place at.align in
-        let none : one.0 ≡ one.0 + 0 = omega arith in (
+        let none : one.0 ≡ one.0 + 0 = omega arith in
+        let P = λ (n : ℕ) (xs : List ℕ). PutsPiece at i from.last ns (with_kept kept i at.known) ms (form m.class) shown packet content begin (from.line ++ opens) (record { place = to.place; text = 0; more = n; last = to.last }) xs in (
           one.0,
           one.1,
           one.2,
-          subst (λ n. PutsNext (after_last at.index from.last) (form m.class) shown packet content begin (from.line ++ opens) (record { place = to.place; text = 0; more = n; last = to.last }) (to.line ++ [])) none
-              (subst (λ xs. PutsNext (after_last at.index from.last) (form m.class) shown packet content begin (from.line ++ opens) (record { place = to.place; text = 0; more = one.0; last = to.last }) xs) (sym (append-nil to.line)) one.3),
+          kept_lengths kept i at.known (form m.class) packet content begin ns ms same slot.5,
+          subst (λ n. P n (to.line ++ [])) none (subst (λ xs. P one.0 xs) (sym (append-nil to.line)) one.3),
         )
-    piece_next (inner m base ps) at opens mark from to lead is puts =
+    piece_next (inner m base ps) i at opens mark from to ns ms lead is same puts =
         let name = field_text m.name in
         let before = opens ++ (mark ∷ 32 ∷ name) in
         let begin = next_multiple_of from.place at.align in
         let n = ended_after 0 ps in
         let many = length (members_of ps) in
+        let inside_known = from_inside at.known in
+        let known = known_after 0 inside_known ps in
         let leads : opened_lead at.lead m.name ≡ before ++ (123 ∷ 32 ∷ []) =
         ap (λ l. l ++ (name ++ (123 ∷ 32 ∷ []))) lead ∙ append_assoc opens (mark ∷ 32 ∷ []) (name ++ (123 ∷ 32 ∷ [])) ∙ sym (append_assoc opens (mark ∷ 32 ∷ name) (123 ∷ 32 ∷ []))
         in
         let first = next_multiple_of from.place base in
         let opened = from.line ++ before in
-        let going = pieces_going ps 0 0 (first_at (before ++ (123 ∷ 32 ∷ [])) base) before (members_of ps) first 0 lasts.Unknown opened from to refl refl is.3 (over_some ps base 0 before is.1) (λ vs counted known. (tt, tt)) (going_begins anywhere (members_of ps) packet content first opened (LastIs lasts.Unknown) tt) (subst (λ l. PutsFields (pieces_slots 0 (first_at l base) ps) packet content from to) leads puts) in
+        let inner_at : At = first_at (before ++ (123 ∷ 32 ∷ [])) base inside_known in
+        let lengths : length inner_at.known ≡ length ns = from_inside_length at.known ∙ same in
+        let going = pieces_going ps 0 0 inner_at before (members_of ps) first 0 lasts.Unknown opened from to ns ms inside_known ns refl refl is.3 (over_some ps base 0 before is.1) lengths (λ vs counted l. (tt, tt))
+        (λ earlier env holds. going_begins (Only earlier env) (members_of ps) packet content first opened (AreKnown lasts.Unknown inside_known ns earlier env) (tt, holds)) (subst (λ l. PutsSlots (pieces_slots 0 (first_at l base inside_known) ps) packet content from ns to ms) leads puts) in
         let within = begins_some ps first content is.1 going.2 in
         let more = going.0 in
         let least = IsLeastMultiple-next from.place base (larger_some base at.align m.class.align is.2) in
         let low = below from.place base at.align m.class.align (next_multiple_of from.place base) is.2 least in
         let starts : next_multiple_of begin m.class.align ≡ next_multiple_of from.place base = larger_begins from.place base at.align m.class.align (next_multiple_of from.place base) is.2 least in
         let end : Next = record { place = to.place; text = 0; more = more + (many + insides ps); last = lasts.Unknown } in
-        let puts_it : PutsNext (after_last at.index from.last) (form m.class) (λ v. mark ∷ 32 ∷ part_text (member_part m) v) packet content begin (from.line ++ opens) end (to.line ++ ends (suc n)) = λ spent room earlier env vs counted last.
+        let puts_it : PutsPiece at i from.last ns (from_after i known) ms (form m.class) (λ v. mark ∷ 32 ∷ part_text (member_part m) v) packet content begin (from.line ++ opens) end (to.line ++ ends (suc n)) = λ spent room earlier env vs placed counted last knows.
         let total : spent + 1 + many + insides ps + more ≡ spent + 1 + (more + (many + insides ps)) = omega arith in
         let few : spent + 1 + many + insides ps + more ≤ MOST_VALUES = omega (arith, room) in
-        let p = structure_from ps m.class base more before from to is.0 is.1 within going.3 begin starts spent few earlier (vs ∷ env) in
+        let holds = knows_inside at.known ns earlier (vs ∷ env) [] knows in
+        let p = structure_from ps m.class base more before from to known ms earlier (vs ∷ env) is.0 is.1 within (going.4 earlier (vs ∷ env) holds) begin starts spent few in
         let text = value_text m.class p.0 in
         let part : part_text (member_part m) p.0 ≡ name ++ text = ap (λ (x : Part). part_text x p.0) (member-is m) in
         let wrote : to.line ++ (ends n ++ (32 ∷ 125 ∷ [])) ≡ (from.line ++ opens) ++ (mark ∷ 32 ∷ part_text (member_part m) p.0) =
         p.2 ∙ ap (λ xs. xs ++ text) (sym (append_assoc from.line opens (mark ∷ 32 ∷ name))) ∙ append_assoc (from.line ++ opens) (mark ∷ 32 ∷ name) text ∙ ap (λ xs. (from.line ++ opens) ++ (mark ∷ 32 ∷ xs)) (sym part)
         in
-        (p.0, p.1 ∙ ap (λ k. Ok (p.0, to.place, k)) total, ap (λ xs. to.line ++ xs) (sym (ends_on n)) ∙ wrote, tt)
+        let after : Knows (from_after i known) ms earlier ((vs ++ p.0 ∷ []) ∷ env) = subst (λ v. Knows (from_after i known) ms earlier ((vs ++ v ∷ []) ∷ env)) (sym p.3.1) (knows_after known ms i earlier env vs p.3.0 placed p.3.2) in
+        (p.0, p.1 ∙ ap (λ k. Ok (p.0, to.place, k)) total, ap (λ xs. to.line ++ xs) (sym (ends_on n)) ∙ wrote, tt, after)
         in
-        (more, going.1, omega (arith, low, within), puts_it)
+        (more, going.1, omega (arith, low, within), from_after_length i known ∙ going.3, puts_it)
 
     -- pieces are members of a structure, one after the other
-    pieces_going : (ps : Pieces) (i n : ℕ) (at : At) (opens : List ℕ) (all : List Member) (begin so_far : ℕ) (l : Last) (before : List ℕ) (from to : Reached) → drop i all ≡ members_of ps → at.lead ≡ opens ++ (mark_at 123 i ∷ 32 ∷ []) → ArePieces at.align ps → IsOver ps at.align n opens
+    pieces_going : (ps : Pieces) (i n : ℕ) (at : At) (opens : List ℕ) (all : List Member) (begin so_far : ℕ) (l : Last) (before : List ℕ) (from to : Reached) (ns ms : List Last) (known₀ : List Route) (ns₀ : List Last) → drop i all ≡ members_of ps → at.lead ≡ opens ++ (mark_at 123 i ∷ 32 ∷ []) → ArePieces at.align ps → IsOver ps at.align n opens → length at.known ≡ length ns
         → ((vs : List Val) → length vs ≡ i → LastIs l vs → IfKnown (after_last at.index from.last).last (length vs ≡ (after_last at.index from.last).index) × LastIs (after_last at.index from.last).last vs)
-        → Going anywhere all packet content begin i (next_multiple_of from.place at.align) so_far (LastIs l) before (from.line ++ opens) → PutsFields (pieces_slots i at ps) packet content from to
-        → (more : ℕ) × (to.more ≡ from.more + more) × Begins ps (next_multiple_of from.place at.align) content × Going anywhere all packet content begin (i + length (members_of ps)) to.place (so_far + more + insides ps) (λ vs. ⊤) before (to.line ++ ends (ended_after n ps))
-    pieces_going no_pieces i n at opens all begin so_far l before from to left lead are over known going puts =
+        → ((earlier : Scope → Option Val) (env : Env) → Knows known₀ ns₀ earlier ([] ∷ env) → Going (Only earlier env) all packet content begin i (next_multiple_of from.place at.align) so_far (AreKnown l at.known ns earlier env) before (from.line ++ opens)) → PutsSlots (pieces_slots i at ps) packet content from ns to ms
+        → (more : ℕ) × (to.more ≡ from.more + more) × Begins ps (next_multiple_of from.place at.align) content × (length (known_after i at.known ps) ≡ length ms)
+        × ((earlier : Scope → Option Val) (env : Env) → Knows known₀ ns₀ earlier ([] ∷ env) → Going (Only earlier env) all packet content begin (i + length (members_of ps)) to.place (so_far + more + insides ps) (λ vs. Knows (known_after i at.known ps) ms earlier (vs ∷ env)) before (to.line ++ ends (ended_after n ps)))
+    pieces_going no_pieces i n at opens all begin so_far l before from to ns ms known₀ ns₀ left lead are over same known going puts =
         let none : i ≡ i + 0 = omega arith in
-        let same : so_far ≡ so_far + 0 + 0 = omega arith in
-        let more : to.more ≡ from.more + 0 = (let m = ap (λ (r : Reached). r.more) puts in omega (arith, m)) in
-        let place : next_multiple_of from.place at.align ≡ to.place = ap (next_multiple_of from.place) over.0 ∙ at_one from.place ∙ ap (λ (r : Reached). r.place) (sym puts) in
-        let line : from.line ++ opens ≡ to.line ++ ends n = λ j. (sym puts j).line ++ over.1 j in (
+        let sum : so_far ≡ so_far + 0 + 0 = omega arith in
+        let more : to.more ≡ from.more + 0 = (let m = ap (λ (r : Reached). r.more) puts.0 in omega (arith, m)) in
+        let place : next_multiple_of from.place at.align ≡ to.place = ap (next_multiple_of from.place) over.0 ∙ at_one from.place ∙ ap (λ (r : Reached). r.place) (sym puts.0) in
+        let line : from.line ++ opens ≡ to.line ++ ends n = λ j. (sym puts.0 j).line ++ over.1 j in (
           0,
           more,
           tt,
-          λ spent room earlier env is_there.
-              let g = going spent (omega (arith, room)) earlier env is_there in
+          same ∙ ap length (sym puts.1),
+          λ around outer holds spent room earlier env is_there.
+              let g = going around outer holds spent (omega (arith, room)) earlier env is_there in
               let total : spent + (i + 0) + (so_far + 0 + 0) ≡ spent + i + so_far = omega arith in
               let walk_on = λ (k p s : ℕ). walk_members (parts_of (map views.member_part (drop k all))) (among packet content earlier) env g.0 p s in
-              (g.0, (λ j. walk_on (sym none j) (sym place j) (total j)) ∙ g.1, g.2 ∙ none, sym line ∙ g.3 ∙ ap (λ k. before ++ row 123 (member_texts (map member_part (take k all)) (vals_of g.0))) none, tt),
+              (g.0, (λ j. walk_on (sym none j) (sym place j) (total j)) ∙ g.1, g.2 ∙ none, sym line ∙ g.3 ∙ ap (λ k. before ++ row 123 (member_texts (map member_part (take k all)) (vals_of g.0))) none, subst (λ xs. Knows at.known xs around (g.0 ∷ outer)) (sym puts.1) g.4.1),
         )
-    pieces_going (more_pieces p ps) i n at opens all begin so_far l before from to left lead are over known going puts =
+    pieces_going (more_pieces p ps) i n at opens all begin so_far l before from to ns ms known₀ ns₀ left lead are over same known going puts =
         let m = member_of p in
         let closed_by = ended_by p in
         let d = drop_one all i m (members_of ps) left in
-        let apart = fields_split packet content (piece_slots at p) (pieces_slots (suc i) (later_at closed_by (suc i)) ps) from to puts in
+        let rs = known_by i at.known p in
+        let next_at : At = later_at closed_by (suc i) rs in
+        let apart = slots_split packet content (piece_slots at p) (pieces_slots (suc i) next_at ps) from to ns ms puts in
         let mid = apart.0 in
-        let one = piece_next p at opens (mark_at 123 i) from mid lead are.0 apart.1 in
+        let ks = apart.1 in
         let mark = mark_at 123 i in
+        let one = piece_next p i at opens mark from mid ns ks lead are.0 same apart.2 in
         let place = next_multiple_of from.place at.align in
-        let next : Next = record { place = mid.place; text = 0; more = one.0 + inside p; last = last_known closed_by mid.last } in
-        let after = mid.line ++ ends closed_by in
         let next_last = last_known closed_by mid.last in
-        let on : Going anywhere all packet content begin (i + 1) mid.place (so_far + next.more) (LastIs next_last) before after = going_on anywhere all packet content begin before i place so_far (LastIs l) (LastIs next_last) m mark (from.line ++ opens) next after d.0 d.1 refl going (λ vs v counted are_known is. last_is (last_known closed_by mid.last) vs v is)
-        (λ spent room earlier env vs there counted is. let k = known vs counted is in one.3 spent room earlier env vs k.0 k.1)
-        in
+        let next : Next = record { place = mid.place; text = 0; more = one.0 + inside p; last = next_last } in
+        let after = mid.line ++ ends closed_by in
         let step : i + 1 ≡ suc i = omega arith in
         let stays : mid.place ≡ next_multiple_of mid.place 1 = sym (at_one mid.place) in
-        let going_next : Going anywhere all packet content begin (suc i) (next_multiple_of mid.place 1) (so_far + next.more) (LastIs next_last) before after = subst (λ q. Going anywhere all packet content begin (suc i) q (so_far + next.more) (LastIs next_last) before after) stays (subst (λ k. Going anywhere all packet content begin k mid.place (so_far + next.more) (LastIs next_last) before after) step on) in
-        let others = pieces_going ps (suc i) closed_by (later_at closed_by (suc i)) (ends closed_by) all begin (so_far + next.more) next_last before mid to (sym (ap (λ k. drop k all) step) ∙ d.2) refl are.1 (over_later ps closed_by) (λ vs counted is. known_after closed_by (suc i) mid.last vs counted is) going_next apart.2 in
+        let on : (earlier : Scope → Option Val) (env : Env) → Knows known₀ ns₀ earlier ([] ∷ env) → Going (Only earlier env) all packet content begin (suc i) (next_multiple_of mid.place 1) (so_far + next.more) (AreKnown next_last rs ks earlier env) before after = λ earlier env holds.
+        let Are = AreKnown l at.known ns earlier env in
+        let Become = AreKnown next_last rs ks earlier env in
+        let shown : Shown = λ v. mark ∷ 32 ∷ part_text (member_part m) v in
+        let becoming : PutsBecoming (Only earlier env) Are Become i (form m.class) shown packet content place (from.line ++ opens) next after = λ spent room e around vs is counted knows.
+        let k = known vs counted knows.0 in
+        let v = one.4 spent room earlier env vs counted k.0 k.1 knows.1 in
+        let walked : walk (form m.class) (among packet content e) (vs ∷ around) place spent ≡ Ok (v.0, next.place, spent + 1 + next.more) = only (λ x y. walk (form m.class) (among packet content x) (vs ∷ y) place spent ≡ Ok (v.0, next.place, spent + 1 + next.more)) earlier e env around is v.1 in
+        (v.0, walked, v.2, (last_is next_last vs v.0 v.3, v.4))
+        in
+        let further = going_further (Only earlier env) all packet content begin before i place so_far Are Become m mark (from.line ++ opens) next after d.0 d.1 refl (going earlier env holds) becoming in
+        subst (λ q. Going (Only earlier env) all packet content begin (suc i) q (so_far + next.more) Become before after) stays (subst (λ k. Going (Only earlier env) all packet content begin k mid.place (so_far + next.more) Become before after) step further)
+        in
+        let others = pieces_going ps (suc i) closed_by next_at (ends closed_by) all begin (so_far + next.more) next_last before mid to ks ms known₀ ns₀ (sym (ap (λ k. drop k all) step) ∙ d.2) refl are.1 (over_later ps closed_by) one.3 (λ vs counted is. known_after_last closed_by (suc i) mid.last vs counted is) on apart.3 in
         let count : suc i + length (members_of ps) ≡ i + suc (length (members_of ps)) = omega arith in
         let sum : so_far + (one.0 + inside p) + others.0 + insides ps ≡ so_far + (one.0 + others.0) + (inside p + insides ps) = omega arith in
-        let more : to.more ≡ from.more + (one.0 + others.0) = (let a = one.1 in let b = others.1 in omega (arith, a, b)) in (
+        let more : to.more ≡ from.more + (one.0 + others.0) = (let a = one.1 in let b = others.1 in omega (arith, a, b)) in
+        let end_known = known_after (suc i) rs ps in (
           one.0 + others.0,
           more,
           one.2,
-          subst (λ k. Going anywhere all packet content begin k to.place (so_far + (one.0 + others.0) + (inside p + insides ps)) (λ vs. ⊤) before (to.line ++ ends (ended_after closed_by ps))) count
-              (subst (λ g. Going anywhere all packet content begin (suc i + length (members_of ps)) to.place g (λ vs. ⊤) before (to.line ++ ends (ended_after closed_by ps))) sum others.3),
+          others.3,
+          λ earlier env holds.
+              let Are : List Val → Type 0 = λ vs. Knows end_known ms earlier (vs ∷ env) in
+              subst (λ k. Going (Only earlier env) all packet content begin k to.place (so_far + (one.0 + others.0) + (inside p + insides ps)) Are before (to.line ++ ends (ended_after closed_by ps))) count
+              (subst (λ g. Going (Only earlier env) all packet content begin (suc i + length (members_of ps)) to.place g Are before (to.line ++ ends (ended_after closed_by ps))) sum (others.4 earlier env holds)),
         )
 
   -- the fields of a structure, and the braces after them, are its value, with so many others in its arrays
-  pub pieces_scope : (ps : Pieces) (k : Class) (base : ℕ) (opens : List ℕ) (from to : Reached) → k.kind ≡ kind.Structure (members_of ps) → 0 < length (members_of ps) → ArePieces base ps → PutsFields (pieces_slots 0 (first_at (opens ++ (123 ∷ 32 ∷ [])) base) ps) packet content from to
-      → (more : ℕ) × (to.more ≡ from.more + more)
-      × ((place : ℕ) → next_multiple_of place k.align ≡ next_multiple_of from.place base → (spent : ℕ) → spent + 1 + length (members_of ps) + insides ps + more ≤ MOST_VALUES
-      → Puts (form k) (value_text k) packet content place spent to.place (spent + 1 + length (members_of ps) + insides ps + more) (from.line ++ opens) (to.line ++ (ends (ended_after 0 ps) ++ (32 ∷ 125 ∷ []))))
-  pieces_scope ps k base opens from to is some are puts =
+  pub pieces_scope : (ps : Pieces) (k : Class) (base : ℕ) (opens : List ℕ) (known : List Route) (from to : Reached) (ns ms : List Last) → k.kind ≡ kind.Structure (members_of ps) → 0 < length (members_of ps) → ArePieces base ps → length known ≡ length ns → PutsSlots (pieces_slots 0 (first_at (opens ++ (123 ∷ 32 ∷ [])) base (from_inside known)) ps) packet content from ns to ms
+      → (more : ℕ) × (to.more ≡ from.more + more) × (length (known_after 0 (from_inside known) ps) ≡ length ms)
+      × ((place : ℕ) → next_multiple_of place k.align ≡ next_multiple_of from.place base → (spent : ℕ) → spent + 1 + length (members_of ps) + insides ps + more ≤ MOST_VALUES → (earlier : Scope → Option Val) (env : Env) → Knows known ns earlier env
+      → (v : Val) × (walk (form k) (among packet content earlier) env place spent ≡ Ok (v, to.place, spent + 1 + length (members_of ps) + insides ps + more)) × (to.line ++ (ends (ended_after 0 ps) ++ (32 ∷ 125 ∷ [])) ≡ (from.line ++ opens) ++ value_text k v))
+  pieces_scope ps k base opens known from to ns ms is some are same puts =
       let first = next_multiple_of from.place base in
       let opened = from.line ++ opens in
-      let going = pieces_going ps 0 0 (first_at (opens ++ (123 ∷ 32 ∷ [])) base) opens (members_of ps) first 0 lasts.Unknown opened from to refl refl are (over_some ps base 0 opens some) (λ vs counted known. (tt, tt)) (going_begins anywhere (members_of ps) packet content first opened (LastIs lasts.Unknown) tt) puts in
-      (going.0, going.1, structure_from ps k base going.0 opens from to is some (begins_some ps first content some going.2) going.3)
+      let inside_known = from_inside known in
+      let at : At = first_at (opens ++ (123 ∷ 32 ∷ [])) base inside_known in
+      let lengths : length at.known ≡ length ns = from_inside_length known ∙ same in
+      let going = pieces_going ps 0 0 at opens (members_of ps) first 0 lasts.Unknown opened from to ns ms inside_known ns refl refl are (over_some ps base 0 opens some) lengths (λ vs counted l. (tt, tt))
+      (λ earlier env holds. going_begins (Only earlier env) (members_of ps) packet content first opened (AreKnown lasts.Unknown inside_known ns earlier env) (tt, holds)) puts in (
+        going.0,
+        going.1,
+        going.3,
+        λ place starts spent few earlier env knows.
+            let p = structure_from ps k base going.0 opens from to (known_after 0 inside_known ps) ms earlier env is some (begins_some ps first content some going.2) (going.4 earlier env (knows_inside known ns earlier env [] knows)) place starts spent few in
+            (p.0, p.1, p.2),
+      )
 
 -- a structure without members is where it could begin
 pub empty_puts : (k : Class) (packet : List ℕ) (content place end : ℕ) (before after : List ℕ) → k.kind ≡ kind.Structure [] → end ≡ next_multiple_of place k.align → end ≤ content → after ≡ before ++ (123 ∷ 32 ∷ 125 ∷ [])
@@ -497,15 +620,15 @@ empty_puts k packet content place end before after is ends_at within wrote spent
     (v, ap (λ f. walk f c env place spent) (sym (form_structure k [] is)) ∙ walked ∙ ap (λ n. Ok (v, n, spent + 1)) (sym ends_at), wrote ∙ ap (λ xs. before ++ xs) (sym text))
 
 -- the field that is a structure without members is its value, whatever is around it
-bare_puts : (k : Class) (opens packet : List ℕ) (content : ℕ) (from to : Reached) → k.kind ≡ kind.Structure [] → PutsField (record { lead = opens; align = 1; index = 0; class = k }) packet content from to
+bare_puts : (k : Class) (opens packet : List ℕ) (content : ℕ) (known : List Route) (from to : Reached) (ns ms : List Last) → k.kind ≡ kind.Structure [] → length known ≡ length ns → ((earlier : Scope → Option Val) (env : Env) → Knows known ns earlier env) → PutsSlot (record { lead = opens; align = 1; index = 0; known = known; kept = false; class = k }) packet content from ns to ms
     → (more : ℕ) × (to.more ≡ from.more + more)
     × ((spent : ℕ) → spent + 1 + 0 + 0 + more ≤ MOST_VALUES → Puts (form k) (value_text k) packet content from.place spent to.place (spent + 1 + 0 + 0 + more) (from.line ++ opens) (to.line ++ []))
-bare_puts k opens packet content from to is field = (
+bare_puts k opens packet content known from to ns ms is lengths free field = (
   field.1,
   field.2,
   λ spent few earlier env.
       let c = among packet content earlier in
-      let p = field.3 spent (omega (arith, few)) earlier env [] tt tt in
+      let p = field.3 spent (omega (arith, few)) earlier env [] tt tt (lengths, free earlier ([] ∷ env)) in
       let bare = structure k.align (parts_of []) in
       let same : bare ≡ form k = form_structure k [] is in
       let alone : walk (form k) c env from.place spent ≡ walk (form k) c ([] ∷ env) from.place spent = subst (λ f. walk f c env from.place spent ≡ walk f c ([] ∷ env) from.place spent) same refl in
@@ -516,16 +639,20 @@ bare_puts k opens packet content from to is field = (
 )
 
 -- the fields of a scope, and the braces after them, are its value
-pub scope_puts : (k : Class) (ps : Pieces) (opens packet : List ℕ) (content : ℕ) (from to : Reached) → k.kind ≡ kind.Structure (members_of ps) → ArePieces k.align ps → PutsFields (scope_slots opens k ps) packet content from to
-    → (more : ℕ) × (to.more ≡ from.more + more)
+pub scope_puts : (k : Class) (ps : Pieces) (opens packet : List ℕ) (content : ℕ) (known : List Route) (from to : Reached) (ns ms : List Last) → k.kind ≡ kind.Structure (members_of ps) → ArePieces k.align ps → length known ≡ length ns → ((earlier : Scope → Option Val) (env : Env) → Knows known ns earlier env) → PutsSlots (scope_slots opens known k ps) packet content from ns to ms
+    → (more : ℕ) × (to.more ≡ from.more + more) × (length (known_after 0 (from_inside known) ps) ≡ length ms)
     × ((spent : ℕ) → spent + 1 + length (members_of ps) + insides ps + more ≤ MOST_VALUES → Puts (form k) (value_text k) packet content from.place spent to.place (spent + 1 + length (members_of ps) + insides ps + more) (from.line ++ opens) (to.line ++ ends (ended_in ps)))
-scope_puts k no_pieces opens packet content from to is are puts = bare_puts k opens packet content from to is (subst (λ r. PutsField (record { lead = opens; align = 1; index = 0; class = k }) packet content from r) (sym puts.2) puts.1)
-scope_puts k (more_pieces p ps) opens packet content from to is are puts =
+scope_puts k no_pieces opens packet content known from to ns ms is are same free puts =
+    let s : Slot = record { lead = opens; align = 1; index = 0; known = known; kept = false; class = k } in
+    let slot : PutsSlot s packet content from ns to ms = subst (λ r. PutsSlot s packet content from ns r ms) (sym puts.3.0) (subst (λ k. PutsSlot s packet content from ns puts.0 k) (sym puts.3.1) puts.2) in
+    let one = bare_puts k opens packet content known from to ns ms is same free slot in
+    (one.0, one.1, from_inside_length known ∙ same ∙ ap length (sym slot.5), one.2)
+scope_puts k (more_pieces p ps) opens packet content known from to ns ms is are same free puts =
     let all = more_pieces p ps in
-    let one = pieces_scope packet content all k k.align opens from to is (omega arith) are puts in
+    let one = pieces_scope packet content all k k.align opens known from to ns ms is (omega arith) are same puts in
     let total = λ (spent : ℕ). spent + 1 + length (members_of all) + insides all + one.0 in
     let text : to.line ++ (ends (ended_after 0 all) ++ (32 ∷ 125 ∷ [])) ≡ to.line ++ ends (ended_in all) = ap (λ xs. to.line ++ xs) (ends_on (ended_after 0 all)) in
-    (one.0, one.1, λ spent few. subst (λ xs. Puts (form k) (value_text k) packet content from.place spent to.place (total spent) (from.line ++ opens) xs) text (one.2 from.place refl spent few))
+    (one.0, one.1, one.2, λ spent few. subst (λ xs. Puts (form k) (value_text k) packet content from.place spent to.place (total spent) (from.line ++ opens) xs) text (λ earlier env. one.3 from.place refl spent few earlier env (free earlier env)))
 
 -- one brace and so many more
 pub brace_more : (n : ℕ) (line : List ℕ) → 0 < n → (line ++ (32 ∷ 125 ∷ [])) ++ ends (n - 1) ≡ line ++ ends n
@@ -533,27 +660,29 @@ brace_more zero line some = absurd (omega (arith, some))
 brace_more (suc n) line some = (let fewer : suc n - 1 ≡ n = omega arith in ap (λ k. (line ++ (32 ∷ 125 ∷ [])) ++ ends k) fewer ∙ append_assoc line (32 ∷ 125 ∷ []) (ends n))
 
 -- the fields of structures, and the braces after them, are their values
-pub scopes_puts : (ks : List Class) (ss : List Scoped) (opens packet : List ℕ) (content spent : ℕ) (from to : Reached) → 0 < length ks → AreScoped ks ss → PutsFields (all_slots opens ss) packet content from to
+pub scopes_puts : (ks : List ScopeClass) (ss : List Scoped) (opens : List ℕ) (known : List Route) (packet : List ℕ) (content spent : ℕ) (from to : Reached) (ns ms : List Last) → 0 < length ks → AreScoped ks ss → length known ≡ length ns → ((earlier : Scope → Option Val) (env : Env) → Knows known ns earlier env) → PutsSlots (all_slots opens known ss) packet content from ns to ms
     → (more : ℕ) × (to.more ≡ from.more + more) × (spent + values_in ss + more ≤ MOST_VALUES → PutsScopes ks packet content from.place spent to.place (spent + values_in ss + more) (from.line ++ opens) (to.line ++ ends (ended_last 0 ss)))
-scopes_puts [] ss opens packet content spent from to some are puts = absurd (omega (arith, some))
-scopes_puts (k ∷ ks) [] opens packet content spent from to some are puts = absurd are
-scopes_puts (k ∷ []) (s ∷ []) opens packet content spent from to some are puts =
-    let fields : PutsFields (scope_slots opens k s.pieces) packet content from to = subst (λ c. PutsFields (scope_slots opens c s.pieces) packet content from to) (sym are.0) (subst (λ xs. PutsFields xs packet content from to) (append-nil (slots opens s)) puts) in
-    let one = scope_puts k s.pieces opens packet content from to are.1 are.2 fields in
+scopes_puts [] ss opens known packet content spent from to ns ms some are same free puts = absurd (omega (arith, some))
+scopes_puts (k ∷ ks) [] opens known packet content spent from to ns ms some are same free puts = absurd are
+scopes_puts (k ∷ []) (s ∷ []) opens known packet content spent from to ns ms some are same free puts =
+    let fields : PutsSlots (slots opens known s) packet content from ns to ms = subst (λ xs. PutsSlots xs packet content from ns to ms) (append-nil (slots opens known s)) puts in
+    let one = scope_puts s.class s.pieces opens packet content known from to ns ms are.1 are.2 same free fields in
     let after = to.line ++ ends (ended_in s.pieces) in
     let total : spent + 1 + length (members_of s.pieces) + insides s.pieces + one.0 ≡ spent + values_in (s ∷ []) + one.0 = omega arith in
-    (one.0, one.1, λ few. subst (λ n. Puts (form k) (value_text k) packet content from.place spent to.place n (from.line ++ opens) after) total (one.2 spent (omega (arith, few))))
-scopes_puts (k ∷ []) (s ∷ (t ∷ ss)) opens packet content spent from to some are puts = absurd are.3
-scopes_puts (k ∷ (l ∷ ks)) (s ∷ []) opens packet content spent from to some are puts = absurd are.3
-scopes_puts (k ∷ (l ∷ ks)) (s ∷ (t ∷ ss)) opens packet content spent from to some are puts =
+    (one.0, one.1, λ few. subst (λ (x : ScopeClass). PutsScopes (x ∷ []) packet content from.place spent to.place (spent + values_in (s ∷ []) + one.0) (from.line ++ opens) after) (sym are.0) (subst (λ n. Puts (form s.class) (value_text s.class) packet content from.place spent to.place n (from.line ++ opens) after) total (one.3 spent (omega (arith, few)))))
+scopes_puts (k ∷ []) (s ∷ (t ∷ ss)) opens known packet content spent from to ns ms some are same free puts = absurd are.3
+scopes_puts (k ∷ (l ∷ ks)) (s ∷ []) opens known packet content spent from to ns ms some are same free puts = absurd are.3
+scopes_puts (k ∷ (l ∷ ks)) (s ∷ (t ∷ ss)) opens known packet content spent from to ns ms some are same free puts =
     let rest = t ∷ ss in
     let next = before_next s.pieces in
+    let later = known_scope known s in
     let closes_now = ends (ended_in s.pieces) in
-    let apart = fields_split packet content (slots opens s) (all_slots next rest) from to puts in
+    let apart = slots_split packet content (slots opens known s) (all_slots next later rest) from to ns ms puts in
     let mid = apart.0 in
-    let first = scope_puts k s.pieces opens packet content from mid are.1 are.2 (subst (λ c. PutsFields (scope_slots opens c s.pieces) packet content from mid) (sym are.0) apart.1) in
+    let kept = apart.1 in
+    let first = scope_puts s.class s.pieces opens packet content known from mid ns kept are.1 are.2 same free apart.2 in
     let many = spent + 1 + length (members_of s.pieces) + insides s.pieces + first.0 in
-    let others = scopes_puts (l ∷ ks) rest next packet content many mid to (omega arith) are.3 apart.2 in
+    let others = scopes_puts (l ∷ ks) rest next later packet content many mid to kept ms (omega arith) are.3 (from_later_length s.scope (known_after 0 (from_inside known) s.pieces) ∙ first.2) (λ earlier env. knows_later (known_after 0 (from_inside known) s.pieces) s.scope kept earlier env) apart.3 in
     let more = first.0 + others.0 in
     let total : many + values_in rest + others.0 ≡ spent + values_in (s ∷ rest) + more = omega arith in
     let mid_line = mid.line ++ closes_now in
@@ -562,11 +691,11 @@ scopes_puts (k ∷ (l ∷ ks)) (s ∷ (t ∷ ss)) opens packet content spent fro
     let sum : to.more ≡ from.more + more = (let a = first.1 in let b = others.1 in omega (arith, a, b)) in (
       more,
       sum,
-      λ few. (
+      λ few. subst (λ (x : ScopeClass). PutsScopes (x ∷ (l ∷ ks)) packet content from.place spent to.place (spent + values_in (s ∷ rest) + more) (from.line ++ opens) after) (sym are.0) (
         mid.place,
         many,
         mid_line,
-        first.2 spent (omega (arith, few)),
+        first.3 spent (omega (arith, few)),
         subst (λ n. PutsScopes (l ∷ ks) packet content mid.place many to.place n (mid_line ++ codes ", ") after) total
             (subst (λ xs. PutsScopes (l ∷ ks) packet content mid.place many to.place (many + values_in rest + others.0) xs after) text (others.2 (omega (arith, few)))),
       ),

@@ -147,6 +147,12 @@ PutsAfter Where Are i k shown packet content place line next after =
     (spent : ℕ) → spent + next.more < MOST_VALUES → (earlier : Scope → Option Val) (env : Env) (vs : List Val) → Where earlier env → length vs ≡ i → Are vs
     → (v : Val) × (walk k (among packet content earlier) (vs ∷ env) place spent ≡ Ok (v, next.place, spent + 1 + next.more)) × (after ≡ line ++ shown v) × ValueIs next.last v
 
+-- so is one after which this is known of all
+abbrev pub PutsBecoming : ((Scope → Option Val) → Env → Type 0) → (List Val → Type 0) → (List Val → Type 0) → ℕ → Form → Shown → List ℕ → ℕ → ℕ → List ℕ → Next → List ℕ → Type 0
+PutsBecoming Where Are Become i k shown packet content place line next after =
+    (spent : ℕ) → spent + next.more < MOST_VALUES → (earlier : Scope → Option Val) (env : Env) (vs : List Val) → Where earlier env → length vs ≡ i → Are vs
+    → (v : Val) × (walk k (among packet content earlier) (vs ∷ env) place spent ≡ Ok (v, next.place, spent + 1 + next.more)) × (after ≡ line ++ shown v) × Become (vs ++ v ∷ [])
+
 pub last_is : (l : Last) (vs : List Val) (v : Val) → ValueIs l v → LastIs l (vs ++ v ∷ [])
 last_is lasts.Unknown vs v is = tt
 last_is (lasts.Unsigned n) vs v is = (vs, ap (λ w. vs ++ w ∷ []) is)
@@ -158,7 +164,7 @@ value_of (Ok x) = x.0
 value_of (Err e) = unsigned 0
 
 -- a value that was found is what stands there
-stands_is : (l : Last) (k : Form) (packet : List ℕ) (content place end spent total : ℕ) (earlier : Scope → Option Val) (env : Env) (v : Val) → spent < MOST_VALUES → walk k (among packet content earlier) env place spent ≡ Ok (v, end, total) → StandsAs l k packet content place → ValueIs l v
+pub stands_is : (l : Last) (k : Form) (packet : List ℕ) (content place end spent total : ℕ) (earlier : Scope → Option Val) (env : Env) (v : Val) → spent < MOST_VALUES → walk k (among packet content earlier) env place spent ≡ Ok (v, end, total) → StandsAs l k packet content place → ValueIs l v
 stands_is lasts.Unknown k packet content place end spent total earlier env v few walked stands = tt
 stands_is (lasts.Unsigned n) k packet content place end spent total earlier env v few walked stands = ap value_of (sym walked ∙ (stands spent few earlier env).1)
 stands_is (lasts.Label z) k packet content place end spent total earlier env v few walked stands = ap value_of (sym walked ∙ (stands spent few earlier env).1)
@@ -226,9 +232,9 @@ module _ (Where : (Scope → Option Val) → Env → Type 0) (ms : List Member) 
       added ∙ ap (λ xs. xs ++ (lead ∷ 32 ∷ text)) wrote ∙ append_assoc before (row 123 all) (lead ∷ 32 ∷ text)
       ∙ ap (λ l. before ++ (row 123 all ++ (l ∷ 32 ∷ text))) (sym lead_is) ∙ ap (λ xs. before ++ xs) (sym (row_more 123 all text)) ∙ ap (λ ts. before ++ row 123 ts) (sym longer)
 
-  pub going_on : (i at more : ℕ) (Are Become : List Val → Type 0) (m : Member) (lead : ℕ) (line : List ℕ) (to : Next) (after : List ℕ) → i < length ms → m ≡ get_or ms i m → lead ≡ mark_at 123 i → Going Where ms packet content place i at more Are before line
-      → ((vs : List Val) (v : Val) → length vs ≡ i → Are vs → ValueIs to.last v → Become (vs ++ v ∷ [])) → PutsAfter Where Are i (form m.class) (λ v. lead ∷ 32 ∷ part_text (member_part m) v) packet content at line to after → Going Where ms packet content place (i + 1) to.place (more + to.more) Become before after
-  going_on i at more Are Become m lead line to after within is marked going become puts spent room earlier env is_there =
+  pub going_further : (i at more : ℕ) (Are Become : List Val → Type 0) (m : Member) (lead : ℕ) (line : List ℕ) (to : Next) (after : List ℕ) → i < length ms → m ≡ get_or ms i m → lead ≡ mark_at 123 i → Going Where ms packet content place i at more Are before line
+      → PutsBecoming Where Are Become i (form m.class) (λ v. lead ∷ 32 ∷ part_text (member_part m) v) packet content at line to after → Going Where ms packet content place (i + 1) to.place (more + to.more) Become before after
+  going_further i at more Are Become m lead line to after within is marked going puts spent room earlier env is_there =
       let c = among packet content earlier in
       let g = going spent (omega (arith, room)) earlier env is_there in
       let vs = g.0 in
@@ -237,7 +243,12 @@ module _ (Where : (Scope → Option Val) → Env → Type 0) (ms : List Member) 
       let total : spent + (i + 1) + (more + to.more) ≡ spent + i + more + 1 + to.more = omega arith in
       let walked = ap (rest p.0 to.place) total ∙ sym (next c env i m vs at (spent + i + more) within is ∙ ap (λ r. and_then r rest) p.1) ∙ g.1 in
       let longer : length (vs ++ p.0 ∷ []) ≡ i + 1 = length-append vs (p.0 ∷ []) ∙ ap (λ n. n + 1) g.2 in
-      (vs ++ p.0 ∷ [], walked, longer, texts_on i m vs p.0 lead line after within is g.2 marked g.3 p.2, become vs p.0 g.2 g.4 p.3)
+      (vs ++ p.0 ∷ [], walked, longer, texts_on i m vs p.0 lead line after within is g.2 marked g.3 p.2, p.3)
+
+  pub going_on : (i at more : ℕ) (Are Become : List Val → Type 0) (m : Member) (lead : ℕ) (line : List ℕ) (to : Next) (after : List ℕ) → i < length ms → m ≡ get_or ms i m → lead ≡ mark_at 123 i → Going Where ms packet content place i at more Are before line
+      → ((vs : List Val) (v : Val) → length vs ≡ i → Are vs → ValueIs to.last v → Become (vs ++ v ∷ [])) → PutsAfter Where Are i (form m.class) (λ v. lead ∷ 32 ∷ part_text (member_part m) v) packet content at line to after → Going Where ms packet content place (i + 1) to.place (more + to.more) Become before after
+  going_on i at more Are Become m lead line to after within is marked going become puts = going_further i at more Are Become m lead line to after within is marked going
+      (λ spent room earlier env vs there counted are. let p = puts spent room earlier env vs there counted are in (p.0, p.1, p.2, become vs p.0 counted are p.3))
 
   pub going_ends : (at more text : ℕ) (Are : List Val → Type 0) (line : List ℕ) → Going Where ms packet content place (length ms) at more Are before line → PutsMembers (row 123) Where Are ms packet content place before (record { place = at; text = text; more = more }) line
   going_ends at more text Are line going spent room earlier env is_there =

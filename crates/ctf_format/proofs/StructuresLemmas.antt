@@ -1,5 +1,5 @@
 -- Structures of integers at fixed distances that are shown where they are.
-use Rattle.std.proofs.Common.{◌≡◌, ℕ, ◌+◌, ◌*◌, ◌≤◌, List, [], ◌∷◌, ◌++◌, length, None, Ok, refl, sym, ap, subst, ◌∙◌, arith, append-nil}
+use Rattle.std.proofs.Common.{◌≡◌, ℕ, ◌+◌, ◌*◌, ◌≤◌, List, [], ◌∷◌, ◌++◌, length, max, None, Ok, refl, sym, ap, subst, ◌∙◌, arith, append-nil}
 use Rattle.std.specs.Int.{next_multiple_of}
 use Rattle.std.specs.List.{flat_map}
 use Rattle.ctf_bits.specs.Align.{IsLeastMultiple}
@@ -16,7 +16,7 @@ use Rattle.ctf_format.specs.RunNumbers.{run_text}
 use Rattle.ctf_format.specs.Standing.{Before, Puts, PutsNext, PutsSome}
 use Rattle.ctf_format.specs.Texts.{Shown, value_text}
 use Rattle.ctf_format.specs.declared.standing.Last.TheVariants as lasts
-use Rattle.ctf_format.proofs.RecordsLemmas.{numbers_to, no_number, pieces_scope, run_numbers}
+use Rattle.ctf_format.proofs.RecordsLemmas.{fields_slots, numbers_to, no_number, pieces_scope, plain_numbers, run_numbers}
 
 -- members of which none is gone into are these
 alones_members : (ms : List Member) → members_of (all_alone ms) ≡ ms
@@ -49,14 +49,15 @@ structure_puts k s packet content at place first before line after is least begi
     let puts : PutsFields fields packet content from to = subst (λ xs. PutsFields xs packet content from to) whole all.2 in
     let lengths : length (members_of ps) ≡ length ms = ap length (alones_members ms) in
     let none = alones_insides ms in
-    let one = pieces_scope packet content ps k k.align [] from to (is.is ∙ ap kind.Structure (sym (alones_members ms))) (omega (arith, lengths, is.some)) (alones_are k.align ms) puts in
+    let slots = fields_slots packet content fields from to [] (plain_numbers (max 8 s.align) 0 s.span fields [] s.numbers is.numbers.1 tt) puts in
+    let one = pieces_scope packet content ps k k.align [] [] from to [] [] (is.is ∙ ap kind.Structure (sym (alones_members ms))) (omega (arith, lengths, is.some)) (alones_are k.align ms) refl slots in
     let total : spent + 1 + length (members_of ps) + insides ps + one.0 ≡ spent + s.count = omega (arith, one.1, is.count, lengths, none) in
     let few : spent + 1 + length (members_of ps) + insides ps + one.0 ≤ MOST_VALUES = omega (arith, total, room) in
     let end = place + s.span in
     let text : line ++ (ends (ended_after 0 ps) ++ (32 ∷ 125 ∷ [])) ≡ after = ap (λ n. line ++ (ends n ++ (32 ∷ 125 ∷ []))) (alones_close ms) ∙ sym closed in
     subst (λ xs. Puts (form k) (value_text k) packet content at spent end (spent + s.count) before xs) text
     (subst (λ xs. Puts (form k) (value_text k) packet content at spent end (spent + s.count) xs (line ++ (ends (ended_after 0 ps) ++ (32 ∷ 125 ∷ [])))) (append-nil before)
-    (subst (λ n. Puts (form k) (value_text k) packet content at spent end n (before ++ []) (line ++ (ends (ended_after 0 ps) ++ (32 ∷ 125 ∷ [])))) total (one.2 at refl spent few)))
+    (subst (λ n. Puts (form k) (value_text k) packet content at spent end n (before ++ []) (line ++ (ends (ended_after 0 ps) ++ (32 ∷ 125 ∷ [])))) total (λ earlier env. one.3 at refl spent few earlier env tt)))
 
 -- a value of so many, after the members of a structure
 pub some_next : (before : Before) (k : Form) (shown : Shown) (many more : ℕ) (packet : List ℕ) (content place end text : ℕ) (line after : List ℕ) → many ≡ 1 + more → PutsSome k shown many packet content place end line after

@@ -1,6 +1,7 @@
 pub mod Around
 pub mod Branches
 pub mod Digits
+pub mod Kept
 pub mod Labels
 pub mod Lines
 pub mod Numbers

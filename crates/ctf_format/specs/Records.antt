@@ -4,7 +4,7 @@ use Rattle.std.specs.Int.{next_multiple_of}
 use Rattle.std.specs.List.{All}
 use Rattle.ctf_bits.specs.Align.{IsLeastMultiple}
 use Rattle.ctf_class.specs.Integers.{bits_of}
-use Rattle.ctf_class.specs.Records.{Slot, TakesNumbers, After, AreIntegers, AreMany, IsShown, IsStructure, have_special, room_of}
+use Rattle.ctf_class.specs.Records.{ScopeClass, Slot, TakesNumbers, After, AreIntegers, AreMany, IsShown, IsStructure, have_special, room_of}
 use Rattle.ctf_class.specs.declared.class.Class.{Class}
 use Rattle.ctf_class.specs.declared.shown.Integers.{Integers}
 use Rattle.ctf_class.specs.declared.record_plan.PlannedRun.{PlannedRun}
@@ -165,13 +165,13 @@ pub record BeginsAt (from : ℕ) (r : PlannedRun) (place : ℕ) : Type 0 where
   pub value : place ≡ next_multiple_of from r.align
   pub whole : 0 < length r.numbers → place % 8 ≡ 0
 
--- The values of classes follow each other from a place to another, whatever was decoded before, and their texts,
+-- The values of scopes follow each other from a place to another, whatever was decoded before, and their texts,
 -- with a comma between two, follow a text. So many values were begun before them, and after them.
-abbrev pub PutsScopes : List Class → List ℕ → ℕ → ℕ → ℕ → ℕ → ℕ → List ℕ → List ℕ → Type 0
+abbrev pub PutsScopes : List ScopeClass → List ℕ → ℕ → ℕ → ℕ → ℕ → ℕ → List ℕ → List ℕ → Type 0
 PutsScopes [] packet content place spent end total before after = ⊥
 PutsScopes (k ∷ []) packet content place spent end total before after =
-    Puts (form k) (value_text k) packet content place spent end total before after
+    Puts (form k.1) (value_text k.1) packet content place spent end total before after
 PutsScopes (k ∷ (l ∷ ks)) packet content place spent end total before after =
     (mid many : ℕ) × (text : List ℕ)
-    × Puts (form k) (value_text k) packet content place spent mid many before text
+    × Puts (form k.1) (value_text k.1) packet content place spent mid many before text
     × PutsScopes (l ∷ ks) packet content mid many end total (text ++ codes ", ") after

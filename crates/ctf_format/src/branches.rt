@@ -1,29 +1,37 @@
-//! Texts of variants and arrays by their plans.
+//! Texts of fields that are kept, or go by what is kept, of variants and of arrays, by their plans.
 
 ghost use Rattle.std.specs.Prelude.{ℕ, ℤ, List, [], ◌∷◌, ◌≡◌, ◌++◌, ◌≤◌, take, vec_len, IfSome, Some};
-ghost use Rattle.ctf_class.specs.Records.{Slot, AreBranches, AreEach, AreNested, AreRuns, AreSequence, AreVariant, IsElement, IsItem, IsPlanned};
+ghost use Rattle.std.specs.Prelude.{true, false};
+ghost use Rattle.std.specs.List.{All};
+ghost use Rattle.ctf_class.specs.declared.class.Kind as kinds;
+ghost use Rattle.ctf_class.specs.declared.route.Length.{Length as LengthOf};
+ghost use Rattle.ctf_class.specs.Records.{Slot, AreBranches, AreRuns, IsArray, IsCount, IsElement, IsInteger, IsItem, IsLabelled, IsNested, IsPlanned, IsVariant};
 ghost use Rattle.ctf_class.specs.declared.class.Class.{Class};
 ghost use Rattle.ctf_class.specs.declared.record_plan.PlannedRun.{PlannedRun as Planned};
+ghost use Rattle.ctf_class.specs.declared.route.Route.{Route};
 ghost use Rattle.ctf_decode.specs.Routes.{chosen};
-ghost use Rattle.ctf_format.specs.Branches.{HasBranch, HasBranches, HasElement, HasFields, HasItems, HasNested, HasOptions, HasSequence, HasVariant, PutsBranch, PutsElement, PutsOption, PutsThose, WritesArray, WritesRow};
+ghost use Rattle.ctf_format.specs.Branches.{HasBranch, HasBranches, HasElement, HasFields, HasItems, HasNested, HasOptions, PutsBranch, PutsElement, PutsNested, PutsOption, WritesArray, WritesRow, come};
+ghost use Rattle.ctf_format.specs.Kept.{PutsSlots, Within};
 ghost use Rattle.ctf_format.specs.Put.{IsPut, IsWithin};
-ghost use Rattle.ctf_format.specs.Records.{PutsFields, reached};
+ghost use Rattle.ctf_format.specs.Records.{IsNear, PutsFields};
 ghost use Rattle.ctf_format.specs.Rows.{enclosed, row};
+ghost use Rattle.ctf_format.specs.declared.standing.Last.{Last as LastOf};
 ghost use Rattle.ctf_format.specs.declared.standing.Last.TheVariants as lasts;
 
-use crate::around::unsigned;
-use crate::array::begin_at;
+use crate::array::{begin_at, put_integers};
 use crate::content::Content;
-use crate::element::{ElementLead, put_index};
+use crate::element::{ElementLead, LONGEST_ROW, put_index};
+use crate::kept::KeptNumbers;
 use crate::leaf::{put_enumeration, put_one};
 use crate::mark::{put_end, put_nothing};
 use crate::planned_record::{Reach, put_before, put_ends, put_more_ends, put_runs};
 use crate::room::with_room;
 use crate::shown_row::put_shown_row;
-use crate::standing::{AlignedInteger, Last, MembersEnd, Next, Position};
+use crate::standing::{AlignedInteger, Last, MembersEnd, Next, Position, put_fixed_text};
 use ctf_class::{
-    Branch, Branches, Elements, InnerPlans, LONGEST_NUMBER, Nested, PREPARED_HEAD, PlannedRun,
-    PlannedSequence, PlannedVariant, PreparedText, RecordPlan,
+    Branch, Branches, Choices, Count, Elements, InnerPlans, LONGEST_NUMBER, Labelled, LoneInteger,
+    Nested, PREPARED_HEAD, PlannedArray, PlannedRun, PlannedVariant, PreparedText, RecordPlan,
+    Shown,
 };
 use ctf_decode::MOST_VALUES;
 
@@ -34,32 +42,56 @@ pub(crate) struct Items<'a> {
     pub(crate) count: u64,
 }
 
-/// Writes the fields of a plan, and a brace, and gives the index after them; `reach` says how far they came then.
+/// A place of a packet, in bits from its first one, and an index in a buffer, in bytes: where a value and its text
+/// begin.
+#[derive(Clone, Copy)]
+pub(crate) struct Begin<'a> {
+    pub(crate) packet: &'a Content<'a>,
+    pub(crate) place: u64,
+    pub(crate) text: usize,
+}
+
+impl Begin<'_> {
+    /// How far fields came that begin there, before the first one.
+    #[inline(always)]
+    fn first(self) -> MembersEnd
+        ensures { result ≡ record { place = self.entry.place; text = self.entry.text; more = 0 } }
+    {
+        MembersEnd {
+            place: self.place,
+            text: self.text,
+            more: 0,
+        }
+    }
+}
+
+/// Writes the fields of a plan, and a brace, after those that came so far, and gives how far they came then.
 #[cycle(branches)]
 #[inline(always)]
 pub(crate) fn put_fields(
     plan: &RecordPlan,
     packet: &Content<'_>,
-    reach: &mut Reach,
+    from: MembersEnd,
+    kept: &mut KeptNumbers,
     buffer: &mut Vec<u8>,
-    at: usize,
-) -> Option<usize>
+) -> Option<MembersEnd>
     requires is { HasFields plan.now }
-    requires within { IsWithin packet.now reach.old.place buffer.old at }
-    requires few { reach.old.more ≤ MOST_VALUES }
+    requires within { IsWithin packet.now from.place buffer.old from.text }
+    requires few { from.more ≤ MOST_VALUES }
     ensures puts { (depth : ℕ) (slots : List Slot) → IsPlanned depth slots plan.now →
-        IfSome result (λ text. (line : List ℕ) ×
-        PutsFields slots packet.now.bytes.now packet.now.end
-        (reached reach.old (take at buffer.old.items)) (reached reach.new line) ×
-        (take text buffer.new.items ≡ line ++ (32 ∷ 125 ∷ []))) }
-    ensures within { IfSome result (IsWithin packet.now reach.new.place buffer.new) }
-    ensures few { IfSome result (λ _. reach.new.more ≤ MOST_VALUES) }
+        IfSome result (λ end. (line : List ℕ) ×
+        PutsSlots slots packet.now.bytes.now packet.now.end
+        (come from (take from.text buffer.old.items)) kept.old.numbers
+        (come end line) kept.new.numbers ×
+        (take end.text buffer.new.items ≡ line ++ (32 ∷ 125 ∷ []))) }
+    ensures within { IfSome result (λ end. IsWithin packet.now end.place buffer.new end.text) }
+    ensures few { IfSome result (λ end. end.more ≤ MOST_VALUES) }
 {
     let Branches::Listed(branches) = &plan.branches;
     if branches.is_empty() {
-        return put_runs(plan.runs.as_slice(), packet, reach, buffer, at);
+        return put_last_runs(plan.runs.as_slice(), packet, from, buffer);
     }
-    put_branched(plan, packet, reach, buffer, at)
+    put_branched(plan, packet, from, kept, buffer)
 }
 
 /// Writes those of a plan with branches, out of the way of records without any.
@@ -68,153 +100,239 @@ pub(crate) fn put_fields(
 fn put_branched(
     plan: &RecordPlan,
     packet: &Content<'_>,
-    reach: &mut Reach,
+    from: MembersEnd,
+    kept: &mut KeptNumbers,
     buffer: &mut Vec<u8>,
-    at: usize,
-) -> Option<usize>
+) -> Option<MembersEnd>
     requires is { HasFields plan.now }
-    requires within { IsWithin packet.now reach.old.place buffer.old at }
-    requires few { reach.old.more ≤ MOST_VALUES }
+    requires within { IsWithin packet.now from.place buffer.old from.text }
+    requires few { from.more ≤ MOST_VALUES }
     ensures puts { (depth : ℕ) (slots : List Slot) → IsPlanned depth slots plan.now →
-        IfSome result (λ text. (line : List ℕ) ×
-        PutsFields slots packet.now.bytes.now packet.now.end
-        (reached reach.old (take at buffer.old.items)) (reached reach.new line) ×
-        (take text buffer.new.items ≡ line ++ (32 ∷ 125 ∷ []))) }
-    ensures within { IfSome result (IsWithin packet.now reach.new.place buffer.new) }
-    ensures few { IfSome result (λ _. reach.new.more ≤ MOST_VALUES) }
+        IfSome result (λ end. (line : List ℕ) ×
+        PutsSlots slots packet.now.bytes.now packet.now.end
+        (come from (take from.text buffer.old.items)) kept.old.numbers
+        (come end line) kept.new.numbers ×
+        (take end.text buffer.new.items ≡ line ++ (32 ∷ 125 ∷ []))) }
+    ensures within { IfSome result (λ end. IsWithin packet.now end.place buffer.new end.text) }
+    ensures few { IfSome result (λ end. end.more ≤ MOST_VALUES) }
 {
     let Branches::Listed(branches) = &plan.branches;
-    let text = put_branches(branches.as_slice(), packet, reach, buffer, at)?;
-    put_runs(plan.runs.as_slice(), packet, reach, buffer, text)
+    let mid = put_branches(branches.as_slice(), packet, from, kept, buffer)?;
+    put_last_runs(plan.runs.as_slice(), packet, mid, buffer)
 }
 
-/// Writes the fields of branches, and gives the index after them; `reach` says how far they came then.
+/// Writes the fields of branches, and gives how far they came then.
 #[cycle(branches)]
 fn put_branches(
     branches: &[Branch],
     packet: &Content<'_>,
-    reach: &mut Reach,
+    from: MembersEnd,
+    kept: &mut KeptNumbers,
     buffer: &mut Vec<u8>,
-    at: usize,
-) -> Option<usize>
+) -> Option<MembersEnd>
     requires are { HasBranches branches.now }
-    requires within { IsWithin packet.now reach.old.place buffer.old at }
-    requires few { reach.old.more ≤ MOST_VALUES }
+    requires within { IsWithin packet.now from.place buffer.old from.text }
+    requires few { from.more ≤ MOST_VALUES }
     ensures puts { (depth : ℕ) (slots : List Slot) (runs : List Planned) →
-        AreBranches (IsPlanned depth) slots branches.now runs → IfSome result (λ text.
+        AreBranches (IsPlanned depth) slots branches.now runs → IfSome result (λ end.
         (used : List Slot) × (others : List Slot) × (slots ≡ used ++ others) ×
-        AreRuns others runs × PutsFields used packet.now.bytes.now packet.now.end
-        (reached reach.old (take at buffer.old.items))
-        (reached reach.new (take text buffer.new.items))) }
-    ensures within { IfSome result (IsWithin packet.now reach.new.place buffer.new) }
-    ensures few { IfSome result (λ _. reach.new.more ≤ MOST_VALUES) }
+        AreRuns others runs × PutsSlots used packet.now.bytes.now packet.now.end
+        (come from (take from.text buffer.old.items)) kept.old.numbers
+        (come end (take end.text buffer.new.items)) kept.new.numbers) }
+    ensures within { IfSome result (λ end. IsWithin packet.now end.place buffer.new end.text) }
+    ensures few { IfSome result (λ end. end.more ≤ MOST_VALUES) }
 {
-    let mut so_far = *reach;
-    let mut text = at;
+    let mut at = from;
     for branch in branches {
-        let mut to = so_far;
-        text = put_branch(branch, packet, &mut to, buffer, text)?;
-        so_far = to;
+        at = put_branch(branch, packet, at, kept, buffer)?;
     }
-    *reach = so_far;
-    Some(text)
+    Some(at)
 }
 
-/// Writes the fields of a branch, and gives the index after them; `reach` says how far they came then.
+/// Writes the fields of a branch, and gives how far they came then.
 #[cycle(branches)]
 fn put_branch(
     branch: &Branch,
     packet: &Content<'_>,
-    reach: &mut Reach,
+    from: MembersEnd,
+    kept: &mut KeptNumbers,
     buffer: &mut Vec<u8>,
-    at: usize,
-) -> Option<usize>
+) -> Option<MembersEnd>
     requires is { HasBranch branch.now }
-    requires within { IsWithin packet.now reach.old.place buffer.old at }
-    requires few { reach.old.more ≤ MOST_VALUES }
-    ensures puts { let before = take at buffer.old.items in (depth : ℕ) →
-        PutsBranch result depth branch.now packet.now reach.old before reach.new buffer.new.items }
-    ensures within { IfSome result (IsWithin packet.now reach.new.place buffer.new) }
-    ensures few { IfSome result (λ _. reach.new.more ≤ MOST_VALUES) }
+    requires within { IsWithin packet.now from.place buffer.old from.text }
+    requires few { from.more ≤ MOST_VALUES }
+    ensures puts { let before = take from.text buffer.old.items in (depth : ℕ) →
+        PutsBranch result depth branch.now packet.now from before kept.old.numbers
+        buffer.new.items kept.new.numbers }
+    ensures within { IfSome result (λ end. IsWithin packet.now end.place buffer.new end.text) }
+    ensures few { IfSome result (λ end. end.more ≤ MOST_VALUES) }
 {
-    let text = put_runs_before(branch.runs.as_slice(), packet, reach, buffer, at)?;
-    let place = begin_at(branch.align, packet, reach.place)?;
-    let text = put_prepared(&branch.ready, buffer, text)?;
+    let mid = put_runs_before(branch.runs.as_slice(), packet, from, buffer)?;
+    let place = begin_at(branch.align, packet, mid.place)?;
+    let text = put_prepared(&branch.ready, buffer, mid.text)?;
     let InnerPlans::Each(plans) = &branch.plans;
-    let from = Position { place, text };
-    let next = put_nested(plans.as_slice(), &branch.nested, packet, from, buffer)?;
-    let more = reach.more + next.more;
+    let begin = Begin {
+        packet: &*packet,
+        place,
+        text,
+    };
+    let next = put_nested(plans.as_slice(), &branch.nested, begin, kept, buffer)?;
+    let more = mid.more + next.more;
     if more > MOST_VALUES {
         return None;
     }
-    *reach = Reach {
+    Some(MembersEnd {
         place: next.place,
+        text: next.text,
         more,
-    };
-    Some(next.text)
+    })
 }
 
-/// Writes the fields of a branch after what is before the first.
+/// Writes the field of a branch after what is before it.
 #[cycle(branches)]
 #[inline(always)]
 fn put_nested(
     plans: &[RecordPlan],
     nested: &Nested,
-    packet: &Content<'_>,
-    from: Position,
+    from: Begin<'_>,
+    kept: &mut KeptNumbers,
     buffer: &mut Vec<u8>,
 ) -> Option<Next>
-    requires are { HasNested nested.now plans.now }
-    requires within { IsWithin packet.now from.place buffer.old from.text }
-    ensures puts { let line = take from.text buffer.old.items in
-        (depth : ℕ) (first : Slot) (others : List Slot) →
-        AreNested (IsPlanned depth) first others nested.now plans.now →
-        PutsThose result first others packet.now from.place line buffer.new.items }
-    ensures within { IfSome result (λ n. IsWithin packet.now n.place buffer.new n.text) }
+    requires is { HasNested nested.now plans.now }
+    requires within { IsWithin from.packet.now from.place buffer.old from.text }
+    ensures puts { let line = take from.entry.text buffer.old.items in
+        (depth : ℕ) (s : Slot) → IsNested (IsPlanned depth) s nested.now plans.now →
+        PutsNested result s from.entry.packet.now from.entry.place line kept.old.numbers
+        buffer.new.items kept.new.numbers }
+    ensures within { IfSome result
+        (λ n. IsWithin from.entry.packet.now n.place buffer.new n.text) }
     ensures few { IfSome result (λ n. n.more ≤ MOST_VALUES) }
 {
     match nested {
-        Nested::Variant(variant) => put_variant(plans, variant, packet, from, buffer),
-        Nested::Sequence(sequence) => put_sequence(plans, sequence, packet, from, buffer),
-        Nested::Array(array) => {
-            let items = Items {
-                elements: &array.elements,
-                count: array.count,
-            };
-            put_items(plans, items, packet, from, buffer)
-        }
+        Nested::Number(lone) => put_number_kept(lone, from, kept, buffer),
+        Nested::Label(labelled) => put_label_kept(labelled, from, kept, buffer),
+        Nested::Variant(variant) => put_variant(plans, variant, from, kept, buffer),
+        Nested::Array(array) => put_counted(plans, array, from, kept, buffer),
+        Nested::Text(count) => put_text_kept(*count, from, kept, buffer),
     }
 }
 
-/// Writes a tag and the option that it chooses.
+/// Writes an integer and keeps its number.
+#[inline(never)]
+fn put_number_kept(
+    lone: &LoneInteger,
+    from: Begin<'_>,
+    kept: &mut KeptNumbers,
+    buffer: &mut Vec<u8>,
+) -> Option<Next>
+    requires within { IsWithin from.packet.now from.place buffer.old from.text }
+    ensures puts { let line = take from.entry.text buffer.old.items in
+        (s : Slot) → s.kept ≡ true → IsInteger s.class lone.now.integer lone.now.align →
+        PutsNested result s from.entry.packet.now from.entry.place line kept.old.numbers
+        buffer.new.items kept.new.numbers }
+    ensures within { IfSome result
+        (λ n. IsWithin from.entry.packet.now n.place buffer.new n.text) }
+    ensures few { IfSome result (λ n. n.more ≤ MOST_VALUES) }
+{
+    let class = AlignedInteger {
+        integer: &lone.integer,
+        align: lone.align,
+    };
+    with_room(LONGEST_NUMBER, buffer, from.text).ok()?;
+    let at = Position {
+        place: from.place,
+        text: from.text,
+    };
+    let next = put_one(&class, from.packet, at, buffer)?;
+    kept.push(next.last).ok()?;
+    Some(next)
+}
+
+/// Writes an enumeration and keeps its number.
+#[inline(always)]
+fn put_label_kept(
+    labelled: &Labelled,
+    from: Begin<'_>,
+    kept: &mut KeptNumbers,
+    buffer: &mut Vec<u8>,
+) -> Option<Next>
+    requires within { IsWithin from.packet.now from.place buffer.old from.text }
+    ensures puts { let line = take from.entry.text buffer.old.items in
+        (s : Slot) → s.kept ≡ true → IsLabelled s.class labelled.now →
+        PutsNested result s from.entry.packet.now from.entry.place line kept.old.numbers
+        buffer.new.items kept.new.numbers }
+    ensures within { IfSome result
+        (λ n. IsWithin from.entry.packet.now n.place buffer.new n.text) }
+    ensures few { IfSome result (λ n. n.more ≤ MOST_VALUES) }
+{
+    let container = AlignedInteger {
+        integer: &labelled.container,
+        align: labelled.align,
+    };
+    let labels = labelled.labels.get();
+    let at = Position {
+        place: from.place,
+        text: from.text,
+    };
+    let next = put_enumeration(&container, labels, from.packet, at, buffer)?;
+    kept.push(next.last).ok()?;
+    Some(next)
+}
+
+/// Writes a text of so many bytes.
+#[inline(never)]
+fn put_text_kept(
+    count: Count,
+    from: Begin<'_>,
+    kept: &KeptNumbers,
+    buffer: &mut Vec<u8>,
+) -> Option<Next>
+    requires within { IsWithin from.packet.now from.place buffer.old from.text }
+    ensures puts { let line = take from.entry.text buffer.old.items in let ns = kept.now.numbers in
+        (s : Slot) (many : LengthOf) → s.kept ≡ false → s.class.kind ≡ kinds.Text many →
+        IsCount s.known many count →
+        PutsNested result s from.entry.packet.now from.entry.place line ns buffer.new.items ns }
+    ensures within { IfSome result
+        (λ n. IsWithin from.entry.packet.now n.place buffer.new n.text) }
+    ensures few { IfSome result (λ n. n.more ≤ MOST_VALUES) }
+{
+    let count = kept.count(count)?;
+    let at = Position {
+        place: from.place,
+        text: from.text,
+    };
+    let ends = put_fixed_text(count, from.packet, at, buffer)?;
+    Some(Next {
+        place: ends.place,
+        text: ends.text,
+        more: 0,
+        last: Last::Unknown,
+    })
+}
+
+/// Writes the option of a variant that its tag chooses.
 #[cycle(branches)]
 #[inline(always)]
 fn put_variant(
     plans: &[RecordPlan],
     variant: &PlannedVariant,
-    packet: &Content<'_>,
-    from: Position,
+    from: Begin<'_>,
+    kept: &mut KeptNumbers,
     buffer: &mut Vec<u8>,
 ) -> Option<Next>
-    requires are { HasVariant variant.now plans.now }
-    requires within { IsWithin packet.now from.place buffer.old from.text }
-    ensures puts { let line = take from.text buffer.old.items in
-        (depth : ℕ) (tag slot : Slot) →
-        AreVariant (IsPlanned depth) tag slot variant.now plans.now →
-        PutsThose result tag (slot ∷ []) packet.now from.place line buffer.new.items }
-    ensures within { IfSome result (λ n. IsWithin packet.now n.place buffer.new n.text) }
+    requires are { HasOptions plans.now }
+    requires within { IsWithin from.packet.now from.place buffer.old from.text }
+    ensures puts { let line = take from.entry.text buffer.old.items in
+        (depth : ℕ) (s : Slot) → s.kept ≡ false →
+        IsVariant (IsPlanned depth) s variant.now plans.now →
+        PutsNested result s from.entry.packet.now from.entry.place line kept.old.numbers
+        buffer.new.items kept.new.numbers }
+    ensures within { IfSome result
+        (λ n. IsWithin from.entry.packet.now n.place buffer.new n.text) }
     ensures few { IfSome result (λ n. n.more ≤ MOST_VALUES) }
 {
-    let container = AlignedInteger {
-        integer: &variant.tag.container,
-        align: variant.tag.align,
-    };
-    let labels = variant.tag.labels.get();
-    let tag = put_enumeration(&container, labels, packet, from, buffer)?;
-    let option = option_of(variant, tag.last)?;
-    let text = put_prepared(&variant.before, buffer, tag.text)?;
-    let place = tag.place;
-    put_option(plans, option, packet, Position { place, text }, buffer)
+    let option = option_of(&variant.choices, kept.number(variant.tag))?;
+    put_option(plans, option, from, kept, buffer)
 }
 
 /// Writes an option of a variant, with its braces, by its plan.
@@ -222,102 +340,104 @@ fn put_variant(
 fn put_option(
     plans: &[RecordPlan],
     option: usize,
-    packet: &Content<'_>,
-    from: Position,
+    from: Begin<'_>,
+    kept: &mut KeptNumbers,
     buffer: &mut Vec<u8>,
 ) -> Option<Next>
     requires are { HasOptions plans.now }
-    requires within { IsWithin packet.now from.place buffer.old from.text }
-    ensures puts { let before = take from.text buffer.old.items in (depth : ℕ) →
-        PutsOption result depth plans.now option packet.now from.place before buffer.new.items }
-    ensures within { IfSome result (λ n. IsWithin packet.now n.place buffer.new n.text) }
+    requires within { IsWithin from.packet.now from.place buffer.old from.text }
+    ensures puts { let before = take from.entry.text buffer.old.items in (depth : ℕ) →
+        PutsOption result depth plans.now option from.entry.packet.now from.entry.place before
+        kept.old.numbers buffer.new.items }
+    ensures kept { IfSome result (λ _. kept.new.numbers ≡ kept.old.numbers) }
+    ensures within { IfSome result
+        (λ n. IsWithin from.entry.packet.now n.place buffer.new n.text) }
     ensures few { IfSome result (λ n. n.more ≤ MOST_VALUES) }
 {
     if option >= plans.len() {
         return None;
     }
     let plan = &plans[option];
-    let mut reach = Reach {
-        place: from.place,
-        more: 0,
-    };
-    let text = put_fields(plan, packet, &mut reach, buffer, from.text)?;
-    let text = put_more_ends(plan.ended, buffer, text)?;
-    let more = reach.more + u64::from(plan.count) + 1;
+    let count = kept.len();
+    let ends = put_fields(plan, from.packet, from.first(), kept, buffer)?;
+    kept.forget(count);
+    let text = put_more_ends(plan.ended, buffer, ends.text)?;
+    let more = ends.more + u64::from(plan.count) + 1;
     if more > MOST_VALUES {
         return None;
     }
     Some(Next {
-        place: reach.place,
+        place: ends.place,
         text,
         more,
         last: Last::Unknown,
     })
 }
 
-/// Writes a length and the array that it counts.
+/// Writes an array of as many elements as its count says.
 #[cycle(branches)]
 #[inline(never)]
-fn put_sequence(
+fn put_counted(
     plans: &[RecordPlan],
-    sequence: &PlannedSequence,
-    packet: &Content<'_>,
-    from: Position,
+    array: &PlannedArray,
+    from: Begin<'_>,
+    kept: &mut KeptNumbers,
     buffer: &mut Vec<u8>,
 ) -> Option<Next>
-    requires are { HasSequence sequence.now plans.now }
-    requires within { IsWithin packet.now from.place buffer.old from.text }
-    ensures puts { let line = take from.text buffer.old.items in
-        (depth : ℕ) (number array : Slot) →
-        AreSequence (IsPlanned depth) number array sequence.now plans.now →
-        PutsThose result number (array ∷ []) packet.now from.place line buffer.new.items }
-    ensures within { IfSome result (λ n. IsWithin packet.now n.place buffer.new n.text) }
+    requires are { HasItems array.now.elements plans.now }
+    requires within { IsWithin from.packet.now from.place buffer.old from.text }
+    ensures puts { let line = take from.entry.text buffer.old.items in
+        (depth : ℕ) (s : Slot) → s.kept ≡ false →
+        IsArray (IsPlanned depth) s array.now plans.now →
+        PutsNested result s from.entry.packet.now from.entry.place line kept.old.numbers
+        buffer.new.items kept.new.numbers }
+    ensures within { IfSome result
+        (λ n. IsWithin from.entry.packet.now n.place buffer.new n.text) }
     ensures few { IfSome result (λ n. n.more ≤ MOST_VALUES) }
 {
-    let class = AlignedInteger {
-        integer: &sequence.length.integer,
-        align: sequence.length.align,
-    };
-    with_room(LONGEST_NUMBER, buffer, from.text).ok()?;
-    let length = put_one(&class, packet, from, buffer)?;
-    let count = unsigned(length.last)?;
-    let text = put_prepared(&sequence.before, buffer, length.text)?;
-    let place = length.place;
+    let count = kept.count(array.count)?;
     let items = Items {
-        elements: &sequence.elements,
+        elements: &array.elements,
         count,
     };
-    put_items(plans, items, packet, Position { place, text }, buffer)
+    put_items(plans, items, from, kept, buffer)
 }
 
 /// Writes an array.
 #[cycle(branches)]
-#[inline(never)]
 fn put_items(
     plans: &[RecordPlan],
     items: Items<'_>,
-    packet: &Content<'_>,
-    from: Position,
+    from: Begin<'_>,
+    kept: &mut KeptNumbers,
     buffer: &mut Vec<u8>,
 ) -> Option<Next>
     requires are { HasItems items.elements.now plans.now }
-    requires within { IsWithin packet.now from.place buffer.old from.text }
-    ensures puts { let line = take from.text buffer.old.items in
-        let e = items.entry.elements.now in (depth : ℕ) (k : Class) → e.align ≡ k.align →
-        IsItem (IsPlanned depth) k e.shown plans.now →
-        WritesArray result k items.entry.count packet.now from.place line buffer.new.items }
-    ensures within { IfSome result (λ n. IsWithin packet.now n.place buffer.new n.text) }
+    requires within { IsWithin from.packet.now from.place buffer.old from.text }
+    ensures puts { let line = take from.entry.text buffer.old.items in
+        let e = items.entry.elements.now in
+        (depth : ℕ) (known : List Route) (k : Class) → e.align ≡ k.align →
+        IsItem (IsPlanned depth) known k e.shown plans.now →
+        WritesArray result (Within known kept.old.numbers) k items.entry.count
+        from.entry.packet.now from.entry.place line buffer.new.items }
+    ensures kept { IfSome result (λ _. kept.new.numbers ≡ kept.old.numbers) }
+    ensures within { IfSome result
+        (λ n. IsWithin from.entry.packet.now n.place buffer.new n.text) }
     ensures few { IfSome result (λ n. n.more ≤ MOST_VALUES) }
 {
+    if let Some(Shown::Integer(lone)) = &items.elements.shown {
+        return put_counted_integers(lone, items.count, from, buffer);
+    }
     if items.count > MOST_VALUES {
         return None;
     }
-    let place = begin_at(items.elements.align, packet, from.place)?;
-    let begin = Position {
+    let place = begin_at(items.elements.align, from.packet, from.place)?;
+    let begin = Begin {
+        packet: &*from.packet,
         place,
         text: from.text,
     };
-    let ends = put_bracketed(plans, items, packet, begin, buffer)?;
+    let ends = put_bracketed(plans, items, begin, kept, buffer)?;
     let more = items.count + ends.more;
     if more > MOST_VALUES {
         return None;
@@ -330,23 +450,54 @@ fn put_items(
     })
 }
 
+/// Writes an array of so many integers.
+#[inline(always)]
+fn put_counted_integers(
+    lone: &LoneInteger,
+    count: u64,
+    from: Begin<'_>,
+    buffer: &mut Vec<u8>,
+) -> Option<Next>
+    requires within { IsWithin from.packet.now from.place buffer.old from.text }
+    ensures puts { let line = take from.entry.text buffer.old.items in
+        (known : List Route) (ns : List LastOf) (k : Class) →
+        IsInteger k lone.now.integer lone.now.align →
+        WritesArray result (Within known ns) k count from.entry.packet.now from.entry.place line
+        buffer.new.items }
+    ensures within { IfSome result
+        (λ n. IsWithin from.entry.packet.now n.place buffer.new n.text) }
+    ensures few { IfSome result (λ n. n.more ≤ MOST_VALUES) }
+{
+    let class = AlignedInteger {
+        integer: &lone.integer,
+        align: lone.align,
+    };
+    let at = Position {
+        place: from.place,
+        text: from.text,
+    };
+    put_integers(&class, count, from.packet, at, buffer)
+}
+
 /// Writes the elements of an array, with their brackets.
 #[cycle(branches)]
 fn put_bracketed(
     plans: &[RecordPlan],
     items: Items<'_>,
-    packet: &Content<'_>,
-    from: Position,
+    from: Begin<'_>,
+    kept: &mut KeptNumbers,
     buffer: &mut Vec<u8>,
 ) -> Option<MembersEnd>
     requires are { HasItems items.elements.now plans.now }
-    requires within { IsWithin packet.now from.place buffer.old from.text }
-    ensures puts { let line = take from.text buffer.old.items in
-        (depth : ℕ) (k : Class) →
-        IsItem (IsPlanned depth) k items.entry.elements.now.shown plans.now →
-        WritesRow (enclosed 91 93) result k items.entry.count packet.now from.place line
-        buffer.new.items }
-    ensures within { IfSome result (λ e. IsWithin packet.now e.place buffer.new e.text) }
+    requires within { IsWithin from.packet.now from.place buffer.old from.text }
+    ensures puts { let line = take from.entry.text buffer.old.items in
+        (depth : ℕ) (known : List Route) (k : Class) →
+        IsItem (IsPlanned depth) known k items.entry.elements.now.shown plans.now →
+        WritesRow (enclosed 91 93) result (Within known kept.old.numbers) k items.entry.count
+        from.entry.packet.now from.entry.place line buffer.new.items }
+    ensures kept { IfSome result (λ _. kept.new.numbers ≡ kept.old.numbers) }
+    ensures within { IfSome result
+        (λ e. IsWithin from.entry.packet.now e.place buffer.new e.text) }
     ensures few { IfSome result (λ e. e.more ≤ MOST_VALUES) }
 {
     if items.count == 0 {
@@ -357,7 +508,7 @@ fn put_bracketed(
             more: 0,
         });
     }
-    let ends = put_row(plans, items, packet, from, buffer)?;
+    let ends = put_row(plans, items, from, kept, buffer)?;
     let text = put_end(b']', buffer, ends.text).ok()?;
     Some(MembersEnd {
         place: ends.place,
@@ -371,27 +522,33 @@ fn put_bracketed(
 fn put_row(
     plans: &[RecordPlan],
     items: Items<'_>,
-    packet: &Content<'_>,
-    from: Position,
+    from: Begin<'_>,
+    kept: &mut KeptNumbers,
     buffer: &mut Vec<u8>,
 ) -> Option<MembersEnd>
     requires are { HasItems items.elements.now plans.now }
-    requires within { IsWithin packet.now from.place buffer.old from.text }
-    ensures puts { let line = take from.text buffer.old.items in
-        (depth : ℕ) (k : Class) →
-        IsItem (IsPlanned depth) k items.entry.elements.now.shown plans.now →
-        WritesRow (row 91) result k items.entry.count packet.now from.place line
-        buffer.new.items }
-    ensures within { IfSome result (λ e. IsWithin packet.now e.place buffer.new e.text) }
+    requires within { IsWithin from.packet.now from.place buffer.old from.text }
+    ensures puts { let line = take from.entry.text buffer.old.items in
+        (depth : ℕ) (known : List Route) (k : Class) →
+        IsItem (IsPlanned depth) known k items.entry.elements.now.shown plans.now →
+        WritesRow (row 91) result (Within known kept.old.numbers) k items.entry.count
+        from.entry.packet.now from.entry.place line buffer.new.items }
+    ensures kept { IfSome result (λ _. kept.new.numbers ≡ kept.old.numbers) }
+    ensures within { IfSome result
+        (λ e. IsWithin from.entry.packet.now e.place buffer.new e.text) }
     ensures few { IfSome result (λ e. e.more ≤ MOST_VALUES) }
 {
     if let Some(shown) = &items.elements.shown {
-        return put_shown_row(shown, items.count, packet, from, buffer);
+        let at = Position {
+            place: from.place,
+            text: from.text,
+        };
+        return put_shown_row(shown, items.count, from.packet, at, buffer);
     }
     if plans.is_empty() {
         return None;
     }
-    put_planned_row(&plans[0], items.count, packet, from, buffer)
+    put_planned_row(&plans[0], items.count, from, kept, buffer)
 }
 
 /// Writes so many elements by their plan, the first after `[`.
@@ -399,39 +556,43 @@ fn put_row(
 fn put_planned_row(
     plan: &RecordPlan,
     count: u64,
-    packet: &Content<'_>,
-    from: Position,
+    from: Begin<'_>,
+    kept: &mut KeptNumbers,
     buffer: &mut Vec<u8>,
 ) -> Option<MembersEnd>
     requires is { HasElement plan.now }
-    requires within { IsWithin packet.now from.place buffer.old from.text }
-    ensures puts { let line = take from.text buffer.old.items in
-        (depth : ℕ) (k : Class) → IsElement (IsPlanned depth) k plan.now →
-        WritesRow (row 91) result k count packet.now from.place line buffer.new.items }
-    ensures within { IfSome result (λ e. IsWithin packet.now e.place buffer.new e.text) }
+    requires within { IsWithin from.packet.now from.place buffer.old from.text }
+    ensures puts { let line = take from.entry.text buffer.old.items in
+        (depth : ℕ) (known : List Route) (k : Class) → IsElement (IsPlanned depth) known k plan.now →
+        WritesRow (row 91) result (Within known kept.old.numbers) k count from.entry.packet.now
+        from.entry.place line buffer.new.items }
+    ensures kept { IfSome result (λ _. kept.new.numbers ≡ kept.old.numbers) }
+    ensures within { IfSome result
+        (λ e. IsWithin from.entry.packet.now e.place buffer.new e.text) }
     ensures few { IfSome result (λ e. e.more ≤ MOST_VALUES) }
 {
-    let mut at = from;
-    let mut more = 0;
+    let packet = from.packet;
+    let mut at = from.first();
     let mut mark = b'[';
     for i in 0..count {
         let index = i as usize;
-        let next = put_element(plan, ElementLead { mark, index }, packet, at, buffer)?;
-        at = Position {
+        let begin = Begin {
+            packet: &*packet,
+            place: at.place,
+            text: at.text,
+        };
+        let next = put_element(plan, ElementLead { mark, index }, begin, kept, buffer)?;
+        at = MembersEnd {
             place: next.place,
             text: next.text,
+            more: at.more + next.more,
         };
-        more += next.more;
         mark = b',';
-        if more > MOST_VALUES {
+        if at.more > MOST_VALUES || at.text > LONGEST_ROW {
             return None;
         }
     }
-    Some(MembersEnd {
-        place: at.place,
-        text: at.text,
-        more,
-    })
+    Some(at)
 }
 
 /// Writes an element by its plan, after its mark and its index.
@@ -440,73 +601,113 @@ fn put_planned_row(
 fn put_element(
     plan: &RecordPlan,
     lead: ElementLead,
-    packet: &Content<'_>,
-    from: Position,
+    from: Begin<'_>,
+    kept: &mut KeptNumbers,
     buffer: &mut Vec<u8>,
 ) -> Option<Next>
     requires is { HasElement plan.now }
-    requires within { IsWithin packet.now from.place buffer.old from.text }
-    ensures puts { let line = take from.text buffer.old.items in
-        (depth : ℕ) (k : Class) → IsElement (IsPlanned depth) k plan.now →
-        PutsElement result lead k packet.now from.place line buffer.new.items }
-    ensures within { IfSome result (λ n. IsWithin packet.now n.place buffer.new n.text) }
+    requires within { IsWithin from.packet.now from.place buffer.old from.text }
+    ensures puts { let line = take from.entry.text buffer.old.items in
+        (depth : ℕ) (known : List Route) (k : Class) → IsElement (IsPlanned depth) known k plan.now →
+        PutsElement result (Within known kept.old.numbers) lead k from.entry.packet.now
+        from.entry.place line buffer.new.items }
+    ensures kept { IfSome result (λ _. kept.new.numbers ≡ kept.old.numbers) }
+    ensures within { IfSome result
+        (λ n. IsWithin from.entry.packet.now n.place buffer.new n.text) }
     ensures few { IfSome result (λ n. n.more ≤ MOST_VALUES) }
 {
     let text = put_index(lead, buffer, from.text).ok()?;
-    let mut reach = Reach {
+    let begin = MembersEnd {
         place: from.place,
+        text,
         more: 0,
     };
-    let text = put_fields(plan, packet, &mut reach, buffer, text)?;
-    let text = put_ends(plan.ended, buffer, text)?;
-    let more = reach.more + u64::from(plan.count);
+    let count = kept.len();
+    let ends = put_fields(plan, from.packet, begin, kept, buffer)?;
+    kept.forget(count);
+    let text = put_ends(plan.ended, buffer, ends.text)?;
+    let more = ends.more + u64::from(plan.count);
     if more > MOST_VALUES {
         return None;
     }
     Some(Next {
-        place: reach.place,
+        place: ends.place,
         text,
         more,
         last: Last::Unknown,
     })
 }
 
-/// Writes the fields of runs that are before a branch's own, and gives the index after them; `reach` says how far they
-/// came then.
+/// Writes the fields of runs, and a brace, after those that came so far, and gives how far they came then.
+#[inline(always)]
+fn put_last_runs(
+    runs: &[PlannedRun],
+    packet: &Content<'_>,
+    from: MembersEnd,
+    buffer: &mut Vec<u8>,
+) -> Option<MembersEnd>
+    requires near { All IsNear runs.now }
+    requires within { IsWithin packet.now from.place buffer.old from.text }
+    requires few { from.more ≤ MOST_VALUES }
+    ensures puts { (slots : List Slot) → AreRuns slots runs.now →
+        IfSome result (λ end. (line : List ℕ) ×
+        PutsFields slots packet.now.bytes.now packet.now.end
+        (come from (take from.text buffer.old.items)) (come end line) ×
+        (take end.text buffer.new.items ≡ line ++ (32 ∷ 125 ∷ []))) }
+    ensures within { IfSome result (λ end. IsWithin packet.now end.place buffer.new end.text) }
+    ensures few { IfSome result (λ end. end.more ≤ MOST_VALUES) }
+{
+    let mut reach = Reach {
+        place: from.place,
+        more: from.more,
+    };
+    let text = put_runs(runs, packet, &mut reach, buffer, from.text)?;
+    Some(MembersEnd {
+        place: reach.place,
+        text,
+        more: reach.more,
+    })
+}
+
+/// Writes the fields of runs that are before a branch's own, and gives how far they came then.
 fn put_runs_before(
     runs: &[PlannedRun],
     packet: &Content<'_>,
-    reach: &mut Reach,
+    from: MembersEnd,
     buffer: &mut Vec<u8>,
-    at: usize,
-) -> Option<usize>
+) -> Option<MembersEnd>
     requires is { (slots : List Slot) × AreRuns slots runs.now }
-    requires within { IsWithin packet.now reach.old.place buffer.old at }
-    requires few { reach.old.more ≤ MOST_VALUES }
+    requires within { IsWithin packet.now from.place buffer.old from.text }
+    requires few { from.more ≤ MOST_VALUES }
     ensures puts { (slots : List Slot) → AreRuns slots runs.now →
-        IfSome result (λ text. PutsFields slots packet.now.bytes.now packet.now.end
-        (reached reach.old (take at buffer.old.items))
-        (reached reach.new (take text buffer.new.items))) }
-    ensures within { IfSome result (IsWithin packet.now reach.new.place buffer.new) }
-    ensures few { IfSome result (λ _. reach.new.more ≤ MOST_VALUES) }
+        IfSome result (λ end. PutsFields slots packet.now.bytes.now packet.now.end
+        (come from (take from.text buffer.old.items))
+        (come end (take end.text buffer.new.items))) }
+    ensures within { IfSome result (λ end. IsWithin packet.now end.place buffer.new end.text) }
+    ensures few { IfSome result (λ end. end.more ≤ MOST_VALUES) }
 {
     if runs.is_empty() {
-        return Some(at);
+        return Some(from);
     }
-    let text = put_runs(runs, packet, reach, buffer, at)?;
-    put_ends(0, buffer, text)
+    let ends = put_last_runs(runs, packet, from, buffer)?;
+    let text = put_ends(0, buffer, ends.text)?;
+    Some(MembersEnd {
+        place: ends.place,
+        text,
+        more: ends.more,
+    })
 }
 
 /// The option that a tag with this number chooses.
 #[inline(always)]
-pub(crate) fn option_of(variant: &PlannedVariant, tag: Last) -> Option<usize>
+pub(crate) fn option_of(choices: &Choices, tag: Last) -> Option<usize>
     ensures { IfSome result (λ option.
-        (z : ℤ) × (tag ≡ lasts.Label z) × (chosen variant.now.choices z ≡ Some option)) }
+        (z : ℤ) × (tag ≡ lasts.Label z) × (chosen choices.now z ≡ Some option)) }
 {
     let Last::Label(number) = tag else {
         return None;
     };
-    variant.choices.option(i128::from(number))
+    choices.option(i128::from(number))
 }
 
 /// Writes a text where there is room for it, and gives the index after it.

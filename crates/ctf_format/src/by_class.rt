@@ -16,7 +16,7 @@ ghost use Rattle.ctf_format.specs.Texts as texts;
 
 use crate::around::{MemberNumbers, OuterMembers, Outside, ScopeInput, Seen, count_of, option_of};
 use crate::array::{begin_at, put_integers};
-use crate::element::{ElementLead, put_index};
+use crate::element::{ElementLead, LONGEST_ROW, put_index};
 use crate::leaf::{put_enumeration, put_one, put_string_value, put_text_value};
 use crate::mark::{put_end, put_nothing, put_ready};
 use crate::standing::{AlignedInteger, Last, MembersEnd, Next, Position, Standing};
@@ -454,7 +454,7 @@ fn put_row(
         };
         more += next.more;
         mark = b',';
-        if more > MOST_VALUES {
+        if more > MOST_VALUES || at.text > LONGEST_ROW {
             return None;
         }
     }

@@ -10,6 +10,11 @@ use crate::room::with_room;
 use ctf_class::LONGEST_NUMBER;
 use ctf_list::NoMemory;
 
+/// How many bytes of a line there may be where an element of an array ends, which is more than an array of empty
+/// structures takes. Arrays in one another could be written far beyond the most values that a record has, as each counts
+/// its own first; a longer line has its values first.
+pub(crate) const LONGEST_ROW: usize = 1 << 29;
+
 /// What is printed before an element of an array.
 #[derive(Clone, Copy)]
 pub(crate) struct ElementLead {

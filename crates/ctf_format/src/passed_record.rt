@@ -4,7 +4,7 @@ ghost use Rattle.std.specs.Prelude.{List, ◌≡◌, ◌+◌, ◌<◌, ◌≤◌
 ghost use Rattle.std.specs.Int.{next_multiple_of};
 ghost use Rattle.std.specs.List.{All};
 ghost use Rattle.ctf_class.specs.Integers.{bits_of};
-ghost use Rattle.ctf_class.specs.Records.{Slot, AreMany, AreRuns, IsField, IsPlanOf, IsStructure};
+ghost use Rattle.ctf_class.specs.Records.{ScopeClass, Slot, AreMany, AreRuns, IsField, IsPlanOf, IsStructure};
 ghost use Rattle.ctf_class.specs.declared.class.Class.{Class};
 ghost use Rattle.ctf_class.specs.declared.class.Kind as kinds;
 ghost use Rattle.ctf_class.specs.declared.route.Length.{Length};
@@ -20,6 +20,7 @@ ghost use Rattle.ctf_format.specs.Texts as texts;
 
 use crate::array::begin_at;
 use crate::content::Content;
+use crate::kept::KeptNumbers;
 use crate::passed_branches::pass_fields;
 use crate::placed_run::PlacedRun;
 use crate::planned_record::{Reach, count_after, placed_at};
@@ -53,14 +54,19 @@ pub(crate) struct Element {
 /// begun before.
 ///
 /// `None` where `put_planned_record` gives none, but where it lacks memory, or eight bytes after a structure in an
-/// array: neither is needed here. No memory is taken.
+/// array: neither is needed here. Memory is taken only for numbers that are kept.
 #[inline(never)]
-pub fn pass_planned_record(plan: &RecordPlan, packet: &Content<'_>, from: Passed) -> Option<Passed>
-    requires plan { (classes : List Class) × IsPlanOf classes plan.now }
+pub fn pass_planned_record(
+    plan: &RecordPlan,
+    packet: &Content<'_>,
+    from: Passed,
+    kept: &mut KeptNumbers,
+) -> Option<Passed>
+    requires plan { (scopes : List ScopeClass) × IsPlanOf scopes plan.now }
     requires start { from.place ≤ packet.now.end }
     requires few { from.spent ≤ MOST_VALUES }
-    ensures passes { (classes : List Class) → 0 < length classes → IsPlanOf classes plan.now →
-        IfSome result (λ p. Passes (PutsScopes classes packet.now.bytes.now packet.now.end
+    ensures passes { (scopes : List ScopeClass) → 0 < length scopes → IsPlanOf scopes plan.now →
+        IfSome result (λ p. Passes (PutsScopes scopes packet.now.bytes.now packet.now.end
         from.place from.spent p.place p.spent)) }
     ensures within { IfSome result (λ p. p.place ≤ packet.now.end) }
 {
@@ -71,7 +77,8 @@ pub fn pass_planned_record(plan: &RecordPlan, packet: &Content<'_>, from: Passed
         place: from.place,
         more: 0,
     };
-    let reach = pass_fields(plan, packet, begin)?;
+    kept.clear();
+    let reach = pass_fields(plan, packet, begin, kept)?;
     let count = u64::from(plan.count) + reach.more;
     if count > MOST_VALUES - from.spent {
         return None;

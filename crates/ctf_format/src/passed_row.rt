@@ -4,7 +4,7 @@ ghost use Rattle.std.specs.Prelude.{◌≤◌, IfSome};
 ghost use Rattle.ctf_class.specs.Records.{IsShown};
 ghost use Rattle.ctf_class.specs.declared.class.Class.{Class};
 ghost use Rattle.ctf_decode.specs.Views.{form};
-ghost use Rattle.ctf_format.specs.Branches.{PassesRow};
+ghost use Rattle.ctf_format.specs.Branches.{Anywhere, PassesRow};
 ghost use Rattle.ctf_format.specs.Passing.{Passes, next_at};
 ghost use Rattle.ctf_format.specs.Standing.{Before, PutsNext};
 ghost use Rattle.ctf_format.specs.Texts.{value_text};
@@ -29,7 +29,7 @@ pub(crate) fn pass_shown_row(
 ) -> Option<Reach>
     requires start { place ≤ packet.now.end }
     ensures passes { (k : Class) → IsShown 0 k shown.now →
-        PassesRow result k count packet.now place }
+        PassesRow result Anywhere k count packet.now place }
     ensures within { IfSome result (λ to. to.place ≤ packet.now.end) }
     ensures few { IfSome result (λ to. to.more ≤ MOST_VALUES) }
 {

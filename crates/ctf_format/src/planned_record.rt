@@ -2,7 +2,7 @@
 
 ghost use Rattle.std.specs.Prelude.{List, ℕ, [], ◌∷◌, ◌≡◌, ◌+◌, ◌/◌, ◌-◌, ◌++◌, ◌<◌, ◌≤◌, length, pos, take, vec_len, Option, None, IfSome};
 ghost use Rattle.std.specs.List.{All, flat_map};
-ghost use Rattle.ctf_class.specs.Records.{After, Slot, AreRuns, IsField, IsInteger, IsLength, IsPlanOf, ends, numbers_room, room_of};
+ghost use Rattle.ctf_class.specs.Records.{After, ScopeClass, Slot, AreRuns, IsField, IsInteger, IsLength, IsPlanOf, ends, numbers_room, room_of};
 ghost use Rattle.ctf_class.specs.declared.class.Class.{Class};
 ghost use Rattle.ctf_class.specs.declared.class.Kind as kinds;
 ghost use Rattle.ctf_class.specs.declared.route.Length.{Length};
@@ -17,13 +17,14 @@ ghost use Rattle.ctf_format.specs.Texts as texts;
 use crate::array::{begin_at, put_integers};
 use crate::branches::put_fields;
 use crate::content::Content;
+use crate::kept::KeptNumbers;
 use crate::leaf::put_enumeration;
 use crate::mark::{put_end, put_nothing};
 use crate::placed_run::PlacedRun;
 use crate::planned_number::{put_special_numbers, put_usual_numbers};
 use crate::room::with_room;
 use crate::standing::{
-    AlignedInteger, Position, Standing, put_fixed_text, put_integer, put_string,
+    AlignedInteger, MembersEnd, Position, Standing, put_fixed_text, put_integer, put_string,
 };
 use crate::structures::put_structures;
 use ctf_bits::Order;
@@ -55,14 +56,15 @@ pub fn put_planned_record(
     plan: &RecordPlan,
     packet: &Content<'_>,
     from: Standing,
+    kept: &mut KeptNumbers,
     buffer: &mut Vec<u8>,
 ) -> Option<Standing>
-    requires plan { (classes : List Class) × IsPlanOf classes plan.now }
+    requires plan { (scopes : List ScopeClass) × IsPlanOf scopes plan.now }
     requires start { from.place ≤ packet.now.end }
     requires few { from.spent ≤ MOST_VALUES }
     requires index { from.end ≤ vec_len buffer.old }
-    ensures puts { (classes : List Class) → 0 < length classes → IsPlanOf classes plan.now →
-        IfSome result (λ s. PutsScopes classes packet.now.bytes.now packet.now.end from.place
+    ensures puts { (scopes : List ScopeClass) → 0 < length scopes → IsPlanOf scopes plan.now →
+        IfSome result (λ s. PutsScopes scopes packet.now.bytes.now packet.now.end from.place
         from.spent s.place s.spent (take from.end buffer.old.items)
         (take s.end buffer.new.items)) }
     ensures within { IfSome result (λ s. s.place ≤ packet.now.end) }
@@ -71,18 +73,20 @@ pub fn put_planned_record(
     if plan.runs.as_slice().is_empty() {
         return None;
     }
-    let mut reach = Reach {
+    kept.clear();
+    let begin = MembersEnd {
         place: from.place,
+        text: from.end,
         more: 0,
     };
-    let text = put_fields(plan, packet, &mut reach, buffer, from.end)?;
-    let end = put_ends(plan.ended, buffer, text)?;
-    let count = u64::from(plan.count) + reach.more;
+    let ends = put_fields(plan, packet, begin, kept, buffer)?;
+    let end = put_ends(plan.ended, buffer, ends.text)?;
+    let count = u64::from(plan.count) + ends.more;
     if count > MOST_VALUES - from.spent {
         return None;
     }
     Some(Standing {
-        place: reach.place,
+        place: ends.place,
         spent: from.spent + count,
         end,
     })

@@ -7,7 +7,7 @@ ghost use Rattle.ctf_class.specs.declared.class.Kind as kinds;
 ghost use Rattle.ctf_class.specs.declared.route.Length.{Length};
 ghost use Rattle.ctf_class.specs.declared.route.Length.TheVariants.{Fixed};
 ghost use Rattle.ctf_decode.specs.Views.{form};
-ghost use Rattle.ctf_format.specs.Branches.{PutsElement, WritesRow};
+ghost use Rattle.ctf_format.specs.Branches.{Anywhere, PutsElement, WritesRow};
 ghost use Rattle.ctf_format.specs.Put.{IsWithin};
 ghost use Rattle.ctf_format.specs.Records.{IsNearShown};
 ghost use Rattle.ctf_format.specs.Rows.{row};
@@ -16,7 +16,7 @@ ghost use Rattle.ctf_format.specs.Texts.{value_text};
 
 use crate::array::{begin_at, put_integers};
 use crate::content::Content;
-use crate::element::{ElementLead, put_index};
+use crate::element::{ElementLead, LONGEST_ROW, put_index};
 use crate::leaf::{put_enumeration, put_one, put_string_value, put_text_value};
 use crate::mark::put_nothing;
 use crate::standing::{AlignedInteger, Last, MembersEnd, Next, Position};
@@ -36,7 +36,7 @@ pub(crate) fn put_shown_row(
     requires within { IsWithin packet.now from.place buffer.old from.text }
     ensures puts { let line = take from.text buffer.old.items in
         (k : Class) → IsShown 0 k shown.now →
-        WritesRow (row 91) result k count packet.now from.place line buffer.new.items }
+        WritesRow (row 91) result Anywhere k count packet.now from.place line buffer.new.items }
     ensures within { IfSome result (λ e. IsWithin packet.now e.place buffer.new e.text) }
     ensures few { IfSome result (λ e. e.more ≤ MOST_VALUES) }
 {
@@ -52,7 +52,7 @@ pub(crate) fn put_shown_row(
         };
         more += next.more;
         mark = b',';
-        if more > MOST_VALUES {
+        if more > MOST_VALUES || at.text > LONGEST_ROW {
             return None;
         }
     }
@@ -76,7 +76,7 @@ fn put_shown_element(
     requires within { IsWithin packet.now from.place buffer.old from.text }
     ensures puts { let line = take from.text buffer.old.items in
         (k : Class) → IsShown 0 k shown.now →
-        PutsElement result lead k packet.now from.place line buffer.new.items }
+        PutsElement result Anywhere lead k packet.now from.place line buffer.new.items }
     ensures within { IfSome result (λ n. IsWithin packet.now n.place buffer.new n.text) }
     ensures few { IfSome result (λ n. n.more ≤ MOST_VALUES) }
 {

@@ -3,8 +3,9 @@ use Rattle.std.proofs.Common.{◌≡◌, ℕ, ◌<◌, List, [], ◌∷◌, ◌+
 use Rattle.std.specs.List.{flat_map}
 use Rattle.std.specs.Prelude.{⊤}
 use Rattle.ctf_class.specs.HostAndName.{heading_text}
-use Rattle.ctf_class.specs.Records.{and_scope, scopes_of}
+use Rattle.ctf_class.specs.Records.{ScopeClass, and_scope, scopes_of}
 use Rattle.ctf_class.specs.declared.class.Class.{Class}
+use Rattle.ctf_class.specs.declared.route.Scope.{Scope}
 use Rattle.ctf_class.specs.declared.route.Scope.TheVariants.{StreamEventContext, EventContext, EventFields}
 use Rattle.ctf_class.specs.declared.trace.EventClass.{EventClass}
 use Rattle.ctf_class.specs.Streams.{StreamClass}
@@ -103,13 +104,13 @@ StandsPlain class bytes content from before to after =
     × (to.place ≡ s.end) × (to.spent ≡ s.spent) × (after ≡ before ++ flat_map followed (scope_texts class s.value))
 
 -- scopes that were written one after the other
-pub scope_step : (o : Option Class) (ks : List Class) (bytes : List ℕ) (content place spent end total : ℕ) (before after : List ℕ) → 0 < length ks → PutsScopes (and_scope o ks) bytes content place spent end total before after
+pub scope_step : (scope : Scope) (o : Option Class) (ks : List ScopeClass) (bytes : List ℕ) (content place spent end total : ℕ) (before after : List ℕ) → 0 < length ks → PutsScopes (and_scope scope o ks) bytes content place spent end total before after
     → (to : Standing) × (text : List ℕ) × StandsPlain o bytes content (record { place = place; spent = spent; end = 0 }) before to text × PutsScopes ks bytes content to.place to.spent end total text after
-scope_step None ks bytes content place spent end total before after some puts =
+scope_step scope None ks bytes content place spent end total before after some puts =
     let from : Standing = record { place = place; spent = spent; end = 0 } in
     (from, before, (λ values. (record { value = None; end = place; spent = spent }, refl, refl, refl, sym (append-nil before))), puts)
-scope_step (Some k) [] bytes content place spent end total before after some puts = absurd (omega (arith, some))
-scope_step (Some k) (l ∷ ks) bytes content place spent end total before after some puts =
+scope_step scope (Some k) [] bytes content place spent end total before after some puts = absurd (omega (arith, some))
+scope_step scope (Some k) (l ∷ ks) bytes content place spent end total before after some puts =
     let to : Standing = record { place = puts.0; spent = puts.1; end = 0 } in
     let stands : StandsPlain (Some k) bytes content (record { place = place; spent = spent; end = 0 }) before to (puts.2 ++ codes ", ") = (λ values.
     let p = puts.3 (value_in values) [] in
@@ -117,7 +118,7 @@ scope_step (Some k) (l ∷ ks) bytes content place spent end total before after 
     (record { value = Some p.0; end = puts.0; spent = puts.1 }, ap (stood fault_in_record) p.1, refl, refl, ap followed p.2 ∙ append_assoc before shown (codes ", ") ∙ ap (λ xs. before ++ xs) (sym (append-nil (followed shown))))) in
     (to, puts.2 ++ codes ", ", stands, puts.4)
 
-pub some_scope : (o : Option Class) (k : Class) → 0 < length (and_scope o (k ∷ []))
+pub some_scope : (o : Option Class) (k : Class) → 0 < length (and_scope EventContext o ((EventFields, k) ∷ []))
 some_scope None k = omega arith
 some_scope (Some l) k = omega arith
 
@@ -133,8 +134,9 @@ pub planned_body : (known : Known) (stream : StreamClass) (event : EventClass) (
     → PutsScopes (scopes_of stream.event_context event.context event.fields) bytes content place spent end total front text → PutsBody known stream event part bytes content place spent end text
 planned_body known stream event part bytes content place spent end total front text wrote puts =
     let from : Standing = record { place = place; spent = spent; end = 0 } in
-    let a = scope_step stream.event_context (and_scope event.context (event.fields ∷ [])) bytes content place spent end total front text (some_scope event.context event.fields) puts in
-    let b = scope_step event.context (event.fields ∷ []) bytes content a.0.place a.0.spent end total a.1 text (omega arith) a.3 in
+    let fields = (EventFields, event.fields) ∷ [] in
+    let a = scope_step StreamEventContext stream.event_context (and_scope EventContext event.context fields) bytes content place spent end total front text (some_scope event.context event.fields) puts in
+    let b = scope_step EventContext event.context fields bytes content a.0.place a.0.spent end total a.1 text (omega arith) a.3 in
     three_scopes known stream event part bytes content Anything Anything from a.0 b.0 end total front a.1 b.1 text wrote
     (λ values shares. (let s = a.2 values in (s.0, s.1, s.2, s.3, s.4, tt)))
     (λ values so_far. (let s = b.2 values in (s.0, s.1, s.2, s.3, s.4, tt)))

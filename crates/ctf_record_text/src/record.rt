@@ -17,8 +17,8 @@ use ctf_class::{Class, StreamClass};
 use ctf_clock::Moment;
 use ctf_decode::{MOST_VALUES, Scopes};
 use ctf_format::{
-    Content, MemberNumbers, Passed, ScopeInput, Standing, pass_planned_record, put_comma,
-    put_front, put_planned_record, put_standing,
+    Content, KeptNumbers, MemberNumbers, Passed, ScopeInput, Standing, pass_planned_record,
+    put_comma, put_front, put_planned_record, put_standing,
 };
 use ctf_packet::{EventRecord, Head, RecordPlace, Scratch, StreamFault, next_head, put_body};
 use std::alloc::Global;
@@ -33,13 +33,14 @@ pub const LONGEST_KEPT: usize = 65_536;
 const MOST_EACH: u64 = 32;
 
 /// The buffer of event records' texts, with what those of a packet share, and memory for what their scopes give to
-/// lengths and tags after them.
+/// lengths and tags after them: by a plan the numbers that are kept, else the last members.
 #[derive(Drop)]
 pub struct LineBuffer {
     /// It begins with the text of the last event record that was written. The bytes after it are unspecified.
     pub bytes: Vec<u8>,
     /// The text of the packet in the lines of its event records.
     pub part: PacketPart,
+    kept: KeptNumbers,
     stream_context: MemberNumbers,
     event_context: MemberNumbers,
     fields: MemberNumbers,
@@ -54,6 +55,7 @@ impl LineBuffer {
         LineBuffer {
             bytes: Vec::new(alloc),
             part: PacketPart::new(alloc),
+            kept: KeptNumbers::new(alloc),
             stream_context: MemberNumbers::none(),
             event_context: MemberNumbers::none(),
             fields: MemberNumbers::none(),
@@ -151,14 +153,20 @@ fn is_planned(at: &RecordPlace<'_, '_>) -> bool {
 /// The event record at a place (CTF 1.8.3, section 6), if it is before `begin`, in nanoseconds since the epoch, and its
 /// header and scopes have plans: by these it is gone over, without a text and without its values.
 ///
-/// `None` elsewhere, and where the header has a fault, the record no bits, or `pass_planned_record` gives none. No
-/// memory is taken.
+/// `None` elsewhere, and where the header has a fault, the record no bits, or `pass_planned_record` gives none. Memory
+/// of `line` is used for numbers that are kept; its text stays.
 #[inline(always)]
-pub fn passed_record<'a>(at: &RecordPlace<'_, 'a>, begin: i64) -> Option<EventRecord<'a>>
+pub fn passed_record<'a>(
+    at: &RecordPlace<'_, 'a>,
+    begin: i64,
+    line: &mut LineBuffer,
+) -> Option<EventRecord<'a>>
     ensures stands { (shift : Shift) (known : Known) → IsTimed shift at.now.packet.now →
         let stands = record_there shift (values_of known) at.now in
         IfSome result (IsThere at.now.packet.now.stream.now stands known) }
     ensures before { IfSome result (λ r. IsBefore begin r.clock) }
+    ensures text { line.new.bytes ≡ line.old.bytes }
+    ensures part { line.new.part ≡ line.old.part }
     ensures within { IfSome result (λ r. r.end ≤ at.now.packet.now.content) }
     ensures forward { IfSome result (λ r. at.now.place < r.end) }
 {
@@ -167,7 +175,7 @@ pub fn passed_record<'a>(at: &RecordPlace<'_, 'a>, begin: i64) -> Option<EventRe
     if !is_before(told.head.clock, begin) {
         return None;
     }
-    let end = end_by_plan(at, planned)?;
+    let end = end_by_plan(at, planned, &mut line.kept)?;
     Some(EventRecord {
         event: told.head.event,
         clock: told.head.clock,
@@ -203,7 +211,11 @@ fn is_before(clock: Option<Moment>, begin: i64) -> bool
 
 /// Where the event record at a place ends, by the plan alone.
 #[inline(always)]
-fn end_by_plan<'a>(at: &RecordPlace<'_, 'a>, planned: PlannedHead<'a>) -> Option<u64>
+fn end_by_plan<'a>(
+    at: &RecordPlace<'_, 'a>,
+    planned: PlannedHead<'a>,
+    kept: &mut KeptNumbers,
+) -> Option<u64>
     requires plan { PlansRecords at.now.packet.now planned }
     requires start { planned.told.head.end ≤ at.now.packet.now.content }
     requires few { planned.told.spent ≤ MOST_VALUES }
@@ -221,7 +233,7 @@ fn end_by_plan<'a>(at: &RecordPlace<'_, 'a>, planned: PlannedHead<'a>) -> Option
         place: told.head.end,
         spent: told.spent,
     };
-    let all = pass_planned_record(planned.plan, &content, from)?;
+    let all = pass_planned_record(planned.plan, &content, from, kept)?;
     if all.place <= at.place {
         return None;
     }
@@ -309,7 +321,7 @@ fn put_planned_body<'a>(
     ensures forward { IfSome result (λ s. at.now.place < s.place) }
     ensures held { IfSome result (λ s. s.end ≤ vec_len line.new.bytes) }
 {
-    if let Some(all) = put_by_plan(at, planned, line.part.as_slice(), &mut line.bytes) {
+    if let Some(all) = put_by_plan(at, planned, line) {
         return Some(all);
     }
     put_record(at, planned.told, scopes, line)
@@ -320,18 +332,18 @@ fn put_planned_body<'a>(
 fn put_by_plan<'a>(
     at: &RecordPlace<'_, 'a>,
     planned: PlannedHead<'a>,
-    part: &[u8],
-    line: &mut Vec<u8>,
+    line: &mut LineBuffer,
 ) -> Option<Standing>
     requires plan { PlansRecords at.now.packet.now planned }
     requires start { planned.told.head.end ≤ at.now.packet.now.content }
     requires few { planned.told.spent ≤ MOST_VALUES }
     ensures puts { IfSome result (λ s. (known : Known) →
-        PutsRecord known at.now planned.entry.told part.now s.place
-        (take s.end line.new.items)) }
+        PutsRecord known at.now planned.entry.told line.old.part s.place
+        (take s.end line.new.bytes.items)) }
+    ensures part { line.new.part ≡ line.old.part }
     ensures within { IfSome result (λ s. s.place ≤ at.now.packet.now.content) }
     ensures forward { IfSome result (λ s. at.now.place < s.place) }
-    ensures held { IfSome result (λ s. s.end ≤ vec_len line.new) }
+    ensures held { IfSome result (λ s. s.end ≤ vec_len line.new.bytes) }
 {
     let told = planned.told;
     let content = Content {
@@ -341,13 +353,15 @@ fn put_by_plan<'a>(
     if planned.plan.runs.is_empty() {
         return None;
     }
-    let front = put_front(&told.head.event.heading, part, line, 0).ok()?;
+    let part = line.part.as_slice();
+    let front = put_front(&told.head.event.heading, part, &mut line.bytes, 0).ok()?;
     let from = Standing {
         place: told.head.end,
         spent: told.spent,
         end: front,
     };
-    let all = put_planned_record(planned.plan, &content, from, line)?;
+    let plan = planned.plan;
+    let all = put_planned_record(plan, &content, from, &mut line.kept, &mut line.bytes)?;
     if !is_held(at, all) {
         return None;
     }

@@ -137,9 +137,13 @@ impl<'a> PacketReader<'a> {
 
     /// The next item, if it is an event record before those that are asked for as texts, and can be passed over.
     ///
-    /// `None` elsewhere: the packet is as it was then.
+    /// `None` elsewhere: the packet is as it was then. Memory of `line` is used.
     #[inline(always)]
-    pub(crate) fn next_passed(&mut self, input: PacketInput<'_>) -> Option<PacketItem<'a>>
+    pub(crate) fn next_passed(
+        &mut self,
+        input: PacketInput<'_>,
+        line: &mut LineBuffer,
+    ) -> Option<PacketItem<'a>>
         requires within { Within input.buffer.now self.old }
         ensures takes { let bytes = input.entry.buffer.now in
             (shift : Shift) (known : Known) (follows : Option Moment → Run Classes) →
@@ -147,10 +151,11 @@ impl<'a> PacketReader<'a> {
             IfSome result (λ front.
             TakesItem shift follows (left_in shift known bytes follows self.old) self.new
             known bytes (Ok (Some front))) }
-        ensures holds { (shift : Shift) (known : Known) (part line : List ℕ) →
+        ensures holds { (shift : Shift) (known : Known) (part text : List ℕ) →
             self.old.opened.timeline ≡ (stream_form shift self.old.opened.stream.now).line →
             IfSome result (HoldsFront input.entry.writes shift known input.entry.buffer.now
-            part line self.new) }
+            part text self.new) }
+        ensures part { line.new.part ≡ line.old.part }
         ensures room { IfSome result (λ _. room_in self.new < room_in self.old) }
         ensures opened { self.new.opened ≡ self.old.opened }
         ensures from { self.new.opened.first ≤ self.new.place }
@@ -171,7 +176,7 @@ impl<'a> PacketReader<'a> {
             clock: before,
             place: begin,
         };
-        let event = passed_record(&at, time)?;
+        let event = passed_record(&at, time, line)?;
         self.clock = event.clock;
         self.place = event.end;
         Some(PacketItem::Passed(ReadRecord {

@@ -1,6 +1,6 @@
 //! How far a stream was read.
 
-ghost use Rattle.std.specs.Prelude.{◌≡◌, ◌+◌, ◌<◌, ◌≤◌, List, [], false, Some, None, Ok, ℕ, length, IsTrue, IsSome, IfSome, IfNone, IfOk, OnOk, OnErr};
+ghost use Rattle.std.specs.Prelude.{◌≡◌, ◌+◌, ◌<◌, ◌≤◌, List, [], false, Some, None, Ok, ℕ, length, IsTrue, IfSome, IfOk, OnOk, OnErr};
 ghost use Rattle.ctf_bits.specs.declared.source.Ending.{Ending};
 ghost use Rattle.ctf_clock.specs.declared.moment.Shift.{Shift};
 ghost use Rattle.ctf_packet.specs.Packets as packets;
@@ -190,14 +190,13 @@ impl<'a> ReadState<'a> {
         self.next_text(alloc, Headers::Usual)
     }
 
-    /// The next item, if it is an event record of the packet at hand that is passed over. `None` elsewhere: then all is
-    /// as it was.
+    /// The next item, if it is an event record of the packet at hand that is passed over. `None` elsewhere: then only the
+    /// line is another one.
     #[inline(always)]
     fn next_passed(&mut self, alloc: Global) -> Option<PacketItem<'a>>
         requires stands { Stands self.old }
         requires shared { HasShared self.old }
-        ensures reads { ReadsNext self.old self.new result }
-        ensures none { IfNone result (self.new ≡ self.old) }
+        ensures { ReadsNext self.old self.new result }
     {
         let packet = match &mut self.packet {
             None => return None,
@@ -208,7 +207,7 @@ impl<'a> ReadState<'a> {
             buffer: &self.buffer,
             writes: self.writes,
         };
-        packet.next_passed(input)
+        packet.next_passed(input, &mut self.line)
     }
 
     /// The next item, out of a source, where `next_written` and `next_apart` gave none. `None` where the stream ends.

@@ -1,8 +1,7 @@
 //! Texts that are written from bits to the end of a line, over old bytes of the line's buffer.
 
 ghost use Rattle.std.specs.Prelude.{◌≡◌, List};
-ghost use Rattle.ctf_class.specs.Records.{IsPlanOf};
-ghost use Rattle.ctf_class.specs.declared.class.Class.{Class as PlainClass};
+ghost use Rattle.ctf_class.specs.Records.{ScopeClass, IsPlanOf};
 
 use crate::row::Row;
 use crate::value::decoding::put_reached;
@@ -11,8 +10,8 @@ use crate::value::words::values_of;
 use ctf_class::{Class, RecordPlan, Scope, StreamClass};
 use ctf_decode::Scopes;
 use ctf_format::{
-    Content, MemberNumbers, Passed, ScopeInput, Standing, pass_planned_record, put_planned_record,
-    put_standing,
+    Content, KeptNumbers, MemberNumbers, Passed, ScopeInput, Standing, pass_planned_record,
+    put_planned_record, put_standing,
 };
 
 /// A line of five bytes, and after it old bytes of its buffer.
@@ -84,11 +83,13 @@ pub fn put_planned_row(row: &mut Row<'_>, stream: &StreamClass) {
 
 /// Puts the text of the scopes of a plan at a place.
 fn put_planned(row: &mut Row<'_>, plan: &RecordPlan, place: Place<'_>)
-    requires { (classes : List PlainClass) × IsPlanOf classes plan.now }
+    requires { (scopes : List ScopeClass) × IsPlanOf scopes plan.now }
 {
     if let Ok(line) = Vec::from_slice(row.alloc, LINE) {
         let mut line = line;
-        let standing = put_planned_record(plan, &content_of(place), begin_of(place), &mut line);
+        let content = content_of(place);
+        let mut kept = KeptNumbers::new(row.alloc);
+        let standing = put_planned_record(plan, &content, begin_of(place), &mut kept, &mut line);
         put_text(row, &line, standing);
         put_passed(row, plan, place, standing);
     }
@@ -96,15 +97,16 @@ fn put_planned(row: &mut Row<'_>, plan: &RecordPlan, place: Place<'_>)
 
 /// Puts a word where the record, passed over without a text, would end elsewhere, or not be there.
 fn put_passed(row: &mut Row<'_>, plan: &RecordPlan, place: Place<'_>, standing: Option<Standing>)
-    requires { (classes : List PlainClass) × IsPlanOf classes plan.now }
+    requires { (scopes : List ScopeClass) × IsPlanOf scopes plan.now }
 {
     let from = Passed {
         place: place.start,
         spent: 0,
     };
+    let mut kept = KeptNumbers::new(row.alloc);
     match (
         standing,
-        pass_planned_record(plan, &content_of(place), from),
+        pass_planned_record(plan, &content_of(place), from, &mut kept),
     ) {
         (Some(standing), Some(passed)) => {
             if passed.place != standing.place || passed.spent != standing.spent {

@@ -1,8 +1,9 @@
 use Rattle.std.proofs.Common.{rules, ◌≡◌, [], subst, sym}
 use Rattle.std.specs.List.{All}
+use Rattle.std.proofs.lemmas.Option.{IfSome_then}
 use Rattle.ctf_class.specs.Records.{AreRuns}
 use Rattle.ctf_format.specs.Records.{IsNear}
-use Rattle.ctf_format.proofs.BranchesLemmas.{listed_in, planned_runs}
+use Rattle.ctf_format.proofs.BranchesLemmas.{listed_in, planned_runs, runs_pass}
 use Rattle.ctf_format.proofs.RecordsLemmas.{runs_near}
 use Rattle.ctf_format.proofs.passed_branches.pass_fields.Goals as goal
 
@@ -17,4 +18,5 @@ pub returns-then-is_empty-clause-passes : goal.returns-then-is_empty-clause-pass
 returns-then-is_empty-clause-passes c = λ depth slots planned.
     let p = c.args.plan.now in
     let none : listed_in p.branches ≡ [] = search rules in
-    c.pass_runs.ensures.passes slots (subst (AreRuns slots) (sym c.as_slice.ensures) (planned_runs depth slots p none planned))
+    let are = planned_runs depth slots p none planned in
+    IfSome_then c.pass_runs.result (c.pass_runs.ensures.passes slots (subst (AreRuns slots) (sym c.as_slice.ensures) are)) (λ to passes. runs_pass slots p.runs c.args.packet.now c.args.from to c.args.kept.now.numbers are passes)

@@ -1,4 +1,4 @@
-use Rattle.std.proofs.Common.{◌≡◌, ◌+◌, ◌<◌, ◌≤◌, ◌++◌, [], None, length, subst, append-nil, rules, arith}
+use Rattle.std.proofs.Common.{◌≡◌, ◌+◌, ◌<◌, ◌≤◌, ◌++◌, [], None, length, sym, ap, subst, append-nil, rules, arith}
 use Rattle.ctf_class.specs.Records.{all_slots, ended_last, ends, values_in}
 use Rattle.ctf_decode.specs.declared.scopes.TheConstants.{MOST_VALUES}
 use Rattle.ctf_format.specs.Records.{PutsScopes, reached}
@@ -10,7 +10,7 @@ pass_fields-requires-clause-is c =
     let plan = c.args.plan.now in
     let some : 0 < length plan.runs = search (rules, arith) in
     let is = c.requires.plan.1 some in
-    record { depth = is.4; slots = all_slots [] is.0; are = is.5 }
+    record { depth = is.4; slots = all_slots [] [] is.0; are = is.5 }
 
 pub returns-clause-passes : goal.returns-clause-passes
 returns-clause-passes c = λ classes several planned before.
@@ -20,12 +20,14 @@ returns-clause-passes c = λ classes several planned before.
     let place = c.args.from.place in
     let spent = c.args.from.spent in
     let to = c.in_ok-reach.reach in
+    let ns = c.clear.new.self.numbers in
+    let ms = c.pass_fields.new.kept.numbers in
     let some : 0 < length plan.runs = search (rules, arith) in
     let is = planned some in
-    let slots = all_slots [] is.0 in
+    let slots = all_slots [] [] is.0 in
     let p = c.in_ok-reach.ensures.passes is.4 slots is.5 before in
     let line = p.0 in
-    let whole = scopes_puts classes is.0 [] bytes content spent (numbers_to place 0 None before) (reached to line) several is.1 p.1 in
+    let whole = scopes_puts classes is.0 [] [] bytes content spent (numbers_to place 0 None before) (reached to line) ns ms several is.1 (ap length (sym c.clear.ensures)) (λ earlier env. tt) p.1 in
     let count = c.from.result + to.more in
     let sum : count ≡ plan.count + to.more = search rules in
     let total : spent + values_in is.0 + whole.0 ≡ spent + count = omega (arith, is.2, whole.1, sum) in

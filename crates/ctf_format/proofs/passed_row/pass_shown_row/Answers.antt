@@ -1,5 +1,6 @@
 use Rattle.std.proofs.Common.{◌≡◌, ◌∙◌, refl, subst, rules, arith}
 use Rattle.ctf_decode.specs.Views.{form}
+use Rattle.ctf_format.specs.Branches.{Anywhere}
 use Rattle.ctf_format.specs.Passing.{next_at}
 use Rattle.ctf_format.specs.Records.{after_last}
 use Rattle.ctf_format.specs.Texts.{value_text}
@@ -13,7 +14,7 @@ loop-i-init c = record {
   few = search (rules, arith);
   begun = λ none. refl;
   none = λ none. refl;
-  going = λ k is. passing_begins k c.args.count c.args.packet.now c.args.place;
+  going = λ k is. passing_begins Anywhere k c.args.count c.args.packet.now c.args.place;
 }
 
 pub loop-i-preserved : goal.loop-i-preserved
@@ -25,7 +26,7 @@ loop-i-preserved c =
       few = search (rules, arith);
       begun = λ none. absurd (omega (arith, none));
       none = λ none. absurd (omega (arith, none));
-      going = λ k is. passing_on k c.args.count c.args.packet.now c.args.place l.i l.at l.more next c.loop-i-test.true (l.invariant.going k is) (λ before. (let p = c.in_ok-next.ensures.passes k is (after_last 0 lasts.Unknown) before in (p.0, next_anywhere (form k) (value_text k) c.args.packet.now.bytes.now c.args.packet.now.end l.at before (next_at next) p.0 p.1)));
+      going = λ k is. passing_on Anywhere k c.args.count c.args.packet.now c.args.place l.i l.at l.more next c.loop-i-test.true (l.invariant.going k is) (λ before. (let p = c.in_ok-next.ensures.passes k is (after_last 0 lasts.Unknown) before in (p.0, next_anywhere (form k) (value_text k) c.args.packet.now.bytes.now c.args.packet.now.end l.at before (next_at next) p.0 p.1)));
     }
 
 pub returns-clause-passes : goal.returns-clause-passes
@@ -33,4 +34,4 @@ returns-clause-passes c = λ k is.
     let l = c.loop-i in
     let packet = c.args.packet.now in
     let all : l.i ≡ c.args.count = omega (arith, c.loop-i-test.false, l.auto.i-end) in
-    passing_ends k c.args.count packet c.args.place l.at l.more (λ none. l.invariant.begun (all ∙ none)) (λ none. l.invariant.none (all ∙ none)) (subst (λ i. PassesGoing k c.args.count packet c.args.place i l.at l.more) all (l.invariant.going k is))
+    passing_ends Anywhere k c.args.count packet c.args.place l.at l.more (λ none. l.invariant.begun (all ∙ none)) (λ none. l.invariant.none (all ∙ none)) (subst (λ i. PassesGoing Anywhere k c.args.count packet c.args.place i l.at l.more) all (l.invariant.going k is))

@@ -1,7 +1,8 @@
 use Rattle.std.proofs.Common.{◌≡◌, ◌+◌, ◌<◌, ◌≤◌, ◌++◌, [], None, take, length, sym, ap, subst, ◌∙◌, append-nil, rules, arith}
 use Rattle.ctf_class.specs.Records.{all_slots, ended_last, ends, values_in}
 use Rattle.ctf_decode.specs.declared.scopes.TheConstants.{MOST_VALUES}
-use Rattle.ctf_format.specs.Records.{PutsScopes, reached}
+use Rattle.ctf_format.specs.Branches.{come}
+use Rattle.ctf_format.specs.Records.{PutsScopes}
 use Rattle.ctf_format.proofs.RecordsLemmas.{numbers_to, scopes_puts}
 use Rattle.ctf_format.proofs.planned_record.put_planned_record.Goals as goal
 
@@ -10,7 +11,7 @@ put_fields-requires-clause-is c =
     let plan = c.args.plan.now in
     let some : 0 < length plan.runs = search (rules, arith) in
     let is = c.requires.plan.1 some in
-    record { depth = is.4; slots = all_slots [] is.0; are = is.5 }
+    record { depth = is.4; slots = all_slots [] [] is.0; are = is.5 }
 
 pub returns-clause-puts : goal.returns-clause-puts
 returns-clause-puts c = λ classes several planned.
@@ -19,16 +20,17 @@ returns-clause-puts c = λ classes several planned.
     let content = c.args.packet.now.end in
     let place = c.args.from.place in
     let spent = c.args.from.spent in
-    let to = c.put_fields.new.reach in
+    let to = c.in_ok-ends.ends in
+    let ns = c.clear.new.self.numbers in
+    let ms = c.put_fields.new.kept.numbers in
     let before = take c.args.from.end c.args.buffer.now.items in
-    let written = take c.in_ok-text.text c.put_fields.new.buffer.items in
     let after = take c.in_ok-end.end c.put_ends.new.buffer.items in
     let some : 0 < length plan.runs = search (rules, arith) in
     let is = planned some in
-    let slots = all_slots [] is.0 in
-    let puts = c.in_ok-text.ensures.puts is.4 slots is.5 in
+    let slots = all_slots [] [] is.0 in
+    let puts = c.in_ok-ends.ensures.puts is.4 slots is.5 in
     let line = puts.0 in
-    let whole = scopes_puts classes is.0 [] bytes content spent (numbers_to place 0 None before) (reached to line) several is.1 puts.1 in
+    let whole = scopes_puts classes is.0 [] [] bytes content spent (numbers_to place 0 None before) (come to line) ns ms several is.1 (ap length (sym c.clear.ensures)) (λ earlier env. tt) puts.1 in
     let count = c.from.result + to.more in
     let sum : count ≡ plan.count + to.more = search rules in
     let total : spent + values_in is.0 + whole.0 ≡ spent + count = omega (arith, is.2, whole.1, sum) in

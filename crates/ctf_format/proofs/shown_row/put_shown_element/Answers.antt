@@ -1,6 +1,7 @@
 use Rattle.std.proofs.Common.{take}
 use Rattle.std.proofs.lemmas.Option.{IfSome_then}
 use Rattle.ctf_decode.specs.Views.{form}
+use Rattle.ctf_format.specs.Branches.{Anywhere}
 use Rattle.ctf_format.specs.Records.{after_last}
 use Rattle.ctf_format.specs.Texts.{value_text}
 use Rattle.ctf_format.specs.declared.standing.Last.TheVariants as lasts
@@ -16,4 +17,4 @@ returns-clause-puts c = λ k is.
     let line = take c.in_ok-text.text c.put_index.new.buffer.items in
     let items = c.put_alone.new.buffer.items in
     IfSome_then c.put_alone.result (c.put_alone.ensures.puts k is (after_last 0 lasts.Unknown)) (λ n puts.
-    element_puts c.args.lead k packet place from line n (take n.text items) (of_ok _ _ c.in_ok-text.ensures.value c.put_index.ensures.put).text (next_anywhere (form k) (value_text k) packet.bytes.now packet.end place line n (take n.text items) puts))
+    element_puts Anywhere c.args.lead k packet place from line n (take n.text items) (of_ok _ _ c.in_ok-text.ensures.value c.put_index.ensures.put).text (next_anywhere (form k) (value_text k) packet.bytes.now packet.end place line n (take n.text items) puts))

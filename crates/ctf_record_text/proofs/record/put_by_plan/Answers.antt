@@ -17,5 +17,7 @@ returns-clause-puts c = λ known.
     let all = c.in_ok-all.all in
     let front = take c.in_ok-front.front c.put_front.new.buffer.items in
     let text = take all.end c.put_planned_record.new.buffer.items in
-    planned_body known stream event c.args.part.now c.args.at.now.bytes.now c.args.at.now.packet.now.content c.args.planned.told.head.end c.args.planned.told.spent all.place all.spent front text (of_ok _ _ c.in_ok-front.ensures.value c.put_front.ensures).text
+    let front_is = (of_ok _ _ c.in_ok-front.ensures.value c.put_front.ensures).text in
+    let front_so = rw c.as_slice-part.ensures at front_is in
+    planned_body known stream event c.args.line.now.part c.args.at.now.bytes.now c.args.at.now.packet.now.content c.args.planned.told.head.end c.args.planned.told.spent all.place all.spent front text front_so
     (c.in_ok-all.ensures.puts (scopes_of stream.event_context event.context event.fields) (some_scopes stream.event_context event.context event.fields) c.requires.plan)

@@ -10,6 +10,6 @@ invariant-loop-i l = record {
   near : l.self.span ≤ 2 ^ 33;
   branches : l.self.branches ≡ l.fn.self.branches;
   runs : l.self.runs ≡ l.fn.self.runs;
-  comes : after_pieces 0 (first_at (123 ∷ 32 ∷ []) l.fn.begin) (all_alone (take l.i l.members)) ≡ record { lead = l.text; align = l.align; index = l.i };
-  made : (done : List Slot) → IsMade done l.fn.self → IsMade (done ++ pieces_slots 0 (first_at (123 ∷ 32 ∷ []) l.fn.begin) (all_alone (take l.i l.members))) l.self;
+  comes : after_pieces 0 (first_at (123 ∷ 32 ∷ []) l.fn.begin []) (all_alone (take l.i l.members)) ≡ record { lead = l.text; align = l.align; index = l.i; known = [] };
+  made : (done : List Slot) → IsMade done l.fn.self → IsMade (done ++ pieces_slots 0 (first_at (123 ∷ 32 ∷ []) l.fn.begin []) (all_alone (take l.i l.members))) l.self;
 }

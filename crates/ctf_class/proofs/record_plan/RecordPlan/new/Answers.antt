@@ -1,6 +1,7 @@
 use Rattle.std.proofs.Common.{[], ◌++◌, IsTrue, option_copied, rules, subst}
 use Rattle.ctf_class.specs.PlanBuilding.{IsMadeOf}
 use Rattle.ctf_class.specs.Records.{and_scope, scopes_of}
+use Rattle.ctf_class.specs.declared.route.Scope.TheVariants.{StreamEventContext, EventContext}
 use Rattle.ctf_class.proofs.RecordsLemmas.{finished, scopes_are}
 use Rattle.ctf_class.proofs.record_plan.RecordPlan.new.Goals as goal
 
@@ -13,8 +14,8 @@ returns-then-branch-3 c =
     let two : IsTrue c.in_ok-add_optional-2.field-0 = search rules in
     let three : IsTrue c.in_ok-add_scope.field-0 = search rules in
     let first = c.in_ok-add_optional.ensures.made one [] c.new-builder.ensures.made in
-    let second = c.in_ok-add_optional-2.ensures.made two (and_scope stream_context []) first in
-    let third = c.in_ok-add_scope.ensures.made three (and_scope stream_context [] ++ and_scope event_context []) second in
+    let second = c.in_ok-add_optional-2.ensures.made two (and_scope StreamEventContext stream_context []) first in
+    let third = c.in_ok-add_scope.ensures.made three (and_scope StreamEventContext stream_context [] ++ and_scope EventContext event_context []) second in
     let all : IsMadeOf (scopes_of stream_context event_context fields) c.add_scope.new.self = subst (λ ks. IsMadeOf ks c.add_scope.new.self) (scopes_are stream_context event_context fields) third in
     let ks = scopes_of stream_context event_context fields in
     finished ks c.add_scope.new.self c.finish.result all c.finish.ensures.fields c.finish.ensures.count c.finish.ensures.ended

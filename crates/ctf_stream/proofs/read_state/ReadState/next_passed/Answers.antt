@@ -4,8 +4,8 @@ use Rattle.std.proofs.lemmas.Option.{IfSome_then}
 use Rattle.ctf_stream.proofs.ReadStates.{follows, inside, takes_item}
 use Rattle.ctf_stream.proofs.read_state.ReadState.next_passed.Goals as goal
 
-pub returns-clause-reads : goal.returns-clause-reads
-returns-clause-reads c =
+pub returns : goal.returns
+returns c =
     let old = c.args.self.now in
     let p = c.in-Some.packet in
     let q = c.next_passed.new.self in
@@ -16,7 +16,7 @@ returns-clause-reads c =
       stands = search rules;
       shared = search rules;
       found = search rules;
-      holds = (let stands = inside old.cut Clean [] old.buffer old.taken old.packet p c.in-Some.is c.requires.stands in c.next_passed.ensures.holds old.cut.shift old.scopes old.line.part old.line.bytes.items stands.fetched.line);
+      holds = (let stands = inside old.cut Clean [] old.buffer old.taken old.packet p c.in-Some.is c.requires.stands in c.next_passed.ensures.holds old.cut.shift old.scopes c.next_passed.new.line.part c.next_passed.new.line.bytes.items stands.fetched.line);
       room = search rules;
       taken = refl;
       writes = refl;
