@@ -125,7 +125,8 @@ from_after index rs = map (λ (r : Route). outside index r.origin r.steps) rs
 
 -- and from the scopes after one
 abbrev pub of_scope : Scope → Origin → Origin
-of_scope scope (Enclosing out) = Earlier scope
+of_scope scope (Enclosing zero) = Earlier scope
+of_scope scope (Enclosing (suc out)) = Enclosing out
 of_scope scope (Earlier other) = Earlier other
 
 abbrev pub from_later : Scope → List Route → List Route
@@ -412,10 +413,9 @@ IsOfPieces k no_pieces = ⊤
 IsOfPieces k (more_pieces p ps) =
     (k.kind ≡ kind.Structure (members_of (more_pieces p ps))) × ArePieces k.align (more_pieces p ps)
 
--- the kept number of a place is the one that a route leads to, in a structure around
+-- the kept number of a place is the one that a route leads to
 abbrev pub LeadsTo : List Route → Route → ℕ → Type 0
-LeadsTo known route place =
-    (slice_get known place ≡ Some route) × ((out : ℕ) × (route.origin ≡ Enclosing out))
+LeadsTo known route place = slice_get known place ≡ Some route
 
 -- an array of this length has so many elements
 abbrev pub IsCount : List Route → Length → Count → Type 0

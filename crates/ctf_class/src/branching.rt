@@ -296,8 +296,8 @@ impl PlanBuilder {
         Ok(Some(builder.finish()?))
     }
 
-    /// Adds the members of an element to nothing, or the field that it is, in the member of an index. Whether that could
-    /// be done.
+    /// Adds the members of an element to nothing, or the field that it is, in the member of an index. Whether that
+    /// could be done.
     #[cycle(plan)]
     fn add_element(&mut self, alloc: Global, index: usize, class: &Class) -> Result<bool, NoMemory>
         requires few { self.old.room ≤ 2 ^ 18 }

@@ -64,7 +64,13 @@ fn moved_around(alloc: Global, out: u32, steps: &[u32], by: Move) -> Result<Rout
             }
             Origin::Enclosing(out.saturating_sub(1))
         }
-        Move::Later(scope) => Origin::Earlier(scope),
+        Move::Later(scope) => {
+            if out == 0 {
+                Origin::Earlier(scope)
+            } else {
+                Origin::Enclosing(out - 1)
+            }
+        }
     };
     ways.extend_from_slice(steps)?;
     Ok(Route {

@@ -1,14 +1,13 @@
 //! Where lengths and tags are found.
 
 ghost use Rattle.std.specs.Prelude.{ℕ, ◌≡◌, IsTrue, IsFalse};
-ghost use Rattle.ctf_class.specs.declared.route.Origin.TheVariants.{Enclosing as Around};
 ghost use Rattle.ctf_class.specs.Records.{LeadsBefore};
 
 use ctf_list::List;
 
 /// The scopes of a packet and of an event record, in the order in which they are decoded (CTF 1.8.3,
 /// section 7.3.2).
-#[derive(Clone, Copy)]
+#[derive(Clone, Copy, PartialEq, Eq)]
 pub enum Scope {
     PacketHeader,
     PacketContext,
@@ -19,7 +18,7 @@ pub enum Scope {
 }
 
 /// Where a route begins.
-#[derive(Clone, Copy)]
+#[derive(Clone, Copy, PartialEq, Eq)]
 pub enum Origin {
     /// A structure around the class, 0 being the innermost.
     Enclosing(u32),
@@ -50,15 +49,11 @@ impl Route {
         out == 0 && index > 0 && *step as usize == index - 1
     }
 
-    /// Whether another route is this one, which begins around a class.
+    /// Whether another route is this one.
     pub(crate) fn is(&self, other: &Route) -> bool
-        ensures same { IsTrue result → self.now ≡ other.now }
-        ensures around { IsTrue result → (out : ℕ) × (self.now.origin ≡ Around out) }
+        ensures { IsTrue result → self.now ≡ other.now }
     {
-        let (Origin::Enclosing(one), Origin::Enclosing(two)) = (self.origin, other.origin) else {
-            return false;
-        };
-        one == two && self.steps.as_slice() == other.steps.as_slice()
+        self.origin == other.origin && self.steps.as_slice() == other.steps.as_slice()
     }
 }
 

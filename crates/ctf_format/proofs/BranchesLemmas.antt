@@ -1,6 +1,6 @@
 -- Fields that are kept, or go by what is kept, variants and arrays that are written by their plans are shown as their
 -- classes say.
-use Rattle.std.proofs.Common.{◌≡◌, ℕ, ℤ, zero, suc, ◌+◌, ◌<◌, ◌≤◌, true, false, List, [], ◌∷◌, ◌++◌, map, length, take, get_or, Option, Some, None, IfSome, Ok, refl, sym, ap, subst, ◌∙◌, arith, append_assoc, append-nil}
+use Rattle.std.proofs.Common.{◌≡◌, ℕ, ℤ, zero, suc, ◌+◌, ◌<◌, ◌≤◌, true, false, List, [], ◌∷◌, ◌++◌, map, length, get_or, Option, Some, None, IfSome, Ok, refl, sym, ap, subst, ◌∙◌, arith, append_assoc, append-nil}
 use Rattle.std.proofs.Common.{codes}
 use Rattle.std.specs.Fmt.{decimal}
 use Rattle.std.specs.Int.{next_multiple_of}
@@ -40,12 +40,12 @@ use Rattle.ctf_decode.specs.Walk.{and_then, as_choice, walk, walk_option, with_o
 use Rattle.ctf_decode.specs.declared.scopes.TheConstants.{MOST_VALUES}
 use Rattle.ctf_decode.proofs.Steps.{choice_ok}
 use Rattle.ctf_format.specs.Around.{Finds}
-use Rattle.ctf_format.specs.Branches.{Anywhere, HasBranch, HasBranches, HasElement, HasFields, HasItems, HasNested, HasOptions, IsArrayThere, IsSlotThere, IsThere, PassesSlots, PutsRowOf, TakesBranch, WritesArray, ends_at}
+use Rattle.ctf_format.specs.Branches.{Anywhere, HasBranch, HasBranches, HasElement, HasFields, HasItems, HasNested, HasOptions, IsArrayThere, IsSlotThere, IsThere, PassesSlots, PutsRowOf, TakesBranch}
 use Rattle.ctf_format.specs.Kept.{CountsWhere, IsCounted, KeepsIf, PutsSlot, PutsSlots, Within}
 use Rattle.ctf_format.specs.Passing.{Passes, next_at}
 use Rattle.ctf_format.specs.Records.{PutsFields, Reached, IsNearShown, after_last, after_value, reached}
 use Rattle.ctf_format.specs.Rows.{enclosed}
-use Rattle.ctf_format.specs.Standing.{Before, Counts, PutsNext, PutsOne, PutsWhere, StandsAs, ValueIs, Writes, among, array_text, variant_text}
+use Rattle.ctf_format.specs.Standing.{Before, Counts, PutsNext, PutsOne, PutsWhere, StandsAs, ValueIs, among, array_text, variant_text}
 use Rattle.ctf_format.specs.Texts.{Shown, element_text, enumeration_text, integer_text, member_part, part_text, string_text, value_text}
 use Rattle.ctf_format.specs.declared.content.Content.{Content}
 use Rattle.ctf_format.specs.declared.planned_record.Reach.{Reach}
@@ -230,9 +230,19 @@ option_passes depth known m p packet to end place ns ms is passes counted ends_a
     let after = (w.0 ++ (32 ∷ 125 ∷ [])) ++ ends p.ended in
     (after, option_there depth known m p packet to end place ns ms before w.0 after is w.1 refl counted ends_at)
 
+-- as far as a value
+abbrev pub reach_of : Next → Reach
+reach_of n = record { place = n.place; more = n.more }
+
+-- of a value nothing need be known
+pub where_ends : (Where : (Scope → Option Val) → Env → Type 0) (k : Form) (shown : Shown) (packet : List ℕ) (content place : ℕ) (line : List ℕ) (n : Next) (after : List ℕ) → PutsWhere Where k shown packet content place line n after → PutsWhere Where k shown packet content place line (next_at (reach_of n)) after
+where_ends Where k shown packet content place line n after puts spent room earlier env there =
+    let p = puts spent room earlier env there in
+    (p.0, p.1, p.2, tt)
+
 -- a value after what is printed before it is a field
 pub nested_slot : (s : Slot) (packet : Content) (place : ℕ) (n : Next) (line after : List ℕ) (ns ms : List Last) → place ≤ packet.end → PutsWhere (Within s.known ns) (form s.class) (value_text s.class) packet.bytes.now packet.end place line n after → KeepsIf s.kept (form s.class) packet.bytes.now packet.end place ns ms
-    → IsSlotThere s packet place (ends_at n) line ns after ms
+    → IsSlotThere s packet place (reach_of n) line ns after ms
 nested_slot s packet place n line after ns ms within puts keeps from more before begins led =
     let bytes = packet.bytes.now in
     let begun = next_multiple_of from s.align in
@@ -278,24 +288,24 @@ next_anywhere k shown packet content place line n after puts spent room earlier 
 
 -- a value alone whose number is kept
 kept_there : (s : Slot) (f : Form) (shown : Shown) (packet : Content) (place : ℕ) (n : Next) (line after : List ℕ) (ns ms : List Last) → IsBlind f → f ≡ form s.class → shown ≡ value_text s.class → s.kept ≡ true → place ≤ packet.end → n.more ≡ 0 → ms ≡ ns ++ n.last ∷ []
-    → PutsNext (after_last 0 lasts.Unknown) f shown packet.bytes.now packet.end place line n after → IsSlotThere s packet place (ends_at n) line ns after ms
+    → PutsNext (after_last 0 lasts.Unknown) f shown packet.bytes.now packet.end place line n after → IsSlotThere s packet place (record { place = n.place; more = 0 }) line ns after ms
 kept_there s f shown packet place n line after ns ms blind forms_are texts_are kept within none keeps puts =
     let bytes = packet.bytes.now in
     let stands = last_stands n.last f shown bytes packet.end place line n after blind refl none puts in
     let told : PutsWhere (Within s.known ns) f shown bytes packet.end place line n after = where_less s.known ns f shown bytes packet.end place line n after (next_anywhere f shown bytes packet.end place line n after puts) in
     let as_class : PutsWhere (Within s.known ns) (form s.class) (value_text s.class) bytes packet.end place line n after = subst (λ t. PutsWhere (Within s.known ns) (form s.class) t bytes packet.end place line n after) texts_are (subst (λ g. PutsWhere (Within s.known ns) g shown bytes packet.end place line n after) forms_are told) in
     let keeps_it : KeepsIf s.kept (form s.class) bytes packet.end place ns ms = subst (λ b. KeepsIf b (form s.class) bytes packet.end place ns ms) (sym kept) (n.last, subst (λ g. StandsAs n.last g bytes packet.end place) forms_are stands, keeps) in
-    nested_slot s packet place n line after ns ms within as_class keeps_it
+    subst (λ m. IsSlotThere s packet place (record { place = n.place; more = m }) line ns after ms) none (nested_slot s packet place n line after ns ms within as_class keeps_it)
 
 pub number_there : (s : Slot) (lone : LoneInteger) (packet : Content) (place : ℕ) (n : Next) (line after : List ℕ) (ns ms : List Last) → IsInteger s.class lone.integer lone.align → s.kept ≡ true → place ≤ packet.end → n.more ≡ 0 → ms ≡ ns ++ n.last ∷ []
-    → PutsNext (after_last 0 lasts.Unknown) (forms.integer lone.align lone.integer) (integer_text lone.integer) packet.bytes.now packet.end place line n after → IsSlotThere s packet place (ends_at n) line ns after ms
+    → PutsNext (after_last 0 lasts.Unknown) (forms.integer lone.align lone.integer) (integer_text lone.integer) packet.bytes.now packet.end place line n after → IsSlotThere s packet place (record { place = n.place; more = 0 }) line ns after ms
 number_there s lone packet place n line after ns ms is kept within none keeps puts =
     let i = lone.integer in
     let forms_are : forms.integer lone.align i ≡ form s.class = ap (λ x. forms.integer x i) is.1 ∙ form_integer s.class i is.0 in
     kept_there s (forms.integer lone.align i) (integer_text i) packet place n line after ns ms (λ c env q r. refl) forms_are (text_integer s.class i is.0) kept within none keeps puts
 
 pub label_there : (s : Slot) (labelled : Labelled) (packet : Content) (place : ℕ) (n : Next) (line after : List ℕ) (ns ms : List Last) → IsLabelled s.class labelled → s.kept ≡ true → place ≤ packet.end → n.more ≡ 0 → ms ≡ ns ++ n.last ∷ []
-    → PutsNext (after_last 0 lasts.Unknown) (forms.enumeration labelled.align labelled.container) (enumeration_text labelled.container labelled.labels) packet.bytes.now packet.end place line n after → IsSlotThere s packet place (ends_at n) line ns after ms
+    → PutsNext (after_last 0 lasts.Unknown) (forms.enumeration labelled.align labelled.container) (enumeration_text labelled.container labelled.labels) packet.bytes.now packet.end place line n after → IsSlotThere s packet place (record { place = n.place; more = 0 }) line ns after ms
 label_there s labelled packet place n line after ns ms is kept within none keeps puts =
     let k = labelled.container in
     let forms_are : forms.enumeration labelled.align k ≡ form s.class = ap (λ x. forms.enumeration x k) is.1 ∙ form_enumeration s.class k labelled.labels is.0 in
@@ -316,33 +326,34 @@ counts_where known ns many (counts.Fixed m) n is counted earlier env there = ap 
 counts_where known ns many (counts.Kept place) n is counted earlier env there = ap (λ l. length_of l earlier env) is.1 ∙ ap number_of (found_number known ns place n is.0 earlier env is.2 counted there)
 
 -- the option that a tag chooses is the value of its variant
-pub variant_there : (P : List Slot → RecordPlan → Type 0) (s : Slot) (v : PlannedVariant) (ps : List RecordPlan) (packet : Content) (place i : ℕ) (z : ℤ) (m : Member) (n : Next) (line after : List ℕ) (ns : List Last) → s.kept ≡ false → (is : IsVariant P s v ps) → place ≤ packet.end → get_or ns v.tag lasts.Unknown ≡ lasts.Label z → chosen v.choices z ≡ Some i → i < length is.options → m ≡ get_or is.options i m
-    → IsThere s.known ns m packet place (ends_at n) line after → IsSlotThere s packet place (ends_at n) line ns after ns
-variant_there P s v ps packet place i z m n line after ns kept is within tagged chooses few option there =
+pub variant_there : (P : List Slot → RecordPlan → Type 0) (s : Slot) (v : PlannedVariant) (ps : List RecordPlan) (packet : Content) (place i : ℕ) (z : ℤ) (m : Member) (end : Reach) (line after : List ℕ) (ns : List Last) → s.kept ≡ false → (is : IsVariant P s v ps) → place ≤ packet.end → get_or ns v.tag lasts.Unknown ≡ lasts.Label z → chosen v.choices z ≡ Some i → i < length is.options → m ≡ get_or is.options i m
+    → IsThere s.known ns m packet place end line after → IsSlotThere s packet place end line ns after ns
+variant_there P s v ps packet place i z m end line after ns kept is within tagged chooses few option there =
     let ms = is.options in
     let a = s.class.align in
     let bytes = packet.bytes.now in
     let k = forms.variant a is.tag v.choices (parts_of (map views.member_part ms)) in
-    let to : Next = record { place = n.place; text = 0; more = n.more; last = lasts.Unknown } in
+    let to = next_at end in
     let puts : PutsWhere (Within s.known ns) k (variant_text ms) bytes packet.end place line to after = λ spent room earlier env around.
     let c = among bytes packet.end earlier in
     let more = there.1 in
     let p = there.2 (spent + 1) (omega (arith, room, more)) earlier env around in
     let parts = parts_of (map views.member_part ms) in
     let rest = λ (x : ℕ). and_then (walk_option parts x c env place (spent + 1)) (as_choice x) in
-    let total : spent + 1 + 1 + there.0 ≡ spent + 1 + n.more = omega (arith, more) in
+    let total : spent + 1 + 1 + there.0 ≡ spent + 1 + end.more = omega (arith, more) in
     let choice_is : option_at is.tag v.choices earlier env ≡ Some i = ap (λ o. option_and_then (chosen v.choices) (tag_of o)) (found_label s.known ns v.tag z is.tag earlier env is.leads tagged around) ∙ chooses in
-    let walked = begins c spent (with_option (option_at is.tag v.choices earlier env) rest) (omega (arith, room)) ∙ ap (λ o. with_option o rest) choice_is ∙ choice_ok c env ms i m few option place (spent + 1) p.0 n.place (spent + 1 + 1 + there.0) p.1 ∙ ap (λ x. Ok (choice i p.0, n.place, x)) total in
+    let walked = begins c spent (with_option (option_at is.tag v.choices earlier env) rest) (omega (arith, room)) ∙ ap (λ o. with_option o rest) choice_is ∙ choice_ok c env ms i m few option place (spent + 1) p.0 end.place (spent + 1 + 1 + there.0) p.1 ∙ ap (λ x. Ok (choice i p.0, end.place, x)) total in
     (choice i p.0, walked, p.2 ∙ ap (λ xs. line ++ xs) (sym (option_shown ms i m p.0 few option)), tt)
     in
     let as_class : PutsWhere (Within s.known ns) (form s.class) (value_text s.class) bytes packet.end place line to after = subst (λ t. PutsWhere (Within s.known ns) (form s.class) t bytes packet.end place line to after) (text_variant s.class is.tag v.choices ms is.is) (subst (λ f. PutsWhere (Within s.known ns) f (variant_text ms) bytes packet.end place line to after) (form_variant s.class is.tag v.choices ms is.is) puts) in
     nested_slot s packet place to line after ns ns within as_class (unkept s packet place ns kept)
 
 -- an array of as many elements as its count says
-pub array_there : (P : List Slot → RecordPlan → Type 0) (s : Slot) (a : PlannedArray) (ps : List RecordPlan) (packet : Content) (place count : ℕ) (n : Next) (line after : List ℕ) (ns : List Last) → s.kept ≡ false → (is : IsArray P s a ps) → place ≤ packet.end → IsCounted a.count ns count
-    → IsArrayThere (Within s.known ns) is.element count packet place n line after → IsSlotThere s packet place (ends_at n) line ns after ns
-array_there P s a ps packet place count n line after ns kept is within counted there =
+pub array_there : (P : List Slot → RecordPlan → Type 0) (s : Slot) (a : PlannedArray) (ps : List RecordPlan) (packet : Content) (place count : ℕ) (to : Reach) (line after : List ℕ) (ns : List Last) → s.kept ≡ false → (is : IsArray P s a ps) → place ≤ packet.end → IsCounted a.count ns count
+    → IsArrayThere (Within s.known ns) is.element count packet place to line after → IsSlotThere s packet place to line ns after ns
+array_there P s a ps packet place count to line after ns kept is within counted there =
     let bytes = packet.bytes.now in
+    let n = next_at to in
     let k = forms.array s.class.align is.length (form is.element) in
     let puts = there is.length s.class.align (counts_where s.known ns is.length a.count count is.counts counted) in
     let as_class : PutsWhere (Within s.known ns) (form s.class) (value_text s.class) bytes packet.end place line n after = subst (λ t. PutsWhere (Within s.known ns) (form s.class) t bytes packet.end place line n after) (text_any s.class is.length is.element is.is) (subst (λ f. PutsWhere (Within s.known ns) f (array_text (value_text is.element)) bytes packet.end place line n after) (form_any s.class is.length is.element is.is) puts) in
@@ -435,12 +446,12 @@ module _ (Where : (Scope → Option Val) → Env → Type 0) (k : Class) (count 
           (after, closed Where packet.bytes.now packet.end (form k) (value_text k) count place before (record { place = at; text = 0; more = more }) 0 g.0 after (omega (arith, some)) refl ends_so)
 
 -- an array of elements that are there
-pub row_array : (Where : (Scope → Option Val) → Env → Type 0) (k : Class) (count : ℕ) (packet : Content) (place start more align : ℕ) (end : MembersEnd) (n : Next) (line after : List ℕ) → align ≡ k.align → start ≡ next_multiple_of place align → start ≤ packet.end → more ≡ count + end.more → n.place ≡ end.place → n.more ≡ more → n.last ≡ lasts.Unknown
-    → PutsRowOf (enclosed 91 93) Where k count packet start line end after → IsArrayThere Where k count packet place n line after
-row_array Where k count packet place start more align end n line after aligned begins within sum at total unknown row many a counts spent room earlier env there =
+pub row_array : (Where : (Scope → Option Val) → Env → Type 0) (k : Class) (count : ℕ) (packet : Content) (place start more align : ℕ) (end : MembersEnd) (to : Reach) (line after : List ℕ) → align ≡ k.align → start ≡ next_multiple_of place align → start ≤ packet.end → more ≡ count + end.more → to.place ≡ end.place → to.more ≡ more
+    → PutsRowOf (enclosed 91 93) Where k count packet start line end after → IsArrayThere Where k count packet place to line after
+row_array Where k count packet place start more align end to line after aligned begins within sum at total row many a counts spent room earlier env there =
     let starts : start ≡ next_multiple_of place k.align = begins ∙ ap (next_multiple_of place) aligned in
     let v = items_walk Where packet.bytes.now packet.end a many k place start count more end line after starts within sum row spent (omega (arith, room, total)) earlier env there (counts earlier env there) in
-    (v.0, v.1 ∙ (λ j. Ok (v.0, sym at j, spent + 1 + sym total j)), v.2, subst (λ l. ValueIs l v.0) (sym unknown) tt)
+    (v.0, v.1 ∙ (λ j. Ok (v.0, sym at j, spent + 1 + sym total j)), v.2, tt)
 
 -- a value alone that is passed over
 pub one_passes : (k : Class) (packet : Content) (place end : ℕ) → Passes (PutsOne (form k) (value_text k) packet.bytes.now packet.end place end) → (before : Before) → Passes (λ line after. PutsNext before (form k) (value_text k) packet.bytes.now packet.end place line (record { place = end; text = 0; more = 0; last = lasts.Unknown }) after)
@@ -474,25 +485,26 @@ element_pieces (more_pieces p ps) k known packet content place to ns ms before l
     let total : spent + 1 + length (members_of all) + insides all + one.0 ≡ spent + 1 + (to.more + (length (members_of all) + insides all)) = omega (arith, same) in
     (v.0, v.1 ∙ ap (λ c. Ok (v.0, to.place, c)) total, ap (λ xs. line ++ xs) (sym (ends_on _)) ∙ v.2 ∙ ap (λ xs. xs ++ value_text k v.0) (append-nil before))
 
-pub element_there : (depth : ℕ) (known : List Route) (k : Class) (p : RecordPlan) (packet : Content) (to : Reach) (n : Next) (place : ℕ) (ns ms : List Last) (before line after : List ℕ) (is : IsElement (IsPlanned depth) known k p) → PutsSlots (scope_slots [] known k is.0) packet.bytes.now packet.end (after_value place 0 lasts.Unknown before) ns (reached to line) ms
-    → after ≡ line ++ ends p.ended → n.more ≡ to.more + p.count → n.place ≡ to.place → n.last ≡ lasts.Unknown → PutsWhere (Within known ns) (form k) (value_text k) packet.bytes.now packet.end place before n after
-element_there depth known k p packet to n place ns ms before line after is puts wrote counted ends_there unknown spent room earlier env there =
+pub element_there : (depth : ℕ) (known : List Route) (k : Class) (p : RecordPlan) (packet : Content) (to end : Reach) (place : ℕ) (ns ms : List Last) (before line after : List ℕ) (is : IsElement (IsPlanned depth) known k p) → PutsSlots (scope_slots [] known k is.0) packet.bytes.now packet.end (after_value place 0 lasts.Unknown before) ns (reached to line) ms
+    → after ≡ line ++ ends p.ended → end.more ≡ to.more + p.count → end.place ≡ to.place → PutsWhere (Within known ns) (form k) (value_text k) packet.bytes.now packet.end place before (next_at end) after
+element_there depth known k p packet to end place ns ms before line after is puts wrote counted ends_there spent room earlier env there =
     let text : after ≡ line ++ ends (ended_in is.0) = wrote ∙ ap (λ c. line ++ ends c) is.3 in
-    let more : to.more + (length (members_of is.0) + insides is.0) ≡ n.more = ap (λ c. to.more + c) (sym is.2) ∙ sym counted in
+    let more : to.more + (length (members_of is.0) + insides is.0) ≡ end.more = ap (λ c. to.more + c) (sym is.2) ∙ sym counted in
     let v = element_pieces is.0 k known packet.bytes.now packet.end place to ns ms before line is.1 puts spent (omega (arith, room, more)) earlier env there in
-    (v.0, v.1 ∙ (λ j. Ok (v.0, sym ends_there j, spent + 1 + more j)), text ∙ v.2, subst (λ l. ValueIs l v.0) (sym unknown) tt)
+    (v.0, v.1 ∙ (λ j. Ok (v.0, sym ends_there j, spent + 1 + more j)), text ∙ v.2, tt)
 
 -- An array that is there by any length that counts so many is there by one that kept numbers tell.
-pub array_counted : (r : Option Next) (known : List Route) (ns : List Last) (k : Class) (e : Form) (shown : Shown) (count : ℕ) (packet : Content) (place : ℕ) (line items : List ℕ) → e ≡ form k → shown ≡ value_text k
-    → ((before : Before) (many : Length) (a : ℕ) → Counts many before count → Writes r before (forms.array a many e) (array_text shown) packet place line items)
-    → WritesArray r (Within known ns) k count packet place line items
-array_counted None known ns k e shown count packet place line items forms_are texts_are writes = tt
-array_counted (Some n) known ns k e shown count packet place line items forms_are texts_are writes = λ many a counts.
-    subst (λ t. PutsWhere (Within known ns) (forms.array a many (form k)) (array_text t) packet.bytes.now packet.end place line n (take n.text items)) texts_are
-    (subst (λ f. PutsWhere (Within known ns) (forms.array a many f) (array_text shown) packet.bytes.now packet.end place line n (take n.text items)) forms_are (there many a counts))
+pub array_counted : (n : Next) (known : List Route) (ns : List Last) (k : Class) (e : Form) (shown : Shown) (count : ℕ) (packet : Content) (place : ℕ) (line after : List ℕ) → e ≡ form k → shown ≡ value_text k
+    → ((before : Before) (many : Length) (a : ℕ) → Counts many before count → PutsNext before (forms.array a many e) (array_text shown) packet.bytes.now packet.end place line n after)
+    → IsArrayThere (Within known ns) k count packet place (reach_of n) line after
+array_counted n known ns k e shown count packet place line after forms_are texts_are writes many a counts =
+    let Where = Within known ns in
+    let to = next_at (reach_of n) in
+    subst (λ t. PutsWhere Where (forms.array a many (form k)) (array_text t) packet.bytes.now packet.end place line to after) texts_are
+    (subst (λ f. PutsWhere Where (forms.array a many f) (array_text shown) packet.bytes.now packet.end place line to after) forms_are there)
   where
-    there : (many : Length) (a : ℕ) → CountsWhere (Within known ns) many count → PutsWhere (Within known ns) (forms.array a many e) (array_text shown) packet.bytes.now packet.end place line n (take n.text items)
-    there many a counts spent room earlier [] within = absurd within
-    there many a counts spent room earlier (vs ∷ env) within =
+    there : PutsWhere (Within known ns) (forms.array a many e) (array_text shown) packet.bytes.now packet.end place line (next_at (reach_of n)) after
+    there spent room earlier [] within = absurd within
+    there spent room earlier (vs ∷ env) within =
         let p = writes (record { index = length vs; last = lasts.Unknown }) (lengths.Fixed count) a (λ ea en ws counted last. refl) spent room earlier env vs tt tt in
-        (p.0, counted_array a e many count (among packet.bytes.now packet.end earlier) (vs ∷ env) place spent (counts earlier (vs ∷ env) within) ∙ p.1, p.2, p.3)
+        (p.0, counted_array a e many count (among packet.bytes.now packet.end earlier) (vs ∷ env) place spent (counts earlier (vs ∷ env) within) ∙ p.1, p.2, tt)

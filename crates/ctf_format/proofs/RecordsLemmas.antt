@@ -13,7 +13,7 @@ use Rattle.ctf_class.proofs.RecordsLemmas.{ends_on}
 use Rattle.ctf_class.specs.Alignment.{IsLarger}
 use Rattle.ctf_class.specs.Integers.{bits_of}
 use Rattle.ctf_class.specs.Names.{field_text}
-use Rattle.ctf_class.specs.Records.{ScopeClass, Slot, At, from_after, from_inside, from_later, known_after, known_by, known_scope, with_kept, Piece, Pieces, alone, inner, no_pieces, more_pieces, Scoped, IsPiece, ArePieces, member_of, members_of, inside, insides, ended_by, ended_after, ends, ended_last, first_at, later_at, known_index, member_slots, opened_lead, piece_slots, pieces_slots, scope_slots, slots, ended_in, before_next, all_slots, values_in, AreScoped, IsNumber, AreInRun, TakesNumbers, IsLength, IsShown, IsStructure, IsField, After, LeadsBefore, numbers_room, room_of, AreRuns}
+use Rattle.ctf_class.specs.Records.{ScopeClass, Slot, At, from_after, from_inside, from_later, known_after, known_by, known_scope, with_kept, Piece, Pieces, alone, inner, no_pieces, more_pieces, Scoped, IsPiece, ArePieces, member_of, members_of, inside, insides, ended_by, ended_after, ends, ended_last, first_at, later_at, known_index, member_slots, opened_lead, piece_slots, pieces_slots, scope_slots, slots, ended_in, before_next, all_slots, values_in, AreScoped, scopes_of, IsNumber, AreInRun, TakesNumbers, IsLength, IsShown, IsStructure, IsField, After, LeadsBefore, numbers_room, room_of, AreRuns}
 use Rattle.ctf_class.specs.declared.class.Class.{Class}
 use Rattle.ctf_class.specs.declared.class.Kind as kind
 use Rattle.ctf_class.specs.declared.class.Member.{Member}
@@ -43,8 +43,8 @@ use Rattle.ctf_format.specs.Structures.{IsNearStructure}
 use Rattle.ctf_format.specs.Kept.{KeepsIf, Knows, PutsSlot, PutsSlots}
 use Rattle.ctf_format.specs.Numbers.{number_text}
 use Rattle.ctf_format.specs.RunNumbers.{IsPlaced, number_at, place_in, run_text}
-use Rattle.ctf_format.specs.Records.{Reached, CountsAfter, IsLastNumber, IsLastOf, PutsField, PutsFields, PutsScopes, TakesRun, IsNear, IsNearShown, after_last, after_members, after_value}
-use Rattle.ctf_format.specs.Standing.{Before, Counts, IfKnown, LastIs, Puts, PutsOne, PutsNext, StandsAs, StandsAsNumber, ValueIs, among, known}
+use Rattle.ctf_format.specs.Records.{Reached, CountsAfter, IsLastNumber, IsLastOf, PutsField, PutsFields, ScopesFollow, SeesAfter, TakesRun, IsNear, IsNearShown, after_last, after_members, after_value, turn_of}
+use Rattle.ctf_format.specs.Standing.{Before, Counts, IfKnown, LastIs, PutsOne, PutsNext, StandsAs, StandsAsNumber, ValueIs, among, known}
 use Rattle.ctf_format.specs.Texts.{Shown, Part, integer_text, value_text, part_text, member_part, member_texts}
 use Rattle.ctf_format.specs.Rows.{row}
 use Rattle.ctf_format.specs.declared.placed_run.PlacedRun.{PlacedRun}
@@ -52,7 +52,7 @@ use Rattle.ctf_format.specs.declared.standing.Last.{Last}
 use Rattle.ctf_format.specs.declared.standing.Last.TheVariants as lasts
 use Rattle.ctf_format.specs.declared.standing.MembersEnd.{MembersEnd}
 use Rattle.ctf_format.specs.declared.standing.Next.{Next}
-use Rattle.ctf_format.proofs.KeptLemmas.{kept_knows, kept_lengths, knows_after, knows_inside, knows_later}
+use Rattle.ctf_format.proofs.KeptLemmas.{AreBefore, before_inside, before_later, before_longer, before_pieces, kept_knows, kept_lengths, knows_after, knows_bare, knows_inside, knows_later, knows_past}
 use Rattle.ctf_format.proofs.StandingLemmas.{Going, PutsBecoming, last_is, stands_is, going_begins, going_further, puts_next, going_ends, closed, begins, form_structure, puts_structure, text-Structure, value-is, as_one, form_integer, text_integer, member-is, stands_number, mark_at, kind_text}
 use Rattle.ctf_format.proofs.RunNumbersLemmas.{run_integer}
 use Rattle.ctf_format.proofs.StartsLemmas.{Leads, at_one, base_divides, below, larger_begins, leads_itself, run_leads}
@@ -589,7 +589,7 @@ module _ (packet : List ℕ) (content : ℕ) where
   pub pieces_scope : (ps : Pieces) (k : Class) (base : ℕ) (opens : List ℕ) (known : List Route) (from to : Reached) (ns ms : List Last) → k.kind ≡ kind.Structure (members_of ps) → 0 < length (members_of ps) → ArePieces base ps → length known ≡ length ns → PutsSlots (pieces_slots 0 (first_at (opens ++ (123 ∷ 32 ∷ [])) base (from_inside known)) ps) packet content from ns to ms
       → (more : ℕ) × (to.more ≡ from.more + more) × (length (known_after 0 (from_inside known) ps) ≡ length ms)
       × ((place : ℕ) → next_multiple_of place k.align ≡ next_multiple_of from.place base → (spent : ℕ) → spent + 1 + length (members_of ps) + insides ps + more ≤ MOST_VALUES → (earlier : Scope → Option Val) (env : Env) → Knows known ns earlier env
-      → (v : Val) × (walk (form k) (among packet content earlier) env place spent ≡ Ok (v, to.place, spent + 1 + length (members_of ps) + insides ps + more)) × (to.line ++ (ends (ended_after 0 ps) ++ (32 ∷ 125 ∷ [])) ≡ (from.line ++ opens) ++ value_text k v))
+      → (v : Val) × (walk (form k) (among packet content earlier) env place spent ≡ Ok (v, to.place, spent + 1 + length (members_of ps) + insides ps + more)) × (to.line ++ (ends (ended_after 0 ps) ++ (32 ∷ 125 ∷ [])) ≡ (from.line ++ opens) ++ value_text k v) × IsGroup (known_after 0 (from_inside known) ps) ms earlier env (Some v))
   pieces_scope ps k base opens known from to ns ms is some are same puts =
       let first = next_multiple_of from.place base in
       let opened = from.line ++ opens in
@@ -602,8 +602,7 @@ module _ (packet : List ℕ) (content : ℕ) where
         going.1,
         going.3,
         λ place starts spent few earlier env knows.
-            let p = structure_from ps k base going.0 opens from to (known_after 0 inside_known ps) ms earlier env is some (begins_some ps first content some going.2) (going.4 earlier env (knows_inside known ns earlier env [] knows)) place starts spent few in
-            (p.0, p.1, p.2),
+            structure_from ps k base going.0 opens from to (known_after 0 inside_known ps) ms earlier env is some (begins_some ps first content some going.2) (going.4 earlier env (knows_inside known ns earlier env [] knows)) place starts spent few,
       )
 
 -- a structure without members is where it could begin
@@ -619,87 +618,136 @@ empty_puts k packet content place end before after is ends_at within wrote spent
     let text : value_text k v ≡ 123 ∷ 32 ∷ 125 ∷ [] = ap (λ f. f v) (value-is k ∙ ap kind_text is ∙ text-Structure []) in
     (v, ap (λ f. walk f c env place spent) (sym (form_structure k [] is)) ∙ walked ∙ ap (λ n. Ok (v, n, spent + 1)) (sym ends_at), wrote ∙ ap (λ xs. before ++ xs) (sym text))
 
--- the field that is a structure without members is its value, whatever is around it
-bare_puts : (k : Class) (opens packet : List ℕ) (content : ℕ) (known : List Route) (from to : Reached) (ns ms : List Last) → k.kind ≡ kind.Structure [] → length known ≡ length ns → ((earlier : Scope → Option Val) (env : Env) → Knows known ns earlier env) → PutsSlot (record { lead = opens; align = 1; index = 0; known = known; kept = false; class = k }) packet content from ns to ms
+-- A scope is there where routes lead to these numbers, and its text follows a text. From the scopes after it routes lead
+-- to these.
+abbrev PutsScope : Scope → Class → List ℕ → ℕ → ℕ → ℕ → ℕ → ℕ → List Route → List Last → List Route → List Last → List ℕ → List ℕ → Type 0
+PutsScope scope k packet content place spent end total known ns rs ms before after =
+    (earlier : Scope → Option Val) → Knows known ns earlier []
+    → (v : Val) × (walk (form k) (among packet content earlier) [] place spent ≡ Ok (v, end, total)) × (after ≡ before ++ value_text k v)
+    × ((later : Scope → Option Val) → SeesAfter scope v earlier later → Knows rs ms later [])
+
+-- the field that is a structure without members is its value
+bare_puts : (scope : Scope) (k : Class) (opens packet : List ℕ) (content : ℕ) (known : List Route) (from to : Reached) (ns ms : List Last) → k.kind ≡ kind.Structure [] → length known ≡ length ns → AreBefore (turn_of scope) known → PutsSlot (record { lead = opens; align = 1; index = 0; known = known; kept = false; class = k }) packet content from ns to ms
     → (more : ℕ) × (to.more ≡ from.more + more)
-    × ((spent : ℕ) → spent + 1 + 0 + 0 + more ≤ MOST_VALUES → Puts (form k) (value_text k) packet content from.place spent to.place (spent + 1 + 0 + 0 + more) (from.line ++ opens) (to.line ++ []))
-bare_puts k opens packet content known from to ns ms is lengths free field = (
+    × ((spent : ℕ) → spent + 1 + 0 + 0 + more ≤ MOST_VALUES → PutsScope scope k packet content from.place spent to.place (spent + 1 + 0 + 0 + more) known ns (from_later scope (from_inside known)) ms (from.line ++ opens) (to.line ++ []))
+bare_puts scope k opens packet content known from to ns ms is lengths before field = (
   field.1,
   field.2,
-  λ spent few earlier env.
+  λ spent few earlier knows.
       let c = among packet content earlier in
-      let p = field.3 spent (omega (arith, few)) earlier env [] tt tt (lengths, free earlier ([] ∷ env)) in
+      let p = field.3 spent (omega (arith, few)) earlier [] [] tt tt (lengths, knows_bare known ns earlier knows) in
       let bare = structure k.align (parts_of []) in
       let same : bare ≡ form k = form_structure k [] is in
-      let alone : walk (form k) c env from.place spent ≡ walk (form k) c ([] ∷ env) from.place spent = subst (λ f. walk f c env from.place spent ≡ walk f c ([] ∷ env) from.place spent) same refl in
-      let here : walk (form k) c ([] ∷ env) from.place spent ≡ walk (form k) c ([] ∷ env) (next_multiple_of from.place 1) spent = ap (λ q. walk (form k) c ([] ∷ env) q spent) (sym (at_one from.place)) in
+      let alone : walk (form k) c [] from.place spent ≡ walk (form k) c ([] ∷ []) from.place spent = subst (λ f. walk f c [] from.place spent ≡ walk f c ([] ∷ []) from.place spent) same refl in
+      let here : walk (form k) c ([] ∷ []) from.place spent ≡ walk (form k) c ([] ∷ []) (next_multiple_of from.place 1) spent = ap (λ q. walk (form k) c ([] ∷ []) q spent) (sym (at_one from.place)) in
       let total : spent + 1 + field.1 ≡ spent + 1 + 0 + 0 + field.1 = omega arith in
       let text = value_text k p.0 in
-      (p.0, alone ∙ here ∙ p.1 ∙ ap (λ n. Ok (p.0, to.place, n)) total, append-nil to.line ∙ p.2 ∙ sym (append_assoc from.line opens text)),
+      let walked : walk (form k) c [] from.place spent ≡ Ok (p.0, to.place, spent + 1 + 0 + 0 + field.1) = alone ∙ here ∙ p.1 ∙ ap (λ n. Ok (p.0, to.place, n)) total in
+      let known_later = λ (later : Scope → Option Val) (sees : SeesAfter scope p.0 earlier later). subst (λ xs. Knows (from_later scope (from_inside known)) xs later []) (sym field.5) (knows_past known scope ns p.0 earlier later [] before sees knows) in
+      (p.0, walked, append-nil to.line ∙ p.2 ∙ sym (append_assoc from.line opens text), known_later),
 )
 
 -- the fields of a scope, and the braces after them, are its value
-pub scope_puts : (k : Class) (ps : Pieces) (opens packet : List ℕ) (content : ℕ) (known : List Route) (from to : Reached) (ns ms : List Last) → k.kind ≡ kind.Structure (members_of ps) → ArePieces k.align ps → length known ≡ length ns → ((earlier : Scope → Option Val) (env : Env) → Knows known ns earlier env) → PutsSlots (scope_slots opens known k ps) packet content from ns to ms
+pub scope_puts : (scope : Scope) (k : Class) (ps : Pieces) (opens packet : List ℕ) (content : ℕ) (known : List Route) (from to : Reached) (ns ms : List Last) → k.kind ≡ kind.Structure (members_of ps) → ArePieces k.align ps → length known ≡ length ns → AreBefore (turn_of scope) known → PutsSlots (scope_slots opens known k ps) packet content from ns to ms
     → (more : ℕ) × (to.more ≡ from.more + more) × (length (known_after 0 (from_inside known) ps) ≡ length ms)
-    × ((spent : ℕ) → spent + 1 + length (members_of ps) + insides ps + more ≤ MOST_VALUES → Puts (form k) (value_text k) packet content from.place spent to.place (spent + 1 + length (members_of ps) + insides ps + more) (from.line ++ opens) (to.line ++ ends (ended_in ps)))
-scope_puts k no_pieces opens packet content known from to ns ms is are same free puts =
+    × ((spent : ℕ) → spent + 1 + length (members_of ps) + insides ps + more ≤ MOST_VALUES → PutsScope scope k packet content from.place spent to.place (spent + 1 + length (members_of ps) + insides ps + more) known ns (from_later scope (known_after 0 (from_inside known) ps)) ms (from.line ++ opens) (to.line ++ ends (ended_in ps)))
+scope_puts scope k no_pieces opens packet content known from to ns ms is are same before puts =
     let s : Slot = record { lead = opens; align = 1; index = 0; known = known; kept = false; class = k } in
     let slot : PutsSlot s packet content from ns to ms = subst (λ r. PutsSlot s packet content from ns r ms) (sym puts.3.0) (subst (λ k. PutsSlot s packet content from ns puts.0 k) (sym puts.3.1) puts.2) in
-    let one = bare_puts k opens packet content known from to ns ms is same free slot in
+    let one = bare_puts scope k opens packet content known from to ns ms is same before slot in
     (one.0, one.1, from_inside_length known ∙ same ∙ ap length (sym slot.5), one.2)
-scope_puts k (more_pieces p ps) opens packet content known from to ns ms is are same free puts =
+scope_puts scope k (more_pieces p ps) opens packet content known from to ns ms is are same before puts =
     let all = more_pieces p ps in
+    let inside_known = from_inside known in
+    let rs = known_after 0 inside_known all in
     let one = pieces_scope packet content all k k.align opens known from to ns ms is (omega arith) are same puts in
-    let total = λ (spent : ℕ). spent + 1 + length (members_of all) + insides all + one.0 in
     let text : to.line ++ (ends (ended_after 0 all) ++ (32 ∷ 125 ∷ [])) ≡ to.line ++ ends (ended_in all) = ap (λ xs. to.line ++ xs) (ends_on (ended_after 0 all)) in
-    (one.0, one.1, one.2, λ spent few. subst (λ xs. Puts (form k) (value_text k) packet content from.place spent to.place (total spent) (from.line ++ opens) xs) text (λ earlier env. one.3 from.place refl spent few earlier env (free earlier env)))
+    let all_before = before_pieces (turn_of scope) 0 inside_known all (before_inside (turn_of scope) known before) in (
+      one.0,
+      one.1,
+      one.2,
+      λ spent few earlier knows.
+          let v = one.3 from.place refl spent few earlier [] knows in
+          let known_later = λ (later : Scope → Option Val) (sees : SeesAfter scope v.0 earlier later). knows_later rs scope ms earlier later [] v.3.0 all_before (subst (λ x. SeesAfter scope x earlier later) v.3.1 sees) v.3.2 in
+          (v.0, v.1, sym text ∙ v.2, known_later),
+    )
 
 -- one brace and so many more
 pub brace_more : (n : ℕ) (line : List ℕ) → 0 < n → (line ++ (32 ∷ 125 ∷ [])) ++ ends (n - 1) ≡ line ++ ends n
 brace_more zero line some = absurd (omega (arith, some))
 brace_more (suc n) line some = (let fewer : suc n - 1 ≡ n = omega arith in ap (λ k. (line ++ (32 ∷ 125 ∷ [])) ++ ends k) fewer ∙ append_assoc line (32 ∷ 125 ∷ []) (ends n))
 
+-- scopes in the order in which they are decoded, from a turn on
+abbrev pub InOrder : ℕ → List ScopeClass → Type 0
+InOrder turn [] = ⊤
+InOrder turn (k ∷ ks) = (turn ≤ turn_of k.0) × InOrder (suc (turn_of k.0)) ks
+
 -- the fields of structures, and the braces after them, are their values
-pub scopes_puts : (ks : List ScopeClass) (ss : List Scoped) (opens : List ℕ) (known : List Route) (packet : List ℕ) (content spent : ℕ) (from to : Reached) (ns ms : List Last) → 0 < length ks → AreScoped ks ss → length known ≡ length ns → ((earlier : Scope → Option Val) (env : Env) → Knows known ns earlier env) → PutsSlots (all_slots opens known ss) packet content from ns to ms
-    → (more : ℕ) × (to.more ≡ from.more + more) × (spent + values_in ss + more ≤ MOST_VALUES → PutsScopes ks packet content from.place spent to.place (spent + values_in ss + more) (from.line ++ opens) (to.line ++ ends (ended_last 0 ss)))
-scopes_puts [] ss opens known packet content spent from to ns ms some are same free puts = absurd (omega (arith, some))
-scopes_puts (k ∷ ks) [] opens known packet content spent from to ns ms some are same free puts = absurd are
-scopes_puts (k ∷ []) (s ∷ []) opens known packet content spent from to ns ms some are same free puts =
+pub scopes_puts : (ks : List ScopeClass) (ss : List Scoped) (turn : ℕ) (opens : List ℕ) (known : List Route) (packet : List ℕ) (content spent : ℕ) (from to : Reached) (ns ms : List Last) → 0 < length ks → AreScoped ks ss → InOrder turn ks → AreBefore turn known → length known ≡ length ns → PutsSlots (all_slots opens known ss) packet content from ns to ms
+    → (more : ℕ) × (to.more ≡ from.more + more)
+    × (spent + values_in ss + more ≤ MOST_VALUES → (earlier : Scope → Option Val) → Knows known ns earlier [] → ScopesFollow ks earlier packet content from.place spent to.place (spent + values_in ss + more) (from.line ++ opens) (to.line ++ ends (ended_last 0 ss)))
+scopes_puts [] ss turn opens known packet content spent from to ns ms some are order before same puts = absurd (omega (arith, some))
+scopes_puts (k ∷ ks) [] turn opens known packet content spent from to ns ms some are order before same puts = absurd are
+scopes_puts (k ∷ []) (s ∷ []) turn opens known packet content spent from to ns ms some are order before same puts =
     let fields : PutsSlots (slots opens known s) packet content from ns to ms = subst (λ xs. PutsSlots xs packet content from ns to ms) (append-nil (slots opens known s)) puts in
-    let one = scope_puts s.class s.pieces opens packet content known from to ns ms are.1 are.2 same free fields in
+    let scope_is : k.0 ≡ s.scope = ap (λ (x : ScopeClass). x.0) are.0 in
+    let first_before = subst (λ x. AreBefore (turn_of x) known) scope_is (before_longer turn (turn_of k.0) known order.0 before) in
+    let one = scope_puts s.scope s.class s.pieces opens packet content known from to ns ms are.1 are.2 same first_before fields in
     let after = to.line ++ ends (ended_in s.pieces) in
-    let total : spent + 1 + length (members_of s.pieces) + insides s.pieces + one.0 ≡ spent + values_in (s ∷ []) + one.0 = omega arith in
-    (one.0, one.1, λ few. subst (λ (x : ScopeClass). PutsScopes (x ∷ []) packet content from.place spent to.place (spent + values_in (s ∷ []) + one.0) (from.line ++ opens) after) (sym are.0) (subst (λ n. Puts (form s.class) (value_text s.class) packet content from.place spent to.place n (from.line ++ opens) after) total (one.3 spent (omega (arith, few)))))
-scopes_puts (k ∷ []) (s ∷ (t ∷ ss)) opens known packet content spent from to ns ms some are same free puts = absurd are.3
-scopes_puts (k ∷ (l ∷ ks)) (s ∷ []) opens known packet content spent from to ns ms some are same free puts = absurd are.3
-scopes_puts (k ∷ (l ∷ ks)) (s ∷ (t ∷ ss)) opens known packet content spent from to ns ms some are same free puts =
+    let total : spent + 1 + length (members_of s.pieces) + insides s.pieces + one.0 ≡ spent + values_in (s ∷ []) + one.0 = omega arith in (
+      one.0,
+      one.1,
+      λ few earlier knows.
+          let v = one.3 spent (omega (arith, few)) earlier knows in
+          subst (λ (x : ScopeClass). ScopesFollow (x ∷ []) earlier packet content from.place spent to.place (spent + values_in (s ∷ []) + one.0) (from.line ++ opens) after) (sym are.0) (v.0, v.1 ∙ ap (λ n. Ok (v.0, to.place, n)) total, v.2),
+    )
+scopes_puts (k ∷ []) (s ∷ (t ∷ ss)) turn opens known packet content spent from to ns ms some are order before same puts = absurd are.3
+scopes_puts (k ∷ (l ∷ ks)) (s ∷ []) turn opens known packet content spent from to ns ms some are order before same puts = absurd are.3
+scopes_puts (k ∷ (l ∷ ks)) (s ∷ (t ∷ ss)) turn opens known packet content spent from to ns ms some are order before same puts =
     let rest = t ∷ ss in
     let next = before_next s.pieces in
-    let later = known_scope known s in
+    let rs = known_after 0 (from_inside known) s.pieces in
+    let later_known = known_scope known s in
     let closes_now = ends (ended_in s.pieces) in
-    let apart = slots_split packet content (slots opens known s) (all_slots next later rest) from to ns ms puts in
+    let apart = slots_split packet content (slots opens known s) (all_slots next later_known rest) from to ns ms puts in
     let mid = apart.0 in
     let kept = apart.1 in
-    let first = scope_puts s.class s.pieces opens packet content known from mid ns kept are.1 are.2 same free apart.2 in
+    let scope_is : k.0 ≡ s.scope = ap (λ (x : ScopeClass). x.0) are.0 in
+    let first_before = subst (λ x. AreBefore (turn_of x) known) scope_is (before_longer turn (turn_of k.0) known order.0 before) in
+    let next_order = subst (λ x. InOrder (suc (turn_of x)) (l ∷ ks)) scope_is order.1 in
+    let next_before = before_later s.scope rs (before_pieces (turn_of s.scope) 0 (from_inside known) s.pieces (before_inside (turn_of s.scope) known first_before)) in
+    let first = scope_puts s.scope s.class s.pieces opens packet content known from mid ns kept are.1 are.2 same first_before apart.2 in
     let many = spent + 1 + length (members_of s.pieces) + insides s.pieces + first.0 in
-    let others = scopes_puts (l ∷ ks) rest next later packet content many mid to kept ms (omega arith) are.3 (from_later_length s.scope (known_after 0 (from_inside known) s.pieces) ∙ first.2) (λ earlier env. knows_later (known_after 0 (from_inside known) s.pieces) s.scope kept earlier env) apart.3 in
+    let others = scopes_puts (l ∷ ks) rest (suc (turn_of s.scope)) next later_known packet content many mid to kept ms (omega arith) are.3 next_order next_before (from_later_length s.scope rs ∙ first.2) apart.3 in
     let more = first.0 + others.0 in
     let total : many + values_in rest + others.0 ≡ spent + values_in (s ∷ rest) + more = omega arith in
     let mid_line = mid.line ++ closes_now in
+    let opened = from.line ++ opens in
     let after = to.line ++ ends (ended_last 0 rest) in
-    let text : mid.line ++ next ≡ mid_line ++ codes ", " = sym (append_assoc mid.line closes_now (44 ∷ 32 ∷ [])) in
     let sum : to.more ≡ from.more + more = (let a = first.1 in let b = others.1 in omega (arith, a, b)) in (
       more,
       sum,
-      λ few. subst (λ (x : ScopeClass). PutsScopes (x ∷ (l ∷ ks)) packet content from.place spent to.place (spent + values_in (s ∷ rest) + more) (from.line ++ opens) after) (sym are.0) (
-        mid.place,
-        many,
-        mid_line,
-        first.3 spent (omega (arith, few)),
-        subst (λ n. PutsScopes (l ∷ ks) packet content mid.place many to.place n (mid_line ++ codes ", ") after) total
-            (subst (λ xs. PutsScopes (l ∷ ks) packet content mid.place many to.place (many + values_in rest + others.0) xs after) text (others.2 (omega (arith, few)))),
-      ),
+      λ few earlier knows.
+          let v = first.3 spent (omega (arith, few)) earlier knows in
+          let text : mid.line ++ next ≡ (opened ++ value_text s.class v.0) ++ codes ", " = sym (append_assoc mid.line closes_now (44 ∷ 32 ∷ [])) ∙ ap (λ xs. xs ++ codes ", ") v.2 in
+          let follow = λ (later : Scope → Option Val) (sees : SeesAfter s.scope v.0 earlier later).
+          subst (λ n. ScopesFollow (l ∷ ks) later packet content mid.place many to.place n ((opened ++ value_text s.class v.0) ++ codes ", ") after) total
+          (subst (λ xs. ScopesFollow (l ∷ ks) later packet content mid.place many to.place (many + values_in rest + others.0) xs after) text (others.2 (omega (arith, few)) later (v.3 later sees)))
+          in
+          subst (λ (x : ScopeClass). ScopesFollow (x ∷ (l ∷ ks)) earlier packet content from.place spent to.place (spent + values_in (s ∷ rest) + more) opened after) (sym are.0) (v.0, mid.place, many, v.1, follow),
     )
+
+-- the scopes of an event record after its header are in order
+pub scopes_ordered : (shared own : Option Class) (fields : Class) → InOrder 0 (scopes_of shared own fields)
+scopes_ordered None None fields = (omega arith, tt)
+scopes_ordered None (Some l) fields = (omega arith, (omega arith, tt))
+scopes_ordered (Some k) None fields = (omega arith, (omega arith, tt))
+scopes_ordered (Some k) (Some l) fields = (omega arith, (omega arith, (omega arith, tt)))
+
+pub scopes_some : (shared own : Option Class) (fields : Class) → 0 < length (scopes_of shared own fields)
+scopes_some None None fields = omega arith
+scopes_some None (Some l) fields = omega arith
+scopes_some (Some k) own fields = omega arith
 
 -- the numbers of a run, in a buffer
 pub run_numbers : (align : ℕ) (ss rest : List Slot) (ns ms : List PlannedNumber) (at span first place content more : ℕ) (last : Option ℕ) (packet before line after : List ℕ) → TakesNumbers align ss ns span rest → ms ≡ ns → IsLastNumber last ns packet first → IsLeastMultiple at align place → place ≡ next_multiple_of at align → (0 < length ns → 8 * first ≡ place) → place + span ≤ content → line ≡ before → after ≡ line ++ flat_map (run_text packet first) ms

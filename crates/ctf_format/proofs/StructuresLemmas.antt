@@ -57,7 +57,7 @@ structure_puts k s packet content at place first before line after is least begi
     let text : line ++ (ends (ended_after 0 ps) ++ (32 ∷ 125 ∷ [])) ≡ after = ap (λ n. line ++ (ends n ++ (32 ∷ 125 ∷ []))) (alones_close ms) ∙ sym closed in
     subst (λ xs. Puts (form k) (value_text k) packet content at spent end (spent + s.count) before xs) text
     (subst (λ xs. Puts (form k) (value_text k) packet content at spent end (spent + s.count) xs (line ++ (ends (ended_after 0 ps) ++ (32 ∷ 125 ∷ [])))) (append-nil before)
-    (subst (λ n. Puts (form k) (value_text k) packet content at spent end n (before ++ []) (line ++ (ends (ended_after 0 ps) ++ (32 ∷ 125 ∷ [])))) total (λ earlier env. one.3 at refl spent few earlier env tt)))
+    (subst (λ n. Puts (form k) (value_text k) packet content at spent end n (before ++ []) (line ++ (ends (ended_after 0 ps) ++ (32 ∷ 125 ∷ [])))) total (λ earlier env. (let v = one.3 at refl spent few earlier env tt in (v.0, v.1, v.2)))))
 
 -- a value of so many, after the members of a structure
 pub some_next : (before : Before) (k : Form) (shown : Shown) (many more : ℕ) (packet : List ℕ) (content place end text : ℕ) (line after : List ℕ) → many ≡ 1 + more → PutsSome k shown many packet content place end line after

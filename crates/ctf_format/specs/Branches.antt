@@ -28,7 +28,6 @@ use Rattle.ctf_format.specs.declared.planned_record.Reach.{Reach}
 use Rattle.ctf_format.specs.declared.standing.Last.{Last}
 use Rattle.ctf_format.specs.declared.standing.Last.TheVariants as lasts
 use Rattle.ctf_format.specs.declared.standing.MembersEnd.{MembersEnd}
-use Rattle.ctf_format.specs.declared.standing.Next.{Next}
 
 -- a plan is that of some fields
 pub record HasFields (p : RecordPlan) : Type 0 where
@@ -107,16 +106,16 @@ IsSlotThere s packet place to line ns after ms =
     → PutsSlot s packet.bytes.now packet.end (after_value from more lasts.Unknown before) ns
     (after_value to.place (more + to.more) lasts.Unknown after) ms
 
--- as far as a value
-abbrev pub ends_at : Next → Reach
-ends_at n = record { place = n.place; more = n.more }
+-- as far as fields or elements, without their text
+abbrev pub ends_at : MembersEnd → Reach
+ends_at e = record { place = e.place; more = e.more }
 
 -- this field, if it was written after a line that ends with what is before it, is there
-abbrev pub PutsNested : Option Next → Slot → Content → ℕ → List ℕ → List Last → List ℕ → List Last
+abbrev pub PutsNested : Option MembersEnd → Slot → Content → ℕ → List ℕ → List Last → List ℕ → List Last
     → Type 0
 PutsNested result s packet place line ns items ms =
-    IfSome result (λ next.
-    IsSlotThere s packet place (ends_at next) line ns (take next.text items) ms)
+    IfSome result (λ end.
+    IsSlotThere s packet place (ends_at end) line ns (take end.text items) ms)
 
 -- An option of a variant, with its braces, goes from a place as far as this, where routes lead to these numbers from the
 -- structure of the variant, and its text follows a text. Its value is one more.
@@ -128,13 +127,13 @@ IsThere known ns m packet place to before after =
     before (record { place = to.place; text = 0; more = some; last = lasts.Unknown }) after
 
 -- the option of an index, if one was written by its plan, is there, and its text is after a line now
-abbrev pub PutsOption : Option Next → ℕ → List RecordPlan → ℕ → Content → ℕ → List ℕ → List Last
+abbrev pub PutsOption : Option MembersEnd → ℕ → List RecordPlan → ℕ → Content → ℕ → List ℕ → List Last
     → List ℕ → Type 0
 PutsOption result depth plans index packet place line ns items =
     (known : List Route) (options : List Member) → AreEach (IsPlanned depth) known options plans
-    → IfSome result (λ next.
+    → IfSome result (λ end.
     (m : Member) × (index < length options) × (m ≡ get_or options index m)
-    × IsThere known ns m packet place (ends_at next) line (take next.text items))
+    × IsThere known ns m packet place (ends_at end) line (take end.text items))
 
 -- so it is where it was passed over
 abbrev pub PassesOption : Option Reach → ℕ → List RecordPlan → ℕ → Content → ℕ → List Last → Type 0
@@ -154,13 +153,13 @@ abbrev pub Places : Type 1
 Places = (Scope → Option Val) → Env → Type 0
 
 -- an element of a class, if one was written, is there after its mark and its index
-abbrev pub PutsElement : Option Next → Places → ElementLead → Class → Content → ℕ → List ℕ → List ℕ
-    → Type 0
+abbrev pub PutsElement : Option MembersEnd → Places → ElementLead → Class → Content → ℕ → List ℕ
+    → List ℕ → Type 0
 PutsElement result Where lead k packet place line items =
-    IfSome result (λ next.
+    IfSome result (λ end.
     PutsWhere Where (form k)
     (λ v. lead.mark ∷ 32 ∷ element_text (value_text k) lead.index v) packet.bytes.now packet.end
-    place line next (take next.text items))
+    place line (next_at (ends_at end)) (take end.text items))
 
 -- so many elements of a class are there one after the other
 abbrev pub PutsRowOf : (List (List ℕ) → List ℕ) → Places → Class → ℕ → Content → ℕ → List ℕ
@@ -177,17 +176,18 @@ WritesRow together result Where k count packet place line items =
     PutsRowOf together Where k count packet place line end (take end.text items))
 
 -- an array of so many elements of a class is there
-abbrev pub IsArrayThere : Places → Class → ℕ → Content → ℕ → Next → List ℕ → List ℕ → Type 0
-IsArrayThere Where k count packet place next line after =
+abbrev pub IsArrayThere : Places → Class → ℕ → Content → ℕ → Reach → List ℕ → List ℕ → Type 0
+IsArrayThere Where k count packet place to line after =
     (many : Length) (a : ℕ) → CountsWhere Where many count
     → PutsWhere Where (forms.array a many (form k)) (array_text (value_text k)) packet.bytes.now
-    packet.end place line next after
+    packet.end place line (next_at to) after
 
 -- it is, if it was written
-abbrev pub WritesArray : Option Next → Places → Class → ℕ → Content → ℕ → List ℕ → List ℕ → Type 0
+abbrev pub WritesArray : Option MembersEnd → Places → Class → ℕ → Content → ℕ → List ℕ → List ℕ
+    → Type 0
 WritesArray result Where k count packet place line items =
-    IfSome result (λ next.
-    IsArrayThere Where k count packet place next line (take next.text items))
+    IfSome result (λ end.
+    IsArrayThere Where k count packet place (ends_at end) line (take end.text items))
 
 -- fields, if they were passed over, go from where others came as far as this, and these numbers are kept before them and
 -- then
@@ -223,4 +223,4 @@ PassesRow result Where k count packet place =
 abbrev pub PassesArray : Option Reach → Places → Class → ℕ → Content → ℕ → Type 0
 PassesArray result Where k count packet place =
     IfSome result (λ to.
-    Passes (λ line after. IsArrayThere Where k count packet place (next_at to) line after))
+    Passes (IsArrayThere Where k count packet place to))

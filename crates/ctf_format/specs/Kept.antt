@@ -5,8 +5,6 @@ use Rattle.ctf_class.specs.Records.{Slot}
 use Rattle.ctf_class.specs.declared.record_plan.Count.{Count}
 use Rattle.ctf_class.specs.declared.record_plan.Count.TheVariants as counts
 use Rattle.ctf_class.specs.declared.route.Length.{Length}
-use Rattle.ctf_class.specs.declared.route.Origin.{Origin}
-use Rattle.ctf_class.specs.declared.route.Origin.TheVariants.{Enclosing, Earlier}
 use Rattle.ctf_class.specs.declared.route.Route.{Route}
 use Rattle.ctf_class.specs.declared.route.Scope.{Scope}
 use Rattle.ctf_decode.specs.Forms.{Form}
@@ -24,18 +22,12 @@ use Rattle.ctf_format.specs.declared.standing.Last.{Last}
 use Rattle.ctf_format.specs.declared.standing.Last.TheVariants as lasts
 use Rattle.ctf_format.specs.declared.standing.Next.{Next}
 
--- a route in the structures around leads to this number, as far as it is known
-abbrev pub LeadsSo : Origin → List ℕ → Last → (Scope → Option Val) → Env → Type 0
-LeadsSo (Enclosing out) steps n earlier env =
-    Finds n (found_from (Enclosing out) steps earlier env)
-LeadsSo (Earlier scope) steps n earlier env = ⊤
-
--- so do routes, one after the other, to these numbers
+-- routes lead to these numbers, one after the other, as far as these are known
 abbrev pub Knows : List Route → List Last → (Scope → Option Val) → Env → Type 0
 Knows [] ns earlier env = ⊤
 Knows (r ∷ rs) [] earlier env = ⊤
 Knows (r ∷ rs) (n ∷ ns) earlier env =
-    LeadsSo r.origin r.steps n earlier env × Knows rs ns earlier env
+    Finds n (found_from r.origin r.steps earlier env) × Knows rs ns earlier env
 
 -- in a structure where as many routes do
 abbrev pub Within : List Route → List Last → (Scope → Option Val) → Env → Type 0

@@ -1,5 +1,5 @@
 -- Event records that are written by their plan (all own).
-use Rattle.std.specs.Prelude.{◌≡◌, ℕ, zero, suc, pos, ◌+◌, ◌-◌, ◌/◌, ◌%◌, ◌^◌, ◌<◌, ◌≤◌, false, length, take, List, [], ◌∷◌, ◌++◌, Option, None, IfSome, ⊤, codes}
+use Rattle.std.specs.Prelude.{◌≡◌, ℕ, zero, suc, pos, ◌+◌, ◌-◌, ◌/◌, ◌%◌, ◌^◌, ◌<◌, ◌≤◌, false, length, take, List, [], ◌∷◌, ◌++◌, Option, Some, None, IfSome, Ok, ⊤, codes}
 use Rattle.std.specs.Int.{next_multiple_of}
 use Rattle.std.specs.List.{All}
 use Rattle.ctf_bits.specs.Align.{IsLeastMultiple}
@@ -9,14 +9,18 @@ use Rattle.ctf_class.specs.declared.class.Class.{Class}
 use Rattle.ctf_class.specs.declared.shown.Integers.{Integers}
 use Rattle.ctf_class.specs.declared.record_plan.PlannedRun.{PlannedRun}
 use Rattle.ctf_class.specs.declared.route.Length.{Length}
+use Rattle.ctf_class.specs.declared.route.Scope.{Scope}
+use Rattle.ctf_class.specs.declared.route.Scope.TheVariants.{PacketHeader, PacketContext, EventHeader, StreamEventContext, EventContext, EventFields}
 use Rattle.ctf_class.specs.declared.shown.Shown.{Shown as PlannedShown}
 use Rattle.ctf_class.specs.declared.shown.Shown.TheVariants as fields
 use Rattle.ctf_class.specs.declared.planned_number.PlannedNumber.{PlannedNumber}
 use Rattle.ctf_class.specs.declared.structures.Structures.{Structures}
+use Rattle.ctf_decode.specs.Values.{Val}
 use Rattle.ctf_decode.specs.Views.{form}
+use Rattle.ctf_decode.specs.Walk.{walk}
 use Rattle.ctf_format.specs.Structures.{IsNearStructure}
 use Rattle.ctf_format.specs.RunNumbers.{number_at, place_in, IsPlaced}
-use Rattle.ctf_format.specs.Standing.{Before, Counts, Puts, PutsNext, StandsAs, known}
+use Rattle.ctf_format.specs.Standing.{Before, Counts, PutsNext, StandsAs, among, known}
 use Rattle.ctf_decode.specs.Forms.{Form}
 use Rattle.ctf_format.specs.Texts.{Shown, value_text}
 use Rattle.ctf_format.specs.declared.content.Content.{Content}
@@ -165,13 +169,40 @@ pub record BeginsAt (from : ℕ) (r : PlannedRun) (place : ℕ) : Type 0 where
   pub value : place ≡ next_multiple_of from r.align
   pub whole : 0 < length r.numbers → place % 8 ≡ 0
 
--- The values of scopes follow each other from a place to another, whatever was decoded before, and their texts,
--- with a comma between two, follow a text. So many values were begun before them, and after them.
+-- how many scopes are decoded before one
+abbrev pub turn_of : Scope → ℕ
+turn_of PacketHeader = 0
+turn_of PacketContext = 1
+turn_of EventHeader = 2
+turn_of StreamEventContext = 3
+turn_of EventContext = 4
+turn_of EventFields = 5
+
+-- What is found in the scopes after one: its value there, and in those before it what was found in them before.
+abbrev pub SeesAfter : Scope → Val → (Scope → Option Val) → (Scope → Option Val) → Type 0
+SeesAfter scope v earlier later =
+    (later scope ≡ Some v)
+    × ((other : Scope) → turn_of other < turn_of scope → later other ≡ earlier other)
+
+-- The values of scopes follow each other from a place to another where this was decoded before, each where those before
+-- it are found, and their texts, with a comma between two, follow a text. So many values were begun before them, and
+-- after them.
+abbrev pub ScopesFollow : List ScopeClass → (Scope → Option Val) → List ℕ → ℕ → ℕ → ℕ → ℕ → ℕ
+    → List ℕ
+    → List ℕ → Type 0
+ScopesFollow [] earlier packet content place spent end total before after = ⊥
+ScopesFollow (k ∷ []) earlier packet content place spent end total before after =
+    (v : Val) × (walk (form k.1) (among packet content earlier) [] place spent ≡ Ok (v, end, total))
+    × (after ≡ before ++ value_text k.1 v)
+ScopesFollow (k ∷ (l ∷ ks)) earlier packet content place spent end total before after =
+    (v : Val) × (mid many : ℕ)
+    × (walk (form k.1) (among packet content earlier) [] place spent ≡ Ok (v, mid, many))
+    × ((later : Scope → Option Val) → SeesAfter k.0 v earlier later
+    → ScopesFollow (l ∷ ks) later packet content mid many end total
+    ((before ++ value_text k.1 v) ++ codes ", ") after)
+
+-- so they do whatever was decoded before
 abbrev pub PutsScopes : List ScopeClass → List ℕ → ℕ → ℕ → ℕ → ℕ → ℕ → List ℕ → List ℕ → Type 0
-PutsScopes [] packet content place spent end total before after = ⊥
-PutsScopes (k ∷ []) packet content place spent end total before after =
-    Puts (form k.1) (value_text k.1) packet content place spent end total before after
-PutsScopes (k ∷ (l ∷ ks)) packet content place spent end total before after =
-    (mid many : ℕ) × (text : List ℕ)
-    × Puts (form k.1) (value_text k.1) packet content place spent mid many before text
-    × PutsScopes (l ∷ ks) packet content mid many end total (text ++ codes ", ") after
+PutsScopes ks packet content place spent end total before after =
+    (earlier : Scope → Option Val)
+    → ScopesFollow ks earlier packet content place spent end total before after

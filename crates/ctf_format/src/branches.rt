@@ -1,6 +1,6 @@
 //! Texts of fields that are kept, or go by what is kept, of variants and of arrays, by their plans.
 
-ghost use Rattle.std.specs.Prelude.{ℕ, ℤ, List, [], ◌∷◌, ◌≡◌, ◌++◌, ◌≤◌, take, vec_len, IfSome, Some};
+ghost use Rattle.std.specs.Prelude.{ℕ, ℤ, List, [], ◌∷◌, ◌≡◌, ◌++◌, ◌≤◌, take, vec_len, IfSome, IsTrue, Some};
 ghost use Rattle.std.specs.Prelude.{true, false};
 ghost use Rattle.std.specs.List.{All};
 ghost use Rattle.ctf_class.specs.declared.class.Kind as kinds;
@@ -27,7 +27,7 @@ use crate::mark::{put_end, put_nothing};
 use crate::planned_record::{Reach, put_before, put_ends, put_more_ends, put_runs};
 use crate::room::with_room;
 use crate::shown_row::put_shown_row;
-use crate::standing::{AlignedInteger, Last, MembersEnd, Next, Position, put_fixed_text};
+use crate::standing::{AlignedInteger, Last, MembersEnd, Position, put_fixed_text};
 use ctf_class::{
     Branch, Branches, Choices, Count, Elements, InnerPlans, LONGEST_NUMBER, Labelled, LoneInteger,
     Nested, PREPARED_HEAD, PlannedArray, PlannedRun, PlannedVariant, PreparedText, RecordPlan,
@@ -65,10 +65,38 @@ impl Begin<'_> {
     }
 }
 
+/// Writes the fields of a record's plan, and a brace, where no number is kept before them, and gives how far they came.
+#[inline(always)]
+pub(crate) fn put_record_fields(
+    plan: &RecordPlan,
+    packet: &Content<'_>,
+    from: MembersEnd,
+    kept: &mut KeptNumbers,
+    buffer: &mut Vec<u8>,
+) -> Option<MembersEnd>
+    requires is { HasFields plan.now }
+    requires within { IsWithin packet.now from.place buffer.old from.text }
+    requires few { from.more ≤ MOST_VALUES }
+    ensures puts { (depth : ℕ) (slots : List Slot) → IsPlanned depth slots plan.now →
+        IfSome result (λ end. (ms : List LastOf) × (line : List ℕ) ×
+        PutsSlots slots packet.now.bytes.now packet.now.end
+        (come from (take from.text buffer.old.items)) [] (come end line) ms ×
+        (take end.text buffer.new.items ≡ line ++ (32 ∷ 125 ∷ []))) }
+    ensures within { IfSome result (λ end. IsWithin packet.now end.place buffer.new end.text) }
+    ensures few { IfSome result (λ end. end.more ≤ MOST_VALUES) }
+{
+    let Branches::Listed(branches) = &plan.branches;
+    if branches.is_empty() {
+        return put_last_runs(plan.runs.as_slice(), packet, from, buffer);
+    }
+    kept.clear();
+    put_branched(plan, packet, from, kept, buffer)
+}
+
 /// Writes the fields of a plan, and a brace, after those that came so far, and gives how far they came then.
 #[cycle(branches)]
 #[inline(always)]
-pub(crate) fn put_fields(
+fn put_fields(
     plan: &RecordPlan,
     packet: &Content<'_>,
     from: MembersEnd,
@@ -118,7 +146,24 @@ fn put_branched(
 {
     let Branches::Listed(branches) = &plan.branches;
     let mid = put_branches(branches.as_slice(), packet, from, kept, buffer)?;
-    put_last_runs(plan.runs.as_slice(), packet, mid, buffer)
+    let runs = plan.runs.as_slice();
+    if are_empty(runs) {
+        let text = put_end(b'}', buffer, mid.text).ok()?;
+        return Some(MembersEnd {
+            place: mid.place,
+            text,
+            more: mid.more,
+        });
+    }
+    put_last_runs(runs, packet, mid, buffer)
+}
+
+/// Whether runs are only one without fields, as after a branch that is the last field.
+#[inline(always)]
+pub(crate) fn are_empty(runs: &[PlannedRun]) -> bool
+    ensures { IsTrue result → (slots : List Slot) → AreRuns slots runs.now → slots ≡ [] }
+{
+    runs.len() == 1 && runs[0].numbers.is_empty() && runs[0].field.is_none()
 }
 
 /// Writes the fields of branches, and gives how far they came then.
@@ -197,7 +242,7 @@ fn put_nested(
     from: Begin<'_>,
     kept: &mut KeptNumbers,
     buffer: &mut Vec<u8>,
-) -> Option<Next>
+) -> Option<MembersEnd>
     requires is { HasNested nested.now plans.now }
     requires within { IsWithin from.packet.now from.place buffer.old from.text }
     ensures puts { let line = take from.entry.text buffer.old.items in
@@ -205,8 +250,8 @@ fn put_nested(
         PutsNested result s from.entry.packet.now from.entry.place line kept.old.numbers
         buffer.new.items kept.new.numbers }
     ensures within { IfSome result
-        (λ n. IsWithin from.entry.packet.now n.place buffer.new n.text) }
-    ensures few { IfSome result (λ n. n.more ≤ MOST_VALUES) }
+        (λ e. IsWithin from.entry.packet.now e.place buffer.new e.text) }
+    ensures few { IfSome result (λ e. e.more ≤ MOST_VALUES) }
 {
     match nested {
         Nested::Number(lone) => put_number_kept(lone, from, kept, buffer),
@@ -224,15 +269,15 @@ fn put_number_kept(
     from: Begin<'_>,
     kept: &mut KeptNumbers,
     buffer: &mut Vec<u8>,
-) -> Option<Next>
+) -> Option<MembersEnd>
     requires within { IsWithin from.packet.now from.place buffer.old from.text }
     ensures puts { let line = take from.entry.text buffer.old.items in
         (s : Slot) → s.kept ≡ true → IsInteger s.class lone.now.integer lone.now.align →
         PutsNested result s from.entry.packet.now from.entry.place line kept.old.numbers
         buffer.new.items kept.new.numbers }
     ensures within { IfSome result
-        (λ n. IsWithin from.entry.packet.now n.place buffer.new n.text) }
-    ensures few { IfSome result (λ n. n.more ≤ MOST_VALUES) }
+        (λ e. IsWithin from.entry.packet.now e.place buffer.new e.text) }
+    ensures few { IfSome result (λ e. e.more ≤ MOST_VALUES) }
 {
     let class = AlignedInteger {
         integer: &lone.integer,
@@ -245,7 +290,11 @@ fn put_number_kept(
     };
     let next = put_one(&class, from.packet, at, buffer)?;
     kept.push(next.last).ok()?;
-    Some(next)
+    Some(MembersEnd {
+        place: next.place,
+        text: next.text,
+        more: 0,
+    })
 }
 
 /// Writes an enumeration and keeps its number.
@@ -255,15 +304,15 @@ fn put_label_kept(
     from: Begin<'_>,
     kept: &mut KeptNumbers,
     buffer: &mut Vec<u8>,
-) -> Option<Next>
+) -> Option<MembersEnd>
     requires within { IsWithin from.packet.now from.place buffer.old from.text }
     ensures puts { let line = take from.entry.text buffer.old.items in
         (s : Slot) → s.kept ≡ true → IsLabelled s.class labelled.now →
         PutsNested result s from.entry.packet.now from.entry.place line kept.old.numbers
         buffer.new.items kept.new.numbers }
     ensures within { IfSome result
-        (λ n. IsWithin from.entry.packet.now n.place buffer.new n.text) }
-    ensures few { IfSome result (λ n. n.more ≤ MOST_VALUES) }
+        (λ e. IsWithin from.entry.packet.now e.place buffer.new e.text) }
+    ensures few { IfSome result (λ e. e.more ≤ MOST_VALUES) }
 {
     let container = AlignedInteger {
         integer: &labelled.container,
@@ -276,7 +325,11 @@ fn put_label_kept(
     };
     let next = put_enumeration(&container, labels, from.packet, at, buffer)?;
     kept.push(next.last).ok()?;
-    Some(next)
+    Some(MembersEnd {
+        place: next.place,
+        text: next.text,
+        more: 0,
+    })
 }
 
 /// Writes a text of so many bytes.
@@ -286,15 +339,15 @@ fn put_text_kept(
     from: Begin<'_>,
     kept: &KeptNumbers,
     buffer: &mut Vec<u8>,
-) -> Option<Next>
+) -> Option<MembersEnd>
     requires within { IsWithin from.packet.now from.place buffer.old from.text }
     ensures puts { let line = take from.entry.text buffer.old.items in let ns = kept.now.numbers in
         (s : Slot) (many : LengthOf) → s.kept ≡ false → s.class.kind ≡ kinds.Text many →
         IsCount s.known many count →
         PutsNested result s from.entry.packet.now from.entry.place line ns buffer.new.items ns }
     ensures within { IfSome result
-        (λ n. IsWithin from.entry.packet.now n.place buffer.new n.text) }
-    ensures few { IfSome result (λ n. n.more ≤ MOST_VALUES) }
+        (λ e. IsWithin from.entry.packet.now e.place buffer.new e.text) }
+    ensures few { IfSome result (λ e. e.more ≤ MOST_VALUES) }
 {
     let count = kept.count(count)?;
     let at = Position {
@@ -302,11 +355,10 @@ fn put_text_kept(
         text: from.text,
     };
     let ends = put_fixed_text(count, from.packet, at, buffer)?;
-    Some(Next {
+    Some(MembersEnd {
         place: ends.place,
         text: ends.text,
         more: 0,
-        last: Last::Unknown,
     })
 }
 
@@ -319,7 +371,7 @@ fn put_variant(
     from: Begin<'_>,
     kept: &mut KeptNumbers,
     buffer: &mut Vec<u8>,
-) -> Option<Next>
+) -> Option<MembersEnd>
     requires are { HasOptions plans.now }
     requires within { IsWithin from.packet.now from.place buffer.old from.text }
     ensures puts { let line = take from.entry.text buffer.old.items in
@@ -328,8 +380,8 @@ fn put_variant(
         PutsNested result s from.entry.packet.now from.entry.place line kept.old.numbers
         buffer.new.items kept.new.numbers }
     ensures within { IfSome result
-        (λ n. IsWithin from.entry.packet.now n.place buffer.new n.text) }
-    ensures few { IfSome result (λ n. n.more ≤ MOST_VALUES) }
+        (λ e. IsWithin from.entry.packet.now e.place buffer.new e.text) }
+    ensures few { IfSome result (λ e. e.more ≤ MOST_VALUES) }
 {
     let option = option_of(&variant.choices, kept.number(variant.tag))?;
     put_option(plans, option, from, kept, buffer)
@@ -343,7 +395,7 @@ fn put_option(
     from: Begin<'_>,
     kept: &mut KeptNumbers,
     buffer: &mut Vec<u8>,
-) -> Option<Next>
+) -> Option<MembersEnd>
     requires are { HasOptions plans.now }
     requires within { IsWithin from.packet.now from.place buffer.old from.text }
     ensures puts { let before = take from.entry.text buffer.old.items in (depth : ℕ) →
@@ -351,8 +403,8 @@ fn put_option(
         kept.old.numbers buffer.new.items }
     ensures kept { IfSome result (λ _. kept.new.numbers ≡ kept.old.numbers) }
     ensures within { IfSome result
-        (λ n. IsWithin from.entry.packet.now n.place buffer.new n.text) }
-    ensures few { IfSome result (λ n. n.more ≤ MOST_VALUES) }
+        (λ e. IsWithin from.entry.packet.now e.place buffer.new e.text) }
+    ensures few { IfSome result (λ e. e.more ≤ MOST_VALUES) }
 {
     if option >= plans.len() {
         return None;
@@ -366,11 +418,10 @@ fn put_option(
     if more > MOST_VALUES {
         return None;
     }
-    Some(Next {
+    Some(MembersEnd {
         place: ends.place,
         text,
         more,
-        last: Last::Unknown,
     })
 }
 
@@ -383,7 +434,7 @@ fn put_counted(
     from: Begin<'_>,
     kept: &mut KeptNumbers,
     buffer: &mut Vec<u8>,
-) -> Option<Next>
+) -> Option<MembersEnd>
     requires are { HasItems array.now.elements plans.now }
     requires within { IsWithin from.packet.now from.place buffer.old from.text }
     ensures puts { let line = take from.entry.text buffer.old.items in
@@ -392,8 +443,8 @@ fn put_counted(
         PutsNested result s from.entry.packet.now from.entry.place line kept.old.numbers
         buffer.new.items kept.new.numbers }
     ensures within { IfSome result
-        (λ n. IsWithin from.entry.packet.now n.place buffer.new n.text) }
-    ensures few { IfSome result (λ n. n.more ≤ MOST_VALUES) }
+        (λ e. IsWithin from.entry.packet.now e.place buffer.new e.text) }
+    ensures few { IfSome result (λ e. e.more ≤ MOST_VALUES) }
 {
     let count = kept.count(array.count)?;
     let items = Items {
@@ -411,7 +462,7 @@ fn put_items(
     from: Begin<'_>,
     kept: &mut KeptNumbers,
     buffer: &mut Vec<u8>,
-) -> Option<Next>
+) -> Option<MembersEnd>
     requires are { HasItems items.elements.now plans.now }
     requires within { IsWithin from.packet.now from.place buffer.old from.text }
     ensures puts { let line = take from.entry.text buffer.old.items in
@@ -422,8 +473,8 @@ fn put_items(
         from.entry.packet.now from.entry.place line buffer.new.items }
     ensures kept { IfSome result (λ _. kept.new.numbers ≡ kept.old.numbers) }
     ensures within { IfSome result
-        (λ n. IsWithin from.entry.packet.now n.place buffer.new n.text) }
-    ensures few { IfSome result (λ n. n.more ≤ MOST_VALUES) }
+        (λ e. IsWithin from.entry.packet.now e.place buffer.new e.text) }
+    ensures few { IfSome result (λ e. e.more ≤ MOST_VALUES) }
 {
     if let Some(Shown::Integer(lone)) = &items.elements.shown {
         return put_counted_integers(lone, items.count, from, buffer);
@@ -442,11 +493,10 @@ fn put_items(
     if more > MOST_VALUES {
         return None;
     }
-    Some(Next {
+    Some(MembersEnd {
         place: ends.place,
         text: ends.text,
         more,
-        last: Last::Unknown,
     })
 }
 
@@ -457,7 +507,7 @@ fn put_counted_integers(
     count: u64,
     from: Begin<'_>,
     buffer: &mut Vec<u8>,
-) -> Option<Next>
+) -> Option<MembersEnd>
     requires within { IsWithin from.packet.now from.place buffer.old from.text }
     ensures puts { let line = take from.entry.text buffer.old.items in
         (known : List Route) (ns : List LastOf) (k : Class) →
@@ -465,8 +515,8 @@ fn put_counted_integers(
         WritesArray result (Within known ns) k count from.entry.packet.now from.entry.place line
         buffer.new.items }
     ensures within { IfSome result
-        (λ n. IsWithin from.entry.packet.now n.place buffer.new n.text) }
-    ensures few { IfSome result (λ n. n.more ≤ MOST_VALUES) }
+        (λ e. IsWithin from.entry.packet.now e.place buffer.new e.text) }
+    ensures few { IfSome result (λ e. e.more ≤ MOST_VALUES) }
 {
     let class = AlignedInteger {
         integer: &lone.integer,
@@ -476,7 +526,12 @@ fn put_counted_integers(
         place: from.place,
         text: from.text,
     };
-    put_integers(&class, count, from.packet, at, buffer)
+    let next = put_integers(&class, count, from.packet, at, buffer)?;
+    Some(MembersEnd {
+        place: next.place,
+        text: next.text,
+        more: next.more,
+    })
 }
 
 /// Writes the elements of an array, with their brackets.
@@ -604,7 +659,7 @@ fn put_element(
     from: Begin<'_>,
     kept: &mut KeptNumbers,
     buffer: &mut Vec<u8>,
-) -> Option<Next>
+) -> Option<MembersEnd>
     requires is { HasElement plan.now }
     requires within { IsWithin from.packet.now from.place buffer.old from.text }
     ensures puts { let line = take from.entry.text buffer.old.items in
@@ -613,8 +668,8 @@ fn put_element(
         from.entry.place line buffer.new.items }
     ensures kept { IfSome result (λ _. kept.new.numbers ≡ kept.old.numbers) }
     ensures within { IfSome result
-        (λ n. IsWithin from.entry.packet.now n.place buffer.new n.text) }
-    ensures few { IfSome result (λ n. n.more ≤ MOST_VALUES) }
+        (λ e. IsWithin from.entry.packet.now e.place buffer.new e.text) }
+    ensures few { IfSome result (λ e. e.more ≤ MOST_VALUES) }
 {
     let text = put_index(lead, buffer, from.text).ok()?;
     let begin = MembersEnd {
@@ -630,11 +685,10 @@ fn put_element(
     if more > MOST_VALUES {
         return None;
     }
-    Some(Next {
+    Some(MembersEnd {
         place: ends.place,
         text,
         more,
-        last: Last::Unknown,
     })
 }
 

@@ -1,6 +1,6 @@
 //! Fields that are kept, or go by what is kept, variants and arrays that are passed over by their plans.
 
-ghost use Rattle.std.specs.Prelude.{ℕ, List, ◌≡◌, ◌++◌, ◌≤◌, true, false, IfSome};
+ghost use Rattle.std.specs.Prelude.{ℕ, List, [], ◌≡◌, ◌++◌, ◌≤◌, true, false, IfSome};
 ghost use Rattle.std.specs.List.{All};
 ghost use Rattle.ctf_class.specs.Records.{Slot, AreBranches, AreRuns, IsArray, IsCount, IsElement, IsInteger, IsItem, IsLabelled, IsNested, IsPlanned, IsVariant};
 ghost use Rattle.ctf_class.specs.declared.class.Class.{Class};
@@ -12,9 +12,10 @@ ghost use Rattle.ctf_format.specs.Branches.{HasBranch, HasBranches, HasElement, 
 ghost use Rattle.ctf_format.specs.Kept.{Within};
 ghost use Rattle.ctf_format.specs.Passing.{Passes};
 ghost use Rattle.ctf_format.specs.Records.{IsNear, PutsFields, reached};
+ghost use Rattle.ctf_format.specs.declared.standing.Last.{Last as LastOf};
 
 use crate::array::begin_at;
-use crate::branches::{Items, option_of};
+use crate::branches::{Items, are_empty, option_of};
 use crate::content::Content;
 use crate::kept::KeptNumbers;
 use crate::leaf::{label_of, number_at};
@@ -29,9 +30,9 @@ use ctf_class::{
 };
 use ctf_decode::MOST_VALUES;
 
-/// How far the fields of a plan go.
+/// How far the fields of a record's plan go, where no number is kept before them.
 #[inline(always)]
-pub(crate) fn pass_fields(
+pub(crate) fn pass_record_fields(
     plan: &RecordPlan,
     packet: &Content<'_>,
     from: Reach,
@@ -41,8 +42,7 @@ pub(crate) fn pass_fields(
     requires start { from.place ≤ packet.now.end }
     requires few { from.more ≤ MOST_VALUES }
     ensures passes { (depth : ℕ) (slots : List Slot) → IsPlanned depth slots plan.now →
-        IfSome result (λ to.
-        PassesSlots slots packet.now from kept.old.numbers to kept.new.numbers) }
+        IfSome result (λ to. (ms : List LastOf) × PassesSlots slots packet.now from [] to ms) }
     ensures within { IfSome result (λ to. to.place ≤ packet.now.end) }
     ensures few { IfSome result (λ to. to.more ≤ MOST_VALUES) }
 {
@@ -50,6 +50,7 @@ pub(crate) fn pass_fields(
     if branches.is_empty() {
         return pass_runs(plan.runs.as_slice(), packet, from);
     }
+    kept.clear();
     pass_branched(plan, packet, from, kept)
 }
 
@@ -73,7 +74,11 @@ fn pass_branched(
 {
     let Branches::Listed(branches) = &plan.branches;
     let reach = pass_branches(branches.as_slice(), packet, from, kept)?;
-    pass_some(plan.runs.as_slice(), packet, reach)
+    let runs = plan.runs.as_slice();
+    if are_empty(runs) {
+        return Some(reach);
+    }
+    pass_some(runs, packet, reach)
 }
 
 /// How far the fields of branches go.
@@ -120,7 +125,7 @@ fn pass_branch(
     ensures within { IfSome result (λ to. to.place ≤ packet.now.end) }
     ensures few { IfSome result (λ to. to.more ≤ MOST_VALUES) }
 {
-    let reach = pass_some(branch.runs.as_slice(), packet, from)?;
+    let reach = pass_before(branch.runs.as_slice(), packet, from)?;
     let place = begin_at(branch.align, packet, reach.place)?;
     let InnerPlans::Each(plans) = &branch.plans;
     let inner = pass_nested(plans.as_slice(), &branch.nested, packet, place, kept)?;
@@ -426,6 +431,25 @@ fn pass_option(
         place: inner.place,
         more,
     })
+}
+
+/// How far the fields of runs go that are before a branch's own.
+#[inline(always)]
+fn pass_before(runs: &[PlannedRun], packet: &Content<'_>, from: Reach) -> Option<Reach>
+    requires near { All IsNear runs.now }
+    requires start { from.place ≤ packet.now.end }
+    requires few { from.more ≤ MOST_VALUES }
+    ensures passes { (slots : List Slot) → AreRuns slots runs.now →
+        IfSome result (λ to. Passes (λ before after.
+        PutsFields slots packet.now.bytes.now packet.now.end (reached from before)
+        (reached to after))) }
+    ensures within { IfSome result (λ to. to.place ≤ packet.now.end) }
+    ensures few { IfSome result (λ to. to.more ≤ MOST_VALUES) }
+{
+    if runs.is_empty() {
+        return Some(from);
+    }
+    pass_some(runs, packet, from)
 }
 
 /// How far the fields of runs go, out of the way of records without branches.

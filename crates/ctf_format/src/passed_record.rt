@@ -1,10 +1,10 @@
 //! Event records that are passed over by their plans.
 
-ghost use Rattle.std.specs.Prelude.{List, ◌≡◌, ◌+◌, ◌<◌, ◌≤◌, ℕ, length, IfSome};
+ghost use Rattle.std.specs.Prelude.{List, ◌≡◌, ◌+◌, ◌≤◌, ℕ, Option, IfSome};
 ghost use Rattle.std.specs.Int.{next_multiple_of};
 ghost use Rattle.std.specs.List.{All};
 ghost use Rattle.ctf_class.specs.Integers.{bits_of};
-ghost use Rattle.ctf_class.specs.Records.{ScopeClass, Slot, AreMany, AreRuns, IsField, IsPlanOf, IsStructure};
+ghost use Rattle.ctf_class.specs.Records.{ScopeClass, Slot, AreMany, AreRuns, IsField, IsPlanOf, IsStructure, scopes_of};
 ghost use Rattle.ctf_class.specs.declared.class.Class.{Class};
 ghost use Rattle.ctf_class.specs.declared.class.Kind as kinds;
 ghost use Rattle.ctf_class.specs.declared.route.Length.{Length};
@@ -21,7 +21,7 @@ ghost use Rattle.ctf_format.specs.Texts as texts;
 use crate::array::begin_at;
 use crate::content::Content;
 use crate::kept::KeptNumbers;
-use crate::passed_branches::pass_fields;
+use crate::passed_branches::pass_record_fields;
 use crate::placed_run::PlacedRun;
 use crate::planned_record::{Reach, count_after, placed_at};
 use crate::standing::bits_at;
@@ -65,7 +65,8 @@ pub fn pass_planned_record(
     requires plan { (scopes : List ScopeClass) × IsPlanOf scopes plan.now }
     requires start { from.place ≤ packet.now.end }
     requires few { from.spent ≤ MOST_VALUES }
-    ensures passes { (scopes : List ScopeClass) → 0 < length scopes → IsPlanOf scopes plan.now →
+    ensures passes { (shared own : Option Class) (fields : Class) →
+        let scopes = scopes_of shared own fields in IsPlanOf scopes plan.now →
         IfSome result (λ p. Passes (PutsScopes scopes packet.now.bytes.now packet.now.end
         from.place from.spent p.place p.spent)) }
     ensures within { IfSome result (λ p. p.place ≤ packet.now.end) }
@@ -77,8 +78,7 @@ pub fn pass_planned_record(
         place: from.place,
         more: 0,
     };
-    kept.clear();
-    let reach = pass_fields(plan, packet, begin, kept)?;
+    let reach = pass_record_fields(plan, packet, begin, kept)?;
     let count = u64::from(plan.count) + reach.more;
     if count > MOST_VALUES - from.spent {
         return None;

@@ -2,7 +2,7 @@
 
 ghost use Rattle.std.specs.Prelude.{List, ℕ, [], ◌∷◌, ◌≡◌, ◌+◌, ◌/◌, ◌-◌, ◌++◌, ◌<◌, ◌≤◌, length, pos, take, vec_len, Option, None, IfSome};
 ghost use Rattle.std.specs.List.{All, flat_map};
-ghost use Rattle.ctf_class.specs.Records.{After, ScopeClass, Slot, AreRuns, IsField, IsInteger, IsLength, IsPlanOf, ends, numbers_room, room_of};
+ghost use Rattle.ctf_class.specs.Records.{After, ScopeClass, Slot, AreRuns, IsField, IsInteger, IsLength, IsPlanOf, ends, numbers_room, room_of, scopes_of};
 ghost use Rattle.ctf_class.specs.declared.class.Class.{Class};
 ghost use Rattle.ctf_class.specs.declared.class.Kind as kinds;
 ghost use Rattle.ctf_class.specs.declared.route.Length.{Length};
@@ -15,7 +15,7 @@ ghost use Rattle.ctf_format.specs.Records.{BeginsAt, CountsAfter, IsNear, IsLast
 ghost use Rattle.ctf_format.specs.Texts as texts;
 
 use crate::array::{begin_at, put_integers};
-use crate::branches::put_fields;
+use crate::branches::put_record_fields;
 use crate::content::Content;
 use crate::kept::KeptNumbers;
 use crate::leaf::put_enumeration;
@@ -63,7 +63,8 @@ pub fn put_planned_record(
     requires start { from.place ≤ packet.now.end }
     requires few { from.spent ≤ MOST_VALUES }
     requires index { from.end ≤ vec_len buffer.old }
-    ensures puts { (scopes : List ScopeClass) → 0 < length scopes → IsPlanOf scopes plan.now →
+    ensures puts { (shared own : Option Class) (fields : Class) →
+        let scopes = scopes_of shared own fields in IsPlanOf scopes plan.now →
         IfSome result (λ s. PutsScopes scopes packet.now.bytes.now packet.now.end from.place
         from.spent s.place s.spent (take from.end buffer.old.items)
         (take s.end buffer.new.items)) }
@@ -73,13 +74,12 @@ pub fn put_planned_record(
     if plan.runs.as_slice().is_empty() {
         return None;
     }
-    kept.clear();
     let begin = MembersEnd {
         place: from.place,
         text: from.end,
         more: 0,
     };
-    let ends = put_fields(plan, packet, begin, kept, buffer)?;
+    let ends = put_record_fields(plan, packet, begin, kept, buffer)?;
     let end = put_ends(plan.ended, buffer, ends.text)?;
     let count = u64::from(plan.count) + ends.more;
     if count > MOST_VALUES - from.spent {

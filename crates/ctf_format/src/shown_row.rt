@@ -71,18 +71,23 @@ fn put_shown_element(
     packet: &Content<'_>,
     from: Position,
     buffer: &mut Vec<u8>,
-) -> Option<Next>
+) -> Option<MembersEnd>
     requires near { IsNearShown shown.now }
     requires within { IsWithin packet.now from.place buffer.old from.text }
     ensures puts { let line = take from.text buffer.old.items in
         (k : Class) → IsShown 0 k shown.now →
         PutsElement result Anywhere lead k packet.now from.place line buffer.new.items }
-    ensures within { IfSome result (λ n. IsWithin packet.now n.place buffer.new n.text) }
-    ensures few { IfSome result (λ n. n.more ≤ MOST_VALUES) }
+    ensures within { IfSome result (λ e. IsWithin packet.now e.place buffer.new e.text) }
+    ensures few { IfSome result (λ e. e.more ≤ MOST_VALUES) }
 {
     let text = put_index(lead, buffer, from.text).ok()?;
     let place = from.place;
-    put_alone(shown, packet, Position { place, text }, buffer)
+    let next = put_alone(shown, packet, Position { place, text }, buffer)?;
+    Some(MembersEnd {
+        place: next.place,
+        text: next.text,
+        more: next.more,
+    })
 }
 
 /// Writes a value that is shown so and has no member before it.

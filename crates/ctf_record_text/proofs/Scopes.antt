@@ -1,12 +1,11 @@
 -- The scopes after the header of an event record, one after the other, and their texts.
 use Rattle.std.proofs.Common.{◌≡◌, ℕ, ◌<◌, List, [], ◌∷◌, ◌++◌, length, Option, Some, None, Result, Ok, codes, option_map, refl, sym, ap, ◌∙◌, append_assoc, append-nil, arith}
 use Rattle.std.specs.List.{flat_map}
-use Rattle.std.specs.Prelude.{⊤}
 use Rattle.ctf_class.specs.HostAndName.{heading_text}
 use Rattle.ctf_class.specs.Records.{ScopeClass, and_scope, scopes_of}
 use Rattle.ctf_class.specs.declared.class.Class.{Class}
 use Rattle.ctf_class.specs.declared.route.Scope.{Scope}
-use Rattle.ctf_class.specs.declared.route.Scope.TheVariants.{StreamEventContext, EventContext, EventFields}
+use Rattle.ctf_class.specs.declared.route.Scope.TheVariants.{PacketHeader, PacketContext, EventHeader, StreamEventContext, EventContext, EventFields}
 use Rattle.ctf_class.specs.declared.trace.EventClass.{EventClass}
 use Rattle.ctf_class.specs.Streams.{StreamClass}
 use Rattle.ctf_decode.specs.Known.{Known}
@@ -14,12 +13,14 @@ use Rattle.ctf_decode.specs.Values.{Val}
 use Rattle.ctf_decode.specs.Views.{form}
 use Rattle.ctf_decode.specs.Walk.{walk}
 use Rattle.ctf_record_text.specs.Making.{PutsScope, PutsBody}
+use Rattle.ctf_record_text.specs.Texts.{values_text}
+use Rattle.ctf_packet.specs.Views.{packet_values}
 use Rattle.ctf_packet.specs.Records.{Body, bodied}
 use Rattle.ctf_packet.specs.Scopes.{◌>>=◌, Values, Stood, stood, scope_at, input_of, value_in, put, fault_in_record}
 use Rattle.ctf_packet.specs.declared.fault.StreamFault.{StreamFault}
 use Rattle.ctf_format.specs.Around.{KnownScopes, MembersAre, PutsWith, ScopeIs, SharesPacket}
 use Rattle.ctf_format.specs.Lines.{if_shown, scope_texts}
-use Rattle.ctf_format.specs.Records.{PutsScopes}
+use Rattle.ctf_format.specs.Records.{PutsScopes, ScopesFollow, turn_of}
 use Rattle.ctf_format.specs.Standing.{among}
 use Rattle.ctf_format.specs.Texts.{value_text}
 use Rattle.ctf_format.specs.declared.around.MemberNumbers.{MemberNumbers}
@@ -59,6 +60,27 @@ module _ (known : Known) (stream : StreamClass) (event : EventClass) (part bytes
       (values : Values) → Where values → (s : Stood) × (scope_at fault_in_record (option_map form class) (input_of bytes content values) from.place from.spent ≡ Ok s)
       × (to.place ≡ s.end) × (to.spent ≡ s.spent) × (after ≡ before ++ flat_map followed (scope_texts class s.value)) × Is s.value
 
+  -- The scopes of an event record, each after those before it, are its body.
+  pub scopes_join : (values : Values) (shared own : Stood) (v : Val) (place spent end total : ℕ) (front first second text : List ℕ) → front ≡ heading_text event.heading ++ flat_map followed (if_shown part)
+      → scope_at fault_in_record (option_map form stream.event_context) (input_of bytes content values) place spent ≡ Ok shared
+      → first ≡ front ++ flat_map followed (scope_texts stream.event_context shared.value)
+      → scope_at fault_in_record (option_map form event.context) (input_of bytes content (put StreamEventContext shared.value values)) shared.end shared.spent ≡ Ok own
+      → second ≡ first ++ flat_map followed (scope_texts event.context own.value)
+      → walk (form event.fields) (among bytes content (value_in (put EventContext own.value (put StreamEventContext shared.value values)))) [] own.end own.spent ≡ Ok (v, end, total)
+      → text ≡ second ++ value_text event.fields v
+      → (b : Body) × (bodied (option_map form stream.event_context) (option_map form event.context) (form event.fields) bytes content values place spent ≡ Ok b) × (end ≡ b.end) × (packet_values b.values ≡ packet_values values) × (text ≡ values_text part stream event b.values)
+  scopes_join values shared own v place spent end total front first second text wrote at_shared first_is at_own second_is at_fields text_is =
+      let with_shared = put StreamEventContext shared.value values in
+      let with_own = put EventContext own.value with_shared in
+      let body : Body = record { values = put EventFields (Some v) with_own; end = end } in
+      let fields_there : scope_at fault_in_record (Some (form event.fields)) (input_of bytes content with_own) own.end own.spent ≡ Ok (record { value = Some v; end = end; spent = total }) = ap (stood fault_in_record) at_fields in
+      let is : bodied (option_map form stream.event_context) (option_map form event.context) (form event.fields) bytes content values place spent ≡ Ok body =
+      opens values place spent ∙ ap (λ r. r >>= after_shared values) at_shared ∙ ap (λ r. r >>= after_own with_shared) at_own
+      ∙ ap (λ r. r >>= (λ (fields : Stood). Ok (record { values = put EventFields fields.value with_own; end = fields.end }))) fields_there
+      in
+      let chain = record_chain [] (heading_text event.heading) (value_text event.fields v) (heading_text event.heading) front first second (if_shown part) (scope_texts stream.event_context shared.value) (scope_texts event.context own.value) refl wrote first_is second_is in
+      (body, is, refl, refl, text_is ∙ chain)
+
   pub three_scopes : (Shared Own : Option Val → Type 0) (from shared own : Standing) (place spent : ℕ) (front first second text : List ℕ) → front ≡ heading_text event.heading ++ flat_map followed (if_shown part)
       → Stands (λ v. SharesPacket known (value_in v)) stream.event_context from front shared first Shared
       → Stands (λ v. SharesPacket known (value_in v) × Shared v.stream_event_context) event.context shared first own second Own
@@ -71,19 +93,13 @@ module _ (known : Known) (stream : StreamClass) (event : EventClass) (part bytes
       let b = has_own with_shared (shares, a.5) in
       let with_own = put EventContext b.0.value with_shared in
       let f = has_fields with_own shares a.5 b.5 in
-      let body : Body = record { values = put EventFields (Some f.0) with_own; end = place } in
       let at_own : scope_at fault_in_record (option_map form event.context) (input_of bytes content with_shared) a.0.end a.0.spent ≡ Ok b.0 =
       (λ i. scope_at fault_in_record (option_map form event.context) (input_of bytes content with_shared) (sym a.2 i) (sym a.3 i)) ∙ b.1
       in
-      let at_fields : scope_at fault_in_record (Some (form event.fields)) (input_of bytes content with_own) b.0.end b.0.spent ≡ Ok (record { value = Some f.0; end = place; spent = spent }) =
-      (λ i. scope_at fault_in_record (Some (form event.fields)) (input_of bytes content with_own) (sym b.2 i) (sym b.3 i)) ∙ ap (stood fault_in_record) f.1
+      let at_fields : walk (form event.fields) (among bytes content (value_in with_own)) [] b.0.end b.0.spent ≡ Ok (f.0, place, spent) =
+      (λ i. walk (form event.fields) (among bytes content (value_in with_own)) [] (sym b.2 i) (sym b.3 i)) ∙ f.1
       in
-      let is : bodied (option_map form stream.event_context) (option_map form event.context) (form event.fields) bytes content values from.place from.spent ≡ Ok body =
-      opens values from.place from.spent ∙ ap (λ r. r >>= after_shared values) a.1 ∙ ap (λ r. r >>= after_own with_shared) at_own
-      ∙ ap (λ r. r >>= (λ (fields : Stood). Ok (record { values = put EventFields fields.value with_own; end = fields.end }))) at_fields
-      in
-      let chain = record_chain [] (heading_text event.heading) (value_text event.fields f.0) (heading_text event.heading) front first second (if_shown part) (scope_texts stream.event_context a.0.value) (scope_texts event.context b.0.value) refl wrote a.4 b.4 in
-      (body, is, refl, refl, f.2 ∙ chain)
+      scopes_join values a.0 b.0 f.0 from.place from.spent place spent front first second text wrote a.1 a.4 at_own b.4 at_fields f.2
 
 -- The scopes after a header, where each knows the members of those before it.
 pub puts_body : (known : Known) (none nothing first_members second_members last : MemberNumbers) (stream : StreamClass) (event : EventClass) (part bytes : List ℕ) (content : ℕ) (from shared own : Standing) (place spent : ℕ) (front first second text : List ℕ) → MembersAre none [] → MembersAre nothing [] → front ≡ heading_text event.heading ++ flat_map followed (if_shown part)
@@ -97,47 +113,55 @@ puts_body known none nothing first_members second_members last stream event part
     (λ values so_far. has_own values (so_far.0, so_far.1, none_known nothing values.event_context no_others))
     (λ values shares stream_is event_is. (let f = has_fields (value_in values) [] (shares, stream_is, event_is) in (f.0, f.1, f.2)))
 
--- a scope that is there whatever was decoded before
-abbrev StandsPlain : Option Class → List ℕ → ℕ → Standing → List ℕ → Standing → List ℕ → Type 0
-StandsPlain class bytes content from before to after =
-    (values : Values) → (s : Stood) × (scope_at fault_in_record (option_map form class) (input_of bytes content values) from.place from.spent ≡ Ok s)
-    × (to.place ≡ s.end) × (to.spent ≡ s.spent) × (after ≡ before ++ flat_map followed (scope_texts class s.value))
+-- in the scopes before one this is found
+abbrev SeenBefore : Scope → Values → (Scope → Option Val) → Type 0
+SeenBefore scope values later = (other : Scope) → turn_of other < turn_of scope → later other ≡ value_in values other
 
--- scopes that were written one after the other
-pub scope_step : (scope : Scope) (o : Option Class) (ks : List ScopeClass) (bytes : List ℕ) (content place spent end total : ℕ) (before after : List ℕ) → 0 < length ks → PutsScopes (and_scope scope o ks) bytes content place spent end total before after
-    → (to : Standing) × (text : List ℕ) × StandsPlain o bytes content (record { place = place; spent = spent; end = 0 }) before to text × PutsScopes ks bytes content to.place to.spent end total text after
-scope_step scope None ks bytes content place spent end total before after some puts =
-    let from : Standing = record { place = place; spent = spent; end = 0 } in
-    (from, before, (λ values. (record { value = None; end = place; spent = spent }, refl, refl, refl, sym (append-nil before))), puts)
-scope_step scope (Some k) [] bytes content place spent end total before after some puts = absurd (omega (arith, some))
-scope_step scope (Some k) (l ∷ ks) bytes content place spent end total before after some puts =
-    let to : Standing = record { place = puts.0; spent = puts.1; end = 0 } in
-    let stands : StandsPlain (Some k) bytes content (record { place = place; spent = spent; end = 0 }) before to (puts.2 ++ codes ", ") = (λ values.
-    let p = puts.3 (value_in values) [] in
+-- the first of some scopes, and the others where its value is found
+scope_step : (scope : Scope) (o : Option Class) (ks : List ScopeClass) (values : Values) (bytes : List ℕ) (content place spent end total : ℕ) (before after : List ℕ) → 0 < length ks → ((later : Scope → Option Val) → SeenBefore scope values later → ScopesFollow (and_scope scope o ks) later bytes content place spent end total before after)
+    → (s : Stood) × (scope_at fault_in_record (option_map form o) (input_of bytes content values) place spent ≡ Ok s)
+    × (text : List ℕ) × (text ≡ before ++ flat_map followed (scope_texts o s.value))
+    × ((later : Scope → Option Val) → later scope ≡ s.value → SeenBefore scope values later → ScopesFollow ks later bytes content s.end s.spent end total text after)
+scope_step scope None ks values bytes content place spent end total before after some follow =
+    let none : Stood = record { value = None; end = place; spent = spent } in
+    (none, refl, before, sym (append-nil before), λ later is seen. follow later seen)
+scope_step scope (Some k) [] values bytes content place spent end total before after some follow = absurd (omega (arith, some))
+scope_step scope (Some k) (l ∷ ks) values bytes content place spent end total before after some follow =
+    let p = follow (value_in values) (λ other turn. refl) in
     let shown = value_text k p.0 in
-    (record { value = Some p.0; end = puts.0; spent = puts.1 }, ap (stood fault_in_record) p.1, refl, refl, ap followed p.2 ∙ append_assoc before shown (codes ", ") ∙ ap (λ xs. before ++ xs) (sym (append-nil (followed shown))))) in
-    (to, puts.2 ++ codes ", ", stands, puts.4)
+    let there : Stood = record { value = Some p.0; end = p.1; spent = p.2 } in
+    let text_is : (before ++ shown) ++ codes ", " ≡ before ++ flat_map followed (scope_texts (Some k) (Some p.0)) = append_assoc before shown (codes ", ") ∙ ap (λ xs. before ++ xs) (sym (append-nil (followed shown))) in
+    (there, ap (stood fault_in_record) p.3, (before ++ shown) ++ codes ", ", text_is, λ later is seen. p.4 later (is, seen))
 
-pub some_scope : (o : Option Class) (k : Class) → 0 < length (and_scope EventContext o ((EventFields, k) ∷ []))
+-- the value of a context is not found in the scopes before it
+below_shared : (value : Option Val) (values : Values) → SeenBefore StreamEventContext values (value_in (put StreamEventContext value values))
+below_shared value values PacketHeader turn = refl
+below_shared value values PacketContext turn = refl
+below_shared value values EventHeader turn = refl
+below_shared value values StreamEventContext turn = absurd (omega (arith, turn))
+below_shared value values EventContext turn = absurd (omega (arith, turn))
+below_shared value values EventFields turn = absurd (omega (arith, turn))
+
+below_own : (value : Option Val) (values : Values) → SeenBefore EventContext values (value_in (put EventContext value values))
+below_own value values PacketHeader turn = refl
+below_own value values PacketContext turn = refl
+below_own value values EventHeader turn = refl
+below_own value values StreamEventContext turn = refl
+below_own value values EventContext turn = absurd (omega (arith, turn))
+below_own value values EventFields turn = absurd (omega (arith, turn))
+
+some_scope : (o : Option Class) (k : Class) → 0 < length (and_scope EventContext o ((EventFields, k) ∷ []))
 some_scope None k = omega arith
 some_scope (Some l) k = omega arith
 
-pub some_scopes : (shared own : Option Class) (k : Class) → 0 < length (scopes_of shared own k)
-some_scopes None own k = some_scope own k
-some_scopes (Some l) own k = omega arith
-
--- Of members nothing need be known.
-abbrev Anything : Option Val → Type 0
-Anything value = ⊤
-
 pub planned_body : (known : Known) (stream : StreamClass) (event : EventClass) (part bytes : List ℕ) (content place spent end total : ℕ) (front text : List ℕ) → front ≡ heading_text event.heading ++ flat_map followed (if_shown part)
     → PutsScopes (scopes_of stream.event_context event.context event.fields) bytes content place spent end total front text → PutsBody known stream event part bytes content place spent end text
-planned_body known stream event part bytes content place spent end total front text wrote puts =
-    let from : Standing = record { place = place; spent = spent; end = 0 } in
+planned_body known stream event part bytes content place spent end total front text wrote puts values shares =
     let fields = (EventFields, event.fields) ∷ [] in
-    let a = scope_step StreamEventContext stream.event_context (and_scope EventContext event.context fields) bytes content place spent end total front text (some_scope event.context event.fields) puts in
-    let b = scope_step EventContext event.context fields bytes content a.0.place a.0.spent end total a.1 text (omega arith) a.3 in
-    three_scopes known stream event part bytes content Anything Anything from a.0 b.0 end total front a.1 b.1 text wrote
-    (λ values shares. (let s = a.2 values in (s.0, s.1, s.2, s.3, s.4, tt)))
-    (λ values so_far. (let s = b.2 values in (s.0, s.1, s.2, s.3, s.4, tt)))
-    (λ values shares stream_is event_is. b.3 (value_in values) [])
+    let a = scope_step StreamEventContext stream.event_context (and_scope EventContext event.context fields) values bytes content place spent end total front text (some_scope event.context event.fields) (λ later seen. puts later) in
+    let with_shared = put StreamEventContext a.0.value values in
+    let b = scope_step EventContext event.context fields with_shared bytes content a.0.end a.0.spent end total a.2 text (omega arith)
+    (λ later seen. a.4 later (seen StreamEventContext (omega arith)) (λ other turn. seen other (omega (arith, turn)) ∙ below_shared a.0.value values other turn)) in
+    let with_own = put EventContext b.0.value with_shared in
+    let f = b.4 (value_in with_own) refl (below_own b.0.value with_shared) in
+    scopes_join known stream event part bytes content values a.0 b.0 f.0 place spent end total front a.2 b.2 text wrote a.1 a.3 b.1 b.3 f.1 f.2

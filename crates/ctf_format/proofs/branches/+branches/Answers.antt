@@ -1,4 +1,4 @@
-use Rattle.std.proofs.Common.{rules, None, ◌≡◌, ◌<◌, ◌+◌, ◌++◌, ◌∷◌, [], take, drop, subst, refl, sym, ap, ◌∙◌, arith, append_assoc}
+use Rattle.std.proofs.Common.{rules, None, ◌≡◌, ◌<◌, ◌+◌, ◌++◌, ◌∷◌, [], take, drop, subst, refl, sym, ap, ◌∙◌, arith, append_assoc, append-nil}
 use Rattle.std.specs.Int.{next_multiple_of}
 use Rattle.std.specs.List.{All}
 use denote.Param.Weighed.{at_most}
@@ -15,7 +15,7 @@ use Rattle.ctf_format.specs.Rows.{row}
 use Rattle.ctf_format.specs.Standing.{PutsWhere}
 use Rattle.ctf_format.specs.Texts.{element_text, value_text}
 use Rattle.ctf_format.specs.declared.planned_record.Reach.{Reach}
-use Rattle.ctf_format.specs.declared.standing.Next.{Next}
+use Rattle.ctf_format.specs.Passing.{next_at}
 use Rattle.ctf_format.specs.declared.standing.Last.TheVariants as lasts
 use Rattle.ctf_format.proofs.BranchesLemmas.{array_there, each_in, element_puts, element_there, has_branch, has_branches, has_element, has_items, has_near, has_nested, item_plan, kept_same, item_shown, listed_in, nested_listed, option_fields, option_plan, option_planned, option_there, planned_listed, planned_runs, row_array, row_less, takes_branch, variant_there}
 use Rattle.ctf_format.proofs.KeptLemmas.{first_kept}
@@ -129,7 +129,7 @@ put_variant-returns-clause-puts t c = λ depth s kept is.
     let line = take c.args.from.text c.args.buffer.now.items in
     let tagged = sym c.number.ensures ∙ chooses.1 in
     let there = IfSome_then c.put_option.result (c.put_option.ensures.puts depth s.known is.options is.are) (λ n option.
-    variant_there (IsPlanned depth) s v c.args.plans.now packet c.args.from.place c.in_ok-option.option chooses.0 option.0 n line (take n.text c.put_option.new.buffer.items) ns kept is c.requires.within.content tagged chooses.2 option.1 option.2 option.3) in
+    variant_there (IsPlanned depth) s v c.args.plans.now packet c.args.from.place c.in_ok-option.option chooses.0 option.0 (ends_at n) line (take n.text c.put_option.new.buffer.items) ns kept is c.requires.within.content tagged chooses.2 option.1 option.2 option.3) in
     kept_same c.put_option.result (λ xs n. IsSlotThere s packet c.args.from.place (ends_at n) line ns (take n.text c.put_option.new.buffer.items) xs) ns c.put_option.new.kept.numbers c.put_option.ensures.kept there
 
 pub put_counted-returns-clause-puts : goal.put_counted-returns-clause-puts
@@ -141,7 +141,7 @@ put_counted-returns-clause-puts t c = λ depth s kept is.
     let line = take c.args.from.text c.args.buffer.now.items in
     let items = c.put_items.new.buffer.items in
     let there = IfSome_then c.put_items.result (c.put_items.ensures.puts depth s.known is.element is.align is.are) (λ n array.
-    array_there (IsPlanned depth) s a c.args.plans.now packet place c.in_ok-count.count n line (take n.text items) ns kept is c.requires.within.content c.in_ok-count.ensures array) in
+    array_there (IsPlanned depth) s a c.args.plans.now packet place c.in_ok-count.count (ends_at n) line (take n.text items) ns kept is c.requires.within.content c.in_ok-count.ensures array) in
     kept_same c.put_items.result (λ xs n. IsSlotThere s packet place (ends_at n) line ns (take n.text items) xs) ns c.put_items.new.kept.numbers c.put_items.ensures.kept there
 
 pub put_items-returns-clause-puts : goal.put_items-returns-clause-puts
@@ -149,8 +149,8 @@ put_items-returns-clause-puts t c = λ depth known k aligned are.
     let e = c.in_ok-ends.ends in
     let count = c.args.items.count in
     let line = take c.args.from.text c.args.buffer.now.items in
-    let n : Next = record { place = e.place; text = e.text; more = count + e.more; last = lasts.Unknown } in
-    row_array (Within known c.args.kept.now.numbers) k count c.args.from.packet.now c.args.from.place c.in_ok-place.place (count + e.more) c.args.items.elements.now.align e n line (take e.text c.put_bracketed.new.buffer.items) aligned c.in_ok-place.ensures.begin c.in_ok-place.ensures.within refl refl refl refl (c.in_ok-ends.ensures.puts depth known k are)
+    let to : Reach = record { place = e.place; more = count + e.more } in
+    row_array (Within known c.args.kept.now.numbers) k count c.args.from.packet.now c.args.from.place c.in_ok-place.place (count + e.more) c.args.items.elements.now.align e to line (take e.text c.put_bracketed.new.buffer.items) aligned c.in_ok-place.ensures.begin c.in_ok-place.ensures.within refl refl refl (c.in_ok-ends.ensures.puts depth known k are)
 
 pub put_bracketed-returns-clause-puts : goal.put_bracketed-returns-clause-puts
 put_bracketed-returns-clause-puts t c = λ depth known k are.
@@ -187,6 +187,21 @@ put_branches-returns-clause-puts t c = λ depth slots runs are.
     let all : drop l.branch-index c.args.branches.now ≡ [] = drop_of_length-le c.args.branches.now (omega (arith, c.loop-branch-test.false)) in
     (w.0, w.1, w.2, subst (λ xs. AreBranches (IsPlanned depth) w.1 xs runs) all w.3, w.4)
 
+pub put_branched-returns-then-are_empty-clause-puts : goal.put_branched-returns-then-are_empty-clause-puts
+put_branched-returns-then-are_empty-clause-puts t c = λ depth slots planned.
+    let p = c.args.plan.now in
+    let packet = c.args.packet.now in
+    let ns = c.args.kept.now.numbers in
+    let ms = c.put_branches.new.kept.numbers in
+    let same : c.as_slice.result.now ≡ listed_in p.branches = search rules in
+    let all = planned_listed depth slots p planned in
+    let branches = c.in_ok-mid.ensures.puts all.0 slots p.runs (subst (λ bs. AreBranches (IsPlanned all.0) slots bs p.runs) (sym same) all.1) in
+    let from = come c.args.from (take c.args.from.text c.args.buffer.now.items) in
+    let line = take c.in_ok-mid.mid.text c.put_branches.new.buffer.items in
+    let none : branches.1 ≡ [] = search rules in
+    let used : slots ≡ branches.0 = branches.2 ∙ ap (λ xs. branches.0 ++ xs) none ∙ append-nil branches.0 in
+    (line, subst (λ ss. PutsSlots ss packet.bytes.now packet.end from ns (come c.in_ok-mid.mid line) ms) (sym used) branches.4, (of_ok _ _ c.in_ok-text.ensures.value c.put_end.ensures).text)
+
 pub put_branched-put_last_runs-requires-clause-near : goal.put_branched-put_last_runs-requires-clause-near
 put_branched-put_last_runs-requires-clause-near t c =
     let p = c.args.plan.now in
@@ -194,7 +209,7 @@ put_branched-put_last_runs-requires-clause-near t c =
     let same : c.as_slice.result.now ≡ listed_in p.branches = search rules in
     let all = planned_listed is.depth is.slots p is.are in
     let branches = c.in_ok-mid.ensures.puts all.0 is.slots p.runs (subst (λ bs. AreBranches (IsPlanned all.0) is.slots bs p.runs) (sym same) all.1) in
-    subst (All IsNear) (sym c.as_slice-2.ensures) (runs_near branches.1 p.runs branches.3)
+    subst (All IsNear) (sym c.as_slice-runs.ensures) (runs_near branches.1 p.runs branches.3)
 
 pub put_branched-returns-clause-puts : goal.put_branched-returns-clause-puts
 put_branched-returns-clause-puts t c = λ depth slots planned.
@@ -207,7 +222,7 @@ put_branched-returns-clause-puts t c = λ depth slots planned.
     let branches = c.in_ok-mid.ensures.puts all.0 slots p.runs (subst (λ bs. AreBranches (IsPlanned all.0) slots bs p.runs) (sym same) all.1) in
     let from = come c.args.from (take c.args.from.text c.args.buffer.now.items) in
     let mid = come c.in_ok-mid.mid (take c.in_ok-mid.mid.text c.put_branches.new.buffer.items) in
-    IfSome_then c.put_last_runs.result (c.put_last_runs.ensures.puts branches.1 (subst (AreRuns branches.1) (sym c.as_slice-2.ensures) branches.3)) (λ end more.
+    IfSome_then c.put_last_runs.result (c.put_last_runs.ensures.puts branches.1 (subst (AreRuns branches.1) (sym c.as_slice-runs.ensures) branches.3)) (λ end more.
     let to = come end more.0 in
     let runs = fields_slots packet.bytes.now packet.end branches.1 mid to ms (runs_plain branches.1 p.runs branches.3) more.1 in
     (more.0, subst (λ ss. PutsSlots ss packet.bytes.now packet.end from ns to ms) (sym branches.2) (slots_join packet.bytes.now packet.end branches.0 branches.1 from mid to ns ms ms branches.4 runs), more.2))
@@ -263,10 +278,10 @@ put_element-returns-clause-puts t c = λ depth known k is.
     let line = take c.in_ok-text.text c.put_index.new.buffer.items in
     let after = take c.in_ok-text-2.text c.put_ends.new.buffer.items in
     let w = c.in_ok-ends.ensures.puts depth (scope_slots [] known k is.0) is.4 in
-    let n : Next = record { place = to.place; text = c.in_ok-text-2.text; more = to.more + c.from.result; last = lasts.Unknown } in
-    let counted : n.more ≡ to.more + p.count = ap (λ x. to.more + x) c.from.ensures in
+    let end : Reach = record { place = to.place; more = to.more + c.from.result } in
+    let counted : end.more ≡ to.more + p.count = ap (λ x. to.more + x) c.from.ensures in
     let wrote : after ≡ w.0 ++ ends p.ended = c.in_ok-text-2.ensures.puts w.0 w.2 in
-    element_puts (Within known ns) c.args.lead k packet place from line n after (of_ok _ _ c.in_ok-text.ensures.value c.put_index.ensures.put).text (element_there depth known k p packet to n place ns c.put_fields.new.kept.numbers line w.0 after is w.1 wrote counted refl refl)
+    element_puts (Within known ns) c.args.lead k packet place from line (next_at end) after (of_ok _ _ c.in_ok-text.ensures.value c.put_index.ensures.put).text (element_there depth known k p packet to end place ns c.put_fields.new.kept.numbers line w.0 after is w.1 wrote counted refl)
 
 pub put_element-returns-clause-kept : goal.put_element-returns-clause-kept
 put_element-returns-clause-kept t c =
@@ -291,8 +306,8 @@ put_planned_row-loop-i-preserved t c =
       kept = c.in_ok-next.ensures.kept ∙ l.invariant.kept;
       marked = mark_next 91 l.i;
       going = λ depth known k is.
-          let puts = subst (λ xs. PutsWhere (Within known xs) (form k) (λ v. l.mark ∷ 32 ∷ element_text (value_text k) l.i v) packet.bytes.now packet.end l.at.place (take l.at.text l.buffer.items) next after) l.invariant.kept (c.in_ok-next.ensures.puts depth known k is) in
-          items.going_on (Within known ns) packet.bytes.now packet.end (form k) (value_text k) c.args.count c.args.from.place (take c.args.from.text c.args.buffer.now.items) l.i l.at.place l.at.more l.mark (take l.at.text l.buffer.items) next after c.loop-i-test.true l.invariant.marked (l.invariant.going depth known k is) puts;
+          let puts = subst (λ xs. PutsWhere (Within known xs) (form k) (λ v. l.mark ∷ 32 ∷ element_text (value_text k) l.i v) packet.bytes.now packet.end l.at.place (take l.at.text l.buffer.items) (next_at (ends_at next)) after) l.invariant.kept (c.in_ok-next.ensures.puts depth known k is) in
+          items.going_on (Within known ns) packet.bytes.now packet.end (form k) (value_text k) c.args.count c.args.from.place (take c.args.from.text c.args.buffer.now.items) l.i l.at.place l.at.more l.mark (take l.at.text l.buffer.items) (next_at (ends_at next)) after c.loop-i-test.true l.invariant.marked (l.invariant.going depth known k is) puts;
     }
 
 pub put_planned_row-returns-clause-puts : goal.put_planned_row-returns-clause-puts

@@ -1,4 +1,4 @@
-use Rattle.std.proofs.Common.{rules, None, ℕ, ◌≡◌, ◌+◌, ◌++◌, ◌∷◌, [], drop, subst, refl, sym, ap, ◌∙◌, arith, append_assoc}
+use Rattle.std.proofs.Common.{rules, None, ℕ, ◌≡◌, ◌+◌, ◌++◌, ◌∷◌, [], drop, subst, refl, sym, ap, ◌∙◌, arith, append_assoc, append-nil}
 use Rattle.std.specs.Int.{next_multiple_of}
 use Rattle.std.specs.List.{All}
 use denote.Param.Weighed.{at_most}
@@ -60,6 +60,20 @@ pass_branches-pass_branch-requires t c =
     let l = c.loop-branch in
     (search (rules, arith, at_most), (has_branch c.args.branches.now l.branch-index c.branch-item.result c.requires.are c.loop-branch-test.true c.branch-item.is, (l.invariant.within, l.invariant.few)))
 
+pub pass_branched-returns-then-are_empty-clause-passes : goal.pass_branched-returns-then-are_empty-clause-passes
+pass_branched-returns-then-are_empty-clause-passes t c = λ depth slots planned.
+    let p = c.args.plan.now in
+    let packet = c.args.packet.now in
+    let ns = c.args.kept.now.numbers in
+    let ms = c.pass_branches.new.kept.numbers in
+    let mid = c.in_ok-reach.reach in
+    let same : c.as_slice.result.now ≡ listed_in p.branches = search rules in
+    let all = planned_listed depth slots p planned in
+    let branches = c.in_ok-reach.ensures.passes all.0 slots p.runs (subst (λ bs. AreBranches (IsPlanned all.0) slots bs p.runs) (sym same) all.1) in
+    let none : branches.1 ≡ [] = search rules in
+    let used : slots ≡ branches.0 = branches.2 ∙ ap (λ xs. branches.0 ++ xs) none ∙ append-nil branches.0 in
+    subst (λ ss. PassesSlots ss packet c.args.from ns mid ms) (sym used) branches.4
+
 pub pass_branched-pass_some-requires-clause-near : goal.pass_branched-pass_some-requires-clause-near
 pass_branched-pass_some-requires-clause-near t c =
     let p = c.args.plan.now in
@@ -67,7 +81,7 @@ pass_branched-pass_some-requires-clause-near t c =
     let same : c.as_slice.result.now ≡ listed_in p.branches = search rules in
     let all = planned_listed is.depth is.slots p is.are in
     let branches = c.in_ok-reach.ensures.passes all.0 is.slots p.runs (subst (λ bs. AreBranches (IsPlanned all.0) is.slots bs p.runs) (sym same) all.1) in
-    subst (All IsNear) (sym c.as_slice-2.ensures) (runs_near branches.1 p.runs branches.3)
+    subst (All IsNear) (sym c.as_slice-runs.ensures) (runs_near branches.1 p.runs branches.3)
 
 pub pass_branched-returns-clause-passes : goal.pass_branched-returns-clause-passes
 pass_branched-returns-clause-passes t c = λ depth slots planned.
@@ -79,12 +93,12 @@ pass_branched-returns-clause-passes t c = λ depth slots planned.
     let same : c.as_slice.result.now ≡ listed_in p.branches = search rules in
     let all = planned_listed depth slots p planned in
     let branches = c.in_ok-reach.ensures.passes all.0 slots p.runs (subst (λ bs. AreBranches (IsPlanned all.0) slots bs p.runs) (sym same) all.1) in
-    IfSome_then c.pass_some.result (c.pass_some.ensures.passes branches.1 (subst (AreRuns branches.1) (sym c.as_slice-2.ensures) branches.3)) (λ to passes.
+    IfSome_then c.pass_some.result (c.pass_some.ensures.passes branches.1 (subst (AreRuns branches.1) (sym c.as_slice-runs.ensures) branches.3)) (λ to passes.
     let runs = runs_pass branches.1 p.runs packet mid to ms branches.3 passes in
     subst (λ ss. PassesSlots ss packet c.args.from ns to ms) (sym branches.2) (slots_pass branches.0 branches.1 packet c.args.from mid to ns ms ms branches.4 runs))
 
-pub pass_branch-pass_some-requires-clause-near : goal.pass_branch-pass_some-requires-clause-near
-pass_branch-pass_some-requires-clause-near t c =
+pub pass_branch-pass_before-requires-clause-near : goal.pass_branch-pass_before-requires-clause-near
+pass_branch-pass_before-requires-clause-near t c =
     let takes = c.requires.is.takes in
     subst (All IsNear) (sym c.as_slice.ensures) (runs_near takes.0 c.args.branch.now.runs takes.3)
 
@@ -142,7 +156,7 @@ pass_variant-returns-clause-passes t c = λ depth s kept is.
     let chooses = c.in_ok-option.ensures in
     let tagged = sym c.number.ensures ∙ chooses.1 in
     let there = IfSome_then c.pass_option.result (c.pass_option.ensures.passes depth s.known is.options is.are) (λ to option.
-    slot_passes s packet place to ns ns (λ line. (let o = option.3 line in (o.0, variant_there (IsPlanned depth) s v c.args.plans.now packet place c.in_ok-option.option chooses.0 option.0 (next_at to) line o.0 ns kept is c.requires.start tagged chooses.2 option.1 option.2 o.1)))) in
+    slot_passes s packet place to ns ns (λ line. (let o = option.3 line in (o.0, variant_there (IsPlanned depth) s v c.args.plans.now packet place c.in_ok-option.option chooses.0 option.0 to line o.0 ns kept is c.requires.start tagged chooses.2 option.1 option.2 o.1)))) in
     kept_same c.pass_option.result (λ xs to. (from more : ℕ) → place ≡ next_multiple_of from s.align → Passes (λ before after. PutsSlot s packet.bytes.now packet.end (after_value from more lasts.Unknown before) ns (after_value to.place (more + to.more) lasts.Unknown after) xs)) ns c.pass_option.new.kept.numbers c.pass_option.ensures.kept there
 
 pub pass_array-returns-clause-passes : goal.pass_array-returns-clause-passes
@@ -152,7 +166,7 @@ pass_array-returns-clause-passes t c = λ depth s kept is.
     let place = c.args.place in
     let ns = c.args.kept.now.numbers in
     let there = IfSome_then c.pass_items.result (c.pass_items.ensures.passes depth s.known is.element is.align is.are) (λ to array.
-    slot_passes s packet place to ns ns (λ line. (let o = array line in (o.0, array_there (IsPlanned depth) s a c.args.plans.now packet place c.in_ok-count.count (next_at to) line o.0 ns kept is c.requires.start c.in_ok-count.ensures o.1)))) in
+    slot_passes s packet place to ns ns (λ line. (let o = array line in (o.0, array_there (IsPlanned depth) s a c.args.plans.now packet place c.in_ok-count.count to line o.0 ns kept is c.requires.start c.in_ok-count.ensures o.1)))) in
     kept_same c.pass_items.result (λ xs to. (from more : ℕ) → place ≡ next_multiple_of from s.align → Passes (λ before after. PutsSlot s packet.bytes.now packet.end (after_value from more lasts.Unknown before) ns (after_value to.place (more + to.more) lasts.Unknown after) xs)) ns c.pass_items.new.kept.numbers c.pass_items.ensures.kept there
 
 pub pass_items-returns-clause-passes : goal.pass_items-returns-clause-passes
@@ -162,7 +176,7 @@ pass_items-returns-clause-passes t c = λ depth known k aligned are line.
     let p = c.in_ok-ends.ensures.passes depth known k are line in
     let to : Reach = record { place = e.place; more = count + e.more } in
     let end : MembersEnd = record { place = e.place; text = 0; more = e.more } in
-    (p.0, row_array (Within known c.args.kept.now.numbers) k count c.args.packet.now c.args.place c.in_ok-begin.begin (count + e.more) c.args.items.elements.now.align end (next_at to) line p.0 aligned c.in_ok-begin.ensures.begin c.in_ok-begin.ensures.within refl refl refl refl p.1)
+    (p.0, row_array (Within known c.args.kept.now.numbers) k count c.args.packet.now c.args.place c.in_ok-begin.begin (count + e.more) c.args.items.elements.now.align end to line p.0 aligned c.in_ok-begin.ensures.begin c.in_ok-begin.ensures.within refl refl refl p.1)
 
 pub pass_element-returns-clause-passes : goal.pass_element-returns-clause-passes
 pass_element-returns-clause-passes t c = λ depth known k is before.
@@ -173,7 +187,7 @@ pass_element-returns-clause-passes t c = λ depth known k is before.
     let after = w.0 ++ ends p.ended in
     let end : Reach = record { place = to.place; more = to.more + c.from.result } in
     let counted : end.more ≡ to.more + p.count = ap (λ x. to.more + x) c.from.ensures in
-    (after, element_there depth known k p packet to (next_at end) c.args.place c.args.kept.now.numbers c.pass_branched.new.kept.numbers before w.0 after is w.1 refl counted refl refl)
+    (after, element_there depth known k p packet to end c.args.place c.args.kept.now.numbers c.pass_branched.new.kept.numbers before w.0 after is w.1 refl counted refl)
 
 pub pass_element-returns-clause-kept : goal.pass_element-returns-clause-kept
 pass_element-returns-clause-kept t c =

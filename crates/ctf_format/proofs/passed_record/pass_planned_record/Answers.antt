@@ -1,39 +1,39 @@
-use Rattle.std.proofs.Common.{◌≡◌, ◌+◌, ◌<◌, ◌≤◌, ◌++◌, [], None, length, sym, ap, subst, append-nil, rules, arith}
-use Rattle.ctf_class.specs.Records.{all_slots, ended_last, ends, values_in}
+use Rattle.std.proofs.Common.{◌≡◌, ◌+◌, ◌<◌, ◌≤◌, ◌++◌, [], None, length, refl, subst, append-nil, rules, arith}
+use Rattle.ctf_class.specs.Records.{all_slots, ended_last, ends, scopes_of, values_in}
 use Rattle.ctf_decode.specs.declared.scopes.TheConstants.{MOST_VALUES}
-use Rattle.ctf_format.specs.Records.{PutsScopes, reached}
-use Rattle.ctf_format.proofs.RecordsLemmas.{numbers_to, scopes_puts}
+use Rattle.ctf_format.specs.Records.{ScopesFollow, reached}
+use Rattle.ctf_format.proofs.RecordsLemmas.{numbers_to, scopes_ordered, scopes_puts, scopes_some}
 use Rattle.ctf_format.proofs.passed_record.pass_planned_record.Goals as goal
 
-pub pass_fields-requires-clause-is : goal.pass_fields-requires-clause-is
-pass_fields-requires-clause-is c =
+pub pass_record_fields-requires-clause-is : goal.pass_record_fields-requires-clause-is
+pass_record_fields-requires-clause-is c =
     let plan = c.args.plan.now in
     let some : 0 < length plan.runs = search (rules, arith) in
     let is = c.requires.plan.1 some in
     record { depth = is.4; slots = all_slots [] [] is.0; are = is.5 }
 
 pub returns-clause-passes : goal.returns-clause-passes
-returns-clause-passes c = λ classes several planned before.
+returns-clause-passes c = λ shared own fields planned before.
+    let classes = scopes_of shared own fields in
     let plan = c.args.plan.now in
     let bytes = c.args.packet.now.bytes.now in
     let content = c.args.packet.now.end in
     let place = c.args.from.place in
     let spent = c.args.from.spent in
     let to = c.in_ok-reach.reach in
-    let ns = c.clear.new.self.numbers in
-    let ms = c.pass_fields.new.kept.numbers in
     let some : 0 < length plan.runs = search (rules, arith) in
     let is = planned some in
     let slots = all_slots [] [] is.0 in
-    let p = c.in_ok-reach.ensures.passes is.4 slots is.5 before in
+    let kept = c.in_ok-reach.ensures.passes is.4 slots is.5 in
+    let p = kept.1 before in
     let line = p.0 in
-    let whole = scopes_puts classes is.0 [] [] bytes content spent (numbers_to place 0 None before) (reached to line) ns ms several is.1 (ap length (sym c.clear.ensures)) (λ earlier env. tt) p.1 in
+    let whole = scopes_puts classes is.0 0 [] [] bytes content spent (numbers_to place 0 None before) (reached to line) [] kept.0 (scopes_some shared own fields) is.1 (scopes_ordered shared own fields) tt refl p.1 in
     let count = c.from.result + to.more in
     let sum : count ≡ plan.count + to.more = search rules in
     let total : spent + values_in is.0 + whole.0 ≡ spent + count = omega (arith, is.2, whole.1, sum) in
     let few : spent + count ≤ MOST_VALUES = search (rules, arith) in
     let after = line ++ ends (ended_last 0 is.0) in (
       after,
-      subst (λ n. PutsScopes classes bytes content place spent to.place n before after) total
-          (subst (λ xs. PutsScopes classes bytes content place spent to.place (spent + values_in is.0 + whole.0) xs after) (append-nil before) (whole.2 (omega (arith, few, total)))),
+      λ earlier. subst (λ n. ScopesFollow classes earlier bytes content place spent to.place n before after) total
+          (subst (λ xs. ScopesFollow classes earlier bytes content place spent to.place (spent + values_in is.0 + whole.0) xs after) (append-nil before) (whole.2 (omega (arith, few, total)) earlier tt)),
     )

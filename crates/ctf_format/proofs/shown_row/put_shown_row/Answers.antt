@@ -1,6 +1,7 @@
 use Rattle.std.proofs.Common.{◌≡◌, take, subst, rules, arith}
 use Rattle.ctf_decode.specs.Views.{form}
-use Rattle.ctf_format.specs.Branches.{Anywhere}
+use Rattle.ctf_format.specs.Branches.{Anywhere, ends_at}
+use Rattle.ctf_format.specs.Passing.{next_at}
 use Rattle.ctf_format.specs.Texts.{value_text}
 use Rattle.ctf_format.proofs.ByClassLemmas.{Going, going_ends, going_on}
 use Rattle.ctf_format.proofs.StandingLemmas.{mark_next}
@@ -15,7 +16,7 @@ loop-i-preserved c =
       within = c.in_ok-next.ensures.within;
       few = search (rules, arith);
       marked = mark_next 91 l.i;
-      going = λ k is. going_on Anywhere packet.bytes.now packet.end (form k) (value_text k) c.args.count c.args.from.place (take c.args.from.text c.args.buffer.now.items) l.i l.at.place l.more l.mark (take l.at.text l.buffer.items) next (take next.text c.put_shown_element.new.buffer.items) c.loop-i-test.true l.invariant.marked (l.invariant.going k is) (c.in_ok-next.ensures.puts k is);
+      going = λ k is. going_on Anywhere packet.bytes.now packet.end (form k) (value_text k) c.args.count c.args.from.place (take c.args.from.text c.args.buffer.now.items) l.i l.at.place l.more l.mark (take l.at.text l.buffer.items) (next_at (ends_at next)) (take next.text c.put_shown_element.new.buffer.items) c.loop-i-test.true l.invariant.marked (l.invariant.going k is) (c.in_ok-next.ensures.puts k is);
     }
 
 pub returns-clause-puts : goal.returns-clause-puts

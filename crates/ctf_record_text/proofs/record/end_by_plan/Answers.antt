@@ -4,7 +4,7 @@ use Rattle.ctf_class.specs.HostAndName.{heading_text}
 use Rattle.ctf_class.specs.Records.{scopes_of}
 use Rattle.ctf_format.specs.Lines.{if_shown}
 use Rattle.ctf_format.proofs.LinesLemmas.{followed}
-use Rattle.ctf_record_text.proofs.Scopes.{planned_body, some_scopes}
+use Rattle.ctf_record_text.proofs.Scopes.{planned_body}
 use Rattle.ctf_record_text.proofs.record.end_by_plan.Goals as goal
 
 pub pass_planned_record-requires-clause-plan : goal.pass_planned_record-requires-clause-plan
@@ -19,5 +19,5 @@ returns-clause-passes c = λ known part.
     let event = c.args.planned.told.head.event.now in
     let all = c.in_ok-all.all in
     let front = heading_text event.heading ++ flat_map followed (if_shown part) in
-    let p = c.in_ok-all.ensures.passes (scopes_of stream.event_context event.context event.fields) (some_scopes stream.event_context event.context event.fields) c.requires.plan front in
+    let p = c.in_ok-all.ensures.passes stream.event_context event.context event.fields c.requires.plan front in
     (p.0, planned_body known stream event part c.args.at.now.bytes.now c.args.at.now.packet.now.content c.args.planned.told.head.end c.args.planned.told.spent all.place all.spent front p.0 refl p.1)

@@ -1,7 +1,7 @@
 use Rattle.std.proofs.Common.{take}
 use Rattle.ctf_class.specs.Records.{scopes_of}
 use Rattle.ctf_format.proofs.Chains.{of_ok}
-use Rattle.ctf_record_text.proofs.Scopes.{planned_body, some_scopes}
+use Rattle.ctf_record_text.proofs.Scopes.{planned_body}
 use Rattle.ctf_record_text.proofs.record.put_by_plan.Goals as goal
 
 pub put_planned_record-requires-clause-plan : goal.put_planned_record-requires-clause-plan
@@ -20,4 +20,4 @@ returns-clause-puts c = λ known.
     let front_is = (of_ok _ _ c.in_ok-front.ensures.value c.put_front.ensures).text in
     let front_so = rw c.as_slice-part.ensures at front_is in
     planned_body known stream event c.args.line.now.part c.args.at.now.bytes.now c.args.at.now.packet.now.content c.args.planned.told.head.end c.args.planned.told.spent all.place all.spent front text front_so
-    (c.in_ok-all.ensures.puts (scopes_of stream.event_context event.context event.fields) (some_scopes stream.event_context event.context event.fields) c.requires.plan)
+    (c.in_ok-all.ensures.puts stream.event_context event.context event.fields c.requires.plan)

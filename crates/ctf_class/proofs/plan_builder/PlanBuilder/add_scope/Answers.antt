@@ -1,4 +1,4 @@
-use Rattle.std.proofs.Common.{◌≡◌, ◌<◌, ◌+◌, ◌∷◌, ◌++◌, ◌∙◌, [], false, length, map, IsTrue, List, refl, ap, subst, rules, arith}
+use Rattle.std.proofs.Common.{◌≡◌, ◌<◌, ◌+◌, ◌∷◌, ◌++◌, ◌∙◌, [], length, map, IsTrue, List, refl, ap, subst, rules, arith}
 use Rattle.ctf_class.specs.PlanBuilding.{AddsPieces, IsMade, before_scope, empty_scope, moved_by, with_scope, with_structure}
 use Rattle.ctf_class.specs.Records.{Slot, first_at}
 use Rattle.ctf_class.specs.declared.class.Kind as kinds
