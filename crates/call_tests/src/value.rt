@@ -9,9 +9,9 @@
 //!   many values were begun before, where it is not 0. `into CLASS START..CONTENT BYTES` decodes into another value.
 //! - `front CLASS START..CONTENT BYTES` is a place of a beginning of a packet.
 //! - `standing CLASS START..CONTENT BYTES CONTEXT` is the text of the structure at a place, written from its bits to
-//!   the end of a line, over old bytes of the line's buffer, where the packet context has this value, if one is given,
-//!   and `planned STREAM EVENT START..CONTENT BYTES` that of the scopes of an event record by its plan. After it come
-//!   the place where it ends and how many values were begun up to there.
+//!   the end of a line by the plan of event records whose fields it is, over old bytes of the line's buffer, where the
+//!   packet context has this value, if one is given, and `planned STREAM EVENT START..CONTENT BYTES` that of the scopes
+//!   of an event record by its plan. After it come the place where it ends and how many values were begun up to there.
 //! - `headers CLASS START..CONTENT BYTES, ..` is one header after the other, each decoded in the place of the one
 //!   before, as headers and in the general way.
 //! - `moving CLASS VALUE` is what the value of a header says.

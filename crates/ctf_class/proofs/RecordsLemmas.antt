@@ -1,6 +1,6 @@
 -- Plans of event records that are made one field after the other.
 use Rattle.std.proofs.Common.{◌≡◌, ℕ, zero, suc, ◌+◌, ◌%◌, ◌^◌, ◌<◌, ◌≤◌, max, List, [], ◌∷◌, ◌++◌, false, length, map, take, get_or, Option, Some, None, refl, sym, ap, subst, ◌∙◌, arith, append_assoc, append-nil}
-use Rattle.std.proofs.Common.{Bool, Ok, Err, IfOk, IsTrue}
+use Rattle.std.proofs.Common.{All, Bool, Ok, Err, IfOk, IsTrue}
 use Rattle.std.specs.declared.result.Result.{Result}
 use Rattle.ctf_list.specs.declared.no_memory.NoMemory.{NoMemory}
 use Rattle.std.proofs.lemmas.List.{take_more, length-take-le}
@@ -31,7 +31,7 @@ use Rattle.ctf_class.specs.declared.record_plan.PlannedRun.{PlannedRun}
 use Rattle.ctf_class.specs.declared.many.Many.{Many}
 use Rattle.ctf_class.specs.declared.planned_number.PlannedNumber.{PlannedNumber}
 use Rattle.ctf_class.specs.PlanBuilding.{AddsElement, AddsPiece, AddsPieces, BranchesTo, IsBare, IsNestedOf, IsOpen, IsMade, IsMadeOf, at_of, before_scope, empty_scope, known_last, moved_by, runs_by, slot_of, with_branch, with_field, with_number, with_scope, with_structure}
-use Rattle.ctf_class.specs.Records.{Slot, At, Piece, Pieces, alone, inner, no_pieces, more_pieces, Scoped, ScopeClass, IsPiece, ArePieces, member_of, members_of, inside, insides, ended_by, ended_after, ends, ended_last, first_at, later_at, known_by, known_after, known_index, known_scope, from_inside, opened_lead, piece_slots, pieces_slots, all_alone, member_slots, scope_slots, slots, ended_in, before_next, all_slots, values_in, with_kept, AreScoped, and_scope, scopes_of, IsNumber, AreInRun, TakesNumbers, IsStructure, IsField, AreRuns, AreBranches, AreThose, AreEach, IsListed, IsNested, IsVariant, IsArray, IsBranch, IsElement, IsItem, IsOfPieces, IsOption, IsPlanned, IsPlanOf, have_special, numbers_room, room_of}
+use Rattle.ctf_class.specs.Records.{IsInPacket, Slot, At, Piece, Pieces, alone, inner, no_pieces, more_pieces, Scoped, ScopeClass, IsPiece, ArePieces, member_of, members_of, inside, insides, ended_by, ended_after, ends, ended_last, first_at, later_at, known_by, known_after, known_index, known_scope, from_inside, opened_lead, piece_slots, pieces_slots, all_alone, member_slots, scope_slots, slots, ended_in, before_next, all_slots, values_in, with_kept, AreScoped, and_scope, scopes_of, IsNumber, AreInRun, TakesNumbers, IsStructure, IsField, AreRuns, AreBranches, AreThose, AreEach, IsListed, IsNested, IsVariant, IsArray, IsBranch, IsElement, IsItem, IsOfPieces, IsOption, IsPlanned, IsPlanOf, have_special, numbers_room, room_of}
 
 -- one number more after the others
 numbers_more : (base from span : ℕ) (ss : List Slot) (ns : List PlannedNumber) (s : Slot) (rest : List Slot) (n : PlannedNumber) → AreInRun base from ss ns span (s ∷ rest) → IsNumber base span s n → AreInRun base from ss (ns ++ n ∷ []) (n.window.place + n.window.size) rest
@@ -208,8 +208,8 @@ branch_made s known kept k nest ps b is class leads keeps none align ready same 
 }
 
 -- nothing yet
-pub made_none : (m : PlanBuilder) → m.branches ≡ [] → m.runs ≡ [] → m.align ≡ 1 → m.numbers ≡ [] → m.span ≡ 0 → m.room ≡ 24 → m.count ≡ 0 → m.ended ≡ 0 → m.known ≡ [] → IsMadeOf [] m
-made_none m branches runs align numbers span room count ended known = record {
+pub made_none : (given : List Route) (m : PlanBuilder) → m.branches ≡ [] → m.runs ≡ [] → m.align ≡ 1 → m.numbers ≡ [] → m.span ≡ 0 → m.room ≡ 24 → m.count ≡ 0 → m.ended ≡ 0 → m.known ≡ given → IsMadeOf given [] m
+made_none given m branches runs align numbers span room count ended known = record {
   scopes = [];
   are = tt;
   count = count;
@@ -230,10 +230,10 @@ made_none m branches runs align numbers span room count ended known = record {
 }
 
 -- so no field
-pub made_nothing : (m : PlanBuilder) → IsMadeOf [] m → IsMade [] m
-made_nothing m of = nothing of.scopes of.are of.made
+pub made_nothing : (given : List Route) (m : PlanBuilder) → IsMadeOf given [] m → IsMade [] m
+made_nothing given m of = nothing of.scopes of.are of.made
   where
-    nothing : (ss : List Scoped) → AreScoped [] ss → IsMade (all_slots [] [] ss) m → IsMade [] m
+    nothing : (ss : List Scoped) → AreScoped [] ss → IsMade (all_slots [] given ss) m → IsMade [] m
     nothing [] are made = made
     nothing (s ∷ ss) are made = absurd are
 
@@ -300,12 +300,15 @@ made_branch done s b old bare made =
     }
 
 -- the plan of scopes that were made
-pub plan_of : (ks : List ScopeClass) (m : PlanBuilder) (p : RecordPlan) → p.count ≡ m.count → p.ended ≡ m.ended → ((done : List Slot) → IsMade done m → (depth : ℕ) × IsPlanned depth done p) → IsMadeOf ks m → IsPlanOf ks p
-plan_of ks m p count ended planned of some = (let is = planned (all_slots [] [] of.scopes) of.made in (of.scopes, of.are, count ∙ of.count, ended ∙ of.ended, is.0, is.1))
+pub plan_of : (given : List Route) (ks : List ScopeClass) (m : PlanBuilder) (p : RecordPlan) → All IsInPacket given → p.given ≡ given → p.count ≡ m.count → p.ended ≡ m.ended → ((done : List Slot) → IsMade done m → (depth : ℕ) × IsPlanned depth done p) → IsMadeOf given ks m → IsPlanOf ks p
+plan_of given ks m p packets same count ended planned of some =
+    let is = planned (all_slots [] given of.scopes) of.made in
+    let slots : IsPlanned is.0 (all_slots [] p.given of.scopes) p = subst (λ rs. IsPlanned is.0 (all_slots [] rs of.scopes) p) (sym same) is.1 in
+    (subst (All IsInPacket) (sym same) packets, (of.scopes, of.are, count ∙ of.count, ended ∙ of.ended, is.0, slots))
 
-pub finished : (ks : List ScopeClass) (m : PlanBuilder) (r : Result RecordPlan NoMemory) → IsMadeOf ks m → IfOk r (λ p. (done : List Slot) → IsMade done m → (depth : ℕ) × IsPlanned depth done p) → IfOk r (λ p. p.count ≡ m.count) → IfOk r (λ p. p.ended ≡ m.ended) → IfOk r (IsPlanOf ks)
-finished ks m (Ok p) of planned count ended = plan_of ks m p count ended planned of
-finished ks m (Err e) of planned count ended = tt
+pub finished : (given : List Route) (ks : List ScopeClass) (m : PlanBuilder) (r : Result RecordPlan NoMemory) → All IsInPacket given → IsMadeOf given ks m → IfOk r (λ p. (done : List Slot) → IsMade done m → (depth : ℕ) × IsPlanned depth done p) → IfOk r (λ p. p.given ≡ given) → IfOk r (λ p. p.count ≡ m.count) → IfOk r (λ p. p.ended ≡ m.ended) → IfOk r (IsPlanOf ks)
+finished given ks m (Ok p) packets of planned same count ended = plan_of given ks m p packets same count ended planned of
+finished given ks m (Err e) packets of planned same count ended = tt
 
 -- a scope more
 abbrev lead_of : List ℕ → List Scoped → List ℕ
@@ -551,28 +554,28 @@ element_added k ms lead old from mid new is some leads goes_in adds same made =
     (ps, pieces_of k ps (is ∙ ap kind.Structure (sym all.1)) all.2, count, ended, subst (λ d. IsMade d new) slots_are whole)
 
 -- one scope more
-one_scope : (ks : List ScopeClass) (old new : PlanBuilder) (s : Scoped) → (of : IsMadeOf ks old) → s.class.kind ≡ kind.Structure (members_of s.pieces) → ArePieces s.class.align s.pieces → new.count ≡ old.count + (1 + length (members_of s.pieces) + insides s.pieces) → new.ended ≡ ended_in s.pieces → new.known ≡ known_scope old.known s
-    → IsMade (all_slots [] [] of.scopes ++ slots (before_scope old.count old.ended) old.known s) new → IsMadeOf (ks ++ (s.scope, s.class) ∷ []) new
-one_scope ks old new s of is are count ended known made =
+one_scope : (given : List Route) (ks : List ScopeClass) (old new : PlanBuilder) (s : Scoped) → (of : IsMadeOf given ks old) → s.class.kind ≡ kind.Structure (members_of s.pieces) → ArePieces s.class.align s.pieces → new.count ≡ old.count + (1 + length (members_of s.pieces) + insides s.pieces) → new.ended ≡ ended_in s.pieces → new.known ≡ known_scope old.known s
+    → IsMade (all_slots [] given of.scopes ++ slots (before_scope old.count old.ended) old.known s) new → IsMadeOf given (ks ++ (s.scope, s.class) ∷ []) new
+one_scope given ks old new s of is are count ended known made =
     let before : before_scope old.count old.ended ≡ lead_of [] of.scopes = (λ j. before_scope (of.count j) (of.ended j)) ∙ sym (lead_before of.scopes) in
-    let slots_are : all_slots [] [] of.scopes ++ slots (before_scope old.count old.ended) old.known s ≡ all_slots [] [] (of.scopes ++ s ∷ []) = (λ j. all_slots [] [] of.scopes ++ slots (before j) (of.known j) s) ∙ sym (slots_more [] [] of.scopes s) in
+    let slots_are : all_slots [] given of.scopes ++ slots (before_scope old.count old.ended) old.known s ≡ all_slots [] given (of.scopes ++ s ∷ []) = (λ j. all_slots [] given of.scopes ++ slots (before j) (of.known j) s) ∙ sym (slots_more [] given of.scopes s) in
     let values = values_more of.scopes s in
     record {
       scopes = of.scopes ++ s ∷ [];
       are = scoped_more ks of.scopes (s.scope, s.class) s of.are (refl, is, are, tt);
       count = (let b = of.count in omega (arith, count, b, values));
       ended = ended ∙ sym (ending_more 0 of.scopes s);
-      known = known ∙ ap (λ rs. known_scope rs s) of.known ∙ sym (known_more [] of.scopes s);
+      known = known ∙ ap (λ rs. known_scope rs s) of.known ∙ sym (known_more given of.scopes s);
       made = subst (λ d. IsMade d new) slots_are made;
     }
 
 -- the members of a scope, from where it begins as far as where it ends
-pub made_scope : (ks : List ScopeClass) (scope : Scope) (k : Class) (ms : List Member) (lead : List ℕ) (old from mid closed new : PlanBuilder) → k.kind ≡ kind.Structure ms → 0 < length ms → lead ≡ before_scope old.count old.ended ++ (123 ∷ 32 ∷ [])
+pub made_scope : (given : List Route) (ks : List ScopeClass) (scope : Scope) (k : Class) (ms : List Member) (lead : List ℕ) (old from mid closed new : PlanBuilder) → k.kind ≡ kind.Structure ms → 0 < length ms → lead ≡ before_scope old.count old.ended ++ (123 ∷ 32 ∷ [])
     → from ≡ record old { trail = from.trail; known = map (moved_by Inside) old.known }
     → ((done : List Slot) → IsMade done from → AddsPieces (first_at lead k.align from.known) ms done from mid)
-    → closed ≡ with_structure mid (length ms + 1) → new ≡ record closed { known = map (moved_by (Later scope)) closed.known } → IsMadeOf ks old → IsMadeOf (ks ++ (scope, k) ∷ []) new
-made_scope ks scope k ms lead old from mid closed new is some leads goes_in adds same goes_on of =
-    let done = all_slots [] [] of.scopes in
+    → closed ≡ with_structure mid (length ms + 1) → new ≡ record closed { known = map (moved_by (Later scope)) closed.known } → IsMadeOf given ks old → IsMadeOf given (ks ++ (scope, k) ∷ []) new
+made_scope given ks scope k ms lead old from mid closed new is some leads goes_in adds same goes_on of =
+    let done = all_slots [] given of.scopes in
     let begun : IsMade done from = made_same done old from (ap (λ (b : PlanBuilder). b.branches) goes_in) (ap (λ (b : PlanBuilder). b.runs) goes_in) (ap (λ (b : PlanBuilder). b.align) goes_in) (ap (λ (b : PlanBuilder). b.numbers) goes_in) (ap (λ (b : PlanBuilder). b.span) goes_in) (ap (λ (b : PlanBuilder). b.room) goes_in) of.made in
     let inside_known : from.known ≡ from_inside old.known = ap (λ (b : PlanBuilder). b.known) goes_in in
     let from_count : from.count ≡ old.count = ap (λ (b : PlanBuilder). b.count) goes_in in
@@ -588,16 +591,16 @@ made_scope ks scope k ms lead old from mid closed new is some leads goes_in adds
     let one : mid.ended + 1 ≡ suc mid.ended = omega arith in
     let ended : new.ended ≡ ended_in ps = ap (λ (m : PlanBuilder). m.ended) whole ∙ one ∙ ap suc all.4 ∙ ended_some from.ended ps members in
     let known : new.known ≡ known_scope old.known s = ap (λ (m : PlanBuilder). m.known) whole ∙ ap (map (moved_by (Later scope))) (all.5 ∙ ap (λ rs. known_after 0 rs ps) inside_known) in
-    one_scope ks old new s of (is ∙ ap kind.Structure (sym all.1)) all.2 count ended known
+    one_scope given ks old new s of (is ∙ ap kind.Structure (sym all.1)) all.2 count ended known
     (subst (λ d. IsMade d new) (ap (λ xs. done ++ xs) first) (made_same _ mid new (ap (λ (b : PlanBuilder). b.branches) whole) (ap (λ (b : PlanBuilder). b.runs) whole) (ap (λ (b : PlanBuilder). b.align) whole) (ap (λ (b : PlanBuilder). b.numbers) whole) (ap (λ (b : PlanBuilder). b.span) whole) (ap (λ (b : PlanBuilder). b.room) whole) all.6))
 
 -- a scope without members
-pub made_empty : (ks : List ScopeClass) (scope : Scope) (k : Class) (text : List ℕ) (align : ℕ) (old from mid new : PlanBuilder) → k.kind ≡ kind.Structure [] → align ≡ k.align → text ≡ before_scope old.count old.ended
-    → from ≡ record old { trail = from.trail; known = map (moved_by Inside) old.known } → mid ≡ with_scope from (empty_scope text align) → new ≡ record mid { known = map (moved_by (Later scope)) mid.known } → IsMadeOf ks old → IsMadeOf (ks ++ (scope, k) ∷ []) new
-made_empty ks scope k text align old from mid new is aligned leads goes_in same goes_on of =
+pub made_empty : (given : List Route) (ks : List ScopeClass) (scope : Scope) (k : Class) (text : List ℕ) (align : ℕ) (old from mid new : PlanBuilder) → k.kind ≡ kind.Structure [] → align ≡ k.align → text ≡ before_scope old.count old.ended
+    → from ≡ record old { trail = from.trail; known = map (moved_by Inside) old.known } → mid ≡ with_scope from (empty_scope text align) → new ≡ record mid { known = map (moved_by (Later scope)) mid.known } → IsMadeOf given ks old → IsMadeOf given (ks ++ (scope, k) ∷ []) new
+made_empty given ks scope k text align old from mid new is aligned leads goes_in same goes_on of =
     let s : Scoped = record { scope = scope; class = k; pieces = no_pieces } in
     let f = empty_scope text align in
-    let done = all_slots [] [] of.scopes in
+    let done = all_slots [] given of.scopes in
     let before = before_scope old.count old.ended in
     let begun : IsMade done from = made_same done old from (ap (λ (b : PlanBuilder). b.branches) goes_in) (ap (λ (b : PlanBuilder). b.runs) goes_in) (ap (λ (b : PlanBuilder). b.align) goes_in) (ap (λ (b : PlanBuilder). b.numbers) goes_in) (ap (λ (b : PlanBuilder). b.span) goes_in) (ap (λ (b : PlanBuilder). b.room) goes_in) of.made in
     let slot : Slot = record { lead = before; align = 1; index = 0; known = old.known; kept = false; class = k } in
@@ -606,7 +609,7 @@ made_empty ks scope k text align old from mid new is aligned leads goes_in same 
     let known : new.known ≡ known_scope old.known s = ap (λ (b : PlanBuilder). b.known) whole ∙ ap (map (moved_by (Later scope))) (ap (λ (b : PlanBuilder). b.known) goes_in) in
     let made : IsMade (done ++ slot ∷ []) new = made_same _ (with_field from f) new (ap (λ (b : PlanBuilder). b.branches) whole) (ap (λ (b : PlanBuilder). b.runs) whole) (ap (λ (b : PlanBuilder). b.align) whole) (ap (λ (b : PlanBuilder). b.numbers) whole) (ap (λ (b : PlanBuilder). b.span) whole) (ap (λ (b : PlanBuilder). b.room) whole) (made_field done slot from f field begun) in
     let count : new.count ≡ old.count + (1 + 0 + 0) = (let a : new.count ≡ from.count + 1 = ap (λ (b : PlanBuilder). b.count) whole in let b : from.count ≡ old.count = ap (λ (b : PlanBuilder). b.count) goes_in in omega (arith, a, b)) in
-    one_scope ks old new s of is tt count (ap (λ (b : PlanBuilder). b.ended) whole) known made
+    one_scope given ks old new s of is tt count (ap (λ (b : PlanBuilder). b.ended) whole) known made
 
 -- members of which none is gone into, one more
 alones_and : (xs : List Member) (m : Member) → all_alone (xs ++ m ∷ []) ≡ and_piece (all_alone xs) (alone false m)

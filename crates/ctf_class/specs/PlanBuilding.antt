@@ -75,14 +75,14 @@ abbrev pub known_last : List Route → List Scoped → List Route
 known_last known [] = known
 known_last known (s ∷ ss) = known_last (known_scope known s) ss
 
--- so are those of the structures that scopes are
-pub record IsMadeOf (ks : List ScopeClass) (m : PlanBuilder) : Type 0 where
+-- so are those of the structures that scopes are, before which these routes lead to numbers
+pub record IsMadeOf (given : List Route) (ks : List ScopeClass) (m : PlanBuilder) : Type 0 where
   pub scopes : List Scoped
   pub are : AreScoped ks scopes
   pub count : m.count ≡ values_in scopes
   pub ended : m.ended ≡ ended_last 0 scopes
-  pub known : m.known ≡ known_last [] scopes
-  pub made : IsMade (all_slots [] [] scopes) m
+  pub known : m.known ≡ known_last given scopes
+  pub made : IsMade (all_slots [] given scopes) m
 
 -- a member was added as a piece after some fields, as the one of an index
 abbrev pub AddsPiece : ℕ → At → Member → List Slot → PlanBuilder → PlanBuilder → Type 0

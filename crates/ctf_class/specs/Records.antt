@@ -1,8 +1,8 @@
 -- Event records whose integers are at fixed distances (all own). Bytes are written as numbers: 32 is a space, 44 a
 -- comma, 123 and 125 are `{` and `}`.
-use Rattle.std.specs.Prelude.{◌≡◌, ℕ, zero, suc, ◌+◌, ◌%◌, ◌<◌, ◌≤◌, ◌^◌, List, [], ◌∷◌, ◌++◌, length, map, max, slice_get, Bool, true, false, Option, Some, None, ⊤}
+use Rattle.std.specs.Prelude.{◌≡◌, ℕ, zero, suc, ◌+◌, ◌%◌, ◌<◌, ◌≤◌, ◌^◌, ◌⊎◌, List, [], ◌∷◌, ◌++◌, length, map, max, slice_get, Bool, true, false, Option, Some, None, ⊤}
 use Rattle.std.specs.Int.{next_multiple_of}
-use Rattle.std.specs.List.{list_any, sum_by}
+use Rattle.std.specs.List.{All, list_any, sum_by}
 use Rattle.ctf_class.specs.Alignment.{IsLarger}
 use Rattle.ctf_class.specs.Integers.{IsUsual}
 use Rattle.ctf_class.specs.Names.{field_text}
@@ -33,7 +33,7 @@ use Rattle.ctf_class.specs.declared.route.Origin.{Origin}
 use Rattle.ctf_class.specs.declared.route.Origin.TheVariants.{Enclosing, Earlier}
 use Rattle.ctf_class.specs.declared.route.Route.{Route}
 use Rattle.ctf_class.specs.declared.route.Scope.{Scope}
-use Rattle.ctf_class.specs.declared.route.Scope.TheVariants.{StreamEventContext, EventContext, EventFields}
+use Rattle.ctf_class.specs.declared.route.Scope.TheVariants.{PacketHeader, PacketContext, StreamEventContext, EventContext, EventFields}
 use Rattle.ctf_class.specs.declared.planned_number.PlannedNumber.{PlannedNumber}
 use Rattle.ctf_class.specs.declared.structures.Structures.{Structures}
 
@@ -503,9 +503,14 @@ abbrev pub IsPlanned : ℕ → List Slot → RecordPlan → Type 0
 IsPlanned zero ss p = ⊥
 IsPlanned (suc depth) ss p = AreThose (IsPlanned depth) ss (out-Branches p.branches) p.runs
 
+-- a route begins in the packet's header or context
+abbrev pub IsInPacket : Route → Type 0
+IsInPacket r = (r.origin ≡ Earlier PacketHeader) ⊎ (r.origin ≡ Earlier PacketContext)
+
 -- a plan is one of these scopes, if it has runs
 abbrev pub IsPlanOf : List ScopeClass → RecordPlan → Type 0
 IsPlanOf ks p =
     0 < length p.runs
-    → (ss : List Scoped) × AreScoped ks ss × (p.count ≡ values_in ss) × (p.ended ≡ ended_last 0 ss)
-    × (depth : ℕ) × IsPlanned depth (all_slots [] [] ss) p
+    → All IsInPacket p.given
+    × ((ss : List Scoped) × AreScoped ks ss × (p.count ≡ values_in ss) × (p.ended ≡ ended_last 0 ss)
+    × (depth : ℕ) × IsPlanned depth (all_slots [] p.given ss) p)

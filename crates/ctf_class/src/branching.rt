@@ -293,7 +293,7 @@ impl PlanBuilder {
         if !builder.add_element(alloc, index, class)? {
             return Ok(None);
         }
-        Ok(Some(builder.finish()?))
+        Ok(Some(builder.finish(List::new(alloc))?))
     }
 
     /// Adds the members of an element to nothing, or the field that it is, in the member of an index. Whether that
@@ -339,7 +339,7 @@ impl PlanBuilder {
             if !builder.add_member(alloc, &alone(b"{ ", index), option)? {
                 return Ok(None);
             }
-            plans.push(builder.finish()?)?;
+            plans.push(builder.finish(List::new(alloc))?)?;
         }
         Ok(Some(fitted(plans)))
     }

@@ -81,9 +81,14 @@ pub(crate) struct PlanBuilder {
 }
 
 impl PlanBuilder {
-    /// A plan of no scopes, and which members' numbers are kept.
-    pub(crate) fn new(alloc: Global, wanted: Option<Shared<Wanted>>) -> PlanBuilder
-        ensures made { IsMadeOf [] result }
+    /// A plan of no scopes, with which members' numbers are kept, and the routes to those that are kept before.
+    pub(crate) fn new(
+        alloc: Global,
+        wanted: Option<Shared<Wanted>>,
+        known: List<Route>,
+    ) -> PlanBuilder
+        ensures made { IsMadeOf known [] result }
+        ensures known { result.known ≡ known }
         ensures branches { result.branches ≡ [] }
         ensures runs { result.runs ≡ [] }
         ensures count { result.count ≡ 0 }
@@ -94,7 +99,7 @@ impl PlanBuilder {
             begins_whole: true,
             wanted,
             trail: List::new(alloc),
-            known: List::new(alloc),
+            known,
             branches: List::new(alloc),
             runs: List::new(alloc),
             align: Align::one_bit(),
@@ -118,17 +123,18 @@ impl PlanBuilder {
             Some(wanted) => Some(wanted.clone()?),
             None => None,
         };
-        let mut inner = PlanBuilder::new(alloc, wanted);
+        let known = moved(alloc, self.known.as_slice(), Move::Within)?;
+        let mut inner = PlanBuilder::new(alloc, wanted, known);
         inner.begins_whole = false;
         inner.trail.extend_from_slice(self.trail.as_slice())?;
-        inner.known = moved(alloc, self.known.as_slice(), Move::Within)?;
         Ok(inner)
     }
 
-    /// The plan of what was added.
-    pub(crate) fn finish(self) -> Result<RecordPlan, NoMemory>
+    /// The plan of what was added, before which the numbers of these routes are kept.
+    pub(crate) fn finish(self, given: List<Route>) -> Result<RecordPlan, NoMemory>
         ensures fields { IfOk result (λ plan. (done : List Slot) → IsMade done self →
             (depth : ℕ) × IsPlanned depth done plan) }
+        ensures given { IfOk result (λ plan. plan.given ≡ given) }
         ensures count { IfOk result (λ plan. plan.count ≡ self.count) }
         ensures ended { IfOk result (λ plan. plan.ended ≡ self.ended) }
     {
@@ -149,6 +155,7 @@ impl PlanBuilder {
         let branches = Branches::Listed(fitted(branches));
         if numbers.is_empty() && !runs.is_empty() {
             return Ok(RecordPlan {
+                given,
                 branches,
                 runs: fitted(runs),
                 count,
@@ -164,6 +171,7 @@ impl PlanBuilder {
             field: None,
         })?;
         Ok(RecordPlan {
+            given,
             branches,
             runs: fitted(runs),
             count,
@@ -182,9 +190,9 @@ impl PlanBuilder {
         requires near { self.old.span ≤ 2 ^ 33 }
         ensures few { IfOk result (λ took. IsTrue took → self.new.room ≤ 2 ^ 18) }
         ensures near { IfOk result (λ took. IsTrue took → self.new.span ≤ 2 ^ 33) }
-        ensures made { IfOk result (λ took. IsTrue took → (ks : List ScopeClass) →
-            IsMadeOf ks self.old →
-            IsMadeOf (ks ++ and_scope scope (option_copied class.entry) []) self.new) }
+        ensures made { IfOk result (λ took. IsTrue took →
+            (given : List RouteOf) (ks : List ScopeClass) → IsMadeOf given ks self.old →
+            IsMadeOf given (ks ++ and_scope scope (option_copied class.entry) []) self.new) }
     {
         match class {
             Some(class) => self.add_scope(alloc, scope, class),
@@ -203,8 +211,9 @@ impl PlanBuilder {
         requires near { self.old.span ≤ 2 ^ 33 }
         ensures few { IfOk result (λ took. IsTrue took → self.new.room ≤ 2 ^ 18) }
         ensures near { IfOk result (λ took. IsTrue took → self.new.span ≤ 2 ^ 33) }
-        ensures made { IfOk result (λ took. IsTrue took → (ks : List ScopeClass) →
-            IsMadeOf ks self.old → IsMadeOf (ks ++ (scope, class.now) ∷ []) self.new) }
+        ensures made { IfOk result (λ took. IsTrue took →
+            (given : List RouteOf) (ks : List ScopeClass) → IsMadeOf given ks self.old →
+            IsMadeOf given (ks ++ (scope, class.now) ∷ []) self.new) }
     {
         let Kind::Structure { members } = &class.kind else {
             return Ok(false);
@@ -250,8 +259,7 @@ impl PlanBuilder {
         ensures { IfOk result
             (λ took. IsTrue took → self.new ≡ with_scope self.old (empty_scope text.now align)) }
     {
-        // Tracers rarely begin a record with such a scope.
-        if self.count == 0 || text.len() > LONGEST_TEXT {
+        if text.len() > LONGEST_TEXT {
             return Ok(false);
         }
         let Some(count) = with_members(self.count, 1) else {

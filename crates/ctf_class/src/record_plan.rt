@@ -6,10 +6,11 @@ ghost use Rattle.ctf_class.specs.Records.{IsPlanOf, scopes_of};
 use crate::align::Align;
 use crate::choices::Choices;
 use crate::class::Class;
+use crate::known::{Move, moved};
 use crate::plan_builder::PlanBuilder;
 use crate::planned_number::PlannedNumber;
 use crate::prepared_text::PreparedText;
-use crate::route::Scope;
+use crate::route::{Route, Scope};
 use crate::shown::{Labelled, LoneInteger, Shown};
 use crate::wanted::Wanted;
 use ctf_list::{List, NoMemory, Shared};
@@ -43,17 +44,21 @@ pub struct PlannedRun {
 }
 
 /// The fields of an event record's scopes after its header (CTF 1.8.3, section 6), one after the other, if each length
-/// and each tag is among them; else nothing, also where the first scope has no members, a text before a value has more
-/// than 1,024 bytes, or more than 128 numbers are kept. The fields of a structure within are among those around it, and
-/// one without members is a field itself. An option of a variant, with its name, has a plan of its own, and so has an
-/// element of an array, unless it is shown without one.
+/// and each tag is among them or in the packet's header or context; else nothing, also where a text before a value has
+/// more than 1,024 bytes, or more than 128 numbers are kept. The fields of a structure within are among those around
+/// it, and one without members is a field itself. An option of a variant, with its name, has a plan of its own, and so
+/// has an element of an array, unless it is shown without one.
 ///
 /// The number of a tag is kept, and that of a length but where it is the last one of a run and its text or array the
-/// field after that. Each is kept after those that are kept before it in the scopes, the options and the elements that
-/// it is in, and so has a place; what is kept in an option or an element is forgotten at its end.
+/// field after that. Those of the packet are kept before the record. Each is kept after those that are kept before it
+/// in the scopes, the options and the elements that it is in, and so has a place; what is kept in an option or an
+/// element is forgotten at its end.
 #[cycle(branches)]
 #[derive(Drop)]
 pub struct RecordPlan {
+    /// The routes to the numbers of the packet's header and context that are kept before the record; in the plan of an
+    /// option or an element none, as it has those of the plan that it is in.
+    pub given: List<Route>,
     /// Those of these fields that are kept or go by what is kept, and other variants and arrays that are no field after a
     /// run, each with the fields before it.
     pub branches: Branches,
@@ -154,12 +159,15 @@ impl RecordPlan {
             (option_copied event_context.entry) fields.now)) }
     {
         let wanted = Wanted::new(alloc, stream_context, event_context, fields)?;
-        let mut builder = PlanBuilder::new(alloc, Some(Shared::new(alloc, wanted)?));
+        let given = wanted.given(alloc)?;
+        let known = moved(alloc, given.as_slice(), Move::Within)?;
+        let wanted = Shared::new(alloc, wanted)?;
+        let mut builder = PlanBuilder::new(alloc, Some(wanted), known);
         if builder.add_optional(alloc, Scope::StreamEventContext, stream_context)?
             && builder.add_optional(alloc, Scope::EventContext, event_context)?
             && builder.add_scope(alloc, Scope::EventFields, fields)?
         {
-            return builder.finish();
+            return builder.finish(given);
         }
         Ok(RecordPlan::none(alloc))
     }
@@ -169,6 +177,7 @@ impl RecordPlan {
         ensures { result.runs ≡ [] }
     {
         RecordPlan {
+            given: List::new(alloc),
             branches: Branches::Listed(List::new(alloc)),
             runs: List::new(alloc),
             count: 0,

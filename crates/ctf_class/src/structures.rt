@@ -48,7 +48,7 @@ impl Structures {
         if members.is_empty() || class.align.bits() < 8 {
             return Ok(None);
         }
-        let mut builder = PlanBuilder::new(alloc, None);
+        let mut builder = PlanBuilder::new(alloc, None, List::new(alloc));
         if !builder.add_integers(alloc, class.align, members)? {
             return Ok(None);
         }

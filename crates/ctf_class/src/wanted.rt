@@ -1,8 +1,11 @@
 //! The numbers that lengths and tags ask for elsewhere than directly before them.
 
-ghost use Rattle.std.specs.Prelude.{◌≡◌, IfOk};
+ghost use Rattle.std.specs.Prelude.{◌≡◌, IfOk, IfSome};
+ghost use Rattle.std.specs.List.{All};
+ghost use Rattle.ctf_class.specs.Records.{IsInPacket};
 
 use crate::class::{Class, Kind};
+use crate::known::place_of;
 use crate::route::{Length, Origin, Route, Scope};
 use ctf_list::{List, NoMemory};
 use std::alloc::Global;
@@ -61,6 +64,21 @@ impl Wanted {
             .as_slice()
             .iter()
             .any(|path| is_at(path.as_slice(), trail, index))
+    }
+
+    /// The routes to those in the packet's header and context, none of them twice.
+    pub(crate) fn given(&self, alloc: Global) -> Result<List<Route>, NoMemory>
+        ensures { IfOk result (All IsInPacket) }
+    {
+        let mut given = List::new(alloc);
+        for path in self.paths.as_slice() {
+            if let Some(route) = packet_route(alloc, path.as_slice())? {
+                if place_of(given.as_slice(), &route).is_none() {
+                    given.push(route)?;
+                }
+            }
+        }
+        Ok(given)
     }
 
     /// Adds those that a scope of this class asks for.
@@ -130,6 +148,26 @@ impl Wanted {
         self.paths.push(path)?;
         Ok(())
     }
+}
+
+/// The route that is this way from an event record's scopes, if it begins in the packet's header or context.
+fn packet_route(alloc: Global, path: &[u32]) -> Result<Option<Route>, NoMemory>
+    ensures { IfOk result (λ found. IfSome found IsInPacket) }
+{
+    let [first, steps @ ..] = path else {
+        return Ok(None);
+    };
+    let scope = if *first == scope_number(Scope::PacketHeader) {
+        Scope::PacketHeader
+    } else if *first == scope_number(Scope::PacketContext) {
+        Scope::PacketContext
+    } else {
+        return Ok(None);
+    };
+    Ok(Some(Route {
+        origin: Origin::Earlier(scope),
+        steps: List::from_slice(alloc, steps)?,
+    }))
 }
 
 /// Whether a way is that to the member of an index in the structure to which another one is.

@@ -75,9 +75,9 @@ fn member<'a>(members: &'a [Value], first: usize, rest: &[u32]) -> Option<&'a Va
     down(rest, members.get(first)?)
 }
 
-/// The value that a route leads to, if there is one.
+/// The value that a route leads to, if there is one (CTF 1.8.3, section 7.3.2).
 #[tactic(auto, unfolding(crate::specs::Routes::found))]
-pub(crate) fn find<'a>(route: &Route, scopes: &'a Scopes, frame: &'a Frame<'a>) -> Option<&'a Value>
+pub fn value_at<'a>(route: &Route, scopes: &'a Scopes, frame: &'a Frame<'a>) -> Option<&'a Value>
     ensures { option_map val (option_copied result) ≡
         routes.found route.now (earlier scopes.now) (env frame.now) }
 {
@@ -94,7 +94,7 @@ pub fn length_at(length: &Length, scopes: &Scopes, frame: &Frame<'_>) -> u64
 {
     match length {
         Length::Fixed(count) => *count,
-        Length::Field(route) => find(route, scopes, frame).map_or(0, number_of),
+        Length::Field(route) => value_at(route, scopes, frame).map_or(0, number_of),
     }
 }
 
@@ -127,6 +127,6 @@ pub fn option_at(
 ) -> Option<usize>
     ensures { result ≡ routes.option_at tag.now choices.now (earlier scopes.now) (env frame.now) }
 {
-    let value = find(tag, scopes, frame)?;
+    let value = value_at(tag, scopes, frame)?;
     choices.option(tag_of(value)?)
 }

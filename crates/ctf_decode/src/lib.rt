@@ -22,7 +22,7 @@ mod walk;
 
 pub use decoding::{Decoded, decode, decode_into, decode_within};
 pub use fault::DecodeFault;
-pub use find::{length_at, option_at};
+pub use find::{length_at, option_at, value_at};
 pub use front::{Front, decode_front};
 pub use ids::{last_id, named_id};
 pub use laws::{most_values, moved_are_held, needs_so_much, one_stands, stands_in_whole};

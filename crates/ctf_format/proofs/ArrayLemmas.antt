@@ -8,14 +8,11 @@ use Rattle.std.proofs.Math.Nat.{add-mul}
 use Rattle.ctf_class.specs.declared.class.Class as class
 use Rattle.ctf_class.specs.declared.class.Class.{Class}
 use Rattle.ctf_class.specs.declared.class.Kind as kind
-use Rattle.ctf_class.specs.declared.class.Kind.{Kind}
-use Rattle.ctf_class.specs.declared.class.Member.{Member}
 use Rattle.ctf_class.specs.declared.integer.Integer.{Integer}
 use Rattle.ctf_class.specs.declared.route.Length.{Length}
 use Rattle.ctf_class.specs.declared.route.Length.TheVariants.{Field}
 use Rattle.ctf_class.specs.declared.route.Route.{Route}
 use Rattle.ctf_class.specs.declared.route.Scope.{Scope}
-use Rattle.ctf_class.specs.Names.{field_text}
 use Rattle.ctf_decode.specs.Breaks.{past}
 use Rattle.ctf_decode.specs.Fields.{elements_in}
 use Rattle.ctf_decode.specs.Forms as forms
@@ -31,10 +28,10 @@ use Rattle.ctf_decode.proofs.Views.{shape-Array}
 use Rattle.ctf_format.specs.Rows.{row, enclosed}
 use Rattle.ctf_class.specs.Records.{LeadsBefore}
 use Rattle.ctf_format.specs.Standing.{Before, among, LastIs, PutsOne, PutsSome, PutsNext, PutsElements, Counts, array_text, elements_text, IfKnown}
-use Rattle.ctf_format.specs.Texts.{Shown, Part, value_text, part_text, member_part, element_text, element_texts}
+use Rattle.ctf_format.specs.Texts.{Shown, value_text, element_text, element_texts}
 use Rattle.ctf_format.specs.declared.standing.Last.TheVariants as lasts
 use Rattle.ctf_format.specs.declared.standing.Next.{Next}
-use Rattle.ctf_format.proofs.StandingLemmas.{begins, form-is, value-is, member-is, form_integer, text_integer, last_of, row_more, mark_at, kind_text}
+use Rattle.ctf_format.proofs.StandingLemmas.{begins, form-is, value-is, form_integer, text_integer, last_of, row_more, mark_at, kind_text}
 
 -- what a route finds that leads to the member before
 pub found_last : (route : Route) (index : ℕ) (vs ws : List Val) (v : Val) (earlier : Scope → Option Val) (env : Env) → LeadsBefore route index → length vs ≡ index → vs ≡ ws ++ v ∷ [] → found route earlier (vs ∷ env) ≡ Some v
@@ -161,20 +158,6 @@ pub next_class : (r : Option Next) (before : Before) (k l : Form) (shown told : 
 next_class None before k l shown told packet content place line after forms_are texts_are puts = tt
 next_class (Some n) before k l shown told packet content place line after forms_are texts_are puts =
     subst (λ t. PutsNext before l t packet content place line n (take n.text after)) texts_are (subst (λ f. PutsNext before f shown packet content place line n (take n.text after)) forms_are puts)
-
--- a name and a value after it are the member
-pub next_named : (before : Before) (m : Member) (lead : List ℕ) (packet : List ℕ) (content place : ℕ) (from line : List ℕ) (n : Next) (after name : List ℕ) → line ≡ from ++ (lead ++ name) → name ≡ field_text m.name → PutsNext before (form m.class) (value_text m.class) packet content place line n after
-    → PutsNext before (form m.class) (λ v. lead ++ part_text (member_part m) v) packet content place from n after
-next_named before m lead packet content place from line n after name wrote named puts spent room earlier env vs counted last =
-    let p = puts spent room earlier env vs counted last in
-    let text = value_text m.class p.0 in
-    let part : part_text (member_part m) p.0 ≡ field_text m.name ++ text = ap (λ (x : Part). part_text x p.0) (member-is m) in
-    (p.0, p.1, p.2 ∙ ap (λ xs. xs ++ text) wrote ∙ append_assoc from (lead ++ name) text ∙ ap (λ xs. from ++ xs) (append_assoc lead name text) ∙ ap (λ xs. from ++ (lead ++ (xs ++ text))) named ∙ ap (λ xs. from ++ (lead ++ xs)) (sym part), p.3)
-
-pub named_some : (r : Option Next) (before : Before) (m : Member) (lead : List ℕ) (packet : List ℕ) (content place : ℕ) (from line after name : List ℕ) → line ≡ from ++ (lead ++ name) → name ≡ field_text m.name → IfSome r (λ n. PutsNext before (form m.class) (value_text m.class) packet content place line n (take n.text after))
-    → IfSome r (λ n. PutsNext before (form m.class) (λ v. lead ++ part_text (member_part m) v) packet content place from n (take n.text after))
-named_some None before m lead packet content place from line after name wrote named puts = tt
-named_some (Some n) before m lead packet content place from line after name wrote named puts = next_named before m lead packet content place from line n (take n.text after) name wrote named puts
 
 -- one value of one
 pub puts_some : (k : Form) (shown : Shown) (packet : List ℕ) (content place end : ℕ) (before after : List ℕ) → PutsOne k shown packet content place end before after → PutsSome k shown 1 packet content place end before after

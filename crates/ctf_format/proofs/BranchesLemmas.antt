@@ -39,7 +39,7 @@ use Rattle.ctf_decode.specs.Views.{form}
 use Rattle.ctf_decode.specs.Walk.{and_then, as_choice, walk, walk_option, with_option}
 use Rattle.ctf_decode.specs.declared.scopes.TheConstants.{MOST_VALUES}
 use Rattle.ctf_decode.proofs.Steps.{choice_ok}
-use Rattle.ctf_format.specs.Around.{Finds}
+use Rattle.ctf_format.specs.Found.{Finds}
 use Rattle.ctf_format.specs.Branches.{Anywhere, HasBranch, HasBranches, HasElement, HasFields, HasItems, HasNested, HasOptions, IsArrayThere, IsSlotThere, IsThere, PassesSlots, PutsRowOf, TakesBranch}
 use Rattle.ctf_format.specs.Kept.{CountsWhere, IsCounted, KeepsIf, PutsSlot, PutsSlots, Within}
 use Rattle.ctf_format.specs.Passing.{Passes, next_at}
@@ -54,8 +54,7 @@ use Rattle.ctf_format.specs.declared.standing.Last.TheVariants as lasts
 use Rattle.ctf_format.specs.declared.element.ElementLead.{ElementLead}
 use Rattle.ctf_format.specs.declared.standing.MembersEnd.{MembersEnd}
 use Rattle.ctf_format.specs.declared.standing.Next.{Next}
-use Rattle.ctf_format.proofs.AroundLemmas.{counted_array}
-use Rattle.ctf_format.proofs.ByClassLemmas.{Going, closed, counted_text, element_after, going_begins, going_ends, going_on, items_walk, no_items, form_any, form_enumeration, form_variant, text_any, text_enumeration, text_variant}
+use Rattle.ctf_format.proofs.ElementsLemmas.{counted_array, Going, closed, counted_text, element_after, going_begins, going_ends, going_on, items_walk, no_items, form_any, form_enumeration, form_variant, text_any, text_enumeration, text_variant}
 use Rattle.ctf_format.proofs.KeptLemmas.{knows_at}
 use Rattle.ctf_format.proofs.PartsLemmas.{closed_option, option_shown}
 use Rattle.ctf_format.proofs.RecordsLemmas.{fields_slots, piece_next, pieces_scope, runs_plain, shown_near, slots_join}
@@ -161,14 +160,6 @@ has_nested b ps has same =
     let P = IsPlanned has.depth in
     let s = has.takes.1 in
     record { depth = has.depth; slot = s; is = subst (IsNested P s b.nested) (sym same) (nested_listed P s b.nested b.plans has.takes.4.nested) }
-
-pub has_unsigned : (n : Nested) (lone : LoneInteger) (ps : List RecordPlan) → HasNested n ps → n ≡ nested.Number lone → lone.integer.is_signed ≡ false
-has_unsigned n lone ps has is = (subst (λ x. IsNested (IsPlanned has.depth) has.slot x ps) is has.is).2
-
-pub has_options : (n : Nested) (v : PlannedVariant) (ps : List RecordPlan) → HasNested n ps → n ≡ nested.Variant v → HasOptions ps
-has_options n v ps has is =
-    let so = (subst (λ x. IsNested (IsPlanned has.depth) has.slot x ps) is has.is).1 in
-    record { depth = has.depth; known = has.slot.known; options = so.options; are = so.are }
 
 pub has_items : (n : Nested) (a : PlannedArray) (ps : List RecordPlan) → HasNested n ps → n ≡ nested.Array a → HasItems a.elements ps
 has_items n a ps has is =

@@ -1,18 +1,20 @@
 -- Numbers that are kept are those that routes lead to.
 use Rattle.std.proofs.Common.{◌≡◌, ℕ, zero, suc, ◌<◌, ◌≤◌, Bool, true, false, List, [], ◌∷◌, ◌++◌, take, length, get_or, slice_get, Option, Some, None, Ok, refl, sym, ap, subst, ◌∙◌, arith, length-append}
+use Rattle.std.proofs.Common.{All, ◌⊎◌, inl, inr}
 use Rattle.std.specs.Prelude.{option_and_then, ⊤}
-use Rattle.ctf_class.specs.Records.{LeadsTo, Piece, Pieces, alone, inner, no_pieces, more_pieces, from_after, from_inside, from_later, further_out, known_after, known_by, of_scope, outside, with_kept}
+use Rattle.ctf_class.specs.Records.{IsInPacket, LeadsTo, Piece, Pieces, alone, inner, no_pieces, more_pieces, from_after, from_inside, from_later, further_out, known_after, known_by, of_scope, outside, with_kept}
 use Rattle.ctf_class.specs.declared.route.Origin.{Origin}
 use Rattle.ctf_class.specs.declared.route.Origin.TheVariants.{Enclosing, Earlier}
 use Rattle.ctf_class.specs.declared.route.Route.{Route}
 use Rattle.ctf_class.specs.declared.route.Scope.{Scope}
+use Rattle.ctf_class.specs.declared.route.Scope.TheVariants.{PacketHeader, PacketContext}
 use Rattle.ctf_decode.specs.Forms.{Form}
 use Rattle.ctf_decode.specs.Input.{Env}
 use Rattle.ctf_decode.specs.Routes.{found, found_from, inside}
 use Rattle.ctf_decode.specs.Values.{Val, down, group, label, nth, unsigned, vals_of}
 use Rattle.ctf_decode.specs.Walk.{walk}
 use Rattle.ctf_decode.specs.declared.scopes.TheConstants.{MOST_VALUES}
-use Rattle.ctf_format.specs.Around.{Finds}
+use Rattle.ctf_format.specs.Found.{Finds}
 use Rattle.ctf_format.specs.Kept.{KeepsIf, Knows}
 use Rattle.ctf_format.specs.Records.{SeesAfter, turn_of}
 use Rattle.ctf_format.specs.Standing.{ValueIs, among}
@@ -149,6 +151,15 @@ before_longer one other (r ∷ rs) longer before = (by r.origin before.0, before
     by (Enclosing out) is = tt
     by (Earlier scope) is = omega (arith, longer, is)
 
+-- routes into the packet's header and context
+before_records : (o : Origin) → (o ≡ Earlier PacketHeader) ⊎ (o ≡ Earlier PacketContext) → IsBefore 2 o
+before_records o (inl is) = subst (IsBefore 2) (sym is) (omega arith)
+before_records o (inr is) = subst (IsBefore 2) (sym is) (omega arith)
+
+pub before_given : (rs : List Route) → All IsInPacket rs → AreBefore 2 rs
+before_given [] are = tt
+before_given (r ∷ rs) are = (before_records r.origin (are 0 r (omega arith)), before_given rs (λ k d within. are (suc k) d (omega (arith, within))))
+
 -- in the scopes after one, whose members were these
 leads_later : (o : Origin) (scope : Scope) (steps : List ℕ) (n : Last) (earlier later : Scope → Option Val) (env : Env) (ws : List Val) → IsBefore (turn_of scope) o → SeesAfter scope (group (vals_of ws)) earlier later → LeadsSo o steps n earlier (ws ∷ env) → LeadsSo (of_scope scope o) steps n later env
 leads_later (Enclosing zero) scope steps n earlier later env ws before sees leads =
@@ -184,7 +195,13 @@ knows_bare (r ∷ rs) [] earlier knows = tt
 knows_bare (r ∷ rs) (n ∷ ns) earlier knows = (leads_bare r.origin r.steps n earlier knows.0, knows_bare rs ns earlier knows.1)
 
 -- one number more
-knows_and : (rs : List Route) (ns : List Last) (r : Route) (n : Last) (earlier : Scope → Option Val) (env : Env) → length rs ≡ length ns → Knows rs ns earlier env → LeadsSo r.origin r.steps n earlier env → Knows (rs ++ r ∷ []) (ns ++ n ∷ []) earlier env
+-- the first of some numbers
+pub knows_first : (rs : List Route) (ns : List Last) (earlier : Scope → Option Val) (env : Env) → Knows rs ns earlier env → Knows rs (take (length rs) ns) earlier env
+knows_first [] ns earlier env knows = tt
+knows_first (r ∷ rs) [] earlier env knows = tt
+knows_first (r ∷ rs) (n ∷ ns) earlier env knows = (knows.0, knows_first rs ns earlier env knows.1)
+
+pub knows_and : (rs : List Route) (ns : List Last) (r : Route) (n : Last) (earlier : Scope → Option Val) (env : Env) → length rs ≡ length ns → Knows rs ns earlier env → LeadsSo r.origin r.steps n earlier env → Knows (rs ++ r ∷ []) (ns ++ n ∷ []) earlier env
 knows_and [] [] r n earlier env same knows leads = (leads, tt)
 knows_and [] (m ∷ ns) r n earlier env same knows leads = absurd (omega (arith, same))
 knows_and (q ∷ rs) [] r n earlier env same knows leads = absurd (omega (arith, same))

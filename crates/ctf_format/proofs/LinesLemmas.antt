@@ -1,5 +1,5 @@
 -- Packet contexts and lines, part by part.
-use Rattle.std.proofs.Common.{◌≡◌, ℕ, zero, suc, ◌+◌, ◌<◌, ◌≤◌, Bool, true, false, cond, List, [], ◌∷◌, ◌++◌, map, drop, length, get_or, refl, sym, ap, ◌∙◌, arith, append_assoc, append-nil, length-append}
+use Rattle.std.proofs.Common.{◌≡◌, ℕ, zero, suc, ◌+◌, ◌<◌, ◌≤◌, Bool, true, false, cond, List, [], ◌∷◌, ◌++◌, map, drop, length, get_or, refl, sym, ap, ◌∙◌, arith, append_assoc, append-nil}
 use Rattle.std.specs.List.{flat_map, prefix_len}
 use Rattle.std.proofs.lemmas.Grind.{flat_map-append}
 use Rattle.ctf_class.specs.declared.class.Member.{Member}
@@ -10,7 +10,7 @@ use Rattle.ctf_decode.specs.Views.{val}
 use Rattle.ctf_format.specs.Rows.{row, joined}
 use Rattle.ctf_format.specs.Texts.{part_text, member_part}
 use Rattle.ctf_format.specs.Lines.{shown_members, context_text}
-use Rattle.ctf_format.proofs.NamesLemmas.{here, drop-all, row_next}
+use Rattle.ctf_format.proofs.NamesLemmas.{here, drop-all}
 
 abbrev shown_of : List Member → List Value → List (List ℕ)
 shown_of ms vs = shown_members ms (vals_of (map val vs))
@@ -51,14 +51,6 @@ next ms vs i m v b in_ms in_vs m_is v_is is =
     let rest = shown_of (drop (i + 1) ms) (drop (i + 1) vs) in
     (λ j. shown_of (here ms i m in_ms m_is j) (here vs i v in_vs v_is j)) ∙ ap (λ c. cond c rest (part_text (member_part m) (val v) ∷ rest)) is
 
--- a member that is shown is written
-pub shown_more : (ms : List Member) (vs : List Value) (i : ℕ) (m : Member) (v : Value) (line more before : List ℕ) (lead mark : ℕ) (all : List (List ℕ)) → i < length ms → i < length vs → m ≡ get_or ms i m → v ≡ get_or vs i v → is_of_packet m.name ≡ false
-    → line ++ row lead (shown_of (drop i ms) (drop i vs)) ≡ before ++ row mark all → more ≡ line ++ (lead ∷ 32 ∷ part_text (member_part m) (val v)) → more ++ row 44 (shown_of (drop (i + 1) ms) (drop (i + 1) vs)) ≡ before ++ row mark all
-shown_more ms vs i m v line more before lead mark all in_ms in_vs m_is v_is is already wrote =
-    let rest = shown_of (drop (i + 1) ms) (drop (i + 1) vs) in
-    let text = part_text (member_part m) (val v) in
-    ap (λ xs. xs ++ row 44 rest) wrote ∙ row_next line before text rest all lead mark (ap (λ texts. line ++ row lead texts) (sym (next ms vs i m v false in_ms in_vs m_is v_is is)) ∙ already)
-
 item : {A : Type 0} (xs : List A) (i : ℕ) → i < length xs → (x : A) × (x ≡ get_or xs i x)
 item [] i within = absurd (omega arith)
 item (x ∷ xs) zero within = (x, refl)
@@ -87,12 +79,6 @@ hidden_same ms vs i line before lead mark all in_ms in_vs hidden already =
 pub shown_all : (ms : List Member) (vs : List Value) (i : ℕ) (line before : List ℕ) (lead mark : ℕ) (all : List (List ℕ)) → (i < length ms → i < length vs → ⊥) → line ++ row lead (shown_of (drop i ms) (drop i vs)) ≡ before ++ row mark all → line ≡ before ++ row mark all
 shown_all ms vs i line before lead mark all past already =
     sym (append-nil line) ∙ ap (λ texts. line ++ row lead texts) (sym (shown_past ms vs i past)) ∙ already
-
--- a context of which nothing was written
-pub context_none : (texts : List (List ℕ)) (line before : List ℕ) → length line ≡ length before → line ≡ before ++ row 123 texts → line ≡ before ++ context_text texts
-context_none [] line before same wrote = wrote
-context_none (text ∷ texts) line before same wrote =
-    absurd (omega (arith, ap length wrote, length-append before (row 123 (text ∷ texts))))
 
 -- one of which something was written
 pub context_some : (texts : List (List ℕ)) (line before : List ℕ) → (length line ≡ length before → ⊥) → line ≡ before ++ row 123 texts → line ++ (32 ∷ 125 ∷ []) ≡ before ++ context_text texts

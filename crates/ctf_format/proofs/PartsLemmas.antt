@@ -1,13 +1,12 @@
 -- The texts of a value's parts, one more at a time.
-use Rattle.std.proofs.Common.{◌≡◌, ℕ, zero, suc, ◌+◌, ◌<◌, ◌≤◌, List, [], ◌∷◌, ◌++◌, map, drop, length, get_or, refl, sym, ap, ◌∙◌, arith, append_assoc, append-nil, Some}
+use Rattle.std.proofs.Common.{◌≡◌, ℕ, zero, suc, ◌+◌, ◌<◌, ◌≤◌, List, [], ◌∷◌, ◌++◌, map, length, get_or, refl, sym, ap, ◌∙◌, arith, append_assoc, append-nil, Some}
 use Rattle.std.specs.Prelude.{slice_get}
 use Rattle.ctf_class.specs.declared.class.Member.{Member}
 use Rattle.ctf_decode.specs.declared.value.Value.{Value}
 use Rattle.ctf_decode.specs.Values.{Val, vals_of, no_vals}
 use Rattle.ctf_decode.specs.Views.{val}
 use Rattle.ctf_format.specs.Rows.{row, enclosed}
-use Rattle.ctf_format.specs.Texts.{Shown, Part, part_text, member_part, member_texts, element_text, element_texts, option_text}
-use Rattle.ctf_format.proofs.NamesLemmas.{here, drop-all, row_next}
+use Rattle.ctf_format.specs.Texts.{Shown, Part, part_text, member_part, member_texts, element_texts, option_text}
 
 abbrev members_of : List Member → List Value → List (List ℕ)
 members_of ms vs = member_texts (map member_part ms) (vals_of (map val vs))
@@ -23,30 +22,6 @@ no_values (part ∷ parts) = refl
 pub no_value : (ms : List Member) (vs : List Value) → length vs ≤ 0 → members_of ms vs ≡ []
 no_value ms [] none = no_values (map member_part ms)
 no_value ms (v ∷ vs) none = absurd (omega arith)
-
-pub members_end : (ms : List Member) (vs : List Value) (i : ℕ) → length vs ≤ i → members_of (drop i ms) (drop i vs) ≡ []
-members_end ms vs i past = ap (members_of (drop i ms)) (drop-all vs i past) ∙ no_values (map member_part (drop i ms))
-
--- one member more is written
-pub member_more : (ms : List Member) (vs : List Value) (i : ℕ) (m : Member) (v : Value) (line more before : List ℕ) (lead mark : ℕ) (all : List (List ℕ)) → i < length ms → i < length vs → m ≡ get_or ms i m → v ≡ get_or vs i v
-    → line ++ row lead (members_of (drop i ms) (drop i vs)) ≡ before ++ row mark all → more ≡ line ++ (lead ∷ 32 ∷ part_text (member_part m) (val v)) → more ++ row 44 (members_of (drop (i + 1) ms) (drop (i + 1) vs)) ≡ before ++ row mark all
-member_more ms vs i m v line more before lead mark all in_ms in_vs m_is v_is already wrote =
-    let rest = members_of (drop (i + 1) ms) (drop (i + 1) vs) in
-    let text = part_text (member_part m) (val v) in
-    let next : members_of (drop i ms) (drop i vs) ≡ text ∷ rest = λ j. members_of (here ms i m in_ms m_is j) (here vs i v in_vs v_is j) in
-    ap (λ xs. xs ++ row 44 rest) wrote ∙ row_next line before text rest all lead mark (ap (λ texts. line ++ row lead texts) (sym next) ∙ already)
-
--- one element more is written
-pub element_more : (shown : Shown) (vs : List Value) (i : ℕ) (v : Value) (line more before : List ℕ) (lead mark : ℕ) (all : List (List ℕ)) → i < length vs → v ≡ get_or vs i v
-    → line ++ row lead (elements_of shown i (drop i vs)) ≡ before ++ row mark all → more ≡ line ++ (lead ∷ 32 ∷ element_text shown i (val v)) → more ++ row 44 (elements_of shown (i + 1) (drop (i + 1) vs)) ≡ before ++ row mark all
-element_more shown vs i v line more before lead mark all in_vs v_is already wrote =
-    let after : suc i ≡ i + 1 = omega arith in
-    let rest = elements_of shown (i + 1) (drop (i + 1) vs) in
-    let text = element_text shown i (val v) in
-    let next : elements_of shown i (drop i vs) ≡ text ∷ rest =
-    ap (elements_of shown i) (here vs i v in_vs v_is) ∙ ap (λ k. text ∷ elements_of shown k (drop (i + 1) vs)) after
-    in
-    ap (λ xs. xs ++ row 44 rest) wrote ∙ row_next line before text rest all lead mark (ap (λ texts. line ++ row lead texts) (sym next) ∙ already)
 
 -- texts are written, and then the mark after them
 pub closed_members : (ms : List Member) (vs : List Value) (line before : List ℕ) → 0 < length ms → 0 < length vs → line ≡ before ++ row 123 (members_of ms vs) → line ++ (32 ∷ 125 ∷ []) ≡ before ++ enclosed 123 125 (members_of ms vs)

@@ -40,7 +40,7 @@ use Rattle.ctf_format.specs.declared.planned_record.Reach.{Reach}
 use Rattle.ctf_format.specs.declared.standing.Last.TheVariants as lasts
 use Rattle.ctf_format.specs.declared.standing.Next.{Next}
 use Rattle.ctf_format.proofs.ArrayLemmas.{Going, closed, going_begins, going_ends, going_on, puts_array, puts_element, puts_none, puts_some}
-use Rattle.ctf_format.proofs.ByClassLemmas.{counted_text, form_any, text_any}
+use Rattle.ctf_format.proofs.ElementsLemmas.{counted_text, form_any, text_any}
 use Rattle.ctf_format.proofs.RecordsLemmas.{after_none, after_some, field_alone, field_next, fields_join, no_number, numbers_to, run_numbers}
 use Rattle.ctf_format.proofs.StandingLemmas.{as_one, form_integer, form_text, leaf_stands, puts_next, text_text, mark_at}
 use Rattle.ctf_format.proofs.StructuresLemmas.{structure_puts}

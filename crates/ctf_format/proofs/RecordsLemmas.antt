@@ -737,8 +737,8 @@ scopes_puts (k ∷ (l ∷ ks)) (s ∷ (t ∷ ss)) turn opens known packet conten
           subst (λ (x : ScopeClass). ScopesFollow (x ∷ (l ∷ ks)) earlier packet content from.place spent to.place (spent + values_in (s ∷ rest) + more) opened after) (sym are.0) (v.0, mid.place, many, v.1, follow),
     )
 
--- the scopes of an event record after its header are in order
-pub scopes_ordered : (shared own : Option Class) (fields : Class) → InOrder 0 (scopes_of shared own fields)
+-- the scopes of an event record after its header are in order, after those of the packet
+pub scopes_ordered : (shared own : Option Class) (fields : Class) → InOrder 2 (scopes_of shared own fields)
 scopes_ordered None None fields = (omega arith, tt)
 scopes_ordered None (Some l) fields = (omega arith, (omega arith, tt))
 scopes_ordered (Some k) None fields = (omega arith, (omega arith, tt))

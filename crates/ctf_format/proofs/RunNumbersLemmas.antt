@@ -1,20 +1,18 @@
 -- Integers whose distances are known beforehand are shown as their class says.
-use Rattle.std.proofs.Common.{◌≡◌, ℕ, suc, zero, pos, ◌+◌, ◌*◌, ◌%◌, ◌<◌, ◌≤◌, Bool, true, false, List, [], ◌∷◌, ◌++◌, length, get_or, refl, sym, ap, ◌∙◌, arith}
-use Rattle.std.specs.Prelude.{if◌then◌else◌, ◌||◌}
-use Rattle.std.proofs.lemmas.Bool.{false≢true}
-use Rattle.std.specs.Fmt.{signed_decimal}
+use Rattle.std.proofs.Common.{◌≡◌, ℕ, pos, ◌+◌, ◌*◌, ◌%◌, ◌≤◌, Bool, true, false, List, [], ◌∷◌, ◌++◌, refl, sym, ap, ◌∙◌, arith}
+use Rattle.std.specs.Prelude.{if◌then◌else◌}
 use Rattle.std.specs.Int.{next_multiple_of}
 use Rattle.ctf_bits.specs.Number.{number, signed_number}
 use Rattle.ctf_bits.specs.Placed.{number_after}
 use Rattle.ctf_bits.specs.declared.number.Order.TheVariants.{Le}
 use Rattle.ctf_class.proofs.AlignmentLemmas.{next_after}
 use Rattle.ctf_class.specs.Integers.{bits_of}
-use Rattle.ctf_class.specs.Records.{have_special, numbers_room}
+use Rattle.ctf_class.specs.Records.{numbers_room}
 use Rattle.ctf_class.specs.declared.integer.Integer.{Integer}
 use Rattle.ctf_class.specs.declared.planned_number.PlannedNumber.{PlannedNumber}
 use Rattle.ctf_decode.specs.Forms.{integer}
-use Rattle.ctf_format.specs.Numbers.{in_base, number_text}
-use Rattle.ctf_format.specs.RunNumbers.{IsPlaced, number_at, place_in, run_text}
+use Rattle.ctf_format.specs.Numbers.{number_text}
+use Rattle.ctf_format.specs.RunNumbers.{IsPlaced, number_at, place_in}
 use Rattle.ctf_format.specs.Standing.{PutsOne}
 use Rattle.ctf_format.specs.Texts.{integer_text}
 use Rattle.ctf_format.proofs.StandingLemmas.{puts_signed, puts_unsigned}
@@ -27,25 +25,6 @@ window_number n is packet first =
 -- which is little endian where it is not special
 pub usual_number : (n : PlannedNumber) → IsPlaced n → n.is_special ≡ false → (packet : List ℕ) (first : ℕ) → number_after Le n.window packet first ≡ number_at n.integer packet (place_in first n)
 usual_number n is usual packet first = ap (λ order. number_after order n.window packet first) (sym (is.usual usual).1) ∙ window_number n is packet first
-
--- and is shown in decimal
-pub usual_text : (n : PlannedNumber) → IsPlaced n → n.is_special ≡ false → (packet : List ℕ) (first : ℕ) → n.ready ++ signed_decimal (number_after Le n.window packet first) ≡ run_text packet first n
-usual_text n is usual packet first =
-    ap (λ z. n.ready ++ signed_decimal z) (usual_number n is usual packet first) ∙ ap (λ b. n.ready ++ in_base b n.integer.size (number_at n.integer packet (place_in first n))) (sym (is.usual usual).0)
-
--- none of some numbers is special
-pub none_special : (ns : List PlannedNumber) (k : ℕ) (n : PlannedNumber) → have_special ns ≡ false → k < length ns → n ≡ get_or ns k n → n.is_special ≡ false
-none_special [] k n none within is = absurd (omega (arith, within))
-none_special (x ∷ ns) zero n none within is = ap (λ (y : PlannedNumber). y.is_special) is ∙ first x.is_special none
-  where
-    first : (b : Bool) → b || have_special ns ≡ false → b ≡ false
-    first true none = none
-    first false none = refl
-none_special (x ∷ ns) (suc k) n none within is = none_special ns k n (others x.is_special none) (omega (arith, within)) is
-  where
-    others : (b : Bool) → b || have_special ns ≡ false → have_special ns ≡ false
-    others true none = absurd (false≢true (sym none))
-    others false none = none
 
 -- an integer at a distance from a byte's first bit is shown by what is there
 module _ (i : Integer) (a : ℕ) (packet : List ℕ) (content first place from end : ℕ) (before after : List ℕ) (starts : 8 * first ≡ place) (divides : place % a ≡ 0) (ends : end ≡ place + (next_multiple_of from a + bits_of i)) (within : end ≤ content)

@@ -17,7 +17,7 @@ use Rattle.ctf_class.specs.declared.route.Length.{Length}
 use Rattle.ctf_class.specs.declared.route.Length.TheVariants.{Fixed}
 use Rattle.ctf_class.specs.declared.route.Scope.{Scope}
 use Rattle.ctf_class.specs.Integers.{bits_of}
-use Rattle.ctf_class.specs.Names.{label_text, field_text}
+use Rattle.ctf_class.specs.Names.{label_text}
 use Rattle.ctf_decode.specs.Values.{Val, vals_of, unsigned, signed, group, text as text_val}
 use Rattle.ctf_decode.specs.Forms as forms
 use Rattle.ctf_decode.specs.Forms.{Form, parts_of, integer, string, structure}
@@ -28,7 +28,7 @@ use Rattle.ctf_decode.specs.Views as views
 use Rattle.ctf_decode.specs.Views.{form, shape}
 use Rattle.ctf_decode.specs.Fields.{members_in}
 use Rattle.ctf_decode.specs.declared.scopes.TheConstants.{MOST_VALUES}
-use Rattle.ctf_format.specs.Around.{PutsMembers}
+use Rattle.ctf_format.specs.Standing.{PutsMembers}
 use Rattle.ctf_format.specs.Numbers.{number_text}
 use Rattle.ctf_format.specs.Rows.{row, enclosed}
 use Rattle.ctf_format.specs.Standing.{Before, among, PutsOne, ValueIs, LastIs, PutsNext, StandsAs, StandsAsNumber}
@@ -309,21 +309,8 @@ same_front text at n line items long room near =
     let short : text ≤ length line = omega (arith, within, long) in
     sym (take-append-le text line (drop (length line) items) short) ∙ sym (take-take text n (line ++ drop (length line) items) within)
 
-pub as_every : (r : Option Position) (P : ℕ → Position → Type 0) (a : ℕ) → IfSome r (λ e. (b : ℕ) → P b e) → IfSome r (P a)
-as_every (Some e) P a puts = puts a
-as_every None P a puts = tt
-
 pub member-is : (m : Member) → member_part m ≡ (m.name, value_text m.class)
 member-is m = search (rules, class.the_lemmas)
-
--- a name and a value after it are the member
-pub puts_after : (m : Member) (lead : ℕ) (packet : List ℕ) (content place end : ℕ) (before line after name : List ℕ) → line ≡ before ++ (lead ∷ 32 ∷ name) → name ≡ field_text m.name → PutsOne (form m.class) (value_text m.class) packet content place end line after
-    → PutsOne (form m.class) (λ v. lead ∷ 32 ∷ part_text (member_part m) v) packet content place end before after
-puts_after m lead packet content place end before line after name wrote named puts spent few earlier env =
-    let p = puts spent few earlier env in
-    let text = value_text m.class p.0 in
-    let part : part_text (member_part m) p.0 ≡ field_text m.name ++ text = ap (λ (x : Part). part_text x p.0) (member-is m) in
-    (p.0, p.1, p.2 ∙ ap (λ xs. xs ++ text) wrote ∙ append_assoc before (lead ∷ 32 ∷ name) text ∙ ap (λ xs. before ++ (lead ∷ 32 ∷ (xs ++ text))) named ∙ ap (λ xs. before ++ (lead ∷ 32 ∷ xs)) (sym part))
 
 closed_row : (parts : List Part) (vs : List Val) → 0 < length parts → length vs ≡ length parts → row 123 (member_texts parts (vals_of vs)) ++ (32 ∷ 125 ∷ []) ≡ enclosed 123 125 (member_texts parts (vals_of vs))
 closed_row [] vs some same = absurd (omega (arith, some))

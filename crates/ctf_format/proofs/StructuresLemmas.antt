@@ -1,5 +1,5 @@
 -- Structures of integers at fixed distances that are shown where they are.
-use Rattle.std.proofs.Common.{◌≡◌, ℕ, ◌+◌, ◌*◌, ◌≤◌, List, [], ◌∷◌, ◌++◌, length, max, None, Ok, refl, sym, ap, subst, ◌∙◌, arith, append-nil}
+use Rattle.std.proofs.Common.{◌≡◌, ℕ, ◌+◌, ◌*◌, ◌≤◌, List, [], ◌∷◌, ◌++◌, length, max, None, refl, sym, ap, subst, ◌∙◌, arith, append-nil}
 use Rattle.std.specs.Int.{next_multiple_of}
 use Rattle.std.specs.List.{flat_map}
 use Rattle.ctf_bits.specs.Align.{IsLeastMultiple}
@@ -8,14 +8,12 @@ use Rattle.ctf_class.specs.declared.class.Kind as kind
 use Rattle.ctf_class.specs.declared.class.Member.{Member}
 use Rattle.ctf_class.specs.declared.class.Class.{Class}
 use Rattle.ctf_class.specs.declared.structures.Structures.{Structures}
-use Rattle.ctf_decode.specs.Forms.{Form}
 use Rattle.ctf_decode.specs.Views.{form}
 use Rattle.ctf_decode.specs.declared.scopes.TheConstants.{MOST_VALUES}
 use Rattle.ctf_format.specs.Records.{PutsFields}
 use Rattle.ctf_format.specs.RunNumbers.{run_text}
-use Rattle.ctf_format.specs.Standing.{Before, Puts, PutsNext, PutsSome}
-use Rattle.ctf_format.specs.Texts.{Shown, value_text}
-use Rattle.ctf_format.specs.declared.standing.Last.TheVariants as lasts
+use Rattle.ctf_format.specs.Standing.{Puts, PutsSome}
+use Rattle.ctf_format.specs.Texts.{value_text}
 use Rattle.ctf_format.proofs.RecordsLemmas.{fields_slots, numbers_to, no_number, pieces_scope, plain_numbers, run_numbers}
 
 -- members of which none is gone into are these
@@ -58,12 +56,3 @@ structure_puts k s packet content at place first before line after is least begi
     subst (λ xs. Puts (form k) (value_text k) packet content at spent end (spent + s.count) before xs) text
     (subst (λ xs. Puts (form k) (value_text k) packet content at spent end (spent + s.count) xs (line ++ (ends (ended_after 0 ps) ++ (32 ∷ 125 ∷ [])))) (append-nil before)
     (subst (λ n. Puts (form k) (value_text k) packet content at spent end n (before ++ []) (line ++ (ends (ended_after 0 ps) ++ (32 ∷ 125 ∷ [])))) total (λ earlier env. (let v = one.3 at refl spent few earlier env tt in (v.0, v.1, v.2)))))
-
--- a value of so many, after the members of a structure
-pub some_next : (before : Before) (k : Form) (shown : Shown) (many more : ℕ) (packet : List ℕ) (content place end text : ℕ) (line after : List ℕ) → many ≡ 1 + more → PutsSome k shown many packet content place end line after
-    → PutsNext before k shown packet content place line (record { place = end; text = text; more = more; last = lasts.Unknown }) after
-some_next before k shown many more packet content place end text line after counted puts spent room earlier env vs members last =
-    let few : spent + many ≤ MOST_VALUES = omega (arith, room, counted) in
-    let p = puts spent few earlier (vs ∷ env) in
-    let total : spent + many ≡ spent + 1 + more = omega (arith, counted) in
-    (p.0, p.1 ∙ ap (λ n. Ok (p.0, end, n)) total, p.2, tt)

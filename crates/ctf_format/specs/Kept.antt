@@ -1,7 +1,7 @@
 -- Numbers that are kept while a record goes by its plan (all own).
 use Rattle.std.specs.Prelude.{◌≡◌, ℕ, ◌+◌, ◌<◌, ◌≤◌, Bool, true, false, List, [], ◌∷◌, ◌++◌, get_or, length, Option, None, Ok, ⊤}
 use Rattle.std.specs.Int.{next_multiple_of}
-use Rattle.ctf_class.specs.Records.{Slot}
+use Rattle.ctf_class.specs.Records.{ScopeClass, Slot}
 use Rattle.ctf_class.specs.declared.record_plan.Count.{Count}
 use Rattle.ctf_class.specs.declared.record_plan.Count.TheVariants as counts
 use Rattle.ctf_class.specs.declared.route.Length.{Length}
@@ -14,8 +14,8 @@ use Rattle.ctf_decode.specs.Values.{Val}
 use Rattle.ctf_decode.specs.Views.{form}
 use Rattle.ctf_decode.specs.Walk.{walk}
 use Rattle.ctf_decode.specs.declared.scopes.TheConstants.{MOST_VALUES}
-use Rattle.ctf_format.specs.Around.{Finds}
-use Rattle.ctf_format.specs.Records.{Reached, after_last}
+use Rattle.ctf_format.specs.Found.{Finds}
+use Rattle.ctf_format.specs.Records.{Reached, ScopesFollow, after_last}
 use Rattle.ctf_format.specs.Standing.{Before, IfKnown, LastIs, StandsAs, ValueIs, among, known}
 use Rattle.ctf_format.specs.Texts.{Shown, value_text}
 use Rattle.ctf_format.specs.declared.standing.Last.{Last}
@@ -28,6 +28,10 @@ Knows [] ns earlier env = ⊤
 Knows (r ∷ rs) [] earlier env = ⊤
 Knows (r ∷ rs) (n ∷ ns) earlier env =
     Finds n (found_from r.origin r.steps earlier env) × Knows rs ns earlier env
+
+-- the first of these numbers are those that routes lead to from a record's scopes
+abbrev pub BeginsWith : List Route → List Last → (Scope → Option Val) → Type 0
+BeginsWith given ns earlier = (length given ≤ length ns) × Knows given ns earlier []
 
 -- in a structure where as many routes do
 abbrev pub Within : List Route → List Last → (Scope → Option Val) → Env → Type 0
@@ -83,3 +87,11 @@ PutsSlots [] packet content from ns to ms = (to ≡ from) × (ms ≡ ns)
 PutsSlots (s ∷ ss) packet content from ns to ms =
     (mid : Reached) × (ks : List Last) × PutsSlot s packet content from ns mid ks
     × PutsSlots ss packet content mid ks to ms
+
+-- The values of scopes and their texts follow each other, whatever was decoded before where the first of these numbers
+-- are those that routes lead to.
+abbrev pub PutsScopes : List Route → List Last → List ScopeClass → List ℕ → ℕ → ℕ → ℕ → ℕ → ℕ → List ℕ
+    → List ℕ → Type 0
+PutsScopes given ns ks packet content place spent end total before after =
+    (earlier : Scope → Option Val) → BeginsWith given ns earlier
+    → ScopesFollow ks earlier packet content place spent end total before after

@@ -1,6 +1,6 @@
-pub mod Around
 pub mod Branches
 pub mod Digits
+pub mod Found
 pub mod Kept
 pub mod Labels
 pub mod Lines

@@ -200,9 +200,3 @@ ScopesFollow (k ∷ (l ∷ ks)) earlier packet content place spent end total bef
     × ((later : Scope → Option Val) → SeesAfter k.0 v earlier later
     → ScopesFollow (l ∷ ks) later packet content mid many end total
     ((before ++ value_text k.1 v) ++ codes ", ") after)
-
--- so they do whatever was decoded before
-abbrev pub PutsScopes : List ScopeClass → List ℕ → ℕ → ℕ → ℕ → ℕ → ℕ → List ℕ → List ℕ → Type 0
-PutsScopes ks packet content place spent end total before after =
-    (earlier : Scope → Option Val)
-    → ScopesFollow ks earlier packet content place spent end total before after

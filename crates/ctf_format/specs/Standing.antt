@@ -4,12 +4,13 @@ use Rattle.ctf_class.specs.declared.class.Member.{Member}
 use Rattle.ctf_class.specs.declared.integer.Integer.{Integer}
 use Rattle.ctf_class.specs.declared.route.Length.{Length}
 use Rattle.ctf_class.specs.declared.route.Scope.{Scope}
-use Rattle.ctf_decode.specs.Fields.{members_in, elements_in, choice_in}
+use Rattle.ctf_decode.specs.Fields.{elements_in, choice_in}
 use Rattle.ctf_decode.specs.Values.{Val, vals_of, unsigned, label}
-use Rattle.ctf_decode.specs.Forms.{Form}
+use Rattle.ctf_decode.specs.Forms.{Form, parts_of}
 use Rattle.ctf_decode.specs.Input.{Input, Env}
 use Rattle.ctf_decode.specs.Routes.{length_of}
-use Rattle.ctf_decode.specs.Walk.{walk, repeat}
+use Rattle.ctf_decode.specs.Views as views
+use Rattle.ctf_decode.specs.Walk.{walk, walk_members, repeat}
 use Rattle.ctf_decode.specs.declared.scopes.TheConstants.{MOST_VALUES}
 use Rattle.ctf_format.specs.Rows.{enclosed}
 use Rattle.ctf_format.specs.Texts.{Shown, member_part, member_texts, element_texts, integer_text, chosen_text}
@@ -143,10 +144,6 @@ Writes result before k shown packet place line items =
     IfSome result (λ next.
     PutsNext before k shown packet.bytes.now packet.end place line next (take next.text items))
 
--- what is shown of a structure of these members
-abbrev pub structure_text : List Member → Shown
-structure_text ms v = enclosed 123 125 (member_texts (map member_part ms) (members_in v))
-
 -- what is shown of a variant of these options
 abbrev pub variant_text : List Member → Shown
 variant_text ms v = chosen_text (map member_part ms) (choice_in v)
@@ -177,3 +174,17 @@ PutsElements together k shown each count packet content place end before after =
     ≡ Ok (vs, end, spent + count * each))
     × (length vs ≡ count)
     × (after ≡ before ++ together (element_texts shown 0 (vals_of vs)))
+
+-- Members are there one after the other in a structure where this was decoded before, with so many values in them,
+-- which are so, and their texts follow a text together.
+abbrev pub PutsMembers : (List (List ℕ) → List ℕ) → ((Scope → Option Val) → Env → Type 0)
+    → (List Val → Type 0) → List Member → List ℕ → ℕ → ℕ → List ℕ → MembersEnd → List ℕ → Type 0
+PutsMembers together Where Are ms packet content place before end after =
+    (spent : ℕ) → spent + length ms + end.more ≤ MOST_VALUES
+    → (earlier : Scope → Option Val) (env : Env) → Where earlier env
+    → (vs : List Val)
+    × (walk_members (parts_of (map views.member_part ms)) (among packet content earlier) env []
+    place spent
+    ≡ Ok (vs, end.place, spent + length ms + end.more))
+    × (length vs ≡ length ms)
+    × (after ≡ before ++ together (member_texts (map member_part ms) (vals_of vs))) × Are vs

@@ -1,6 +1,6 @@
 //! Texts of fields that are kept, or go by what is kept, of variants and of arrays, by their plans.
 
-ghost use Rattle.std.specs.Prelude.{ℕ, ℤ, List, [], ◌∷◌, ◌≡◌, ◌++◌, ◌≤◌, take, vec_len, IfSome, IsTrue, Some};
+ghost use Rattle.std.specs.Prelude.{ℕ, ℤ, List, [], ◌∷◌, ◌≡◌, ◌++◌, ◌≤◌, length, take, vec_len, IfSome, IsTrue, Some};
 ghost use Rattle.std.specs.Prelude.{true, false};
 ghost use Rattle.std.specs.List.{All};
 ghost use Rattle.ctf_class.specs.declared.class.Kind as kinds;
@@ -65,7 +65,7 @@ impl Begin<'_> {
     }
 }
 
-/// Writes the fields of a record's plan, and a brace, where no number is kept before them, and gives how far they came.
+/// Writes the fields of a record's plan, and a brace, after the numbers that it is given, and gives how far they came.
 #[inline(always)]
 pub(crate) fn put_record_fields(
     plan: &RecordPlan,
@@ -78,9 +78,10 @@ pub(crate) fn put_record_fields(
     requires within { IsWithin packet.now from.place buffer.old from.text }
     requires few { from.more ≤ MOST_VALUES }
     ensures puts { (depth : ℕ) (slots : List Slot) → IsPlanned depth slots plan.now →
+        let given = take (length plan.now.given) kept.old.numbers in
         IfSome result (λ end. (ms : List LastOf) × (line : List ℕ) ×
         PutsSlots slots packet.now.bytes.now packet.now.end
-        (come from (take from.text buffer.old.items)) [] (come end line) ms ×
+        (come from (take from.text buffer.old.items)) given (come end line) ms ×
         (take end.text buffer.new.items ≡ line ++ (32 ∷ 125 ∷ []))) }
     ensures within { IfSome result (λ end. IsWithin packet.now end.place buffer.new end.text) }
     ensures few { IfSome result (λ end. end.more ≤ MOST_VALUES) }
@@ -89,7 +90,7 @@ pub(crate) fn put_record_fields(
     if branches.is_empty() {
         return put_last_runs(plan.runs.as_slice(), packet, from, buffer);
     }
-    kept.clear();
+    kept.forget(plan.given.len());
     put_branched(plan, packet, from, kept, buffer)
 }
 

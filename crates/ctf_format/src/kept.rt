@@ -1,11 +1,16 @@
 //! Numbers that are kept while a record goes by its plan.
 
-ghost use Rattle.std.specs.Prelude.{◌≡◌, ◌∷◌, ◌++◌, [], get_or, length, take, IfSome, OnOk};
-ghost use Rattle.ctf_format.specs.Kept.{IsCounted};
+ghost use Rattle.std.specs.Prelude.{◌≡◌, ◌∷◌, ◌++◌, [], get_or, length, take, Option, IfSome, OnOk};
+ghost use Rattle.ctf_class.specs.declared.route.Scope.{Scope as ClassScope};
+ghost use Rattle.ctf_decode.specs.Values.{Val};
+ghost use Rattle.ctf_format.specs.Found.{SharesPacket};
+ghost use Rattle.ctf_format.specs.Kept.{BeginsWith, IsCounted};
 ghost use Rattle.ctf_format.specs.declared.standing.Last.TheVariants as lasts;
 
+use crate::given::given_number;
 use crate::standing::Last;
-use ctf_class::Count;
+use ctf_class::{Count, RecordPlan, Route};
+use ctf_decode::Scopes;
 use ctf_list::{List, NoMemory};
 use std::alloc::Global;
 
@@ -23,12 +28,31 @@ impl KeptNumbers {
         }
     }
 
-    /// Forgets all.
+    /// Keeps the numbers that a plan is given before a record; the values of the packet's header and context are in
+    /// `scopes`. It fails where an allocation fails.
     #[inline(always)]
-    pub(crate) fn clear(&mut self)
-        ensures { self.new.numbers ≡ [] }
+    pub fn begin(&mut self, plan: &RecordPlan, scopes: &Scopes) -> Result<(), NoMemory>
+        ensures { OnOk result ((earlier : ClassScope → Option Val) →
+            SharesPacket scopes.now earlier →
+            BeginsWith plan.now.given self.new.numbers earlier) }
+    {
+        if plan.given.is_empty() {
+            return Ok(());
+        }
+        self.keep_given(plan.given.as_slice(), scopes)
+    }
+
+    /// Keeps the numbers of these routes. It is out of the way of plans that are given none.
+    #[inline(never)]
+    fn keep_given(&mut self, given: &[Route], scopes: &Scopes) -> Result<(), NoMemory>
+        ensures { OnOk result ((earlier : ClassScope → Option Val) →
+            SharesPacket scopes.now earlier → BeginsWith given.now self.new.numbers earlier) }
     {
         self.numbers.clear();
+        for route in given {
+            self.numbers.push(given_number(route, scopes))?;
+        }
+        Ok(())
     }
 
     /// How many are kept.

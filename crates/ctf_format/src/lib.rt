@@ -1,15 +1,14 @@
 //! The text of values, and of the part of an event record's line after its stamp.
 #![tactic(auto)]
 
-mod around;
 mod array;
 mod binary;
 mod branches;
-mod by_class;
 mod byte_integers;
 mod content;
 mod decimal;
 mod element;
+mod given;
 mod hexadecimal;
 mod kept;
 mod label;
@@ -35,8 +34,6 @@ mod value;
 mod whole;
 mod window;
 
-pub use around::{MemberNumbers, ScopeInput};
-pub use by_class::put_standing;
 pub use content::Content;
 pub use ctf_class::escaped;
 pub use kept::KeptNumbers;
@@ -44,7 +41,7 @@ pub use mark::put_bytes;
 pub use packet::put_packet_part;
 pub use passed_record::{Passed, pass_planned_record};
 pub use planned_record::put_planned_record;
-pub use record::{RecordScopes, put_comma, put_front, put_record};
+pub use record::{RecordScopes, put_front, put_record};
 pub use room::with_room;
 pub use standing::Standing;
 pub use value::put_value;

@@ -1,6 +1,6 @@
 //! Fields that are kept, or go by what is kept, variants and arrays that are passed over by their plans.
 
-ghost use Rattle.std.specs.Prelude.{ℕ, List, [], ◌≡◌, ◌++◌, ◌≤◌, true, false, IfSome};
+ghost use Rattle.std.specs.Prelude.{ℕ, List, ◌≡◌, ◌++◌, ◌≤◌, true, false, length, take, IfSome};
 ghost use Rattle.std.specs.List.{All};
 ghost use Rattle.ctf_class.specs.Records.{Slot, AreBranches, AreRuns, IsArray, IsCount, IsElement, IsInteger, IsItem, IsLabelled, IsNested, IsPlanned, IsVariant};
 ghost use Rattle.ctf_class.specs.declared.class.Class.{Class};
@@ -30,7 +30,7 @@ use ctf_class::{
 };
 use ctf_decode::MOST_VALUES;
 
-/// How far the fields of a record's plan go, where no number is kept before them.
+/// How far the fields of a record's plan go, after the numbers that it is given.
 #[inline(always)]
 pub(crate) fn pass_record_fields(
     plan: &RecordPlan,
@@ -42,7 +42,8 @@ pub(crate) fn pass_record_fields(
     requires start { from.place ≤ packet.now.end }
     requires few { from.more ≤ MOST_VALUES }
     ensures passes { (depth : ℕ) (slots : List Slot) → IsPlanned depth slots plan.now →
-        IfSome result (λ to. (ms : List LastOf) × PassesSlots slots packet.now from [] to ms) }
+        let given = take (length plan.now.given) kept.old.numbers in
+        IfSome result (λ to. (ms : List LastOf) × PassesSlots slots packet.now from given to ms) }
     ensures within { IfSome result (λ to. to.place ≤ packet.now.end) }
     ensures few { IfSome result (λ to. to.more ≤ MOST_VALUES) }
 {
@@ -50,7 +51,7 @@ pub(crate) fn pass_record_fields(
     if branches.is_empty() {
         return pass_runs(plan.runs.as_slice(), packet, from);
     }
-    kept.clear();
+    kept.forget(plan.given.len());
     pass_branched(plan, packet, from, kept)
 }
 

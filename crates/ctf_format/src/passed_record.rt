@@ -11,8 +11,9 @@ ghost use Rattle.ctf_class.specs.declared.route.Length.{Length};
 ghost use Rattle.ctf_class.specs.declared.route.Length.TheVariants.{Fixed};
 ghost use Rattle.ctf_decode.specs.Forms as forms;
 ghost use Rattle.ctf_decode.specs.Views.{form};
+ghost use Rattle.ctf_format.specs.Kept.{PutsScopes};
 ghost use Rattle.ctf_format.specs.Passing.{IsElement, Passes, PassesField, PassesFields, PassesOther, next_at};
-ghost use Rattle.ctf_format.specs.Records.{IsNear, PutsFields, PutsScopes, TakesRun, reached};
+ghost use Rattle.ctf_format.specs.Records.{IsNear, PutsFields, TakesRun, reached};
 ghost use Rattle.ctf_format.specs.Rows.{enclosed};
 ghost use Rattle.ctf_format.specs.Standing.{Before, Counts, PutsElements, PutsNext, PutsOne};
 ghost use Rattle.ctf_format.specs.declared.content.Content.{Content as Packet};
@@ -51,7 +52,7 @@ pub(crate) struct Element {
 
 /// Where the scopes of the event record after its header (CTF 1.8.3, section 6) end, by the plan of such records, and
 /// without a text: `from` has the place after the header, in bits from the packet's first one, and how many values were
-/// begun before.
+/// begun before. `kept` begins with the numbers that the plan is given.
 ///
 /// `None` where `put_planned_record` gives none, but where it lacks memory, or eight bytes after a structure in an
 /// array: neither is needed here. Memory is taken only for numbers that are kept.
@@ -66,9 +67,9 @@ pub fn pass_planned_record(
     requires start { from.place ≤ packet.now.end }
     requires few { from.spent ≤ MOST_VALUES }
     ensures passes { (shared own : Option Class) (fields : Class) →
-        let scopes = scopes_of shared own fields in IsPlanOf scopes plan.now →
-        IfSome result (λ p. Passes (PutsScopes scopes packet.now.bytes.now packet.now.end
-        from.place from.spent p.place p.spent)) }
+        let scopes = scopes_of shared own fields in let numbers = kept.old.numbers in
+        IsPlanOf scopes plan.now → IfSome result (λ p. Passes (PutsScopes plan.now.given numbers
+        scopes packet.now.bytes.now packet.now.end from.place from.spent p.place p.spent)) }
     ensures within { IfSome result (λ p. p.place ≤ packet.now.end) }
 {
     if plan.runs.as_slice().is_empty() {

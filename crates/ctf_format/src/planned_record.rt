@@ -7,11 +7,12 @@ ghost use Rattle.ctf_class.specs.declared.class.Class.{Class};
 ghost use Rattle.ctf_class.specs.declared.class.Kind as kinds;
 ghost use Rattle.ctf_class.specs.declared.route.Length.{Length};
 ghost use Rattle.ctf_decode.specs.Views.{form};
+ghost use Rattle.ctf_format.specs.Kept.{PutsScopes};
 ghost use Rattle.ctf_format.specs.Structures.{IsNearStructure};
 ghost use Rattle.ctf_format.specs.Put.{IsPut, IsWithin};
 ghost use Rattle.ctf_format.specs.RunNumbers.{run_text};
 ghost use Rattle.ctf_bits.specs.Placed.{number_after};
-ghost use Rattle.ctf_format.specs.Records.{BeginsAt, CountsAfter, IsNear, IsLastOf, PutsField, PutsFields, IsNearShown, PutsIntegers, PutsOther, PutsRun, PutsScopes, PutsShown, PutsStructures, after_number, reached};
+ghost use Rattle.ctf_format.specs.Records.{BeginsAt, CountsAfter, IsNear, IsLastOf, PutsField, PutsFields, IsNearShown, PutsIntegers, PutsOther, PutsRun, PutsShown, PutsStructures, after_number, reached};
 ghost use Rattle.ctf_format.specs.Texts as texts;
 
 use crate::array::{begin_at, put_integers};
@@ -45,7 +46,8 @@ pub(crate) struct Reach {
 
 /// Writes the scopes of the event record after its header (CTF 1.8.3, section 6) at an index of a buffer, by the plan
 /// of such records: `from` has the place after the header, in bits from the packet's first one, how many values were
-/// begun before, and the index, in bytes. What is before the index is kept, and the buffer grows where it has no room.
+/// begun before, and the index, in bytes. `kept` begins with the numbers that the plan is given. What is before the
+/// index is kept, and the buffer grows where it has no room.
 ///
 /// `None` where there is no plan; where the record has a fault; where a variant's tag is above 2^63 - 1; where a run of
 /// numbers would begin within a byte; where the packet has fewer than eight bytes after the numbers of a run or of a
@@ -64,10 +66,10 @@ pub fn put_planned_record(
     requires few { from.spent ≤ MOST_VALUES }
     requires index { from.end ≤ vec_len buffer.old }
     ensures puts { (shared own : Option Class) (fields : Class) →
-        let scopes = scopes_of shared own fields in IsPlanOf scopes plan.now →
-        IfSome result (λ s. PutsScopes scopes packet.now.bytes.now packet.now.end from.place
-        from.spent s.place s.spent (take from.end buffer.old.items)
-        (take s.end buffer.new.items)) }
+        let scopes = scopes_of shared own fields in let numbers = kept.old.numbers in
+        IsPlanOf scopes plan.now → IfSome result (λ s. PutsScopes plan.now.given numbers scopes
+        packet.now.bytes.now packet.now.end from.place from.spent s.place s.spent
+        (take from.end buffer.old.items) (take s.end buffer.new.items)) }
     ensures within { IfSome result (λ s. s.place ≤ packet.now.end) }
     ensures held { IfSome result (λ s. s.end ≤ vec_len buffer.new) }
 {

@@ -169,7 +169,7 @@ fn put_followed(
 /// kept, and the buffer grows where it has no room. It fails where an allocation fails, and the buffer is then
 /// unspecified.
 #[inline(always)]
-pub fn put_comma(buffer: &mut Vec<u8>, at: usize) -> Result<usize, NoMemory>
+fn put_comma(buffer: &mut Vec<u8>, at: usize) -> Result<usize, NoMemory>
     requires { at ≤ vec_len buffer.old }
     ensures { IfOk result (IsPut buffer.old at (codes ", ") buffer.new) }
 {

@@ -1,5 +1,6 @@
 -- What the code's values and packets say.
 use Rattle.std.specs.Prelude.{◌≡◌, ℕ, Some, option_map, Result, Ok, Err, ◌⊎◌, codes}
+use Rattle.ctf_class.specs.Records.{IsPlanOf, scopes_of}
 use Rattle.ctf_class.specs.declared.route.Scope.{Scope}
 use Rattle.ctf_clock.specs.declared.moment.Shift.{Shift}
 use Rattle.ctf_decode.specs.Values.{Val}
@@ -83,6 +84,12 @@ packet_values values = record no_values {
   packet_header = values.packet_header;
   packet_context = values.packet_context;
 }
+
+-- the plan in a header is that of the records of its event class
+abbrev pub PlansRecords : StreamClass → Head → Type 0
+PlansRecords stream head =
+    let event = head.event.now in
+    IsPlanOf (scopes_of stream.event_context event.context event.fields) head.plan.now
 
 -- the header of an event record: its class and the clock after it, and its value in its scope; or its fault
 abbrev pub PutsHead : StreamClass → Values → Result (Headed Classes) StreamFault

@@ -1,13 +1,14 @@
 //! Event records.
 
-ghost use Rattle.std.specs.Prelude.{◌≡◌, ◌<◌, ◌≤◌, map, option_map, option_copied, IfOk, OnOk};
+ghost use Rattle.std.specs.Prelude.{◌≡◌, ◌<◌, ◌≤◌, map, option_map, IfOk, IfSome, OnOk};
+ghost use Rattle.ctf_class.specs.Records.{IsPlanOf, scopes_of};
 ghost use Rattle.ctf_clock.specs.declared.moment.Shift.{Shift};
 ghost use Rattle.ctf_decode.specs.Known.{without_record};
 ghost use Rattle.ctf_decode.specs.Views.{form};
 ghost use Rattle.ctf_packet.specs.Classes.{event_form};
 ghost use Rattle.ctf_packet.specs.Records as records;
 ghost use Rattle.ctf_packet.specs.Places.{IsTimed, headed_at, record_there};
-ghost use Rattle.ctf_packet.specs.Views.{values_of, packet_values, recorded_of, PutsHead, PutsBody};
+ghost use Rattle.ctf_packet.specs.Views.{values_of, packet_values, recorded_of, PlansRecords, PutsHead, PutsBody};
 ghost use Rattle.ctf_packet.specs.Gives.{OrRefused};
 
 use crate::fault::StreamFault;
@@ -15,7 +16,7 @@ use crate::record_place::RecordPlace;
 use crate::scope::{ScopePlace, record_scope};
 use crate::scratch::Scratch;
 use crate::told::told_by;
-use ctf_class::{EventClass, Scope, StreamClass};
+use ctf_class::{EventClass, PlannedEvent, RecordPlan, Scope, StreamClass};
 use ctf_clock::Moment;
 use ctf_decode::{Scopes, Value};
 use std::alloc::Global;
@@ -24,6 +25,8 @@ use std::alloc::Global;
 #[derive(Clone, Copy)]
 pub struct Head<'a> {
     pub event: &'a EventClass,
+    /// The plan of the event records of that class.
+    pub plan: &'a RecordPlan,
     /// The clock after it.
     pub clock: Option<Moment>,
     /// Where it ends, in bits from the packet's first one.
@@ -40,13 +43,17 @@ pub struct EventRecord<'a> {
     pub end: u64,
 }
 
-/// The event class of the number that a header gives, or the only one (CTF 1.8.3, section 6.1).
-pub fn event_named(stream: &StreamClass, id: Option<i128>) -> Option<&EventClass>
-    ensures { option_map (event_form stream.now) (option_copied result) ≡
+/// The event class of the number that a header gives, or the only one (CTF 1.8.3, section 6.1), with the plan of its
+/// records.
+pub fn event_named(stream: &StreamClass, id: Option<i128>) -> Option<PlannedEvent<'_>>
+    ensures event { option_map (λ p. event_form stream.now p.event.now) result ≡
         records.event_named (map (event_form stream.now) stream.now.events) id }
+    ensures plan { IfSome result
+        (λ p. IsPlanOf (scopes_of stream.now.event_context p.event.now.context p.event.now.fields)
+        p.plan.now) }
 {
     match id {
-        None => stream.only(),
+        None => stream.planned_only(),
         Some(id) => {
             if id < 0 {
                 return None;
@@ -54,7 +61,7 @@ pub fn event_named(stream: &StreamClass, id: Option<i128>) -> Option<&EventClass
             if id > i128::from(u64::MAX) {
                 return None;
             }
-            stream.event(id as u64)
+            stream.planned_event(id as u64)
         }
     }
 }
@@ -141,6 +148,7 @@ fn put_head<'a>(
     ensures puts { (shift : Shift) → IsTimed shift at.now.packet.now →
         PutsHead at.now.packet.now.stream.now (values_of scopes.old)
         (headed_at shift (values_of scopes.old) at.now) result scopes.new }
+    ensures plan { IfOk result (PlansRecords at.now.packet.now.stream.now) }
     ensures within { IfOk result (λ head. head.end ≤ at.now.packet.now.content) }
     ensures forward { IfOk result (λ head. at.now.place ≤ head.end) }
     ensures packet { OnOk result
@@ -153,11 +161,12 @@ fn put_head<'a>(
     let end = record_scope(alloc, class, &place, spare, scopes)?;
     let header = scopes.get(Scope::EventHeader);
     let told = told_by(packet.timeline.as_ref(), at.clock, class, header)?;
-    let Some(event) = event_named(stream, told.id) else {
+    let Some(named) = event_named(stream, told.id) else {
         return Err(StreamFault::UnknownEvent);
     };
     Ok(Head {
-        event,
+        event: named.event,
+        plan: named.plan,
         clock: told.clock,
         end,
     })
@@ -185,6 +194,7 @@ pub fn next_head<'a>(
     ensures puts { (shift : Shift) → IsTimed shift at.now.packet.now →
         PutsHead at.now.packet.now.stream.now (packet_values (values_of scopes.old))
         (headed_at shift (packet_values (values_of scopes.old)) at.now) result scopes.new }
+    ensures plan { IfOk result (PlansRecords at.now.packet.now.stream.now) }
     ensures within { IfOk result (λ head. head.end ≤ at.now.packet.now.content) }
     ensures forward { IfOk result (λ head. at.now.place ≤ head.end) }
     ensures packet { OnOk result

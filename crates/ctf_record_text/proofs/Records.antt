@@ -20,7 +20,7 @@ use Rattle.ctf_packet.specs.declared.fault.StreamFault.TheVariants as faults
 use Rattle.ctf_packet.specs.declared.packet.OpenPacket.{OpenPacket}
 use Rattle.ctf_packet.specs.declared.record.EventRecord.{EventRecord}
 use Rattle.ctf_packet.specs.declared.record.Head.{Head}
-use Rattle.ctf_format.specs.Around.{SharesPacket}
+use Rattle.ctf_format.specs.Found.{SharesPacket}
 
 module _ (shift : Shift) (o : OpenPacket) (old : Values) (bytes : List ℕ) (clock : Option Moment) (place : ℕ) where
   abbrev stands : Result (Recorded Classes) StreamFault

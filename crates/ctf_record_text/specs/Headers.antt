@@ -3,7 +3,6 @@ use Rattle.std.specs.Prelude.{◌≡◌, ℕ, pos, List, Option, Some, None, Ok,
 use Rattle.std.specs.List.{last_or}
 use Rattle.ctf_class.specs.declared.route.Scope.{Scope}
 use Rattle.ctf_class.specs.HeaderPlans.{IsHeaderPlan}
-use Rattle.ctf_class.specs.Records.{IsPlanOf, scopes_of}
 use Rattle.ctf_class.specs.Streams.{StreamClass}
 use Rattle.ctf_class.specs.declared.class.Class.{Class}
 use Rattle.ctf_class.specs.declared.header_plan.HeaderPlan.{HeaderPlan}
@@ -16,14 +15,12 @@ use Rattle.ctf_decode.specs.Input.{Env}
 use Rattle.ctf_decode.specs.Values.{Val}
 use Rattle.ctf_decode.specs.Views.{form}
 use Rattle.ctf_decode.specs.Walk.{walk}
-use Rattle.ctf_record_text.specs.declared.header.PlannedHead.{PlannedHead}
 use Rattle.ctf_record_text.specs.declared.header.ToldHead.{ToldHead}
 use Rattle.ctf_record_text.specs.declared.planned_header.HeaderRead.{HeaderRead}
 use Rattle.ctf_packet.specs.Classes.{Classes, StreamForm, event_form, stream_form}
 use Rattle.ctf_packet.specs.Moved.{moved}
 use Rattle.ctf_packet.specs.Records.{Headed, headed}
 use Rattle.ctf_packet.specs.Places.{IsTimed}
-use Rattle.ctf_packet.specs.declared.packet.OpenPacket.{OpenPacket}
 use Rattle.ctf_packet.specs.declared.record_place.RecordPlace.{RecordPlace}
 use Rattle.ctf_packet.specs.Scopes.{Values}
 use Rattle.ctf_format.specs.Standing.{among}
@@ -64,9 +61,3 @@ TellsAt at told =
     (shift : Shift) → IsTimed shift at.packet.now
     → TellsHead class (stream_form shift class) at.bytes.now at.packet.now.content at.clock at.place
     told
-
--- the plan is that of the records of the class that a header names
-abbrev pub PlansRecords : OpenPacket → PlannedHead → Type 0
-PlansRecords packet planned =
-    let event = planned.told.head.event.now in
-    IsPlanOf (scopes_of packet.stream.now.event_context event.context event.fields) planned.plan.now

@@ -1,7 +1,5 @@
 -- What calls make of an event record: its values, or its text.
-use Rattle.std.specs.Prelude.{◌≡◌, ℕ, ℤ, ◌<◌, ◌⊎◌, List, ◌++◌, take, Option, Some, None, Result, Ok, Err, IsTrue, int_lt, option_map, codes}
-use Rattle.std.specs.List.{flat_map}
-use Rattle.ctf_class.specs.declared.class.Class.{Class}
+use Rattle.std.specs.Prelude.{◌≡◌, ℕ, ℤ, ◌<◌, ◌⊎◌, List, take, Option, Some, None, Result, Ok, Err, IsTrue, int_lt, option_map}
 use Rattle.ctf_class.specs.declared.trace.EventClass.{EventClass}
 use Rattle.ctf_class.specs.Streams.{StreamClass}
 use Rattle.ctf_clock.specs.declared.moment.Moment.{Moment}
@@ -12,31 +10,14 @@ use Rattle.ctf_record_text.specs.declared.header.ToldHead.{ToldHead}
 use Rattle.ctf_record_text.specs.declared.record.LineRecord.{LineRecord}
 use Rattle.ctf_packet.specs.Classes.{Classes}
 use Rattle.ctf_packet.specs.Records.{Body, Recorded, bodied}
-use Rattle.ctf_packet.specs.Scopes.{Values, Stood, scope_at, input_of, value_in, fault_in_record}
+use Rattle.ctf_packet.specs.Scopes.{Values, value_in}
 use Rattle.ctf_packet.specs.Views.{values_of, packet_values, recorded_of}
 use Rattle.ctf_packet.specs.declared.fault.StreamFault.{StreamFault}
 use Rattle.ctf_packet.specs.declared.fault.StreamFault.TheVariants as faults
 use Rattle.ctf_packet.specs.declared.record_place.RecordPlace.{RecordPlace}
 use Rattle.ctf_packet.specs.declared.record.EventRecord.{EventRecord}
 use Rattle.ctf_packet.specs.declared.record.Head.{Head}
-use Rattle.ctf_format.specs.Around.{KnownScopes, ScopeIs, ScopesAre, SharesPacket}
-use Rattle.ctf_format.specs.Lines.{scope_texts}
-use Rattle.ctf_format.specs.declared.around.MemberNumbers.{MemberNumbers}
-use Rattle.ctf_format.specs.declared.standing.Standing.{Standing}
-
--- Whatever is in the scopes of the event record, with so much known of those before: this scope's value is there from a
--- place on, has members of the numbers that are kept, and its text and a comma follow a text.
-abbrev pub PutsScope : KnownScopes → MemberNumbers → Option Class → List ℕ → ℕ → Standing → List ℕ
-    → Standing → List ℕ → Type 0
-PutsScope known members class bytes content from before to after =
-    (values : Values) → ScopesAre known (value_in values)
-    → (s : Stood)
-    × (scope_at fault_in_record (option_map form class) (input_of bytes content values)
-    from.place from.spent
-    ≡ Ok s)
-    × (to.place ≡ s.end) × (to.spent ≡ s.spent)
-    × (after ≡ before ++ flat_map (λ text. text ++ codes ", ") (scope_texts class s.value))
-    × ScopeIs members s.value
+use Rattle.ctf_format.specs.Found.{SharesPacket}
 
 -- the scopes after the header are there, with these values of the packet, and the text is that of the event record
 abbrev pub PutsBody : Known → StreamClass → EventClass → List ℕ → List ℕ → ℕ → ℕ → ℕ → ℕ → List ℕ

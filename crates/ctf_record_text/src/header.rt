@@ -5,10 +5,11 @@ ghost use Rattle.ctf_class.specs.HeaderPlans.{IsHeaderPlanOf, IsNear};
 ghost use Rattle.ctf_class.specs.Records.{IsPlanOf, scopes_of};
 ghost use Rattle.ctf_packet.specs.Classes.{event_form};
 ghost use Rattle.ctf_packet.specs.Records as records;
-ghost use Rattle.ctf_record_text.specs.Headers.{PlansRecords, TellsAt, TellsPlanned};
+ghost use Rattle.ctf_packet.specs.Views.{PlansRecords};
+ghost use Rattle.ctf_record_text.specs.Headers.{TellsAt, TellsPlanned};
 
 use crate::planned_header::{HeaderRead, read_other, read_usual};
-use ctf_class::{HeaderPlan, PlannedEvent, RecordPlan, StreamClass};
+use ctf_class::{HeaderPlan, PlannedEvent, StreamClass};
 use ctf_clock::{Moment, Timeline};
 use ctf_decode::MOST_VALUES;
 use ctf_format::Content;
@@ -30,21 +31,14 @@ pub(crate) struct ToldHead<'a> {
     pub(crate) spent: u64,
 }
 
-/// A header that was read, with the plan of the records of its event class.
-#[derive(Clone, Copy)]
-pub(crate) struct PlannedHead<'a> {
-    pub(crate) told: ToldHead<'a>,
-    pub(crate) plan: &'a RecordPlan,
-}
-
 /// The header of the event record at a place (CTF 1.8.3, section 6.1), by its plan, if it has bits. `None` where it is
 /// not one of those that are asked for, where it has bits and no plan, and where it has a fault.
 #[inline(always)]
-pub(crate) fn told_head<'a>(at: &RecordPlace<'_, 'a>, headers: Headers) -> Option<PlannedHead<'a>>
-    ensures tells { IfSome result (λ p. TellsAt at.now p.told) }
-    ensures plan { IfSome result (PlansRecords at.now.packet.now) }
-    ensures within { IfSome result (λ p. p.told.head.end ≤ at.now.packet.now.content) }
-    ensures few { IfSome result (λ p. p.told.spent ≤ MOST_VALUES) }
+pub(crate) fn told_head<'a>(at: &RecordPlace<'_, 'a>, headers: Headers) -> Option<ToldHead<'a>>
+    ensures tells { IfSome result (TellsAt at.now) }
+    ensures plan { IfSome result (λ t. PlansRecords at.now.packet.now.stream.now t.head) }
+    ensures within { IfSome result (λ t. t.head.end ≤ at.now.packet.now.content) }
+    ensures few { IfSome result (λ t. t.spent ≤ MOST_VALUES) }
 {
     match headers {
         Headers::Usual => told_usual(at),
@@ -54,11 +48,11 @@ pub(crate) fn told_head<'a>(at: &RecordPlace<'_, 'a>, headers: Headers) -> Optio
 
 /// The header of the event record at a place, if it is a usual one.
 #[inline(always)]
-fn told_usual<'a>(at: &RecordPlace<'_, 'a>) -> Option<PlannedHead<'a>>
-    ensures tells { IfSome result (λ p. TellsAt at.now p.told) }
-    ensures plan { IfSome result (PlansRecords at.now.packet.now) }
-    ensures within { IfSome result (λ p. p.told.head.end ≤ at.now.packet.now.content) }
-    ensures few { IfSome result (λ p. p.told.spent ≤ MOST_VALUES) }
+fn told_usual<'a>(at: &RecordPlace<'_, 'a>) -> Option<ToldHead<'a>>
+    ensures tells { IfSome result (TellsAt at.now) }
+    ensures plan { IfSome result (λ t. PlansRecords at.now.packet.now.stream.now t.head) }
+    ensures within { IfSome result (λ t. t.head.end ≤ at.now.packet.now.content) }
+    ensures few { IfSome result (λ t. t.spent ≤ MOST_VALUES) }
 {
     let packet = at.packet;
     let plan = packet.stream.header_plan()?;
@@ -77,11 +71,11 @@ fn told_usual<'a>(at: &RecordPlace<'_, 'a>) -> Option<PlannedHead<'a>>
 
 /// The header of the event record at a place, if it is no usual one.
 #[inline(always)]
-fn told_unusual<'a>(at: &RecordPlace<'_, 'a>) -> Option<PlannedHead<'a>>
-    ensures tells { IfSome result (λ p. TellsAt at.now p.told) }
-    ensures plan { IfSome result (PlansRecords at.now.packet.now) }
-    ensures within { IfSome result (λ p. p.told.head.end ≤ at.now.packet.now.content) }
-    ensures few { IfSome result (λ p. p.told.spent ≤ MOST_VALUES) }
+fn told_unusual<'a>(at: &RecordPlace<'_, 'a>) -> Option<ToldHead<'a>>
+    ensures tells { IfSome result (TellsAt at.now) }
+    ensures plan { IfSome result (λ t. PlansRecords at.now.packet.now.stream.now t.head) }
+    ensures within { IfSome result (λ t. t.head.end ≤ at.now.packet.now.content) }
+    ensures few { IfSome result (λ t. t.spent ≤ MOST_VALUES) }
 {
     if at.packet.stream.event_header().is_none() {
         return told_bare(at);
@@ -99,13 +93,13 @@ fn told_timed<'a>(
     at: &RecordPlace<'_, 'a>,
     plan: &HeaderPlan,
     timeline: &Timeline,
-) -> Option<PlannedHead<'a>>
+) -> Option<ToldHead<'a>>
     requires plan { IsHeaderPlanOf at.now.packet.now.stream.now.event_header (Some plan.now) }
     requires timeline { at.now.packet.now.timeline ≡ Some timeline.now }
-    ensures tells { IfSome result (λ p. TellsAt at.now p.told) }
-    ensures plan { IfSome result (PlansRecords at.now.packet.now) }
-    ensures within { IfSome result (λ p. p.told.head.end ≤ at.now.packet.now.content) }
-    ensures few { IfSome result (λ p. p.told.spent ≤ MOST_VALUES) }
+    ensures tells { IfSome result (TellsAt at.now) }
+    ensures plan { IfSome result (λ t. PlansRecords at.now.packet.now.stream.now t.head) }
+    ensures within { IfSome result (λ t. t.head.end ≤ at.now.packet.now.content) }
+    ensures few { IfSome result (λ t. t.spent ≤ MOST_VALUES) }
 {
     let to = read_unusual(at, plan, timeline, at.clock?)?;
     let planned = planned_by(at.packet.stream, to.id)?;
@@ -114,13 +108,13 @@ fn told_timed<'a>(
 
 /// The header of the event record at a place in a packet without a clock.
 #[inline(always)]
-fn told_untimed<'a>(at: &RecordPlace<'_, 'a>, plan: &HeaderPlan) -> Option<PlannedHead<'a>>
+fn told_untimed<'a>(at: &RecordPlace<'_, 'a>, plan: &HeaderPlan) -> Option<ToldHead<'a>>
     requires plan { IsHeaderPlanOf at.now.packet.now.stream.now.event_header (Some plan.now) }
     requires timeline { at.now.packet.now.timeline ≡ None }
-    ensures tells { IfSome result (λ p. TellsAt at.now p.told) }
-    ensures plan { IfSome result (PlansRecords at.now.packet.now) }
-    ensures within { IfSome result (λ p. p.told.head.end ≤ at.now.packet.now.content) }
-    ensures few { IfSome result (λ p. p.told.spent ≤ MOST_VALUES) }
+    ensures tells { IfSome result (TellsAt at.now) }
+    ensures plan { IfSome result (λ t. PlansRecords at.now.packet.now.stream.now t.head) }
+    ensures within { IfSome result (λ t. t.head.end ≤ at.now.packet.now.content) }
+    ensures few { IfSome result (λ t. t.spent ≤ MOST_VALUES) }
 {
     let to = read_untimed(at, plan)?;
     let planned = planned_by(at.packet.stream, to.id)?;
@@ -195,44 +189,39 @@ fn planned_by(stream: &StreamClass, id: Option<u64>) -> Option<PlannedEvent<'_>>
 
 /// The header that was read, of an event class, with the clock after it.
 #[inline(always)]
-fn head_of<'a>(planned: PlannedEvent<'a>, to: HeaderRead, clock: Option<Moment>) -> PlannedHead<'a>
-    ensures event { result.told.head.event ≡ planned.entry.event }
-    ensures clock { result.told.head.clock ≡ clock }
-    ensures end { result.told.head.end ≡ to.place }
-    ensures spent { result.told.spent ≡ to.values }
-    ensures plan { result.plan ≡ planned.entry.plan }
+fn head_of<'a>(planned: PlannedEvent<'a>, to: HeaderRead, clock: Option<Moment>) -> ToldHead<'a>
+    ensures event { result.head.event ≡ planned.entry.event }
+    ensures plan { result.head.plan ≡ planned.entry.plan }
+    ensures clock { result.head.clock ≡ clock }
+    ensures end { result.head.end ≡ to.place }
+    ensures spent { result.spent ≡ to.values }
 {
-    let head = Head {
-        event: planned.event,
-        clock,
-        end: to.place,
-    };
-    PlannedHead {
-        told: ToldHead {
-            head,
-            spent: to.values,
+    ToldHead {
+        head: Head {
+            event: planned.event,
+            plan: planned.plan,
+            clock,
+            end: to.place,
         },
-        plan: planned.plan,
+        spent: to.values,
     }
 }
 
 /// The header of an event record of a stream whose event records have none: it is of the only event class.
 #[inline(always)]
-fn told_bare<'a>(at: &RecordPlace<'_, 'a>) -> Option<PlannedHead<'a>>
+fn told_bare<'a>(at: &RecordPlace<'_, 'a>) -> Option<ToldHead<'a>>
     requires bare { at.now.packet.now.stream.now.event_header ≡ None }
-    ensures tells { IfSome result (λ p. TellsAt at.now p.told) }
-    ensures plan { IfSome result (PlansRecords at.now.packet.now) }
-    ensures within { IfSome result (λ p. p.told.head.end ≤ at.now.packet.now.content) }
-    ensures few { IfSome result (λ p. p.told.spent ≤ MOST_VALUES) }
+    ensures tells { IfSome result (TellsAt at.now) }
+    ensures plan { IfSome result (λ t. PlansRecords at.now.packet.now.stream.now t.head) }
+    ensures within { IfSome result (λ t. t.head.end ≤ at.now.packet.now.content) }
+    ensures few { IfSome result (λ t. t.spent ≤ MOST_VALUES) }
 {
     let planned = planned_by(at.packet.stream, None)?;
     let head = Head {
         event: planned.event,
+        plan: planned.plan,
         clock: at.packet.timeline.and(at.clock),
         end: at.place,
     };
-    Some(PlannedHead {
-        told: ToldHead { head, spent: 0 },
-        plan: planned.plan,
-    })
+    Some(ToldHead { head, spent: 0 })
 }

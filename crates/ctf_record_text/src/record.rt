@@ -4,21 +4,18 @@ ghost use Rattle.std.specs.Prelude.{◌≡◌, ◌<◌, ◌≤◌, ◌-◌, ◌/
 ghost use Rattle.ctf_clock.specs.declared.moment.Shift.{Shift};
 ghost use Rattle.ctf_decode.specs.Known.{Known};
 ghost use Rattle.ctf_decode.specs.Views.{form};
-ghost use Rattle.ctf_format.specs.Around.{known_in};
 ghost use Rattle.ctf_packet.specs.Places.{IsTimed, record_there};
 ghost use Rattle.ctf_packet.specs.Records.{bodied};
-ghost use Rattle.ctf_packet.specs.Views.{values_of, packet_values};
-ghost use Rattle.ctf_record_text.specs.Headers.{PlansRecords, TellsAt};
-ghost use Rattle.ctf_record_text.specs.Making.{IsBefore, IsThere, Made, Makes, MakesValues, PutsBody, PutsRecord, PutsScope};
+ghost use Rattle.ctf_packet.specs.Views.{PlansRecords, values_of, packet_values};
+ghost use Rattle.ctf_record_text.specs.Headers.{TellsAt};
+ghost use Rattle.ctf_record_text.specs.Making.{IsBefore, IsThere, Made, Makes, MakesValues, PutsRecord};
 
-use crate::header::{Headers, PlannedHead, ToldHead, told_head};
+use crate::header::{Headers, ToldHead, told_head};
 use crate::part::PacketPart;
-use ctf_class::{Class, StreamClass};
 use ctf_clock::Moment;
 use ctf_decode::{MOST_VALUES, Scopes};
 use ctf_format::{
-    Content, KeptNumbers, MemberNumbers, Passed, ScopeInput, Standing, pass_planned_record,
-    put_comma, put_front, put_planned_record, put_standing,
+    Content, KeptNumbers, Passed, Standing, pass_planned_record, put_front, put_planned_record,
 };
 use ctf_packet::{EventRecord, Head, RecordPlace, Scratch, StreamFault, next_head, put_body};
 use std::alloc::Global;
@@ -32,8 +29,8 @@ pub const LONGEST_KEPT: usize = 65_536;
 /// long label, name or host is held by each of many streams.
 const MOST_EACH: u64 = 32;
 
-/// The buffer of event records' texts, with what those of a packet share, and memory for what their scopes give to
-/// lengths and tags after them: by a plan the numbers that are kept, else the last members.
+/// The buffer of event records' texts, with what those of a packet share, and memory for the numbers that lengths and
+/// tags ask for.
 #[derive(Drop)]
 pub struct LineBuffer {
     /// It begins with the text of the last event record that was written. The bytes after it are unspecified.
@@ -41,9 +38,6 @@ pub struct LineBuffer {
     /// The text of the packet in the lines of its event records.
     pub part: PacketPart,
     kept: KeptNumbers,
-    stream_context: MemberNumbers,
-    event_context: MemberNumbers,
-    fields: MemberNumbers,
 }
 
 impl LineBuffer {
@@ -56,9 +50,6 @@ impl LineBuffer {
             bytes: Vec::new(alloc),
             part: PacketPart::new(alloc),
             kept: KeptNumbers::new(alloc),
-            stream_context: MemberNumbers::none(),
-            event_context: MemberNumbers::none(),
-            fields: MemberNumbers::none(),
         }
     }
 }
@@ -75,9 +66,9 @@ pub struct LineRecord<'a> {
 /// packet's header and context are in `scopes`. The header is read by its plan, if it has bits. The text of the record
 /// is at the beginning of `line` then: the host, the name, the part that the lines of the packet share, and the scopes.
 ///
-/// `None` where the header is not one of those that are asked for, where `put_standing` gives no text, where the record
-/// has a fault, where its text is longer than 64 KiB, than some 32 bytes for each of its bits and than as many for each
-/// of its values, and where an allocation fails. The line is unspecified then.
+/// `None` where the header is not one of those that are asked for, where `put_planned_record` gives no text, where the
+/// record has a fault, where its text is longer than 64 KiB, than some 32 bytes for each of its bits and than as many
+/// for each of its values, and where an allocation fails. The line is unspecified then.
 #[inline(always)]
 pub fn written_line<'a>(
     alloc: Global,
@@ -95,14 +86,13 @@ pub fn written_line<'a>(
     ensures text { IfSome result (λ r. IfSome r.text (λ end. end ≤ vec_len line.new.bytes)) }
 {
     keep_short(alloc, line);
-    let planned = told_head(at, headers)?;
-    let head = planned.told.head;
-    let standing = put_planned_body(at, planned, scopes, line)?;
-    Some(with_text(head, standing))
+    let told = told_head(at, headers)?;
+    let standing = put_by_plan(at, told, scopes, line)?;
+    Some(with_text(told.head, standing))
 }
 
-/// The event record at a place (CTF 1.8.3, section 6), of which `written_line` made no text in either way. The values
-/// of the packet's header and context are in `scopes`. Where the header alone was in the way, the text of the record is
+/// The event record at a place (CTF 1.8.3, section 6), of which `written_line` made no text. The values of the packet's
+/// header and context are in `scopes`. Where the header alone was in the way, the text of the record is
 /// at the start of `line` then, as `written_line` makes it. Elsewhere the record's values are in `scopes`. The memory
 /// of `scratch` is used.
 ///
@@ -135,7 +125,7 @@ pub fn next_line<'a>(
             head,
             spent: scopes.spent(),
         };
-        if let Some(standing) = put_record(at, told, &*scopes, line) {
+        if let Some(standing) = put_by_plan(at, told, &*scopes, line) {
             return Ok(with_text(head, standing));
         }
         keep_short(alloc, line);
@@ -151,7 +141,8 @@ fn is_planned(at: &RecordPlace<'_, '_>) -> bool {
 }
 
 /// The event record at a place (CTF 1.8.3, section 6), if it is before `begin`, in nanoseconds since the epoch, and its
-/// header and scopes have plans: by these it is gone over, without a text and without its values.
+/// header and scopes have plans: by these it is gone over, without a text and without its values. The values of the
+/// packet's header and context are in `scopes`.
 ///
 /// `None` elsewhere, and where the header has a fault, the record no bits, or `pass_planned_record` gives none. Memory
 /// of `line` is used for numbers that are kept; its text stays.
@@ -159,23 +150,23 @@ fn is_planned(at: &RecordPlace<'_, '_>) -> bool {
 pub fn passed_record<'a>(
     at: &RecordPlace<'_, 'a>,
     begin: i64,
+    scopes: &Scopes,
     line: &mut LineBuffer,
 ) -> Option<EventRecord<'a>>
-    ensures stands { (shift : Shift) (known : Known) → IsTimed shift at.now.packet.now →
-        let stands = record_there shift (values_of known) at.now in
-        IfSome result (IsThere at.now.packet.now.stream.now stands known) }
+    ensures stands { (shift : Shift) → IsTimed shift at.now.packet.now →
+        let stands = record_there shift (values_of scopes.now) at.now in
+        IfSome result (IsThere at.now.packet.now.stream.now stands scopes.now) }
     ensures before { IfSome result (λ r. IsBefore begin r.clock) }
     ensures text { line.new.bytes ≡ line.old.bytes }
     ensures part { line.new.part ≡ line.old.part }
     ensures within { IfSome result (λ r. r.end ≤ at.now.packet.now.content) }
     ensures forward { IfSome result (λ r. at.now.place < r.end) }
 {
-    let planned = told_either(at)?;
-    let told = planned.told;
+    let told = told_either(at)?;
     if !is_before(told.head.clock, begin) {
         return None;
     }
-    let end = end_by_plan(at, planned, &mut line.kept)?;
+    let end = end_by_plan(at, told, scopes, &mut line.kept)?;
     Some(EventRecord {
         event: told.head.event,
         clock: told.head.clock,
@@ -185,14 +176,14 @@ pub fn passed_record<'a>(
 
 /// The header of the event record at a place by its plan, a usual one or another.
 #[inline(always)]
-fn told_either<'a>(at: &RecordPlace<'_, 'a>) -> Option<PlannedHead<'a>>
-    ensures tells { IfSome result (λ p. TellsAt at.now p.told) }
-    ensures plan { IfSome result (PlansRecords at.now.packet.now) }
-    ensures within { IfSome result (λ p. p.told.head.end ≤ at.now.packet.now.content) }
-    ensures few { IfSome result (λ p. p.told.spent ≤ MOST_VALUES) }
+fn told_either<'a>(at: &RecordPlace<'_, 'a>) -> Option<ToldHead<'a>>
+    ensures tells { IfSome result (TellsAt at.now) }
+    ensures plan { IfSome result (λ t. PlansRecords at.now.packet.now.stream.now t.head) }
+    ensures within { IfSome result (λ t. t.head.end ≤ at.now.packet.now.content) }
+    ensures few { IfSome result (λ t. t.spent ≤ MOST_VALUES) }
 {
     match told_head(at, Headers::Usual) {
-        Some(planned) => Some(planned),
+        Some(told) => Some(told),
         None => told_head(at, Headers::Unusual),
     }
 }
@@ -213,18 +204,18 @@ fn is_before(clock: Option<Moment>, begin: i64) -> bool
 #[inline(always)]
 fn end_by_plan<'a>(
     at: &RecordPlace<'_, 'a>,
-    planned: PlannedHead<'a>,
+    told: ToldHead<'a>,
+    scopes: &Scopes,
     kept: &mut KeptNumbers,
 ) -> Option<u64>
-    requires plan { PlansRecords at.now.packet.now planned }
-    requires start { planned.told.head.end ≤ at.now.packet.now.content }
-    requires few { planned.told.spent ≤ MOST_VALUES }
-    ensures passes { IfSome result (λ end. (known : Known) (part : List ℕ) → (text : List ℕ) ×
-        PutsRecord known at.now planned.entry.told part end text) }
+    requires plan { PlansRecords at.now.packet.now.stream.now told.head }
+    requires start { told.head.end ≤ at.now.packet.now.content }
+    requires few { told.spent ≤ MOST_VALUES }
+    ensures passes { IfSome result (λ end. (part : List ℕ) → (text : List ℕ) ×
+        PutsRecord scopes.now at.now told.entry part end text) }
     ensures within { IfSome result (λ end. end ≤ at.now.packet.now.content) }
     ensures forward { IfSome result (λ end. at.now.place < end) }
 {
-    let told = planned.told;
     let content = Content {
         bytes: at.bytes,
         end: at.packet.content,
@@ -233,7 +224,10 @@ fn end_by_plan<'a>(
         place: told.head.end,
         spent: told.spent,
     };
-    let all = pass_planned_record(planned.plan, &content, from, kept)?;
+    if kept.begin(told.head.plan, scopes).is_err() {
+        return None;
+    }
+    let all = pass_planned_record(told.head.plan, &content, from, kept)?;
     if all.place <= at.place {
         return None;
     }
@@ -302,55 +296,30 @@ fn read_values<'a>(
     })
 }
 
-/// Writes the text of the event record at a place at the start of a line by the plan of such records, or, where that
-/// can't be done, scope by scope.
+/// Writes the text of the event record at a place at the beginning of a line, by the plan of such records.
 #[inline(always)]
-fn put_planned_body<'a>(
+fn put_by_plan<'a>(
     at: &RecordPlace<'_, 'a>,
-    planned: PlannedHead<'a>,
+    told: ToldHead<'a>,
     scopes: &Scopes,
     line: &mut LineBuffer,
 ) -> Option<Standing>
-    requires plan { PlansRecords at.now.packet.now planned }
-    requires start { planned.told.head.end ≤ at.now.packet.now.content }
-    requires few { planned.told.spent ≤ MOST_VALUES }
-    ensures puts { IfSome result (λ s. PutsRecord scopes.now at.now planned.entry.told line.old.part
+    requires plan { PlansRecords at.now.packet.now.stream.now told.head }
+    requires start { told.head.end ≤ at.now.packet.now.content }
+    requires few { told.spent ≤ MOST_VALUES }
+    ensures puts { IfSome result (λ s. PutsRecord scopes.now at.now told.entry line.old.part
         s.place (take s.end line.new.bytes.items)) }
     ensures part { line.new.part ≡ line.old.part }
     ensures within { IfSome result (λ s. s.place ≤ at.now.packet.now.content) }
     ensures forward { IfSome result (λ s. at.now.place < s.place) }
     ensures held { IfSome result (λ s. s.end ≤ vec_len line.new.bytes) }
 {
-    if let Some(all) = put_by_plan(at, planned, line) {
-        return Some(all);
-    }
-    put_record(at, planned.told, scopes, line)
-}
-
-/// Writes the text of the event record at a place at the beginning of a line, by the plan alone.
-#[inline(always)]
-fn put_by_plan<'a>(
-    at: &RecordPlace<'_, 'a>,
-    planned: PlannedHead<'a>,
-    line: &mut LineBuffer,
-) -> Option<Standing>
-    requires plan { PlansRecords at.now.packet.now planned }
-    requires start { planned.told.head.end ≤ at.now.packet.now.content }
-    requires few { planned.told.spent ≤ MOST_VALUES }
-    ensures puts { IfSome result (λ s. (known : Known) →
-        PutsRecord known at.now planned.entry.told line.old.part s.place
-        (take s.end line.new.bytes.items)) }
-    ensures part { line.new.part ≡ line.old.part }
-    ensures within { IfSome result (λ s. s.place ≤ at.now.packet.now.content) }
-    ensures forward { IfSome result (λ s. at.now.place < s.place) }
-    ensures held { IfSome result (λ s. s.end ≤ vec_len line.new.bytes) }
-{
-    let told = planned.told;
     let content = Content {
         bytes: at.bytes,
         end: at.packet.content,
     };
-    if planned.plan.runs.is_empty() {
+    let plan = told.head.plan;
+    if plan.runs.is_empty() {
         return None;
     }
     let part = line.part.as_slice();
@@ -360,37 +329,10 @@ fn put_by_plan<'a>(
         spent: told.spent,
         end: front,
     };
-    let plan = planned.plan;
-    let all = put_planned_record(plan, &content, from, &mut line.kept, &mut line.bytes)?;
-    if !is_held(at, all) {
+    if line.kept.begin(plan, scopes).is_err() {
         return None;
     }
-    Some(all)
-}
-
-/// Writes the text of the event record at a place at the beginning of a line, where the scopes after its header are in
-/// a form that can be shown without their values.
-#[inline(always)]
-fn put_record(
-    at: &RecordPlace<'_, '_>,
-    told: ToldHead<'_>,
-    scopes: &Scopes,
-    line: &mut LineBuffer,
-) -> Option<Standing>
-    requires start { told.head.end ≤ at.now.packet.now.content }
-    requires few { told.spent ≤ MOST_VALUES }
-    ensures puts { IfSome result (λ s. PutsRecord scopes.now at.now told.entry line.old.part s.place
-        (take s.end line.new.bytes.items)) }
-    ensures part { line.new.part ≡ line.old.part }
-    ensures within { IfSome result (λ s. s.place ≤ at.now.packet.now.content) }
-    ensures forward { IfSome result (λ s. at.now.place < s.place) }
-    ensures held { IfSome result (λ s. s.end ≤ vec_len line.new.bytes) }
-{
-    let content = Content {
-        bytes: at.bytes,
-        end: at.packet.content,
-    };
-    let all = put_scopes(at.packet.stream, &content, told, scopes, line)?;
+    let all = put_planned_record(plan, &content, from, &mut line.kept, &mut line.bytes)?;
     if !is_held(at, all) {
         return None;
     }
@@ -410,96 +352,4 @@ fn is_held(at: &RecordPlace<'_, '_>, all: Standing) -> bool
     }
     let least = all.end as u64 / MOST_EACH;
     all.end <= LONGEST_KEPT || least <= all.place - at.place || least <= all.spent
-}
-
-/// Writes the host, the name and the scopes after a header, one after the other. It is apart, out of the way of records
-/// that are written by a plan.
-#[inline(never)]
-fn put_scopes(
-    stream: &StreamClass,
-    content: &Content<'_>,
-    told: ToldHead<'_>,
-    scopes: &Scopes,
-    line: &mut LineBuffer,
-) -> Option<Standing>
-    requires start { told.head.end ≤ content.now.end }
-    requires few { told.spent ≤ MOST_VALUES }
-    ensures puts { let event = told.entry.head.event.now in let packet = content.now in
-        IfSome result (λ s. PutsBody scopes.now stream.now event line.old.part packet.bytes.now
-        packet.end told.entry.head.end told.entry.spent s.place
-        (take s.end line.new.bytes.items)) }
-    ensures part { line.new.part ≡ line.old.part }
-    ensures within { IfSome result (λ s. s.place ≤ content.now.end) }
-    ensures held { IfSome result (λ s. s.end ≤ vec_len line.new.bytes) }
-{
-    let event = told.head.event;
-    let end = put_front(&event.heading, line.part.as_slice(), &mut line.bytes, 0).ok()?;
-    let front = Standing {
-        place: told.head.end,
-        spent: told.spent,
-        end,
-    };
-    // Both stand in for the event context until it is written: nothing is found in one without members.
-    line.event_context.clear();
-    line.fields.clear();
-    let shared_input = ScopeInput {
-        content: &*content,
-        scopes: &*scopes,
-        stream_context: &line.event_context,
-        event_context: &line.fields,
-    };
-    let context = stream.event_context();
-    let members = &mut line.stream_context;
-    let shared = put_scope(context, &shared_input, front, members, &mut line.bytes)?;
-    let own_input = ScopeInput {
-        content: &*content,
-        scopes: &*scopes,
-        stream_context: &line.stream_context,
-        event_context: &line.fields,
-    };
-    let context = event.context.as_ref();
-    let members = &mut line.event_context;
-    let own = put_scope(context, &own_input, shared, members, &mut line.bytes)?;
-    let fields_input = ScopeInput {
-        content: &*content,
-        scopes: &*scopes,
-        stream_context: &line.stream_context,
-        event_context: &line.event_context,
-    };
-    let members = &mut line.fields;
-    let all = put_standing(&event.fields, &fields_input, own, members, &mut line.bytes)?;
-    Some(all)
-}
-
-/// Writes the text of a scope, if it has a class, and a comma after it. `last` has its last members then, or none.
-#[inline(always)]
-fn put_scope(
-    class: Option<&Class>,
-    input: &ScopeInput<'_>,
-    from: Standing,
-    last: &mut MemberNumbers,
-    line: &mut Vec<u8>,
-) -> Option<Standing>
-    requires start { from.place ≤ input.now.content.now.end }
-    requires few { from.spent ≤ MOST_VALUES }
-    requires index { from.end ≤ vec_len line.old }
-    ensures puts { let packet = input.now.content.now in
-        IfSome result (λ to. PutsScope (known_in input.now) last.new (option_copied class.entry)
-        packet.bytes.now packet.end from (take from.end line.old.items) to
-        (take to.end line.new.items)) }
-    ensures within { IfSome result (λ to. to.place ≤ input.now.content.now.end) }
-    ensures few { IfSome result (λ to. to.spent ≤ MOST_VALUES) }
-    ensures held { IfSome result (λ to. to.end ≤ vec_len line.new) }
-{
-    let Some(class) = class else {
-        last.clear();
-        return Some(from);
-    };
-    let to = put_standing(class, input, from, last, line)?;
-    let end = put_comma(line, to.end).ok()?;
-    Some(Standing {
-        place: to.place,
-        spent: to.spent,
-        end,
-    })
 }

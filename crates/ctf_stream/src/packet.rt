@@ -3,7 +3,6 @@
 ghost use Rattle.std.specs.Prelude.{◌≡◌, ◌<◌, ◌≤◌, ℕ, List, Option, None, Some, Ok, OnOk, IfOk, IfSome, IfNone, IsTrue, length};
 ghost use Rattle.ctf_clock.specs.declared.moment.Moment.{Moment};
 ghost use Rattle.ctf_clock.specs.declared.moment.Shift.{Shift};
-ghost use Rattle.ctf_decode.specs.Known.{Known};
 ghost use Rattle.ctf_record_text.specs.Making.{Makes};
 ghost use Rattle.ctf_packet.specs.Classes.{Classes, stream_form};
 ghost use Rattle.ctf_packet.specs.Items.{Run};
@@ -136,24 +135,26 @@ impl<'a> PacketReader<'a> {
     }
 
     /// The next item, if it is an event record before those that are asked for as texts, and can be passed over.
+    /// `scopes` has the values of the packet.
     ///
     /// `None` elsewhere: the packet is as it was then. Memory of `line` is used.
     #[inline(always)]
     pub(crate) fn next_passed(
         &mut self,
         input: PacketInput<'_>,
+        scopes: &Scopes,
         line: &mut LineBuffer,
     ) -> Option<PacketItem<'a>>
         requires within { Within input.buffer.now self.old }
         ensures takes { let bytes = input.entry.buffer.now in
-            (shift : Shift) (known : Known) (follows : Option Moment → Run Classes) →
+            (shift : Shift) (follows : Option Moment → Run Classes) →
             self.old.opened.timeline ≡ (stream_form shift self.old.opened.stream.now).line →
             IfSome result (λ front.
-            TakesItem shift follows (left_in shift known bytes follows self.old) self.new
-            known bytes (Ok (Some front))) }
-        ensures holds { (shift : Shift) (known : Known) (part text : List ℕ) →
+            TakesItem shift follows (left_in shift scopes.now bytes follows self.old) self.new
+            scopes.now bytes (Ok (Some front))) }
+        ensures holds { (shift : Shift) (part text : List ℕ) →
             self.old.opened.timeline ≡ (stream_form shift self.old.opened.stream.now).line →
-            IfSome result (HoldsFront input.entry.writes shift known input.entry.buffer.now
+            IfSome result (HoldsFront input.entry.writes shift scopes.now input.entry.buffer.now
             part text self.new) }
         ensures part { line.new.part ≡ line.old.part }
         ensures room { IfSome result (λ _. room_in self.new < room_in self.old) }
@@ -176,7 +177,7 @@ impl<'a> PacketReader<'a> {
             clock: before,
             place: begin,
         };
-        let event = passed_record(&at, time, line)?;
+        let event = passed_record(&at, time, scopes, line)?;
         self.clock = event.clock;
         self.place = event.end;
         Some(PacketItem::Passed(ReadRecord {

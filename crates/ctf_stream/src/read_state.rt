@@ -207,7 +207,7 @@ impl<'a> ReadState<'a> {
             buffer: &self.buffer,
             writes: self.writes,
         };
-        packet.next_passed(input, &mut self.line)
+        packet.next_passed(input, &self.scopes, &mut self.line)
     }
 
     /// The next item, out of a source, where `next_written` and `next_apart` gave none. `None` where the stream ends.

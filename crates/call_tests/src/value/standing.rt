@@ -9,30 +9,17 @@ use crate::value::place::Place;
 use crate::value::words::values_of;
 use ctf_class::{Class, RecordPlan, Scope, StreamClass};
 use ctf_decode::Scopes;
-use ctf_format::{
-    Content, KeptNumbers, MemberNumbers, Passed, ScopeInput, Standing, pass_planned_record,
-    put_planned_record, put_standing,
-};
+use ctf_format::{Content, KeptNumbers, Passed, Standing, pass_planned_record, put_planned_record};
 
 /// A line of five bytes, and after it old bytes of its buffer.
 pub const LINE: &[u8] = b"[12] and what was there";
 
-/// Puts the text of the structure at a place, where the words after it are the value of the packet context.
+/// Puts the text of the structure at a place by the plan of event records whose fields it is, where the words after it
+/// are the value of the packet context.
 pub fn put_place(row: &mut Row<'_>, class: &Class, place: Place<'_>) {
-    if let Ok(line) = Vec::from_slice(row.alloc, LINE) {
-        let mut line = line;
-        let scopes = scopes_of(row);
-        let content = content_of(place);
-        let none = MemberNumbers::none();
-        let input = ScopeInput {
-            content: &content,
-            scopes: &scopes,
-            stream_context: &none,
-            event_context: &none,
-        };
-        let mut last = MemberNumbers::none();
-        let standing = put_standing(class, &input, begin_of(place), &mut last, &mut line);
-        put_text(row, &line, standing);
+    let scopes = scopes_of(row);
+    if let Ok(plan) = RecordPlan::new(row.alloc, None, None, class) {
+        put_planned(row, &plan, &scopes, place);
     }
 }
 
@@ -76,37 +63,45 @@ pub fn put_planned_row(row: &mut Row<'_>, stream: &StreamClass) {
         let range = row.word();
         let bytes = row.bytes();
         if let Some(place) = Place::new(range, &bytes) {
-            put_planned(row, planned.plan, place);
+            put_planned(row, planned.plan, &Scopes::new(), place);
         }
     }
 }
 
-/// Puts the text of the scopes of a plan at a place.
-fn put_planned(row: &mut Row<'_>, plan: &RecordPlan, place: Place<'_>)
+/// Puts the text of the scopes of a plan at a place, where the values of the packet are in `scopes`.
+fn put_planned(row: &mut Row<'_>, plan: &RecordPlan, scopes: &Scopes, place: Place<'_>)
     requires { (scopes : List ScopeClass) × IsPlanOf scopes plan.now }
 {
     if let Ok(line) = Vec::from_slice(row.alloc, LINE) {
         let mut line = line;
         let content = content_of(place);
         let mut kept = KeptNumbers::new(row.alloc);
-        let standing = put_planned_record(plan, &content, begin_of(place), &mut kept, &mut line);
-        put_text(row, &line, standing);
-        put_passed(row, plan, place, standing);
+        if kept.begin(plan, scopes).is_ok() {
+            let from = begin_of(place);
+            let standing = put_planned_record(plan, &content, from, &mut kept, &mut line);
+            put_text(row, &line, standing);
+            put_passed(row, plan, place, &mut kept, standing);
+        }
     }
 }
 
 /// Puts a word where the record, passed over without a text, would end elsewhere, or not be there.
-fn put_passed(row: &mut Row<'_>, plan: &RecordPlan, place: Place<'_>, standing: Option<Standing>)
+fn put_passed(
+    row: &mut Row<'_>,
+    plan: &RecordPlan,
+    place: Place<'_>,
+    kept: &mut KeptNumbers,
+    standing: Option<Standing>,
+)
     requires { (scopes : List ScopeClass) × IsPlanOf scopes plan.now }
 {
     let from = Passed {
         place: place.start,
         spent: 0,
     };
-    let mut kept = KeptNumbers::new(row.alloc);
     match (
         standing,
-        pass_planned_record(plan, &content_of(place), from, &mut kept),
+        pass_planned_record(plan, &content_of(place), from, kept),
     ) {
         (Some(standing), Some(passed)) => {
             if passed.place != standing.place || passed.spent != standing.spent {

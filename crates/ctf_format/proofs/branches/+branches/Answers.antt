@@ -21,7 +21,7 @@ use Rattle.ctf_format.proofs.BranchesLemmas.{array_there, each_in, element_puts,
 use Rattle.ctf_format.proofs.KeptLemmas.{first_kept}
 use Rattle.ctf_format.proofs.NamesLemmas.{here}
 use Rattle.ctf_format.proofs.RecordsLemmas.{fields_slots, runs_near, runs_plain, slots_join, slots_longer}
-use Rattle.ctf_format.proofs.ByClassLemmas as items
+use Rattle.ctf_format.proofs.ElementsLemmas as items
 use Rattle.ctf_format.proofs.Chains.{of_ok}
 use Rattle.ctf_format.proofs.StandingLemmas.{mark_next}
 use Rattle.ctf_format.proofs.branches.+branches.Goals as goal

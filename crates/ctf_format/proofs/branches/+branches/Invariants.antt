@@ -9,7 +9,7 @@ use Rattle.ctf_format.specs.Branches.{come}
 use Rattle.ctf_format.specs.Kept.{PutsSlots, Within}
 use Rattle.ctf_format.specs.Put.{IsWithin}
 use Rattle.ctf_format.specs.Texts.{value_text}
-use Rattle.ctf_format.proofs.ByClassLemmas.{Going}
+use Rattle.ctf_format.proofs.ElementsLemmas.{Going}
 use Rattle.ctf_format.proofs.StandingLemmas.{mark_at}
 use Rattle.ctf_format.proofs.branches.+branches.Given as goal
 

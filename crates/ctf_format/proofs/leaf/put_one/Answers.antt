@@ -2,7 +2,7 @@ use Rattle.std.proofs.Common.{◌≡◌, ◌+◌, ◌≤◌, ◌++◌, length, t
 use Rattle.ctf_decode.specs.Forms as forms
 use Rattle.ctf_format.specs.Standing.{PutsOne}
 use Rattle.ctf_format.specs.Texts.{integer_text}
-use Rattle.ctf_format.proofs.ByClassLemmas.{writes_number}
+use Rattle.ctf_format.proofs.ElementsLemmas.{writes_number}
 use Rattle.ctf_format.proofs.StandingLemmas.{as_one, same_front}
 use Rattle.ctf_format.proofs.leaf.put_one.Goals as goal
 

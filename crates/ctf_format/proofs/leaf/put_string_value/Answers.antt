@@ -1,7 +1,7 @@
 use Rattle.std.proofs.Common.{take}
 use Rattle.ctf_decode.specs.Forms as forms
 use Rattle.ctf_format.specs.Texts.{string_text}
-use Rattle.ctf_format.proofs.ByClassLemmas.{writes_one}
+use Rattle.ctf_format.proofs.ElementsLemmas.{writes_one}
 use Rattle.ctf_format.proofs.leaf.put_string_value.Goals as goal
 
 pub returns-clause-puts : goal.returns-clause-puts

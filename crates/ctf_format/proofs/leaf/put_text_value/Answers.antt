@@ -1,5 +1,5 @@
 use Rattle.std.proofs.Common.{take}
-use Rattle.ctf_format.proofs.ByClassLemmas.{writes_text}
+use Rattle.ctf_format.proofs.ElementsLemmas.{writes_text}
 use Rattle.ctf_format.proofs.leaf.put_text_value.Goals as goal
 
 pub returns-clause-puts : goal.returns-clause-puts

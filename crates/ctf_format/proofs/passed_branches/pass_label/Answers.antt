@@ -10,7 +10,7 @@ use Rattle.ctf_format.specs.declared.planned_record.Reach.{Reach}
 use Rattle.ctf_format.specs.declared.standing.Last.TheVariants as lasts
 use Rattle.ctf_format.specs.declared.standing.Next.{Next}
 use Rattle.ctf_format.proofs.BranchesLemmas.{label_there, slot_passes}
-use Rattle.ctf_format.proofs.ByClassLemmas.{writes_label}
+use Rattle.ctf_format.proofs.ElementsLemmas.{writes_label}
 use Rattle.ctf_format.proofs.passed_branches.pass_label.Goals as goal
 
 pub returns-clause-passes : goal.returns-clause-passes

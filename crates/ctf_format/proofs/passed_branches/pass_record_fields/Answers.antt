@@ -1,4 +1,4 @@
-use Rattle.std.proofs.Common.{rules, ◌≡◌, [], subst, sym}
+use Rattle.std.proofs.Common.{rules, ◌≡◌, [], length, take, subst, sym}
 use Rattle.std.specs.List.{All}
 use Rattle.std.proofs.lemmas.Option.{IfSome_then}
 use Rattle.ctf_class.specs.Records.{AreRuns}
@@ -20,9 +20,10 @@ returns-then-is_empty-clause-passes c = λ depth slots planned.
     let p = c.args.plan.now in
     let none : listed_in p.branches ≡ [] = search rules in
     let are = planned_runs depth slots p none planned in
-    IfSome_then c.pass_runs.result (c.pass_runs.ensures.passes slots (subst (AreRuns slots) (sym c.as_slice.ensures) are)) (λ to passes. ([], runs_pass slots p.runs c.args.packet.now c.args.from to [] are passes))
+    let given = take (length p.given) c.args.kept.now.numbers in
+    IfSome_then c.pass_runs.result (c.pass_runs.ensures.passes slots (subst (AreRuns slots) (sym c.as_slice.ensures) are)) (λ to passes. (given, runs_pass slots p.runs c.args.packet.now c.args.from to given are passes))
 
 pub returns-clause-passes : goal.returns-clause-passes
 returns-clause-passes c = λ depth slots planned.
-    let none : c.clear.new.self.numbers ≡ [] = c.clear.ensures in
+    let none : c.forget.new.self.numbers ≡ take (length c.args.plan.now.given) c.args.kept.now.numbers = search rules in
     IfSome_then c.pass_branched.result (c.pass_branched.ensures.passes depth slots planned) (λ to passes. (c.pass_branched.new.kept.numbers, subst (λ ns. PassesSlots slots c.args.packet.now c.args.from ns to c.pass_branched.new.kept.numbers) none passes))

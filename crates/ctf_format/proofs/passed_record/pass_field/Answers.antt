@@ -8,7 +8,7 @@ use Rattle.ctf_format.specs.Passing.{IsElement, Passes}
 use Rattle.ctf_format.specs.Records.{PutsField, after_members}
 use Rattle.ctf_format.specs.Standing.{PutsOne}
 use Rattle.ctf_format.specs.Texts.{string_text, value_text}
-use Rattle.ctf_format.proofs.ByClassLemmas.{form_enumeration}
+use Rattle.ctf_format.proofs.ElementsLemmas.{form_enumeration}
 use Rattle.ctf_format.proofs.PassingLemmas.{integer_passes, alone_passes, class_passes, counted_passes, enumeration_passes, integer_element, many_so, next_passes, other_passes}
 use Rattle.ctf_format.proofs.RecordsLemmas.{empty_puts, numbers_to, no_number}
 use Rattle.ctf_format.proofs.StandingLemmas.{form_integer, form_string, text_string}

@@ -1,7 +1,9 @@
-use Rattle.std.proofs.Common.{◌≡◌, ◌+◌, ◌<◌, ◌≤◌, ◌++◌, [], None, length, refl, subst, append-nil, rules, arith}
+use Rattle.std.proofs.Common.{◌≡◌, ◌+◌, ◌<◌, ◌≤◌, ◌++◌, [], None, length, take, sym, subst, append-nil, rules, arith}
+use Rattle.std.proofs.lemmas.List.{length-take-le}
 use Rattle.ctf_class.specs.Records.{all_slots, ended_last, ends, scopes_of, values_in}
 use Rattle.ctf_decode.specs.declared.scopes.TheConstants.{MOST_VALUES}
 use Rattle.ctf_format.specs.Records.{ScopesFollow, reached}
+use Rattle.ctf_format.proofs.KeptLemmas.{before_given, knows_first}
 use Rattle.ctf_format.proofs.RecordsLemmas.{numbers_to, scopes_ordered, scopes_puts, scopes_some}
 use Rattle.ctf_format.proofs.passed_record.pass_planned_record.Goals as goal
 
@@ -10,7 +12,7 @@ pass_record_fields-requires-clause-is c =
     let plan = c.args.plan.now in
     let some : 0 < length plan.runs = search (rules, arith) in
     let is = c.requires.plan.1 some in
-    record { depth = is.4; slots = all_slots [] [] is.0; are = is.5 }
+    record { depth = is.1.4; slots = all_slots [] plan.given is.1.0; are = is.1.5 }
 
 pub returns-clause-passes : goal.returns-clause-passes
 returns-clause-passes c = λ shared own fields planned before.
@@ -22,18 +24,23 @@ returns-clause-passes c = λ shared own fields planned before.
     let spent = c.args.from.spent in
     let to = c.in_ok-reach.reach in
     let some : 0 < length plan.runs = search (rules, arith) in
-    let is = planned some in
-    let slots = all_slots [] [] is.0 in
+    let packets = (planned some).0 in
+    let is = (planned some).1 in
+    let given = plan.given in
+    let numbers = c.args.kept.now.numbers in
+    let ns = take (length given) numbers in
+    let slots = all_slots [] given is.0 in
     let kept = c.in_ok-reach.ensures.passes is.4 slots is.5 in
     let p = kept.1 before in
     let line = p.0 in
-    let whole = scopes_puts classes is.0 0 [] [] bytes content spent (numbers_to place 0 None before) (reached to line) [] kept.0 (scopes_some shared own fields) is.1 (scopes_ordered shared own fields) tt refl p.1 in
     let count = c.from.result + to.more in
     let sum : count ≡ plan.count + to.more = search rules in
-    let total : spent + values_in is.0 + whole.0 ≡ spent + count = omega (arith, is.2, whole.1, sum) in
     let few : spent + count ≤ MOST_VALUES = search (rules, arith) in
     let after = line ++ ends (ended_last 0 is.0) in (
       after,
-      λ earlier. subst (λ n. ScopesFollow classes earlier bytes content place spent to.place n before after) total
-          (subst (λ xs. ScopesFollow classes earlier bytes content place spent to.place (spent + values_in is.0 + whole.0) xs after) (append-nil before) (whole.2 (omega (arith, few, total)) earlier tt)),
+      λ earlier begins.
+          let whole = scopes_puts classes is.0 2 [] given bytes content spent (numbers_to place 0 None before) (reached to line) ns kept.0 (scopes_some shared own fields) is.1 (scopes_ordered shared own fields) (before_given given packets) (sym (length-take-le (length given) numbers begins.0)) p.1 in
+          let total : spent + values_in is.0 + whole.0 ≡ spent + count = omega (arith, is.2, whole.1, sum) in
+          subst (λ n. ScopesFollow classes earlier bytes content place spent to.place n before after) total
+          (subst (λ xs. ScopesFollow classes earlier bytes content place spent to.place (spent + values_in is.0 + whole.0) xs after) (append-nil before) (whole.2 (omega (arith, few, total)) earlier (knows_first given numbers earlier [] begins.1))),
     )

@@ -7,7 +7,7 @@ use Rattle.ctf_format.specs.Passing.{Passes}
 use Rattle.ctf_format.specs.Standing.{PutsOne}
 use Rattle.ctf_format.specs.Texts.{string_text, value_text}
 use Rattle.ctf_format.proofs.BranchesLemmas.{counts_so, one_passes}
-use Rattle.ctf_format.proofs.ByClassLemmas.{form_enumeration}
+use Rattle.ctf_format.proofs.ElementsLemmas.{form_enumeration}
 use Rattle.ctf_format.proofs.PassingLemmas.{class_passes, counted_passes, enumeration_passes, fixed_passes, integer_element, integer_passes}
 use Rattle.ctf_format.proofs.RecordsLemmas.{empty_puts}
 use Rattle.ctf_format.proofs.StandingLemmas.{form_integer, form_string, text_string}

@@ -6,7 +6,7 @@ use Rattle.ctf_decode.specs.Views.{form}
 use Rattle.ctf_format.specs.Records.{PutsField, after_members}
 use Rattle.ctf_format.specs.Texts.{enumeration_text, string_text, value_text}
 use Rattle.ctf_format.specs.declared.standing.Last.TheVariants as lasts
-use Rattle.ctf_format.proofs.ByClassLemmas.{forget, form_enumeration, text_enumeration, writes_as, writes_text}
+use Rattle.ctf_format.proofs.ElementsLemmas.{forget, form_enumeration, text_enumeration, writes_as, writes_text}
 use Rattle.ctf_format.proofs.RecordsLemmas.{numbers_to, no_number, field_alone, field_next}
 use Rattle.ctf_format.proofs.StandingLemmas.{as_one, form_string, form_text, text_string, text_text}
 use Rattle.ctf_format.proofs.planned_record.put_field.Goals as goal

@@ -5,7 +5,7 @@ use Rattle.ctf_format.specs.Records.{after_members}
 use Rattle.ctf_format.specs.Standing.{elements_text}
 use Rattle.ctf_format.specs.Texts.{value_text}
 use Rattle.std.proofs.Common.{Some}
-use Rattle.ctf_format.proofs.ByClassLemmas.{forget}
+use Rattle.ctf_format.proofs.ElementsLemmas.{forget}
 use Rattle.ctf_format.proofs.ArrayLemmas.{next_class, form_array, text_array}
 use Rattle.ctf_format.proofs.planned_record.put_many.Goals as goal
 

@@ -4,7 +4,7 @@ use Rattle.ctf_decode.specs.Views.{form}
 use Rattle.ctf_format.specs.Records.{after_members}
 use Rattle.ctf_format.specs.Standing.{array_text}
 use Rattle.ctf_format.specs.Texts.{value_text}
-use Rattle.ctf_format.proofs.ByClassLemmas.{forget, form_any, text_any}
+use Rattle.ctf_format.proofs.ElementsLemmas.{forget, form_any, text_any}
 use Rattle.ctf_format.proofs.ArrayLemmas.{next_class}
 use Rattle.ctf_format.proofs.planned_record.put_many_structures.Goals as goal
 

@@ -6,7 +6,7 @@ use Rattle.ctf_decode.specs.Views.{form}
 use Rattle.ctf_format.specs.Standing.{array_text}
 use Rattle.ctf_format.specs.Texts.{enumeration_text, integer_text, string_text, value_text}
 use Rattle.ctf_format.proofs.BranchesLemmas.{counts_so}
-use Rattle.ctf_format.proofs.ByClassLemmas.{form_any, form_enumeration, text_any, text_enumeration, writes_as}
+use Rattle.ctf_format.proofs.ElementsLemmas.{form_any, form_enumeration, text_any, text_enumeration, writes_as}
 use Rattle.ctf_format.proofs.StandingLemmas.{form_integer, form_string, form_text, text_integer, text_string, text_text}
 use Rattle.ctf_format.proofs.shown_row.put_alone.Goals as goal
 

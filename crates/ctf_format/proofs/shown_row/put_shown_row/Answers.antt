@@ -3,7 +3,7 @@ use Rattle.ctf_decode.specs.Views.{form}
 use Rattle.ctf_format.specs.Branches.{Anywhere, ends_at}
 use Rattle.ctf_format.specs.Passing.{next_at}
 use Rattle.ctf_format.specs.Texts.{value_text}
-use Rattle.ctf_format.proofs.ByClassLemmas.{Going, going_ends, going_on}
+use Rattle.ctf_format.proofs.ElementsLemmas.{Going, going_ends, going_on}
 use Rattle.ctf_format.proofs.StandingLemmas.{mark_next}
 use Rattle.ctf_format.proofs.shown_row.put_shown_row.Goals as goal
 

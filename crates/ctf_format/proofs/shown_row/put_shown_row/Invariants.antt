@@ -6,7 +6,7 @@ use Rattle.ctf_decode.specs.declared.scopes.TheConstants.{MOST_VALUES}
 use Rattle.ctf_format.specs.Branches.{Anywhere}
 use Rattle.ctf_format.specs.Put.{IsWithin}
 use Rattle.ctf_format.specs.Texts.{value_text}
-use Rattle.ctf_format.proofs.ByClassLemmas.{Going}
+use Rattle.ctf_format.proofs.ElementsLemmas.{Going}
 use Rattle.ctf_format.proofs.StandingLemmas.{mark_at}
 use Rattle.ctf_format.proofs.shown_row.put_shown_row.Given as goal
 

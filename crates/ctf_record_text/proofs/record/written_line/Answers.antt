@@ -9,9 +9,9 @@ pub returns-clause-makes : goal.returns-clause-makes
 returns-clause-makes c = λ shift timed.
     let known = c.args.scopes.now in
     let at = c.args.at.now in
-    let told = c.in_ok-planned.planned.told in
+    let told = c.in_ok-told.told in
     let standing = c.in_ok-standing.standing in
-    let items = c.put_planned_body.new.line.bytes.items in
+    let items = c.put_by_plan.new.line.bytes.items in
     let puts = rw c.keep_short.ensures.part at c.in_ok-standing.ensures.puts in
     subst (λ t. Made at.packet.now.stream.now (record_there shift (values_of known) at) c.args.line.now.part known items c.with_text.result.record t) (sym c.with_text.ensures.text)
-    (text_told shift at.packet.now known at.bytes.now c.args.line.now.part at.clock at.place told (take standing.end items) standing.place c.with_text.result.record (c.in_ok-planned.ensures.tells shift timed) puts c.in_ok-standing.ensures.forward c.with_text.ensures.record)
+    (text_told shift at.packet.now known at.bytes.now c.args.line.now.part at.clock at.place told (take standing.end items) standing.place c.with_text.result.record (c.in_ok-told.ensures.tells shift timed) puts c.in_ok-standing.ensures.forward c.with_text.ensures.record)

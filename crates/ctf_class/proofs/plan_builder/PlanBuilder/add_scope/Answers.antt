@@ -12,7 +12,7 @@ empty [] none = refl
 empty (x ∷ xs) none = absurd (omega (arith, none))
 
 pub returns-clause-made : goal.returns-clause-made
-returns-clause-made c = λ took ks of.
+returns-clause-made c = λ took given ks of.
     let k = c.args.class.now in
     let ms = c.as_slice-members.result.now in
     let scope = c.args.scope in
@@ -30,7 +30,7 @@ returns-clause-made c = λ took ks of.
           let text : w.as_slice.result.now ≡ before_scope old.count old.ended = search rules in
           let yes : IsTrue w.in_ok-took.took = subst IsTrue w.took-is took in
           let same : c.if-is_empty.self ≡ with_scope from (empty_scope w.as_slice.result.now k.align) = w.self-is ∙ w.in_ok-took.ensures yes in
-          made_empty ks scope k w.as_slice.result.now k.align old from c.if-is_empty.self new bare refl text goes_in same goes_on of)
+          made_empty given ks scope k w.as_slice.result.now k.align old from c.if-is_empty.self new bare refl text goes_in same goes_on of)
       | else-is_empty+in_ok-extend_from_slice+in_ok-took-2 w ↦ elim w.if-branch.branch [
         | then-branch w' ↦ (
             let some : 0 < length ms = grind (arith, c.is_empty.ensures, w.if-is_empty.false) in
@@ -40,7 +40,7 @@ returns-clause-made c = λ took ks of.
             let yes : IsTrue w'.end_structure.result = subst IsTrue (w.took-is ∙ w'.took-is) took in
             let closed : c.if-is_empty.self ≡ with_structure mid (length ms + 1) = w.self-is ∙ w'.self-is ∙ w'.end_structure.ensures yes in
             let adds : (done : List Slot) → IsMade done from → AddsPieces (first_at w.extend_from_slice.new.self k.align from.known) ms done from mid = w.in_ok-took-2.ensures.made members in
-            made_scope ks scope k ms w.extend_from_slice.new.self old from mid c.if-is_empty.self new is some lead goes_in adds closed goes_on of)
+            made_scope given ks scope k ms w.extend_from_slice.new.self old from mid c.if-is_empty.self new is some lead goes_in adds closed goes_on of)
         | else-branch w' ↦ (let yes : IsTrue w.in_ok-took-2.took = subst IsTrue (w.took-is ∙ w'.took-is) took in absurd (search rules))
       ]
     ]

@@ -12,9 +12,9 @@ returns-clause-fields c = λ done made.
     let special : c.have_special.result ≡ have_special m.numbers = search rules in
     let run : Bool → List PlannedNumber → PlannedRun = λ b ns. record { align = m.align; numbers = ns; has_special = b; span = m.span; room = m.room; field = None } in
     let runs = c.fitted-3.ensures ∙ c.in_ok-push.ensures.ok ∙ (λ j. m.runs ++ run (special j) (c.fitted-2.ensures j) ∷ []) in
-    planned done m (record { branches = branches.Listed c.fitted.result; runs = c.fitted-3.result; count = m.count; ended = m.ended }) (ap branches.Listed c.fitted.ensures) runs made
+    planned done m (record { given = c.args.given; branches = branches.Listed c.fitted.result; runs = c.fitted-3.result; count = m.count; ended = m.ended }) (ap branches.Listed c.fitted.ensures) runs made
 
 pub returns-then-not-is_empty-clause-fields : goal.returns-then-not-is_empty-clause-fields
 returns-then-not-is_empty-clause-fields c = λ done made.
     let m = c.args.self in
-    planned_whole done m (record { branches = branches.Listed c.fitted.result; runs = c.fitted-then-not-is_empty.result; count = m.count; ended = m.ended }) (ap branches.Listed c.fitted.ensures) c.fitted-then-not-is_empty.ensures (search rules) made
+    planned_whole done m (record { given = c.args.given; branches = branches.Listed c.fitted.result; runs = c.fitted-then-not-is_empty.result; count = m.count; ended = m.ended }) (ap branches.Listed c.fitted.ensures) c.fitted-then-not-is_empty.ensures (search rules) made

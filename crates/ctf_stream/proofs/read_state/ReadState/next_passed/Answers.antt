@@ -12,11 +12,11 @@ returns c =
     let same = c.next_passed.ensures.opened in
     let result = c.next_passed.result in
     record {
-      advances = λ ending left. (let stands = inside old.cut ending left old.buffer old.taken old.packet p c.in-Some.is c.requires.stands in IfSome_then result (c.next_passed.ensures.takes old.cut.shift old.scopes (follows old.cut ending left old.buffer old.scopes p) stands.fetched.line) (λ front takes. takes_item old.cut ending left old.buffer old.packet old.scopes old.scopes p q (Some front) front c.in-Some.is same refl refl takes));
+      advances = λ ending left. (let stands = inside old.cut ending left old.buffer old.taken old.packet p c.in-Some.is c.requires.stands in IfSome_then result (c.next_passed.ensures.takes old.cut.shift (follows old.cut ending left old.buffer old.scopes p) stands.fetched.line) (λ front takes. takes_item old.cut ending left old.buffer old.packet old.scopes old.scopes p q (Some front) front c.in-Some.is same refl refl takes));
       stands = search rules;
       shared = search rules;
       found = search rules;
-      holds = (let stands = inside old.cut Clean [] old.buffer old.taken old.packet p c.in-Some.is c.requires.stands in c.next_passed.ensures.holds old.cut.shift old.scopes c.next_passed.new.line.part c.next_passed.new.line.bytes.items stands.fetched.line);
+      holds = (let stands = inside old.cut Clean [] old.buffer old.taken old.packet p c.in-Some.is c.requires.stands in c.next_passed.ensures.holds old.cut.shift c.next_passed.new.line.part c.next_passed.new.line.bytes.items stands.fetched.line);
       room = search rules;
       taken = refl;
       writes = refl;
