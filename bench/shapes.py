@@ -326,6 +326,7 @@ COMPOUNDS = [
         COMPACT,
         stream_context=LENGTH_IN_CONTEXT,
     ),
+    Shape("a length in the packet's context", words(3)._replace(text="u32 a[stream.packet.context.cpu_id];"), COMPACT),
     Shape("a chain of calls", counted("u64 n; x64 a[n];", "<Q", 16, address), COMPACT),
     Shape("a sequence of strings", counted("u8 n; string a[n];", "<B", 6, short_text), COMPACT),
     Shape("a sequence of structures with a string", counted("u8 n; struct { u32 x; string s; } a[n];", "<B", 6, named), COMPACT),
